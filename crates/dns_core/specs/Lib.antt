@@ -1,0 +1,16 @@
+pub mod Classifying
+pub mod Codes
+pub mod Connection
+pub mod Faults
+pub mod Letters
+pub mod Log
+pub mod MemoryStreams
+pub mod Message
+pub mod Name
+pub mod NameLaws
+pub mod NameText
+pub mod NetError
+pub mod Provider
+pub mod Record
+pub mod SharedLabels
+pub mod Stripping

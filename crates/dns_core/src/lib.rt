@@ -1,0 +1,48 @@
+//! Names, records, messages and errors of DNS, and the traits of the outside: a provider of
+//! connections, a source and a sink of bytes. Everything else stands on this crate.
+//!
+//! A contract sees each type as its value: a list type as the list, a name as its labels.
+#![tactic(auto)]
+
+mod classifying;
+mod codes;
+mod connection;
+mod copies;
+mod errors;
+mod items;
+mod label;
+mod log;
+mod memory_streams;
+mod message;
+mod name;
+mod name_text;
+mod net_error;
+mod provider;
+mod record;
+mod request;
+mod std_streams;
+mod streams;
+mod stripping;
+
+pub use classifying::classify;
+pub use codes::{DnsClass, RecordType, ResponseCode};
+pub use connection::{ConnectOptions, ConnectionConfig, Protocol, ProtocolConfig};
+pub use copies::TryClone;
+pub use errors::{Failed, NoMemory};
+pub use items::{Bytes, Delays, Ips, Items, Names, Numbers, Ports, Text};
+pub use label::{Label, Letter};
+pub use log::{Log, LogEntry, ToldOutcome};
+pub use memory_streams::{MemorySink, MemorySource};
+pub use message::{Message, Query};
+pub use name::{Name, is_subzone};
+pub use name_text::NameError;
+pub use net_error::{DnsError, ForwardNsData, IoKind, NetError, NoRecords};
+pub use provider::{ConnectionProvider, Poll};
+pub use record::{RData, Record, Records, Soa};
+pub use request::{DnsRequest, DnsRequestOptions, Question, Turn};
+pub use std_streams::{StdSink, StdSource};
+pub use streams::{Sink, Source};
+pub use stripping::strip;
+
+#[cfg(test)]
+mod tests;

@@ -1,0 +1,13 @@
+use Rattle.std.proofs.Common.{◌≡◌, ◌≢◌, ◌<◌, ◌∙◌, ℕ, length, arith, sym, ap, subst, None, Some}
+use Rattle.recursor_core.specs.Machine.{need_in, MayAskOf}
+use Rattle.recursor_core.specs.Resolution.{want_of, order_of}
+use Rattle.recursor_core.proofs.Ranks.{rank_falls, sum_falls, read_at, need_within, may_ask_within, order_within}
+use Rattle.recursor_core.proofs.machine.RecursorCore.asks.Goals as goal
+
+pub returns : goal.returns
+returns c p =
+    let xs = c.args.self.now.resolutions.items in
+    let f = c.index_mut-resolution.result.now in
+    let within : c.args.r < length xs = may_ask_within xs c.args.r c.requires in
+    let read = read_at xs c.args.r f within c.index_mut-resolution.ensures.value in
+    sum_falls p xs c.args.r f c.asks.new.self within c.index_mut-resolution.ensures.value (rank_falls p f c.asks.new.self (c.asks.ensures.falls (subst MayAskOf read c.requires)))

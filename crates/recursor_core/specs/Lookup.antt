@@ -1,0 +1,65 @@
+-- Where a lookup stands, and how much of it is left.
+use Rattle.std.specs.Prelude.{◌≡◌, ℕ, ◌+◌, ◌-◌, ◌*◌, ◌⊎◌, vec_len}
+use Rattle.std.specs.declared.net.ip_addr.IpAddr.{IpAddr}
+use Rattle.recursor_core.specs.declared.lookup.Send.{Send}
+use Rattle.recursor_core.specs.declared.lookup.Send.TheVariants as send
+use Rattle.recursor_core.specs.declared.lookup.Want.{Want}
+use Rattle.recursor_core.specs.declared.lookup.Want.TheVariants.{Choose, Connect, Ask, Wait, Hear}
+use Rattle.recursor_core.specs.declared.lookup.Lookup.{Lookup}
+
+abbrev pub send_want : Send → Want
+send_want send.Ready = Choose
+send_want (send.Chosen ip) = Connect ip
+send_want (send.Opening ip order polls) = Wait order
+send_want (send.Connected ip conn) = Ask ip conn
+send_want (send.Asking ip order polls) = Wait order
+send_want (send.Told entry message) = Hear
+send_want (send.Failed entry error) = Hear
+
+-- an order of it is open
+abbrev pub IsWaiting : Send → Type 0
+IsWaiting send.Ready = ⊥
+IsWaiting (send.Chosen ip) = ⊥
+IsWaiting (send.Opening ip order polls) = Unit {0}
+IsWaiting (send.Connected ip conn) = ⊥
+IsWaiting (send.Asking ip order polls) = Unit {0}
+IsWaiting (send.Told entry message) = ⊥
+IsWaiting (send.Failed entry error) = ⊥
+
+-- a question may be asked: the server is chosen, or the connection to it is there
+abbrev pub MayAsk : Send → Type 0
+MayAsk send.Ready = ⊥
+MayAsk (send.Chosen ip) = Unit {0}
+MayAsk (send.Opening ip order polls) = ⊥
+MayAsk (send.Connected ip conn) = Unit {0}
+MayAsk (send.Asking ip order polls) = ⊥
+MayAsk (send.Told entry message) = ⊥
+MayAsk (send.Failed entry error) = ⊥
+
+-- how many steps a send has before it
+abbrev pub send_steps : Send → ℕ
+send_steps send.Ready = 0
+send_steps (send.Told entry message) = 1
+send_steps (send.Failed entry error) = 1
+send_steps (send.Asking ip order polls) = 2
+send_steps (send.Connected ip conn) = 3
+send_steps (send.Opening ip order polls) = 4
+send_steps (send.Chosen ip) = 5
+
+-- how many steps a lookup has before it: six for each server that was not asked
+abbrev pub steps : Lookup → ℕ
+steps l = 6 * vec_len l.servers + send_steps l.send
+
+-- how many polls patience leaves to its open order
+abbrev pub polls_left : ℕ → Send → ℕ
+polls_left patience send.Ready = 0
+polls_left patience (send.Chosen ip) = 0
+polls_left patience (send.Opening ip order polls) = patience - polls
+polls_left patience (send.Connected ip conn) = 0
+polls_left patience (send.Asking ip order polls) = patience - polls
+polls_left patience (send.Told entry message) = 0
+polls_left patience (send.Failed entry error) = 0
+
+-- steps, each of which may be as many polls as patience allows
+abbrev pub rank : ℕ → Lookup → ℕ
+rank patience l = (patience + 1) * steps l + polls_left patience l.send

@@ -1,0 +1,23 @@
+//! The recursor: it goes from the roots down the delegations to the servers of a name, and asks them.
+#![tactic(auto)]
+
+mod carrier;
+mod driving;
+mod error;
+mod glue;
+mod lookup;
+mod machine;
+mod options;
+mod order;
+mod recursor;
+mod reply;
+mod resolution;
+mod turns;
+mod verdict;
+mod walk;
+
+pub use driving::drive;
+pub use error::{AuthorityData, MessageKind, RecursorError, WalkCause};
+pub use options::RecursorOptions;
+pub use recursor::Recursor;
+pub use reply::Reply;

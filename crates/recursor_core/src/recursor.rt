@@ -1,0 +1,79 @@
+//! The recursor: the machine over a provider.
+ghost use Rattle.std.specs.Prelude.{◌≡◌, ◌↔◌, [], Err, IfOk, IfErr};
+ghost use Rattle.recursor_core.specs.Machine.{IsNewError};
+
+use crate::carrier::Carrier;
+use crate::error::{MessageKind, RecursorError};
+use crate::machine::RecursorCore;
+use crate::options::RecursorOptions;
+use dns_core::{ConnectOptions, ConnectionProvider, NoMemory, TryClone};
+use std::alloc::Global;
+use std::marker::Model;
+use std::net::IpAddr;
+
+/// A recursor over a provider. Contracts see the provider.
+#[derive(Drop)]
+pub struct Recursor<P: ConnectionProvider> {
+    pub(crate) core: RecursorCore,
+    pub(crate) carrier: Carrier<P>,
+}
+
+impl<P: ConnectionProvider> Model for Recursor<P> {
+    ghost Value = { P };
+
+    ghost view = { λ a. a.carrier.provider };
+}
+
+fn connect_options(alloc: Global, options: &RecursorOptions) -> Result<ConnectOptions, NoMemory> {
+    let avoid_local_udp_ports = options.avoid_local_udp_ports.try_clone(alloc)?;
+    Ok(ConnectOptions {
+        timeout: 5_000_000,
+        max_active_requests: 32,
+        case_randomization: options.case_randomization,
+        os_port_selection: false,
+        avoid_local_udp_ports,
+    })
+}
+
+impl<P: ConnectionProvider> Recursor<P> {
+    /// A recursor that begins at these roots, over a provider whose log is empty. It is refused where
+    /// there is no root.
+    pub fn with_options(
+        alloc: Global,
+        roots: &[IpAddr],
+        options: RecursorOptions,
+        provider: P,
+    ) -> Result<Recursor<P>, RecursorError>
+        ensures ok { IfOk result (λ recursor. recursor ≡ provider) }
+        ensures no_roots { (result ≡ Err (RecursorError.Message MessageKind.NoRoots)) ↔ (roots.now ≡ []) }
+        ensures only { IfErr result IsNewError }
+    {
+        if roots.is_empty() {
+            return Err(RecursorError::Message(MessageKind::NoRoots));
+        }
+        let Ok(connect) = connect_options(alloc, &options) else {
+            return Err(RecursorError::NoMemory);
+        };
+        let Ok(core) = RecursorCore::new(alloc, roots, options) else {
+            return Err(RecursorError::NoMemory);
+        };
+        Ok(Recursor {
+            core,
+            carrier: Carrier::new(alloc, provider, connect),
+        })
+    }
+
+    /// The provider.
+    pub fn provider(&self) -> &P
+        ensures { result.now ≡ self.now }
+    {
+        self.carrier.provider()
+    }
+
+    /// Gives the provider back.
+    pub fn into_provider(self) -> P
+        ensures { result ≡ self }
+    {
+        self.carrier.into_provider()
+    }
+}

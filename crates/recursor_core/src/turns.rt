@@ -1,0 +1,215 @@
+//! Turns of questions: the machine's orders are carried out until nothing new is found.
+ghost use Rattle.std.specs.Prelude.{◌≡◌, ◌≤◌, ◌<◌, ℕ, List, IfOk, IfNone, MatchBool, vec_len};
+ghost use Rattle.dns_core.specs.declared.log.LogEntry.{LogEntry};
+ghost use Rattle.recursor_core.specs.Machine.{rank, IsAwaited};
+ghost use Rattle.recursor_core.specs.Turns.{TurnFalls, work, open_plays, IsBegunAt, IsUnderWay};
+
+use crate::carrier::Carrier;
+use crate::error::RecursorError;
+use crate::machine::{RecursorCore, Step};
+use crate::order::{After, Outcome, Tick};
+use crate::reply::Reply;
+use dns_core::{ConnectionProvider, NoMemory, Numbers, Question, TryClone};
+use std::alloc::Global;
+use std::mem;
+
+/// What became of a step or of a turn of a question.
+#[derive(Drop, Debug)]
+pub enum Turned {
+    Again,
+    Pending,
+    Done(Reply),
+    Ended,
+}
+
+/// A question: not begun, under way as the resolution at a place, or answered.
+#[derive(Drop, Debug)]
+pub enum Played {
+    Waiting,
+    Begun(usize),
+    Answered(Reply),
+}
+
+/// The reply where memory is wanting.
+pub fn no_memory(alloc: Global) -> Reply {
+    Reply {
+        outcome: Err(RecursorError::NoMemory),
+        grounds: Numbers::empty(alloc),
+    }
+}
+
+/// Feeds an outcome to the machine; an order that it gives up is given up.
+fn settle<P: ConnectionProvider>(
+    core: &mut RecursorCore,
+    carrier: &mut Carrier<P>,
+    number: u64,
+    outcome: Outcome,
+    tick: Tick,
+) -> Turned
+    ensures vouches { (es : List LogEntry) → P.vouches carrier.new.provider es → P.vouches carrier.old.provider es }
+    ensures falls { IsAwaited core.old number → rank tick.patience core.new < rank tick.patience core.old }
+    ensures keeps { rank tick.patience core.new ≤ rank tick.patience core.old }
+    ensures goes { TurnFalls 0 1 result }
+{
+    match core.put(number, outcome, tick) {
+        After::Kept => Turned::Pending,
+        After::Ended => Turned::Again,
+        After::GiveUp => {
+            carrier.give_up(number, tick.now);
+            Turned::Again
+        }
+        After::Late => Turned::Pending,
+    }
+}
+
+/// One step of a question: an order is started, or polled, or its reply given.
+fn step<P: ConnectionProvider>(
+    alloc: Global,
+    core: &mut RecursorCore,
+    carrier: &mut Carrier<P>,
+    r: usize,
+    tick: Tick,
+) -> Result<Turned, NoMemory>
+    ensures vouches { (es : List LogEntry) → P.vouches carrier.new.provider es → P.vouches carrier.old.provider es }
+    ensures falls { IfOk result (TurnFalls (rank tick.patience core.new) (rank tick.patience core.old)) }
+    ensures keeps { rank tick.patience core.new ≤ rank tick.patience core.old }
+{
+    match core.next(alloc, r)? {
+        Step::Order { number, order } => {
+            let outcome = carrier.start(number, order, tick.now)?;
+            Ok(settle(core, carrier, number, outcome, tick))
+        }
+        Step::Waiting { number } => {
+            let outcome = carrier.poll(number, tick.now)?;
+            Ok(settle(core, carrier, number, outcome, tick))
+        }
+        Step::Done(reply) => Ok(Turned::Done(reply)),
+        Step::Ended => Ok(Turned::Ended),
+    }
+}
+
+/// A turn: steps until an order stays pending, or the question is answered.
+fn turn<P: ConnectionProvider>(
+    alloc: Global,
+    core: &mut RecursorCore,
+    carrier: &mut Carrier<P>,
+    r: usize,
+    tick: Tick,
+) -> Result<Turned, NoMemory>
+    ensures vouches { (es : List LogEntry) → P.vouches carrier.new.provider es → P.vouches carrier.old.provider es }
+    ensures falls { IfOk result (TurnFalls (rank tick.patience core.new) (rank tick.patience core.old)) }
+    ensures keeps { rank tick.patience core.new ≤ rank tick.patience core.old }
+{
+    'steps: loop {
+        match step(alloc, core, carrier, r, tick)? {
+            Turned::Again => {}
+            Turned::Pending => return Ok(Turned::Pending),
+            Turned::Done(reply) => return Ok(Turned::Done(reply)),
+            Turned::Ended => return Ok(Turned::Ended),
+        }
+    }
+}
+
+/// Ends a resolution, and gives up the order that it waited for.
+fn abandon<P: ConnectionProvider>(
+    core: &mut RecursorCore,
+    carrier: &mut Carrier<P>,
+    r: usize,
+    now: u64,
+)
+    ensures vouches { (es : List LogEntry) → P.vouches carrier.new.provider es → P.vouches carrier.old.provider es }
+    ensures keeps { (p : ℕ) → rank p core.new ≤ rank p core.old }
+{
+    if let Some(number) = core.cancel(r) {
+        carrier.give_up(number, now);
+    }
+}
+
+/// A turn of a resolution: its reply, or none where an order stays pending. On want of memory it has
+/// ended, and that is its reply.
+fn answer_of<P: ConnectionProvider>(
+    alloc: Global,
+    core: &mut RecursorCore,
+    carrier: &mut Carrier<P>,
+    r: usize,
+    tick: Tick,
+) -> Option<Reply>
+    ensures vouches { (es : List LogEntry) → P.vouches carrier.new.provider es → P.vouches carrier.old.provider es }
+    ensures falls { IfNone result (rank tick.patience core.new < rank tick.patience core.old) }
+    ensures keeps { rank tick.patience core.new ≤ rank tick.patience core.old }
+{
+    match turn(alloc, core, carrier, r, tick) {
+        Ok(Turned::Pending) => None,
+        Ok(Turned::Done(reply)) => Some(reply),
+        Ok(_) => Some(no_memory(alloc)),
+        Err(_) => {
+            abandon(core, carrier, r, tick.now);
+            Some(no_memory(alloc))
+        }
+    }
+}
+
+/// A question as it begins: under way, or refused.
+pub fn begun(alloc: Global, core: &mut RecursorCore, question: &Question, now: u64) -> Played {
+    let Ok(question) = question.try_clone(alloc) else {
+        return Played::Answered(no_memory(alloc));
+    };
+    match core.begin(alloc, question, now) {
+        Ok(r) => Played::Begun(r),
+        Err(error) => Played::Answered(Reply {
+            outcome: Err(error),
+            grounds: Numbers::empty(alloc),
+        }),
+    }
+}
+
+/// The place of the resolution of a question that is under way.
+fn under_way(plays: &[Played], q: usize) -> Option<usize>
+    ensures { IsUnderWay plays.now q result }
+{
+    match plays.get(q) {
+        Some(Played::Begun(r)) => Some(*r),
+        _ => None,
+    }
+}
+
+fn put_answer(plays: &mut Vec<Played>, q: usize, reply: Reply)
+    requires { IsBegunAt plays.old.items q }
+    ensures falls { open_plays plays.new.items < open_plays plays.old.items }
+    ensures count { vec_len plays.new ≡ vec_len plays.old }
+{
+    plays[q] = Played::Answered(reply);
+}
+
+/// Gives a question that is under way a turn. It answers whether there was one.
+pub fn play<P: ConnectionProvider>(
+    alloc: Global,
+    core: &mut RecursorCore,
+    carrier: &mut Carrier<P>,
+    plays: &mut Vec<Played>,
+    q: usize,
+    tick: Tick,
+) -> bool
+    ensures vouches { (es : List LogEntry) → P.vouches carrier.new.provider es → P.vouches carrier.old.provider es }
+    ensures falls { MatchBool result (work tick.patience core.new plays.new.items < work tick.patience core.old plays.old.items) (work tick.patience core.new plays.new.items ≤ work tick.patience core.old plays.old.items) }
+    ensures count { vec_len plays.new ≡ vec_len plays.old }
+{
+    let Some(r) = under_way(plays, q) else {
+        return false;
+    };
+    if let Some(reply) = answer_of(alloc, core, carrier, r, tick) {
+        put_answer(plays, q, reply);
+    }
+    true
+}
+
+/// Takes the reply of a question, which every question has in the end.
+pub fn take_reply(alloc: Global, plays: &mut Vec<Played>, q: usize) -> Reply
+    requires { q < vec_len plays.old }
+    ensures { vec_len plays.new ≡ vec_len plays.old }
+{
+    match mem::replace(&mut plays[q], Played::Waiting) {
+        Played::Answered(reply) => reply,
+        _ => no_memory(alloc),
+    }
+}

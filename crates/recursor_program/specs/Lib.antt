@@ -1,0 +1,4 @@
+pub mod Faults
+pub mod Program
+pub mod Status
+pub mod Streams

@@ -1,0 +1,86 @@
+-- What the program writes for what it reads.
+use Rattle.std.specs.Prelude.{◌≡◌, ◌≢◌, ◌⊎◌, ℕ, Bool, false, List, [], ◌∷◌, length, codes, Result, Ok, Err}
+use Rattle.std.specs.declared.option.Option.{Option}
+use Rattle.std.specs.Io.KnownBytes.{Appends}
+use Rattle.std.specs.Str.{bytes_eq}
+use Rattle.dns_core.specs.Faults.{Rose}
+use Rattle.recursor_world.specs.declared.script.Script.{Script}
+use Rattle.recursor_world.specs.Script.{Gives}
+use Rattle.recursor_text.specs.declared.scenario.Cause.{Cause}
+use Rattle.recursor_text.specs.declared.scenario.Cause.TheVariants as cause
+use Rattle.recursor_text.specs.declared.scenario.Scenario.{Scenario}
+use Rattle.recursor_text.specs.declared.scenario.ScenarioError.{ScenarioError}
+use Rattle.recursor_text.specs.declared.scenario.Upstream.{Upstream}
+use Rattle.recursor_text.specs.declared.scenario.Upstream.TheVariants as upstream
+use Rattle.recursor_text.specs.declared.transcript.Transcript.{Transcript}
+use Rattle.recursor_text.specs.Spelling.{Reads}
+use Rattle.recursor_text.specs.Faults.{HasFault}
+use Rattle.recursor_text.specs.Transcript.{transcript_text}
+use Rattle.recursor_program.specs.Streams.{AppendsPart}
+use Rattle.recursor_program.specs.Faults.{fault_text, status_of}
+use Rattle.recursor_program.specs.declared.faults.Fault.{Fault}
+use Rattle.recursor_program.specs.declared.faults.Fault.TheVariants.{Words, Line, NotBuilt, Read, Memory}
+use Rattle.recursor_program.specs.declared.status.Status.{Status}
+use Rattle.recursor_program.specs.declared.status.Status.TheVariants as status
+
+-- the one word of the program
+abbrev pub are_words : List (List ℕ) → Bool
+are_words [] = false
+are_words (w ∷ []) = bytes_eq w (codes "resolve")
+are_words (w ∷ v ∷ ws) = false
+
+abbrev pub script_of : Upstream → Script
+script_of (upstream.Script s) = s
+
+-- a run of a scenario: its log is one that the script gives, and each question has its reply, in order
+pub record Ran (s : Scenario) (t : Transcript) : Type 0 where
+  pub gives : Gives (script_of s.upstream) t.log
+  pub answered : length t.replies ≡ length s.questions
+
+-- the text of a run of the scenario
+abbrev pub HasRun : Scenario → List ℕ → Type 0
+HasRun s text = (t : Transcript) × Ran s t × (text ≡ transcript_text t)
+
+-- the bytes are a scenario, and the text is that of a run of it
+abbrev pub HasOutput : List ℕ → List ℕ → Type 0
+HasOutput bytes text = (s : Scenario) × Reads bytes s × HasRun s text
+
+-- how the fault of a text is told
+abbrev pub fault_by : Cause → ℕ → Fault
+fault_by cause.Line n = Line n
+fault_by cause.Cut n = Line n
+fault_by cause.Long n = Line n
+fault_by cause.NotBuilt n = NotBuilt n
+fault_by cause.NoMemory n = Memory
+
+abbrev pub fault_of : ScenarioError → Fault
+fault_of e = fault_by e.cause e.line
+
+-- the bytes are no scenario for this fault
+abbrev pub IsFaultOf : List ℕ → Fault → Type 0
+IsFaultOf bytes Words = ⊥
+IsFaultOf bytes (Line n) = HasFault bytes n cause.Line ⊎ (HasFault bytes n cause.Cut ⊎ HasFault bytes n cause.Long)
+IsFaultOf bytes (NotBuilt n) = HasFault bytes n cause.NotBuilt
+IsFaultOf bytes Read = ⊥
+IsFaultOf bytes Memory = Unit {0}
+
+-- the fault was told, or a front of its text and the sink failed, or memory was wanting
+pub record Tells (fault : Fault) (result : Status) (old new : Option (List ℕ)) (before now : ℕ) : Type 0 where
+  pub whole : result ≢ status.WriteFault → result ≢ status.NoMemory → (result ≡ status_of fault) × Appends old new (fault_text fault)
+  pub part : result ≡ status.WriteFault → Rose before now × AppendsPart old new (fault_text fault)
+
+-- the output for the bytes was appended
+abbrev pub HasWritten : List ℕ → Option (List ℕ) → Option (List ℕ) → Type 0
+HasWritten bytes old new = (text : List ℕ) × HasOutput bytes text × Appends old new text
+
+-- the bytes are no scenario of the forms that are built, and what is wrong with them was appended
+abbrev pub HasRefused : List ℕ → Option (List ℕ) → Option (List ℕ) → Type 0
+HasRefused bytes old new = (fault : Fault) × IsFaultOf bytes fault × (status_of fault ≡ status.BadScenario) × Appends old new (fault_text fault)
+
+-- the sink failed, and a front of a text was appended
+abbrev pub WrotePart : ℕ → ℕ → Option (List ℕ) → Option (List ℕ) → Type 0
+WrotePart before now old new = Rose before now × ((text : List ℕ) × AppendsPart old new text)
+
+-- how a run ends whose words are none of the program's
+abbrev pub IsRefusal : Status → Type 0
+IsRefusal s = (s ≡ status.BadWords) ⊎ ((s ≡ status.WriteFault) ⊎ (s ≡ status.NoMemory))

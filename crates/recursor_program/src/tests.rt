@@ -1,0 +1,196 @@
+//! Whole runs over a source and a sink in memory.
+
+use crate::program::run;
+use crate::status::Status;
+use dns_core::{Items, MemorySink, MemorySource, Numbers, Text};
+use recursor_core::{MessageKind, Recursor, RecursorError, RecursorOptions};
+use recursor_world::{Script, ScriptUpstream};
+use std::alloc::Global;
+use std::test::Fail;
+
+const HEAD: &str = "recursor 1\nroot 11.0.0.1\npatience 3\ntold script\n";
+
+const COM: &str =
+    "reply 11.0.0.1 udp com. NS 0 message NOERROR none 0 1 1\ncom. 172800 IN NS a.nic.com.\na.nic.com. 172800 IN A 11.0.0.2\n";
+
+const EXAMPLE: &str =
+    "reply 11.0.0.2 udp example.com. NS 0 message NOERROR none 0 1 1\nexample.com. 172800 IN NS ns.example.com.\nns.example.com. 172800 IN A 11.0.0.3\n";
+
+const ANSWER: &str =
+    "reply 11.0.0.3 udp example.com. A 0 message NOERROR aa 1 0 0\nexample.com. 300 IN A 93.184.215.14\n";
+
+const OUTSIDE: &str =
+    "reply 11.0.0.3 udp example.com. A 0 message NOERROR aa 1 0 0\nevil.net. 300 IN A 66.6.6.6\n";
+
+const GLUELESS: &str =
+    "reply 11.0.0.1 udp com. NS 0 message NOERROR none 0 1 0\ncom. 172800 IN NS a.nic.com.\n";
+
+const TAIL: &str = "question example.com. A plain\nturn 1 0\nend\n";
+
+fn text(alloc: Global, parts: &[&str]) -> Result<Text, Fail> {
+    let mut whole = String::new(alloc);
+    for part in parts {
+        whole.push_str(part)?;
+    }
+    Ok(Text::new(whole))
+}
+
+fn words(alloc: Global, word: &str) -> Result<Vec<Text>, Fail> {
+    let mut words = Vec::new(alloc);
+    words.push(text(alloc, &[word])?)?;
+    Ok(words)
+}
+
+/// The status of a run on these parts of a text, and what it wrote.
+fn outcome(alloc: Global, parts: &[&str]) -> Result<(Status, Vec<u8>), Fail> {
+    let whole = text(alloc, parts)?;
+    let bytes = Items::new(Vec::from_slice(alloc, whole.items().as_bytes())?);
+    let mut source = MemorySource::new(alloc, bytes, Numbers::empty(alloc));
+    let mut sink = MemorySink::new(alloc, Numbers::empty(alloc));
+    let words = words(alloc, "resolve")?;
+    let status = run(alloc, words.as_slice(), &mut source, &mut sink);
+    Ok((status, Vec::from_slice(alloc, sink.written())?))
+}
+
+fn ends_with(written: &[u8], end: &str) -> bool {
+    written.ends_with(end.as_bytes())
+}
+
+#[test]
+fn the_base_script_is_answered(rt: HostRuntime) -> Result<(), Fail> {
+    let alloc = rt.alloc();
+    let (status, written) = outcome(alloc, &[HEAD, COM, EXAMPLE, ANSWER, TAIL])?;
+    assert_eq!(rt; status, Status::Done);
+    assert!(rt; written.starts_with(b"log 12\n1 opened 11.0.0.1 udp 0\n"));
+    let end = "reply 1 message NOERROR aa 1 0 0\nexample.com. 300 IN A 93.184.215.14\nend\n";
+    assert!(rt; ends_with(&written, end));
+    Ok(())
+}
+
+#[test]
+fn a_question_that_is_not_qualified_asks_nothing(rt: HostRuntime) -> Result<(), Fail> {
+    let alloc = rt.alloc();
+    let tail = "question example.com A plain\nturn 1 0\nend\n";
+    let (status, written) = outcome(alloc, &[HEAD, COM, EXAMPLE, ANSWER, tail])?;
+    assert_eq!(rt; status, Status::Done);
+    assert_eq!(rt;
+        written.as_slice(),
+        b"log 0\nreply 1 error Message NotQualified\nend\n".as_slice()
+    );
+    Ok(())
+}
+
+#[test]
+fn silence_is_a_timeout(rt: HostRuntime) -> Result<(), Fail> {
+    let alloc = rt.alloc();
+    let (_, written) = outcome(alloc, &[HEAD, COM, EXAMPLE, TAIL])?;
+    assert!(rt; written.starts_with(b"log 15\n"));
+    let end =
+        "12 waited 11\n13 waited 11\n14 waited 11\n15 gaveup 11 0\nreply 1 error Net Timeout\nend\n";
+    assert!(rt; ends_with(&written, end));
+    let (_, written) = outcome(alloc, &[HEAD, COM, ANSWER, TAIL])?;
+    assert!(rt; written.starts_with(b"log 11\n"));
+    assert!(rt;
+        ends_with(
+            &written,
+            "reply 1 error NoNameServer example.com. Timeout\nend\n"
+        )
+    );
+    Ok(())
+}
+
+#[test]
+fn a_delegation_without_addresses_leads_nowhere(rt: HostRuntime) -> Result<(), Fail> {
+    let alloc = rt.alloc();
+    let (_, written) = outcome(alloc, &[HEAD, GLUELESS, EXAMPLE, ANSWER, TAIL])?;
+    assert!(rt; written.starts_with(b"log 4\n"));
+    assert!(rt;
+        ends_with(
+            &written,
+            "reply 1 error NoNameServer example.com. NoAddress\nend\n"
+        )
+    );
+    Ok(())
+}
+
+#[test]
+fn records_outside_the_zone_are_no_answer(rt: HostRuntime) -> Result<(), Fail> {
+    let alloc = rt.alloc();
+    let (_, written) = outcome(alloc, &[HEAD, COM, EXAMPLE, OUTSIDE, TAIL])?;
+    assert!(rt;
+        ends_with(
+            &written,
+            "reply 1 error Negative example.com. A 0 1 0 0\nend\n"
+        )
+    );
+    Ok(())
+}
+
+fn refused(alloc: Global, parts: &[&str], fault: &str) -> Result<bool, Fail> {
+    let (status, written) = outcome(alloc, parts)?;
+    Ok(status == Status::BadScenario && written.as_slice() == fault.as_bytes())
+}
+
+#[test]
+fn bad_inputs_name_their_line(rt: HostRuntime) -> Result<(), Fail> {
+    let alloc = rt.alloc();
+    assert!(rt; refused(alloc, &[""], "error line 1\n")?);
+    assert!(rt; refused(alloc, &["recursor 1\npatience 3\n"], "error line 2\n")?);
+    assert!(rt; refused(alloc, &["recursor  1\n"], "error line 1\n")?);
+    assert!(rt;
+        refused(
+            alloc,
+            &["recursor 1\nroot 11.0.0.1\nroot 11.0.0.9\n"],
+            "error line 3 not built\n"
+        )?
+    );
+    assert!(rt; refused(alloc, &[HEAD, "lookup\n"], "error line 5\n")?);
+    assert!(rt; refused(alloc, &[HEAD, COM, EXAMPLE, ANSWER], "error line 13\n")?);
+    assert!(rt; refused(alloc, &[HEAD, COM, TAIL, "end\n"], "error line 11\n")?);
+    Ok(())
+}
+
+#[test]
+fn other_words_read_nothing(rt: HostRuntime) -> Result<(), Fail> {
+    let alloc = rt.alloc();
+    let mut source = MemorySource::new(alloc, Items::empty(alloc), Numbers::empty(alloc));
+    let mut sink = MemorySink::new(alloc, Numbers::empty(alloc));
+    let words = words(alloc, "lookup")?;
+    let status = run(alloc, words.as_slice(), &mut source, &mut sink);
+    assert_eq!(rt; status, Status::BadWords);
+    assert_eq!(rt; sink.written(), b"error words\n".as_slice());
+    Ok(())
+}
+
+#[test]
+fn a_source_or_a_sink_that_fails_is_told(rt: HostRuntime) -> Result<(), Fail> {
+    let alloc = rt.alloc();
+    let words = words(alloc, "resolve")?;
+    let first = vec![in alloc; 1u64]?;
+    let mut source = MemorySource::new(alloc, Items::empty(alloc), Items::new(first));
+    let mut sink = MemorySink::new(alloc, Numbers::empty(alloc));
+    let status = run(alloc, words.as_slice(), &mut source, &mut sink);
+    assert_eq!(rt; status, Status::ReadFault);
+    assert_eq!(rt; sink.written(), b"error read\n".as_slice());
+    let mut source = MemorySource::new(alloc, Items::empty(alloc), Numbers::empty(alloc));
+    let first = vec![in alloc; 1u64]?;
+    let mut sink = MemorySink::new(alloc, Items::new(first));
+    let status = run(alloc, words.as_slice(), &mut source, &mut sink);
+    assert_eq!(rt; status, Status::WriteFault);
+    Ok(())
+}
+
+#[test]
+fn a_recursor_wants_a_root(rt: HostRuntime) -> Result<(), Fail> {
+    let alloc = rt.alloc();
+    let script = Script {
+        lines: Items::empty(alloc),
+    };
+    let upstream = ScriptUpstream::new(alloc, script)?;
+    let options = RecursorOptions::standard(alloc);
+    match Recursor::with_options(alloc, &[], options, upstream) {
+        Err(error) => assert!(rt; error == RecursorError::Message(MessageKind::NoRoots)),
+        Ok(_) => assert!(rt; false),
+    }
+    Ok(())
+}

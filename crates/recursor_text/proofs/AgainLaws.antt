@@ -1,0 +1,254 @@
+-- The lines of a scenario are taken again.
+use Rattle.std.proofs.Common.{◌≡◌, ℕ, zero, suc, ◌+◌, ◌-◌, ◌<◌, ◌≤◌, Bool, true, false, cond, ◌&&◌, eqb, ltb, List, [], ◌∷◌, ◌++◌, length, map, Option, Some, None, Result, Ok, Err, refl, sym, ap, subst, ◌∙◌, arith, append_assoc, lit<, lit≤}
+use Rattle.std.specs.List.{flat_map, AllByRecursion}
+use Rattle.std.proofs.lemmas.Bool.{lt-ltb, le-ltb, ne_eqb}
+use Rattle.std.proofs.lemmas.List.{append-nil, length_push}
+use Rattle.std.specs.declared.net.ip_addr.IpAddr.{IpAddr}
+use Rattle.dns_core.specs.Name.{DomainName}
+use Rattle.dns_core.specs.declared.codes.RecordType.{RecordType}
+use Rattle.dns_core.specs.declared.codes.ResponseCode.{ResponseCode}
+use Rattle.dns_core.specs.declared.connection.Protocol.{Protocol}
+use Rattle.dns_core.specs.declared.message.Message.{Message}
+use Rattle.dns_core.specs.declared.record.Record.{Record}
+use Rattle.dns_core.specs.declared.request.Question.{Question}
+use Rattle.dns_core.specs.declared.request.Turn.{Turn}
+use Rattle.recursor_world.specs.declared.script.ScriptLine.{ScriptLine}
+use Rattle.recursor_world.specs.declared.script.ScriptLine.TheVariants.{Connect, Refuse, Reply}
+use Rattle.recursor_text.specs.declared.scenario.Scenario.{Scenario}
+use Rattle.recursor_text.specs.declared.scenario.Upstream.{Upstream}
+use Rattle.recursor_text.specs.declared.scenario.Upstream.TheVariants.{Script as FromScript}
+use Rattle.recursor_text.specs.declared.reading.lines.Form.{Form}
+use Rattle.recursor_text.specs.declared.reading.lines.Form.TheVariants as form
+use Rattle.recursor_text.specs.declared.reading.rules.OpenRule.{OpenRule}
+use Rattle.recursor_text.specs.declared.reading.draft.Stage.{Stage}
+use Rattle.recursor_text.specs.declared.reading.draft.Stage.TheVariants.{Start, Headed, Rooted, Patient, Scripted, Asked, Turned, Ended}
+use Rattle.recursor_text.specs.declared.reading.draft.Draft.{Draft}
+use Rattle.recursor_text.specs.Numbers.{◌>>=◌}
+use Rattle.recursor_text.specs.Lines.{class_in, no_error}
+use Rattle.recursor_text.specs.Steps.{may_ask, may_turn, may_end, start, is_settled, rule_of, settle, add, put, taken_at, taken, scenario_of}
+use Rattle.recursor_text.specs.Spelling.{head_words, spelled, record_text, record_texts, script_lines, root_line, question_line, turn_line, rules_of, to_roots, to_patience, to_told, to_rules, to_questions, to_turns, scenario_lines, patience_words, told_words, end_words, standard_options, most_roots, most_questions, most_turns, IsAddress, IsRecord, IsToldFor, IsRule, IsScriptLine, IsQuestion, IsTurn, IsScenario}
+use Rattle.recursor_text.proofs.Binds.{bind_some}
+use Rattle.recursor_text.proofs.LineLaws.{form_words, IsBare, IsForm, form_again, record_again}
+
+abbrev pub run : Draft → List (List ℕ) → Option Draft
+run d [] = Some d
+run d (l ∷ ls) = taken d l >>= λ e. run e ls
+
+abbrev some : Draft → Option Draft
+some d = Some d
+
+pub draft_is : (d e : Draft) → some d ≡ some e → d ≡ e
+draft_is d e h = cc
+
+pub run_append : (d e : Draft) (xs ys : List (List ℕ)) → run d xs ≡ Some e → run d (xs ++ ys) ≡ run e ys
+run_append d e [] ys h = ap (λ (x : Draft). run x ys) (draft_is d e h)
+run_append d e (x ∷ xs) ys h =
+    let b = bind_some (taken d x) (λ m. run m xs) e h in
+    ap (λ (o : Option Draft). o >>= λ m. run m (xs ++ ys)) b.1 ∙ run_append b.0 e xs ys b.2
+
+-- a form, where no rule is open
+pub takes_form : (d e : Draft) (f : Form) (ls : List (List ℕ)) → d.pending ≡ None → IsForm f → put d f ≡ Some e → run d (spelled (form_words f) ∷ ls) ≡ run e ls
+takes_form d e f ls shut fits h = ap (λ (p : Option OpenRule). taken_at p d (spelled (form_words f)) >>= λ m. run m ls) shut ∙ rw (form_again f fits, h) refl
+
+pub takes_record : (d e : Draft) (o : OpenRule) (r : Record) (ls : List (List ℕ)) → d.pending ≡ Some o → IsRecord r → (add o r >>= λ p. Some (settle d p)) ≡ Some e → run d (record_text r ∷ ls) ≡ run e ls
+takes_record d e o r ls opened fits h = ap (λ (p : Option OpenRule). taken_at p d (record_text r) >>= λ m. run m ls) opened ∙ rw (record_again r fits, h) refl
+
+-- ---- roots
+
+abbrev with_roots : List IpAddr → Draft
+with_roots roots = record { stage = Rooted; roots = roots; patience = 0; rules = []; pending = None; questions = []; turns = [] }
+
+roots_again : (front roots : List IpAddr) → length front + length roots ≤ most_roots → AllByRecursion IsAddress roots → run (with_roots front) (map root_line roots) ≡ Some (with_roots (front ++ roots))
+roots_again front [] few all = ap (λ (r : List IpAddr). Some (with_roots r)) (sym (append-nil front))
+roots_again front (ip ∷ roots) few all =
+    let room : ltb (length front) most_roots ≡ true = lt-ltb _ _ (omega arith) in
+    takes_form (with_roots front) (with_roots (front ++ ip ∷ [])) (form.Root ip) (map root_line roots) refl all.0 (rw room refl)
+    ∙ roots_again (front ++ ip ∷ []) roots (omega (arith, length_push front ip)) all.1
+    ∙ ap (λ (r : List IpAddr). Some (with_roots r)) (append_assoc front (ip ∷ []) roots)
+
+-- ---- rules
+
+abbrev scripted : List IpAddr → ℕ → List ScriptLine → Draft
+scripted roots patience rules = record { stage = Scripted; roots = roots; patience = patience; rules = rules; pending = None; questions = []; turns = [] }
+
+-- a rule with these records, that owes so many
+abbrev part : OpenRule → List Record → List Record → List Record → ℕ → ℕ → ℕ → OpenRule
+part o us vs ws a b c = record o { message = record o.message { answers = us; authorities = vs; additionals = ws }; owed = record { answers = a; authorities = b; additionals = c } }
+
+abbrev Told : OpenRule → List Record → Type 0
+Told o xs = AllByRecursion (IsToldFor o.message.query.query_type) xs
+
+abbrev done : List IpAddr → ℕ → List ScriptLine → OpenRule → List Record → List Record → List Record → Option Draft
+done roots patience rules o us vs ws = Some (scripted roots patience (rules ++ rule_of (part o us vs ws 0 0 0) ∷ []))
+
+third : (roots : List IpAddr) (patience : ℕ) (rules : List ScriptLine) (r : OpenRule) (us vs ws xs : List Record) → Told r xs
+    → run (settle (scripted roots patience rules) (part r us vs ws 0 0 (length xs))) (map record_text xs) ≡ done roots patience rules r us vs (ws ++ xs)
+third roots patience rules r us vs ws [] all = ap (done roots patience rules r us vs) (sym (append-nil ws))
+third roots patience rules r us vs ws (x ∷ xs) all =
+    let d = scripted roots patience rules in
+    let o = part r us vs ws 0 0 (suc (length xs)) in
+    let p = part r us vs (ws ++ x ∷ []) 0 0 (length xs) in
+    let unsettled : is_settled o.owed ≡ false = rw (ne_eqb (suc (length xs)) 0 (λ e. omega arith)) refl in
+    let opened : settle d o ≡ record d { pending = Some o } = rw unsettled refl in
+    let more : ltb 0 (suc (length xs)) ≡ true = lt-ltb _ _ (omega arith) in
+    let less : suc (length xs) - 1 ≡ length xs = omega arith in
+    let added : add o x ≡ Some p = rw (all.0.1, more, less) refl in
+    ap (λ (e : Draft). run e (map record_text (x ∷ xs))) opened
+    ∙ takes_record (record d { pending = Some o }) (settle d p) o x (map record_text xs) refl all.0.0 (rw added refl)
+    ∙ third roots patience rules r us vs (ws ++ x ∷ []) xs all.1
+    ∙ ap (done roots patience rules r us vs) (append_assoc ws (x ∷ []) xs)
+
+second : (roots : List IpAddr) (patience : ℕ) (rules : List ScriptLine) (r : OpenRule) (us vs ws xs : List Record) → Told r xs → Told r ws
+    → run (settle (scripted roots patience rules) (part r us vs [] 0 (length xs) (length ws))) (map record_text xs ++ map record_text ws) ≡ done roots patience rules r us (vs ++ xs) ws
+second roots patience rules r us vs ws [] all later = third roots patience rules r us vs [] ws later ∙ ap (λ (l : List Record). done roots patience rules r us l ws) (sym (append-nil vs))
+second roots patience rules r us vs ws (x ∷ xs) all later =
+    let d = scripted roots patience rules in
+    let o = part r us vs [] 0 (suc (length xs)) (length ws) in
+    let p = part r us (vs ++ x ∷ []) [] 0 (length xs) (length ws) in
+    let unsettled : is_settled o.owed ≡ false = rw (ne_eqb (suc (length xs)) 0 (λ e. omega arith)) refl in
+    let opened : settle d o ≡ record d { pending = Some o } = rw unsettled refl in
+    let more : ltb 0 (suc (length xs)) ≡ true = lt-ltb _ _ (omega arith) in
+    let less : suc (length xs) - 1 ≡ length xs = omega arith in
+    let added : add o x ≡ Some p = rw (all.0.1, more, less) refl in
+    ap (λ (e : Draft). run e (map record_text (x ∷ xs) ++ map record_text ws)) opened
+    ∙ takes_record (record d { pending = Some o }) (settle d p) o x (map record_text xs ++ map record_text ws) refl all.0.0 (rw added refl)
+    ∙ second roots patience rules r us (vs ++ x ∷ []) ws xs all.1 later
+    ∙ ap (λ (l : List Record). done roots patience rules r us l ws) (append_assoc vs (x ∷ []) xs)
+
+first : (roots : List IpAddr) (patience : ℕ) (rules : List ScriptLine) (r : OpenRule) (us vs ws xs : List Record) → Told r xs → Told r vs → Told r ws
+    → run (settle (scripted roots patience rules) (part r us [] [] (length xs) (length vs) (length ws))) (map record_text xs ++ (map record_text vs ++ map record_text ws)) ≡ done roots patience rules r (us ++ xs) vs ws
+first roots patience rules r us vs ws [] all next later = second roots patience rules r us [] ws vs next later ∙ ap (λ (l : List Record). done roots patience rules r l vs ws) (sym (append-nil us))
+first roots patience rules r us vs ws (x ∷ xs) all next later =
+    let d = scripted roots patience rules in
+    let o = part r us [] [] (suc (length xs)) (length vs) (length ws) in
+    let p = part r (us ++ x ∷ []) [] [] (length xs) (length vs) (length ws) in
+    let unsettled : is_settled o.owed ≡ false = rw (ne_eqb (suc (length xs)) 0 (λ e. omega arith)) refl in
+    let opened : settle d o ≡ record d { pending = Some o } = rw unsettled refl in
+    let more : ltb 0 (suc (length xs)) ≡ true = lt-ltb _ _ (omega arith) in
+    let less : suc (length xs) - 1 ≡ length xs = omega arith in
+    let added : add o x ≡ Some p = rw (all.0.1, more, less) refl in
+    ap (λ (e : Draft). run e (map record_text (x ∷ xs) ++ (map record_text vs ++ map record_text ws))) opened
+    ∙ takes_record (record d { pending = Some o }) (settle d p) o x (map record_text xs ++ (map record_text vs ++ map record_text ws)) refl all.0.0 (rw added refl)
+    ∙ first roots patience rules r (us ++ x ∷ []) vs ws xs all.1 next later
+    ∙ ap (λ (l : List Record). done roots patience rules r l vs ws) (append_assoc us (x ∷ []) xs)
+
+-- the rule of a message, none of whose records is there
+abbrev bare_rule : IpAddr → Protocol → DomainName → RecordType → ℕ → Message → OpenRule
+bare_rule ip protocol n t delay m = record {
+  ip = ip;
+  protocol = protocol;
+  delay = delay;
+  message = record { query = record { name = n; query_type = t; query_class = class_in }; response_code = m.response_code; authoritative = m.authoritative; truncation = m.truncation; answers = []; authorities = []; additionals = [] };
+  owed = record { answers = length m.answers; authorities = length m.authorities; additionals = length m.additionals };
+}
+
+is_bare : (ip : IpAddr) (protocol : Protocol) (n : DomainName) (t : RecordType) (delay : ℕ) (m : Message) → IsRule ip protocol n t delay m → IsBare (bare_rule ip protocol n t delay m)
+is_bare ip protocol n t delay m fits = record {
+  address = fits.address;
+  transport = fits.transport;
+  named = fits.named;
+  typed = fits.typed;
+  soon = fits.soon;
+  class = refl;
+  fine = fits.fine;
+  full = fits.full;
+  few = (fits.few_answers, fits.few_authorities, fits.few_additionals);
+  no_answers = refl;
+  no_authorities = refl;
+  no_additionals = refl;
+}
+
+message_is : (ip : IpAddr) (protocol : Protocol) (n : DomainName) (t : RecordType) (delay : ℕ) (m : Message) → IsRule ip protocol n t delay m
+    → rule_of (part (bare_rule ip protocol n t delay m) m.answers m.authorities m.additionals 0 0 0) ≡ Reply ip protocol n t delay (Ok m)
+message_is ip protocol n t delay m fits =
+    ap (λ (x : Message). Reply ip protocol n t delay (Ok x)) (λ i. record m { query = sym fits.query i })
+
+rule_again : (roots : List IpAddr) (patience : ℕ) (rules : List ScriptLine) (r : ScriptLine) → IsScriptLine r → run (scripted roots patience rules) (script_lines r) ≡ Some (scripted roots patience (rules ++ r ∷ []))
+rule_again roots patience rules (Reply ip protocol n t delay (Ok m)) fits =
+    let o = bare_rule ip protocol n t delay m in
+    takes_form (scripted roots patience rules) (settle (scripted roots patience rules) o) (form.Reply o) (record_texts m) refl (is_bare ip protocol n t delay m fits) refl
+    ∙ first roots patience rules o [] m.authorities m.additionals m.answers fits.answers fits.authorities fits.additionals
+    ∙ ap (λ (l : ScriptLine). Some (scripted roots patience (rules ++ l ∷ []))) (message_is ip protocol n t delay m fits)
+rule_again roots patience rules (Reply ip protocol n t delay (Err e)) fits = absurd fits
+rule_again roots patience rules (Connect ip protocol delay e) fits = absurd fits
+rule_again roots patience rules (Refuse ip protocol) fits = absurd fits
+
+rules_again : (roots : List IpAddr) (patience : ℕ) (front rules : List ScriptLine) → AllByRecursion IsScriptLine rules → run (scripted roots patience front) (flat_map script_lines rules) ≡ Some (scripted roots patience (front ++ rules))
+rules_again roots patience front [] all = ap (λ (l : List ScriptLine). Some (scripted roots patience l)) (sym (append-nil front))
+rules_again roots patience front (r ∷ rules) all =
+    run_append (scripted roots patience front) (scripted roots patience (front ++ r ∷ [])) (script_lines r) (flat_map script_lines rules) (rule_again roots patience front r all.0)
+    ∙ rules_again roots patience (front ++ r ∷ []) rules all.1
+    ∙ ap (λ (l : List ScriptLine). Some (scripted roots patience l)) (append_assoc front (r ∷ []) rules)
+
+-- ---- questions and turns
+
+abbrev asking : Stage → Scenario → List Question → Draft
+asking s sc questions = record { stage = s; roots = sc.roots; patience = sc.patience; rules = rules_of sc.upstream; pending = None; questions = questions; turns = [] }
+
+asked_again : (sc : Scenario) (front qs : List Question) → length front + length qs ≤ most_questions → AllByRecursion IsQuestion qs
+    → run (asking Asked sc front) (map question_line qs) ≡ Some (asking Asked sc (front ++ qs))
+asked_again sc front [] few all = ap (λ (l : List Question). Some (asking Asked sc l)) (sym (append-nil front))
+asked_again sc front (q ∷ qs) few all =
+    let room : ltb (length front) most_questions ≡ true = lt-ltb _ _ (omega arith) in
+    takes_form (asking Asked sc front) (asking Asked sc (front ++ q ∷ [])) (form.Question q) (map question_line qs) refl all.0 (rw room refl)
+    ∙ asked_again sc (front ++ q ∷ []) qs (omega (arith, length_push front q)) all.1
+    ∙ ap (λ (l : List Question). Some (asking Asked sc l)) (append_assoc front (q ∷ []) qs)
+
+questions_again : (sc : Scenario) (qs : List Question) → 0 < length qs → length qs ≤ most_questions → AllByRecursion IsQuestion qs
+    → run (asking Scripted sc []) (map question_line qs) ≡ Some (asking Asked sc qs)
+questions_again sc [] some few all = absurd (omega arith)
+questions_again sc (q ∷ qs) some few all =
+    takes_form (asking Scripted sc []) (asking Asked sc (q ∷ [])) (form.Question q) (map question_line qs) refl all.0 refl
+    ∙ asked_again sc (q ∷ []) qs (omega arith) all.1
+
+abbrev turning : Stage → Scenario → List Turn → Draft
+turning s sc turns = record { stage = s; roots = sc.roots; patience = sc.patience; rules = rules_of sc.upstream; pending = None; questions = sc.questions; turns = turns }
+
+turned_again : (sc : Scenario) (front ts : List Turn) → length front + length ts ≤ most_turns → AllByRecursion IsTurn ts
+    → run (turning Turned sc front) (map turn_line ts) ≡ Some (turning Turned sc (front ++ ts))
+turned_again sc front [] few all = ap (λ (l : List Turn). Some (turning Turned sc l)) (sym (append-nil front))
+turned_again sc front (t ∷ ts) few all =
+    let room : ltb (length front) most_turns ≡ true = lt-ltb _ _ (omega arith) in
+    takes_form (turning Turned sc front) (turning Turned sc (front ++ t ∷ [])) (form.Turn t) (map turn_line ts) refl all.0 (rw room refl)
+    ∙ turned_again sc (front ++ t ∷ []) ts (omega (arith, length_push front t)) all.1
+    ∙ ap (λ (l : List Turn). Some (turning Turned sc l)) (append_assoc front (t ∷ []) ts)
+
+turns_again : (sc : Scenario) (ts : List Turn) → 0 < length ts → length ts ≤ most_turns → AllByRecursion IsTurn ts
+    → run (turning Asked sc []) (map turn_line ts) ≡ Some (turning Turned sc ts)
+turns_again sc [] some few all = absurd (omega arith)
+turns_again sc (t ∷ ts) some few all =
+    takes_form (turning Asked sc []) (turning Turned sc (t ∷ [])) (form.Turn t) (map turn_line ts) refl all.0 refl
+    ∙ turned_again sc (t ∷ []) ts (omega arith) all.1
+
+-- ---- all of it
+
+first_root : (roots : List IpAddr) → 0 < length roots → length roots ≤ most_roots → AllByRecursion IsAddress roots → run start (to_roots roots) ≡ Some (with_roots roots)
+first_root [] some few all = absurd (omega arith)
+first_root (ip ∷ roots) some few all =
+    takes_form start (record start { stage = Headed }) form.Head (map root_line (ip ∷ roots)) refl tt refl
+    ∙ takes_form (record start { stage = Headed }) (with_roots (ip ∷ [])) (form.Root ip) (map root_line roots) refl all.0 refl
+    ∙ roots_again (ip ∷ []) roots (omega arith) all.1
+
+upstream_is : (u : Upstream) → FromScript (record { lines = rules_of u }) ≡ u
+upstream_is (FromScript s) = refl
+
+scenario_is : (sc : Scenario) → sc.options ≡ standard_options → scenario_of (turning Ended sc sc.turns) ≡ sc
+scenario_is sc is = λ i. record { roots = sc.roots; options = sym is i; patience = sc.patience; upstream = upstream_is sc.upstream i; questions = sc.questions; turns = sc.turns }
+
+pub run_again : (sc : Scenario) → IsScenario sc → (d : Draft) × (run start (scenario_lines sc) ≡ Some d) × (d.stage ≡ Ended) × (scenario_of d ≡ sc)
+run_again sc fits =
+    let r1 = first_root sc.roots fits.rooted fits.few_roots fits.roots in
+    let waiting : Draft = record (with_roots sc.roots) { stage = Patient; patience = sc.patience } in
+    let r2 : run start (to_patience sc.roots sc.patience) ≡ Some waiting = run_append start (with_roots sc.roots) (to_roots sc.roots) (spelled (patience_words sc.patience) ∷ []) r1
+    ∙ takes_form (with_roots sc.roots) waiting (form.Patience sc.patience) [] refl fits.patience refl in
+    let r3 : run start (to_told sc.roots sc.patience) ≡ Some (scripted sc.roots sc.patience []) = run_append start waiting (to_patience sc.roots sc.patience) (spelled told_words ∷ []) r2
+    ∙ takes_form waiting (scripted sc.roots sc.patience []) form.ToldScript [] refl tt refl in
+    let r4 : run start (to_rules sc) ≡ Some (scripted sc.roots sc.patience (rules_of sc.upstream)) = run_append start (scripted sc.roots sc.patience []) (to_told sc.roots sc.patience) (flat_map script_lines (rules_of sc.upstream)) r3
+    ∙ rules_again sc.roots sc.patience [] (rules_of sc.upstream) fits.rules in
+    let r5 : run start (to_questions sc) ≡ Some (turning Asked sc []) = run_append start (scripted sc.roots sc.patience (rules_of sc.upstream)) (to_rules sc) (map question_line sc.questions) r4
+    ∙ questions_again sc sc.questions fits.asked fits.few_questions fits.questions in
+    let r6 : run start (to_turns sc) ≡ Some (turning Turned sc sc.turns) = run_append start (turning Asked sc []) (to_questions sc) (map turn_line sc.turns) r5
+    ∙ turns_again sc sc.turns fits.played fits.few_turns fits.turns in
+    let r7 : run start (scenario_lines sc) ≡ Some (turning Ended sc sc.turns) = run_append start (turning Turned sc sc.turns) (to_turns sc) (spelled end_words ∷ []) r6
+    ∙ takes_form (turning Turned sc sc.turns) (turning Ended sc sc.turns) form.End [] refl tt refl in
+    (turning Ended sc sc.turns, r7, refl, scenario_is sc fits.options)

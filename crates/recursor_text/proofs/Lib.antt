@@ -1,0 +1,14 @@
+pub mod Appended
+pub mod AgainLaws
+pub mod Binds
+pub mod Cuts
+pub mod DraftLaws
+pub mod ExactLaws
+pub mod FieldLaws
+pub mod LineLaws
+pub mod NameLaws
+pub mod NumberLaws
+pub mod OneLine
+pub mod OnlyLaws
+pub mod PlainLaws
+pub mod WholeLaws

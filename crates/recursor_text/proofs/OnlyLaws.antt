@@ -1,0 +1,93 @@
+-- The text of a scenario, as bytes, is read again.
+use Rattle.std.proofs.Common.{◌≡◌, ℕ, ◌+◌, ◌<◌, ◌≤◌, Bool, true, false, cond, ◌||◌, eqb, ltb, List, [], ◌∷◌, ◌++◌, length, Option, Some, None, Result, Ok, Err, refl, sym, ap, subst, ◌∙◌, append_assoc}
+use Rattle.std.specs.Prelude.{IfOk}
+use Rattle.std.proofs.lemmas.Bool.{le-ltb}
+use Rattle.recursor_text.specs.Pieces.{pieces}
+use Rattle.recursor_text.specs.Numbers.{◌>>=◌}
+use Rattle.recursor_text.specs.declared.reading.rules.OpenRule.{OpenRule}
+use Rattle.recursor_text.specs.declared.reading.draft.Stage.TheVariants.{Ended}
+use Rattle.recursor_text.specs.declared.reading.draft.Draft.{Draft}
+use Rattle.recursor_text.specs.declared.scenario.Scenario.{Scenario}
+use Rattle.recursor_text.specs.declared.scenario.ScenarioError.{ScenarioError}
+use Rattle.recursor_text.specs.Lines.{form_of, record_of}
+use Rattle.recursor_text.specs.Steps.{start, settle, add, put, taken_at, taken, is_ended, scenario_of}
+use Rattle.recursor_text.specs.Texts.{record_words}
+use Rattle.recursor_text.specs.Unbuilt.{refusal_of}
+use Rattle.recursor_text.specs.Reading.{step_by, step, finish, onward, read_from, scenario_in, GivesScenario}
+use Rattle.recursor_text.specs.Spelling.{spelled, scenario_lines, text_of, Reads}
+use Rattle.recursor_text.proofs.Binds.{bind_some}
+use Rattle.recursor_text.proofs.PlainLaws.{AllBytes, AllPlain, split_at_byte, weaker, joined_plain}
+use Rattle.recursor_text.proofs.NumberLaws.{is_word_byte}
+use Rattle.recursor_text.proofs.LineLaws.{form_words, form_takes, form_plain, record_takes, record_plain}
+use Rattle.recursor_text.proofs.AgainLaws.{run, run_again, draft_is}
+use Rattle.recursor_text.proofs.WholeLaws.{found}
+
+abbrev is_line_byte : ℕ → Bool
+is_line_byte b = is_word_byte b || eqb b 32
+
+word_in_line : (x : ℕ) → is_word_byte x ≡ true → is_line_byte x ≡ true
+word_in_line x e = rw e refl
+
+plain_words : (ws : List (List ℕ)) → AllPlain is_word_byte ws → AllPlain is_line_byte ws
+plain_words [] all = tt
+plain_words (w ∷ ws) all = (weaker is_word_byte is_line_byte w word_in_line all.0, plain_words ws all.1)
+
+plain_line : (ws : List (List ℕ)) → AllPlain is_word_byte ws → AllBytes is_line_byte (spelled ws)
+plain_line ws all = joined_plain is_line_byte 32 ws refl (plain_words ws all)
+
+taken_plain : (p : Option OpenRule) (d : Draft) (line : List ℕ) (e : Draft) → taken_at p d line ≡ Some e → AllBytes is_line_byte line
+taken_plain None d line e h =
+    let b = bind_some (form_of line) (put d) e h in
+    let t = form_takes line b.0 b.1 in
+    subst (AllBytes is_line_byte) (sym t.0) (plain_line (form_words b.0) (form_plain b.0 t.1))
+taken_plain (Some o) d line e h =
+    let b = bind_some (record_of line) (λ r. add o r >>= λ p. Some (settle d p)) e h in
+    let t = record_takes line b.0 b.1 in
+    subst (AllBytes is_line_byte) (sym t.0) (plain_line (record_words b.0) (record_plain b.0 t.1))
+
+run_plain : (d e : Draft) (ls : List (List ℕ)) → run d ls ≡ Some e → AllPlain is_line_byte ls
+run_plain d e [] h = tt
+run_plain d e (l ∷ ls) h = let b = bind_some (taken d l) (λ m. run m ls) e h in (taken_plain d.pending d l b.0 b.1, run_plain b.0 e ls b.2)
+
+text_pieces : (ls : List (List ℕ)) → AllPlain is_line_byte ls → pieces 10 (text_of ls) ≡ ls ++ [] ∷ []
+text_pieces [] all = refl
+text_pieces (l ∷ ls) all =
+    ap (pieces 10) (append_assoc l (10 ∷ []) (text_of ls)) ∙ split_at_byte is_line_byte 10 l (text_of ls) refl all.0 ∙ ap (λ (r : List (List ℕ)). l ∷ r) (text_pieces ls all.1)
+
+ends_well : (d : Draft) (n : ℕ) → d.stage ≡ Ended → finish d n [] ≡ Ok (scenario_of d)
+ends_well d n is = let e : is_ended d.stage ≡ true = ap is_ended is in rw e refl
+
+-- where a line comes first, it does not stand last
+read_cons : (d : Draft) (n : ℕ) (l : List ℕ) (ls : List (List ℕ)) → read_from d n (l ∷ (ls ++ [] ∷ [])) ≡ onward n (step d l) (λ e. read_from e (n + 1) (ls ++ [] ∷ []))
+unfolding read_from
+read_cons d n l [] = refl
+read_cons d n l (m ∷ ls) = refl
+
+read_end : (d : Draft) (n : ℕ) → read_from d n ([] ∷ []) ≡ finish d n []
+unfolding read_from
+read_end d n = refl
+
+read_run : (d e : Draft) (n : ℕ) (ls : List (List ℕ)) → run d ls ≡ Some e → e.stage ≡ Ended → read_from d n (ls ++ [] ∷ []) ≡ Ok (scenario_of e)
+read_run d e n [] h is =
+    read_end d n ∙ ap (λ (x : Draft). finish x n []) (draft_is d e h) ∙ ends_well e n is
+read_run d e n (l ∷ ls) h is =
+    let b = bind_some (taken d l) (λ m. run m ls) e h in
+    read_cons d n l ls ∙ ap (λ (o : Option Draft). onward n (step_by o (refusal_of d l)) (λ e. read_from e (n + 1) (ls ++ [] ∷ []))) b.1 ∙ read_run b.0 e (n + 1) ls b.2 is
+
+only : (bytes : List ℕ) (s : Scenario) → Reads bytes s → scenario_in bytes ≡ Ok s
+only bytes s reads =
+    let r = run_again s reads.fits in
+    let cut : pieces 10 bytes ≡ scenario_lines s ++ [] ∷ [] = ap (pieces 10) reads.text ∙ text_pieces (scenario_lines s) (run_plain start r.0 (scenario_lines s) r.1) in
+    let short : ltb 16777216 (length bytes) ≡ false = le-ltb _ _ reads.short in
+    rw short (ap (read_from start 1) cut ∙ read_run start r.0 1 (scenario_lines s) r.1 r.2 ∙ ap (λ (x : Scenario). Ok x) r.3)
+
+-- a text has one reading at most
+pub one_reading : (bytes : List ℕ) (s t : Scenario) → Reads bytes s → Reads bytes t → s ≡ t
+one_reading bytes s t first second = let e = sym (only bytes s first) ∙ only bytes t second in cc
+
+pub found_in : (bytes : List ℕ) (r : Result Scenario ScenarioError) → GivesScenario r (scenario_in bytes) → IfOk r (λ s. Reads bytes s)
+found_in bytes (Ok s) gives = found bytes s gives
+found_in bytes (Err e) gives = tt
+
+pub only_in : (bytes : List ℕ) (s : Scenario) (r : Result Scenario ScenarioError) → Reads bytes s → GivesScenario r (scenario_in bytes) → GivesScenario r (Ok s)
+only_in bytes s r reads gives = subst (λ (x : Result Scenario ScenarioError). GivesScenario r x) (only bytes s reads) gives

@@ -1,0 +1,16 @@
+pub mod Appending
+pub mod Errors
+pub mod Faults
+pub mod Fields
+pub mod Lines
+pub mod Log
+pub mod Names
+pub mod Numbers
+pub mod OptionLines
+pub mod Pieces
+pub mod Reading
+pub mod Spelling
+pub mod Steps
+pub mod Texts
+pub mod Transcript
+pub mod Unbuilt

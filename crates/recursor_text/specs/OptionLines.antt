@@ -1,0 +1,112 @@
+-- Option lines, none of which is read yet. IPv6 networks are no part of them yet.
+use Rattle.std.specs.Prelude.{ℕ, ◌+◌, Bool, true, false, ◌&&◌, ◌||◌, nat_lt, List, [], ◌∷◌, Option, Some, None, is_some, if◌then◌else◌, codes}
+use Rattle.std.specs.Str.{bytes_eq}
+use Rattle.std.specs.List.{list_all}
+use Rattle.recursor_text.specs.Fields.{Fields, checked, field, both, whole, nothing, end_of}
+use Rattle.recursor_text.specs.Numbers.{◌>>=◌, number_of, number_within, ipv4_of}
+use Rattle.recursor_text.specs.Pieces.{pieces}
+
+abbrev pub OptionLine : Type 0
+OptionLine = List (List ℕ) → Option (Unit {0})
+
+-- an address and a length up to 32
+abbrev pub is_address_and_length : List (List ℕ) → Bool
+is_address_and_length [] = false
+is_address_and_length (a ∷ []) = false
+is_address_and_length (a ∷ p ∷ []) = is_some (ipv4_of a) && is_some (number_of 32 p)
+is_address_and_length (a ∷ p ∷ q ∷ rest) = false
+
+-- a network, its length behind a slash
+abbrev pub is_network : List ℕ → Bool
+is_network w = is_address_and_length (pieces 47 w)
+
+abbrev pub are_networks : List (List ℕ) → Bool
+are_networks ws = list_all is_network ws
+
+-- a list of networks, or a dash
+abbrev pub is_network_list : List ℕ → Bool
+is_network_list w = bytes_eq w (codes "-") || are_networks (pieces 44 w)
+
+-- ports that rise, from this one on
+abbrev pub are_ports_from : ℕ → List (List ℕ) → Bool
+are_ports_from low [] = true
+are_ports_from low (w ∷ ws) = elim (number_within low 65535 w) [ Some n ↦ are_ports_from (n + 1) ws | None ↦ false ]
+
+abbrev pub is_port_list : List ℕ → Bool
+is_port_list w = bytes_eq w (codes "-") || are_ports_from 0 (pieces 44 w)
+
+abbrev pub is_delay : List ℕ → Bool
+is_delay w = is_some (number_within 1 31 w)
+
+abbrev pub is_delay_list : List ℕ → Bool
+is_delay_list w = list_all is_delay (pieces 44 w)
+
+-- a number up to most
+unfoldable pub number_line : ℕ → OptionLine
+number_line most = whole (field (number_within 0 most)) (λ x. tt)
+
+unfoldable pub networks_line : OptionLine
+networks_line = whole (checked is_network_list) (λ x. tt)
+
+unfoldable pub ports_line : OptionLine
+ports_line = whole (checked is_port_list) (λ x. tt)
+
+unfoldable pub delays_line : OptionLine
+delays_line = whole (checked is_delay_list) (λ x. tt)
+
+abbrev pub seconds : Fields ℕ
+seconds = field (number_within 0 4294967295)
+
+-- a least and a most TTL
+unfoldable pub bounds_line : OptionLine
+bounds_line ws = seconds ws >>= λ x. whole (field (number_within x.0 4294967295)) (λ y. tt) x.1
+
+unfoldable pub damping_line : OptionLine
+damping_line = whole (both seconds (both seconds (field (number_within 0 255)))) (λ x. tt)
+
+unfoldable pub encryption_line : OptionLine
+encryption_line [] = None
+encryption_line (w ∷ ws) =
+    if bytes_eq w (codes "off") then whole nothing (λ x. tt) ws
+    else if bytes_eq w (codes "on") then damping_line ws
+    else None
+
+abbrev pub is_minimization : List ℕ → Bool
+is_minimization w = bytes_eq w (codes "strict") || bytes_eq w (codes "relaxed")
+
+unfoldable pub minimization_line : OptionLine
+minimization_line = whole (checked is_minimization) (λ x. tt)
+
+-- the options whose value is a list of networks
+unfoldable pub is_network_option : List ℕ → Bool
+is_network_option w = bytes_eq w (codes "allow_answers") || bytes_eq w (codes "deny_answers") || bytes_eq w (codes "allow_server") || bytes_eq w (codes "deny_server")
+
+unfoldable pub is_bounds_option : List ℕ → Bool
+is_bounds_option w = bytes_eq w (codes "positive_ttl") || bytes_eq w (codes "negative_ttl")
+
+-- the greatest value of an option that is a number
+unfoldable pub most_of : List ℕ → Option ℕ
+most_of w =
+    if bytes_eq w (codes "ns_cache_size") then Some 65536
+    else if bytes_eq w (codes "response_cache_size") then Some 4194304
+    else if bytes_eq w (codes "recursion_limit") then Some 255
+    else if bytes_eq w (codes "ns_recursion_limit") then Some 255
+    else if bytes_eq w (codes "case_randomization") then Some 1
+    else if bytes_eq w (codes "edns_payload_len") then Some 65535
+    else None
+
+-- an option that is no number
+unfoldable pub listed_line : List ℕ → OptionLine
+listed_line w ws =
+    if is_network_option w then networks_line ws
+    else if bytes_eq w (codes "avoid_local_udp_ports") then ports_line ws
+    else if is_bounds_option w then bounds_line ws
+    else if bytes_eq w (codes "encryption") then encryption_line ws
+    else if bytes_eq w (codes "qname_minimization") then minimization_line ws
+    else if bytes_eq w (codes "first_delays") then delays_line ws
+    else None
+
+-- an option and its value
+unfoldable pub option_line : OptionLine
+option_line [] = None
+option_line (w ∷ ws) = elim (most_of w) [ Some most ↦ number_line most ws | None ↦ listed_line w ws ]

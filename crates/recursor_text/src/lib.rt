@@ -1,0 +1,22 @@
+//! Scenarios and transcripts as text.
+//!
+//! `read_scenario` reads exactly the texts in `Reads`, each of which is one scenario, and says of any
+//! other at which line it fails. `print_transcript` appends exactly the text of a transcript.
+#![tactic(auto)]
+
+mod printing;
+mod reading;
+mod scenario;
+mod transcript;
+
+pub use printing::{
+    has_log_words, has_transcript_words, has_words, print_error, print_log, print_message,
+    print_record, print_transcript,
+};
+pub use scenario::{Cause, Scenario, ScenarioError, Upstream, one_reading, read_scenario};
+pub use transcript::Transcript;
+
+#[cfg(test)]
+mod printing_tests;
+#[cfg(test)]
+mod scenario_tests;

@@ -1,0 +1,12 @@
+//! How scenarios are read: pieces and words, the kinds of lines, what has come of the lines so
+//! far, and the whole text.
+
+pub mod draft;
+pub mod lines;
+pub mod numbers;
+pub mod option_lines;
+pub mod pieces;
+pub mod refusal;
+pub mod rules;
+pub mod text;
+pub mod words;

@@ -1,0 +1,325 @@
+//! What has come of a scenario so far.
+ghost use Rattle.std.specs.Prelude.{◌≡◌, OnOk, IfOk};
+ghost use Rattle.recursor_text.specs.Fields.{Gives};
+ghost use Rattle.recursor_text.specs.Unbuilt.{place_of, moment_of};
+ghost use Rattle.recursor_text.specs.Steps.{Steps, may_head, may_root, may_wait, may_tell, may_reply, may_ask, may_turn, may_end, is_ended, start, put, settle, add, taken, scenario_of, is_settled, rule_of};
+
+use super::lines::{Form, form_line, record_line};
+use super::rules::{Counts, OpenRule};
+use super::words::LineError;
+use crate::scenario::{Scenario, Upstream};
+use dns_core::{Ips, Items, NoMemory, Question, Record, TryClone, Turn};
+use recursor_core::RecursorOptions;
+use recursor_world::{Script, ScriptLine};
+use std::alloc::Global;
+
+/// How many roots, questions and turns a scenario may have.
+const MOST_ROOTS: usize = 1;
+
+const MOST_QUESTIONS: usize = 1;
+
+const MOST_TURNS: usize = 1;
+
+/// Why a line that a draft does not take is refused.
+#[derive(Clone, Copy, Debug, PartialEq, Eq)]
+pub enum Refusal {
+    Bad,
+    NotBuilt,
+}
+
+/// Where the next line stands: after which kind of line, whether a rule owes it, and not before
+/// which moment.
+#[derive(Clone, Copy, Debug, PartialEq, Eq)]
+pub struct Place {
+    pub stage: Stage,
+    pub owes: bool,
+    pub last: u64,
+}
+
+/// The last kind of line that was taken.
+#[derive(Clone, Copy, Debug, PartialEq, Eq)]
+pub enum Stage {
+    Start,
+    Headed,
+    Rooted,
+    Patient,
+    Scripted,
+    Asked,
+    Turned,
+    Ended,
+}
+
+/// What the lines so far say. `pending` is a rule that owes records.
+#[derive(Drop, Debug)]
+pub struct Draft {
+    pub stage: Stage,
+    pub roots: Ips,
+    pub patience: u32,
+    pub rules: Items<ScriptLine>,
+    pub pending: Option<OpenRule>,
+    pub questions: Items<Question>,
+    pub turns: Items<Turn>,
+}
+
+impl Stage {
+    fn may_head(self) -> bool
+        ensures { result ≡ may_head self }
+    {
+        matches!(&self, Stage::Start)
+    }
+
+    fn may_root(self) -> bool
+        ensures { result ≡ may_root self }
+    {
+        matches!(&self, Stage::Headed | Stage::Rooted)
+    }
+
+    fn may_wait(self) -> bool
+        ensures { result ≡ may_wait self }
+    {
+        matches!(&self, Stage::Rooted)
+    }
+
+    fn may_tell(self) -> bool
+        ensures { result ≡ may_tell self }
+    {
+        matches!(&self, Stage::Patient)
+    }
+
+    fn may_reply(self) -> bool
+        ensures { result ≡ may_reply self }
+    {
+        matches!(&self, Stage::Scripted)
+    }
+
+    fn may_ask(self) -> bool
+        ensures { result ≡ may_ask self }
+    {
+        matches!(&self, Stage::Scripted | Stage::Asked)
+    }
+
+    fn may_turn(self) -> bool
+        ensures { result ≡ may_turn self }
+    {
+        matches!(&self, Stage::Asked | Stage::Turned)
+    }
+
+    fn may_end(self) -> bool
+        ensures { result ≡ may_end self }
+    {
+        matches!(&self, Stage::Turned)
+    }
+
+    fn is_ended(self) -> bool
+        ensures { result ≡ is_ended self }
+    {
+        matches!(&self, Stage::Ended)
+    }
+}
+
+/// The rule with one record more, in the first section that lacks one.
+fn add(partial: OpenRule, entry: Record) -> Result<OpenRule, LineError>
+    ensures { Gives result (add partial entry) }
+{
+    let mut open = partial;
+    if open.message.query.query_type.code == 1 && entry.record_type.code == 2 {
+        return Err(LineError::Refused);
+    }
+    if open.owed.answers > 0 {
+        open.message.answers.push(entry)?;
+        open.owed.answers -= 1;
+    } else if open.owed.authorities > 0 {
+        open.message.authorities.push(entry)?;
+        open.owed.authorities -= 1;
+    } else if open.owed.additionals > 0 {
+        open.message.additionals.push(entry)?;
+        open.owed.additionals -= 1;
+    } else {
+        return Err(LineError::Refused);
+    }
+    Ok(open)
+}
+
+fn is_settled(owed: Counts) -> bool
+    ensures { result ≡ is_settled owed }
+{
+    owed.answers == 0 && owed.authorities == 0 && owed.additionals == 0
+}
+
+/// A rule, with the records that are there.
+fn rule_of(alloc: Global, whole: OpenRule) -> Result<ScriptLine, NoMemory>
+    ensures { IfOk result (λ line. line ≡ rule_of whole) }
+{
+    let OpenRule {
+        ip,
+        protocol,
+        delay,
+        message,
+        owed: _,
+    } = whole;
+    let name = message.query.name.try_clone(alloc)?;
+    Ok(ScriptLine::Reply {
+        ip,
+        protocol,
+        name,
+        query_type: message.query.query_type,
+        delay,
+        outcome: Ok(message),
+    })
+}
+
+/// The moment of the first turn, which is the only one yet.
+fn first_moment(turns: &[Turn]) -> u64
+    ensures { result ≡ moment_of turns.now }
+{
+    match turns {
+        [turn, ..] => turn.moment,
+        [] => 0,
+    }
+}
+
+impl Draft {
+    pub fn new(alloc: Global) -> Self
+        ensures { result ≡ start }
+    {
+        Draft {
+            stage: Stage::Start,
+            roots: Ips::empty(alloc),
+            patience: 0,
+            rules: Items::empty(alloc),
+            pending: None,
+            questions: Items::empty(alloc),
+            turns: Items::empty(alloc),
+        }
+    }
+
+    pub fn is_ended(&self) -> bool
+        ensures { result ≡ is_ended self.now.stage }
+    {
+        self.stage.is_ended()
+    }
+
+    /// Where the next line stands.
+    pub fn place(&self) -> Place
+        ensures { result ≡ place_of self.now }
+    {
+        Place {
+            stage: self.stage,
+            owes: self.pending.is_some(),
+            last: first_moment(self.turns.items()),
+        }
+    }
+
+    pub fn into_scenario(self, alloc: Global) -> Scenario
+        ensures { result ≡ scenario_of self }
+    {
+        let Draft {
+            stage: _,
+            roots,
+            patience,
+            rules,
+            pending: _,
+            questions,
+            turns,
+        } = self;
+        Scenario {
+            roots,
+            options: RecursorOptions::standard(alloc),
+            patience,
+            upstream: Upstream::Script(Script { lines: rules }),
+            questions,
+            turns,
+        }
+    }
+
+    fn settle(&mut self, alloc: Global, partial: OpenRule) -> Result<(), NoMemory>
+        ensures { OnOk result (self.new ≡ settle self.old partial) }
+    {
+        if is_settled(partial.owed) {
+            let rule = rule_of(alloc, partial)?;
+            self.rules.push(rule)?;
+            self.pending = None;
+        } else {
+            self.pending = Some(partial);
+        }
+        Ok(())
+    }
+
+    fn put(&mut self, alloc: Global, form: Form) -> Result<(), LineError>
+        ensures { Steps result self.new (put self.old form) }
+    {
+        match form {
+            Form::Head => {
+                if !self.stage.may_head() {
+                    return Err(LineError::Refused);
+                }
+                self.stage = Stage::Headed;
+            }
+            Form::Root(ip) => {
+                if !self.stage.may_root() || self.roots.len() >= MOST_ROOTS {
+                    return Err(LineError::Refused);
+                }
+                self.roots.push(ip)?;
+                self.stage = Stage::Rooted;
+            }
+            Form::Patience(patience) => {
+                if !self.stage.may_wait() {
+                    return Err(LineError::Refused);
+                }
+                self.patience = patience;
+                self.stage = Stage::Patient;
+            }
+            Form::ToldScript => {
+                if !self.stage.may_tell() {
+                    return Err(LineError::Refused);
+                }
+                self.stage = Stage::Scripted;
+            }
+            Form::Reply(open) => {
+                if !self.stage.may_reply() {
+                    return Err(LineError::Refused);
+                }
+                self.settle(alloc, open)?;
+            }
+            Form::Question(question) => {
+                if !self.stage.may_ask() || self.questions.len() >= MOST_QUESTIONS {
+                    return Err(LineError::Refused);
+                }
+                self.questions.push(question)?;
+                self.stage = Stage::Asked;
+            }
+            Form::Turn(turn) => {
+                if !self.stage.may_turn() || self.turns.len() >= MOST_TURNS {
+                    return Err(LineError::Refused);
+                }
+                self.turns.push(turn)?;
+                self.stage = Stage::Turned;
+            }
+            Form::End => {
+                if !self.stage.may_end() {
+                    return Err(LineError::Refused);
+                }
+                self.stage = Stage::Ended;
+            }
+        }
+        Ok(())
+    }
+
+    /// Takes the next line. After an error the draft is of no use.
+    pub fn take(&mut self, alloc: Global, line: &[u8]) -> Result<(), LineError>
+        ensures { Steps result self.new (taken self.old line.now) }
+    {
+        match self.pending.take() {
+            Some(open) => {
+                let entry = record_line(alloc, line)?;
+                let open = add(open, entry)?;
+                self.settle(alloc, open)?;
+                Ok(())
+            }
+            None => {
+                let form = form_line(alloc, line)?;
+                self.put(alloc, form)
+            }
+        }
+    }
+}

@@ -1,0 +1,302 @@
+//! Option lines, none of which is read yet: which values they may have.
+ghost use Rattle.std.specs.Prelude.{◌≡◌};
+ghost use Rattle.std.specs.List.{list_all};
+ghost use Rattle.recursor_text.specs.Fields.{Gives, GivesFields, checked};
+ghost use Rattle.recursor_text.specs.Pieces.{pieces};
+ghost use Rattle.recursor_text.specs.OptionLines.{is_network, are_networks, is_network_list, are_ports_from, is_port_list, is_delay, is_delay_list, number_line, networks_line, ports_line, delays_line, bounds_line, damping_line, encryption_line, is_minimization, minimization_line, is_network_option, is_bounds_option, most_of, listed_line, option_line};
+
+use super::numbers::{ipv4, number};
+use super::pieces::cut;
+use super::words::{LineError, Words, pass};
+
+fn is_network(word: &[u8]) -> bool
+    ensures { result ≡ is_network word.now }
+{
+    let (address, rest) = cut(word, b'/');
+    let Some(rest) = rest else {
+        return false;
+    };
+    let (length, more) = cut(rest, b'/');
+    if let Some(_more) = more {
+        return false;
+    }
+    ipv4(address).is_some() && number(length, 32).is_some()
+}
+
+fn are_networks(word: &[u8]) -> bool
+    ensures { result ≡ are_networks (pieces 44 word.now) }
+{
+    let mut rest = word;
+    'items: loop {
+        let (item, after) = cut(rest, b',');
+        if !is_network(item) {
+            return false;
+        }
+        let Some(after) = after else {
+            return true;
+        };
+        rest = after;
+    }
+}
+
+fn is_network_list(word: &[u8]) -> bool
+    ensures { result ≡ is_network_list word.now }
+{
+    word == b"-".as_slice() || are_networks(word)
+}
+
+fn are_ports(word: &[u8]) -> bool
+    ensures { result ≡ are_ports_from 0 (pieces 44 word.now) }
+{
+    let mut low: u64 = 0;
+    let mut rest = word;
+    'items: loop {
+        let (item, after) = cut(rest, b',');
+        match number(item, 65_535) {
+            Some(n) if low <= n => low = n + 1,
+            _ => return false,
+        }
+        let Some(after) = after else {
+            return true;
+        };
+        rest = after;
+    }
+}
+
+fn is_port_list(word: &[u8]) -> bool
+    ensures { result ≡ is_port_list word.now }
+{
+    word == b"-".as_slice() || are_ports(word)
+}
+
+fn is_delay(word: &[u8]) -> bool
+    ensures { result ≡ is_delay word.now }
+{
+    match number(word, 31) {
+        Some(n) if 1 <= n => true,
+        _ => false,
+    }
+}
+
+fn is_delay_list(word: &[u8]) -> bool
+    ensures { result ≡ is_delay_list word.now }
+{
+    let mut rest = word;
+    'items: loop {
+        let (item, after) = cut(rest, b',');
+        if !is_delay(item) {
+            return false;
+        }
+        let Some(after) = after else {
+            return true;
+        };
+        rest = after;
+    }
+}
+
+fn is_minimization(word: &[u8]) -> bool
+    ensures { result ≡ is_minimization word.now }
+{
+    word == b"strict".as_slice() || word == b"relaxed".as_slice()
+}
+
+fn networks(words: &mut Words) -> Result<(), LineError>
+    ensures { GivesFields result words.new (checked is_network_list words.old) }
+{
+    let Some(word) = words.next() else {
+        return Err(LineError::Refused);
+    };
+    pass(is_network_list(word))
+}
+
+fn ports(words: &mut Words) -> Result<(), LineError>
+    ensures { GivesFields result words.new (checked is_port_list words.old) }
+{
+    let Some(word) = words.next() else {
+        return Err(LineError::Refused);
+    };
+    pass(is_port_list(word))
+}
+
+fn delays(words: &mut Words) -> Result<(), LineError>
+    ensures { GivesFields result words.new (checked is_delay_list words.old) }
+{
+    let Some(word) = words.next() else {
+        return Err(LineError::Refused);
+    };
+    pass(is_delay_list(word))
+}
+
+fn minimization(words: &mut Words) -> Result<(), LineError>
+    ensures { GivesFields result words.new (checked is_minimization words.old) }
+{
+    let Some(word) = words.next() else {
+        return Err(LineError::Refused);
+    };
+    pass(is_minimization(word))
+}
+
+#[tactic(auto, unfolding(crate::specs::OptionLines::number_line))]
+fn number_line(words: &mut Words, most: u64) -> Result<(), LineError>
+    ensures { Gives result (number_line most words.old) }
+{
+    words.number(0, most)?;
+    words.end()?;
+    Ok(())
+}
+
+#[tactic(auto, unfolding(crate::specs::OptionLines::networks_line))]
+fn networks_line(words: &mut Words) -> Result<(), LineError>
+    ensures { Gives result (networks_line words.old) }
+{
+    networks(words)?;
+    words.end()?;
+    Ok(())
+}
+
+#[tactic(auto, unfolding(crate::specs::OptionLines::ports_line))]
+fn ports_line(words: &mut Words) -> Result<(), LineError>
+    ensures { Gives result (ports_line words.old) }
+{
+    ports(words)?;
+    words.end()?;
+    Ok(())
+}
+
+#[tactic(auto, unfolding(crate::specs::OptionLines::delays_line))]
+fn delays_line(words: &mut Words) -> Result<(), LineError>
+    ensures { Gives result (delays_line words.old) }
+{
+    delays(words)?;
+    words.end()?;
+    Ok(())
+}
+
+#[tactic(auto, unfolding(crate::specs::OptionLines::bounds_line))]
+fn bounds_line(words: &mut Words) -> Result<(), LineError>
+    ensures { Gives result (bounds_line words.old) }
+{
+    let least = words.number(0, 4_294_967_295)?;
+    words.number(least, 4_294_967_295)?;
+    words.end()?;
+    Ok(())
+}
+
+#[tactic(auto, unfolding(crate::specs::OptionLines::damping_line))]
+fn damping_line(words: &mut Words) -> Result<(), LineError>
+    ensures { Gives result (damping_line words.old) }
+{
+    words.number(0, 4_294_967_295)?;
+    words.number(0, 4_294_967_295)?;
+    words.number(0, 255)?;
+    words.end()?;
+    Ok(())
+}
+
+#[tactic(auto, unfolding(crate::specs::OptionLines::encryption_line))]
+fn encryption_line(words: &mut Words) -> Result<(), LineError>
+    ensures { Gives result (encryption_line words.old) }
+{
+    let Some(word) = words.next() else {
+        return Err(LineError::Refused);
+    };
+    if word == b"off".as_slice() {
+        words.end()?;
+        return Ok(());
+    }
+    if word == b"on".as_slice() {
+        return damping_line(words);
+    }
+    Err(LineError::Refused)
+}
+
+#[tactic(auto, unfolding(crate::specs::OptionLines::minimization_line))]
+fn minimization_line(words: &mut Words) -> Result<(), LineError>
+    ensures { Gives result (minimization_line words.old) }
+{
+    minimization(words)?;
+    words.end()?;
+    Ok(())
+}
+
+#[tactic(auto, unfolding(crate::specs::OptionLines::is_network_option))]
+fn is_network_option(word: &[u8]) -> bool
+    ensures { result ≡ is_network_option word.now }
+{
+    word == b"allow_answers".as_slice()
+        || word == b"deny_answers".as_slice()
+        || word == b"allow_server".as_slice()
+        || word == b"deny_server".as_slice()
+}
+
+#[tactic(auto, unfolding(crate::specs::OptionLines::is_bounds_option))]
+fn is_bounds_option(word: &[u8]) -> bool
+    ensures { result ≡ is_bounds_option word.now }
+{
+    word == b"positive_ttl".as_slice() || word == b"negative_ttl".as_slice()
+}
+
+/// The greatest value of an option that is a number.
+#[tactic(auto, unfolding(crate::specs::OptionLines::most_of))]
+fn most_of(word: &[u8]) -> Option<u64>
+    ensures { result ≡ most_of word.now }
+{
+    if word == b"ns_cache_size".as_slice() {
+        return Some(65_536);
+    }
+    if word == b"response_cache_size".as_slice() {
+        return Some(4_194_304);
+    }
+    if word == b"recursion_limit".as_slice() {
+        return Some(255);
+    }
+    if word == b"ns_recursion_limit".as_slice() {
+        return Some(255);
+    }
+    if word == b"case_randomization".as_slice() {
+        return Some(1);
+    }
+    if word == b"edns_payload_len".as_slice() {
+        return Some(65_535);
+    }
+    None
+}
+
+#[tactic(auto, unfolding(crate::specs::OptionLines::listed_line))]
+fn listed_line(word: &[u8], words: &mut Words) -> Result<(), LineError>
+    ensures { Gives result (listed_line word.now words.old) }
+{
+    if is_network_option(word) {
+        return networks_line(words);
+    }
+    if word == b"avoid_local_udp_ports".as_slice() {
+        return ports_line(words);
+    }
+    if is_bounds_option(word) {
+        return bounds_line(words);
+    }
+    if word == b"encryption".as_slice() {
+        return encryption_line(words);
+    }
+    if word == b"qname_minimization".as_slice() {
+        return minimization_line(words);
+    }
+    if word == b"first_delays".as_slice() {
+        return delays_line(words);
+    }
+    Err(LineError::Refused)
+}
+
+/// An option and its value.
+#[tactic(auto, unfolding(crate::specs::OptionLines::option_line))]
+pub fn option_line(words: &mut Words) -> Result<(), LineError>
+    ensures { Gives result (option_line words.old) }
+{
+    let Some(word) = words.next() else {
+        return Err(LineError::Refused);
+    };
+    match most_of(word) {
+        Some(most) => number_line(words, most),
+        None => listed_line(word, words),
+    }
+}

@@ -1,0 +1,617 @@
+//! Lines that are not taken: which of them the format has, though they are not read yet.
+ghost use Rattle.std.specs.Prelude.{◌≡◌, Option, codes, IfOk};
+ghost use Rattle.std.specs.List.{list_all};
+ghost use Rattle.recursor_text.specs.Fields.{Gives, GivesFields, checked};
+ghost use Rattle.recursor_text.specs.Unbuilt.{is_protocol, is_error_word, is_flags, is_dnssec, number_behind, is_named_type, is_early_type, is_late_type, is_type, is_named_class, is_class, is_named_code, is_code, is_hex_digit, is_bytes, root_line, told_line, refuse_line, error_line, message_line, ok_line, connect_line, reply_line, question_line, turn_line, address_data, name_data, soa_data, signature_data, bytes_data, data_line, delay_field, any_number, outcome_line, stands, record_line, is_at_roots, is_at_options, is_at_told, is_at_rules, is_at_questions, is_at_turns, other_line, line_at, refusal_at};
+
+use super::draft::{Place, Refusal, Stage};
+use super::numbers::number;
+use super::option_lines::option_line;
+use super::words::{LineError, Words, pass};
+use dns_core::NoMemory;
+use std::alloc::Global;
+
+// ---- words
+
+#[tactic(auto, unfolding(crate::specs::Unbuilt::is_protocol))]
+fn is_protocol(word: &[u8]) -> bool
+    ensures { result ≡ is_protocol word.now }
+{
+    word == b"udp".as_slice()
+        || word == b"tcp".as_slice()
+        || word == b"tls".as_slice()
+        || word == b"https".as_slice()
+        || word == b"quic".as_slice()
+        || word == b"h3".as_slice()
+}
+
+#[tactic(auto, unfolding(crate::specs::Unbuilt::is_error_word))]
+fn is_error_word(word: &[u8]) -> bool
+    ensures { result ≡ is_error_word word.now }
+{
+    word == b"busy".as_slice()
+        || word == b"io".as_slice()
+        || word == b"closed".as_slice()
+        || word == b"refused".as_slice()
+        || word == b"timeout".as_slice()
+        || word == b"noconnections".as_slice()
+        || word == b"mismatch".as_slice()
+}
+
+#[tactic(auto, unfolding(crate::specs::Unbuilt::is_flags))]
+fn is_flags(word: &[u8]) -> bool
+    ensures { result ≡ is_flags word.now }
+{
+    word == b"none".as_slice()
+        || word == b"aa".as_slice()
+        || word == b"tc".as_slice()
+        || word == b"aa+tc".as_slice()
+}
+
+#[tactic(auto, unfolding(crate::specs::Unbuilt::is_dnssec))]
+fn is_dnssec(word: &[u8]) -> bool
+    ensures { result ≡ is_dnssec word.now }
+{
+    word == b"plain".as_slice() || word == b"dnssec".as_slice()
+}
+
+/// The number behind a word.
+fn number_behind(word: &[u8], other: &[u8]) -> Option<u64>
+    ensures { result ≡ number_behind other.now word.now }
+{
+    if other.len() < word.len() && &word[..other.len()] == other {
+        number(&word[other.len()..], 65_535)
+    } else {
+        None
+    }
+}
+
+#[tactic(auto, unfolding(crate::specs::Unbuilt::is_named_type))]
+fn is_named_type(n: u64) -> bool
+    ensures { result ≡ is_named_type n }
+{
+    matches!(
+        n,
+        1 | 2
+            | 5
+            | 6
+            | 10
+            | 12
+            | 15
+            | 16
+            | 28
+            | 33
+            | 41
+            | 43
+            | 46
+            | 47
+            | 48
+            | 50
+            | 51
+            | 64
+            | 65
+            | 251
+            | 252
+            | 255
+            | 257
+    )
+}
+
+#[tactic(auto, unfolding(crate::specs::Unbuilt::is_early_type))]
+fn is_early_type(word: &[u8]) -> bool
+    ensures { result ≡ is_early_type word.now }
+{
+    word == b"A".as_slice()
+        || word == b"NS".as_slice()
+        || word == b"CNAME".as_slice()
+        || word == b"SOA".as_slice()
+        || word == b"NULL".as_slice()
+        || word == b"PTR".as_slice()
+        || word == b"MX".as_slice()
+        || word == b"TXT".as_slice()
+        || word == b"AAAA".as_slice()
+        || word == b"SRV".as_slice()
+        || word == b"OPT".as_slice()
+}
+
+#[tactic(auto, unfolding(crate::specs::Unbuilt::is_late_type))]
+fn is_late_type(word: &[u8]) -> bool
+    ensures { result ≡ is_late_type word.now }
+{
+    word == b"DS".as_slice()
+        || word == b"RRSIG".as_slice()
+        || word == b"NSEC".as_slice()
+        || word == b"DNSKEY".as_slice()
+        || word == b"NSEC3".as_slice()
+        || word == b"NSEC3PARAM".as_slice()
+        || word == b"SVCB".as_slice()
+        || word == b"HTTPS".as_slice()
+        || word == b"IXFR".as_slice()
+        || word == b"AXFR".as_slice()
+        || word == b"ANY".as_slice()
+        || word == b"CAA".as_slice()
+}
+
+fn is_type(word: &[u8]) -> bool
+    ensures { result ≡ is_type word.now }
+{
+    if is_early_type(word) || is_late_type(word) {
+        return true;
+    }
+    match number_behind(word, b"TYPE") {
+        Some(n) => !is_named_type(n),
+        None => false,
+    }
+}
+
+#[tactic(auto, unfolding(crate::specs::Unbuilt::is_class))]
+fn is_class(word: &[u8]) -> bool
+    ensures { result ≡ is_class word.now }
+{
+    if word == b"IN".as_slice() || word == b"CH".as_slice() || word == b"HS".as_slice() {
+        return true;
+    }
+    match number_behind(word, b"CLASS") {
+        Some(n) => !(n == 1 || n == 3 || n == 4),
+        None => false,
+    }
+}
+
+#[tactic(auto, unfolding(crate::specs::Unbuilt::is_code))]
+fn is_code(word: &[u8]) -> bool
+    ensures { result ≡ is_code word.now }
+{
+    if word == b"NOERROR".as_slice()
+        || word == b"FORMERR".as_slice()
+        || word == b"SERVFAIL".as_slice()
+        || word == b"NXDOMAIN".as_slice()
+        || word == b"NOTIMP".as_slice()
+        || word == b"REFUSED".as_slice()
+    {
+        return true;
+    }
+    match number_behind(word, b"RCODE") {
+        Some(n) => n > 5,
+        None => false,
+    }
+}
+
+fn is_hex_digit(b: u8) -> bool
+    ensures { result ≡ is_hex_digit b }
+{
+    (48 <= b && b <= 57) || (97 <= b && b <= 102)
+}
+
+fn are_hex_digits(word: &[u8]) -> bool
+    ensures { result ≡ list_all is_hex_digit word.now }
+{
+    word.iter().all(|b| is_hex_digit(*b))
+}
+
+fn is_bytes(word: &[u8]) -> bool
+    ensures { result ≡ is_bytes word.now }
+{
+    word == b"-".as_slice() || (word.len() > 0 && word.len() % 2 == 0 && are_hex_digits(word))
+}
+
+// ---- fields
+
+fn protocol(words: &mut Words) -> Result<(), LineError>
+    ensures { GivesFields result words.new (checked is_protocol words.old) }
+{
+    let Some(word) = words.next() else {
+        return Err(LineError::Refused);
+    };
+    pass(is_protocol(word))
+}
+
+fn error_word(words: &mut Words) -> Result<(), LineError>
+    ensures { GivesFields result words.new (checked is_error_word words.old) }
+{
+    let Some(word) = words.next() else {
+        return Err(LineError::Refused);
+    };
+    pass(is_error_word(word))
+}
+
+fn flags(words: &mut Words) -> Result<(), LineError>
+    ensures { GivesFields result words.new (checked is_flags words.old) }
+{
+    let Some(word) = words.next() else {
+        return Err(LineError::Refused);
+    };
+    pass(is_flags(word))
+}
+
+fn dnssec(words: &mut Words) -> Result<(), LineError>
+    ensures { GivesFields result words.new (checked is_dnssec words.old) }
+{
+    let Some(word) = words.next() else {
+        return Err(LineError::Refused);
+    };
+    pass(is_dnssec(word))
+}
+
+fn record_type(words: &mut Words) -> Result<(), LineError>
+    ensures { GivesFields result words.new (checked is_type words.old) }
+{
+    let Some(word) = words.next() else {
+        return Err(LineError::Refused);
+    };
+    pass(is_type(word))
+}
+
+fn class(words: &mut Words) -> Result<(), LineError>
+    ensures { GivesFields result words.new (checked is_class words.old) }
+{
+    let Some(word) = words.next() else {
+        return Err(LineError::Refused);
+    };
+    pass(is_class(word))
+}
+
+fn response_code(words: &mut Words) -> Result<(), LineError>
+    ensures { GivesFields result words.new (checked is_code words.old) }
+{
+    let Some(word) = words.next() else {
+        return Err(LineError::Refused);
+    };
+    pass(is_code(word))
+}
+
+fn bytes(words: &mut Words) -> Result<(), LineError>
+    ensures { GivesFields result words.new (checked is_bytes words.old) }
+{
+    let Some(word) = words.next() else {
+        return Err(LineError::Refused);
+    };
+    pass(is_bytes(word))
+}
+
+fn delay(words: &mut Words) -> Result<u64, LineError>
+    ensures { GivesFields result words.new (delay_field words.old) }
+{
+    words.number(0, 1_000_000)
+}
+
+fn any_number(words: &mut Words) -> Result<u64, LineError>
+    ensures { GivesFields result words.new (any_number words.old) }
+{
+    words.number(0, 4_294_967_295)
+}
+
+// ---- lines, each after its first word
+
+#[tactic(auto, unfolding(crate::specs::Unbuilt::root_line))]
+fn root_line(words: &mut Words) -> Result<(), LineError>
+    ensures { Gives result (root_line words.old) }
+{
+    words.ipv4()?;
+    words.end()?;
+    Ok(())
+}
+
+#[tactic(auto, unfolding(crate::specs::Unbuilt::told_line))]
+fn told_line(words: &mut Words) -> Result<(), LineError>
+    ensures { Gives result (told_line words.old) }
+{
+    words.literal(b"world")?;
+    words.end()?;
+    Ok(())
+}
+
+#[tactic(auto, unfolding(crate::specs::Unbuilt::refuse_line))]
+fn refuse_line(words: &mut Words) -> Result<(), LineError>
+    ensures { Gives result (refuse_line words.old) }
+{
+    words.ipv4()?;
+    protocol(words)?;
+    words.end()?;
+    Ok(())
+}
+
+#[tactic(auto, unfolding(crate::specs::Unbuilt::error_line))]
+fn error_line(words: &mut Words) -> Result<(), LineError>
+    ensures { Gives result (error_line words.old) }
+{
+    error_word(words)?;
+    words.end()?;
+    Ok(())
+}
+
+#[tactic(auto, unfolding(crate::specs::Unbuilt::message_line))]
+fn message_line(words: &mut Words) -> Result<(), LineError>
+    ensures { Gives result (message_line words.old) }
+{
+    response_code(words)?;
+    flags(words)?;
+    words.number(0, 65_535)?;
+    words.number(0, 65_535)?;
+    words.number(0, 65_535)?;
+    words.end()?;
+    Ok(())
+}
+
+#[tactic(auto, unfolding(crate::specs::Unbuilt::ok_line))]
+fn ok_line(words: &mut Words) -> Result<(), LineError>
+    ensures { Gives result (ok_line words.old) }
+{
+    words.end()?;
+    Ok(())
+}
+
+/// What a connection comes to.
+fn connected(words: &mut Words) -> Result<(), LineError>
+    ensures { Gives result (outcome_line (codes "ok") ok_line words.old) }
+{
+    let Some(word) = words.next() else {
+        return Err(LineError::Refused);
+    };
+    if word == b"ok".as_slice() {
+        return ok_line(words);
+    }
+    if word == b"error".as_slice() {
+        return error_line(words);
+    }
+    Err(LineError::Refused)
+}
+
+/// What an ask comes to.
+fn told(words: &mut Words) -> Result<(), LineError>
+    ensures { Gives result (outcome_line (codes "message") message_line words.old) }
+{
+    let Some(word) = words.next() else {
+        return Err(LineError::Refused);
+    };
+    if word == b"message".as_slice() {
+        return message_line(words);
+    }
+    if word == b"error".as_slice() {
+        return error_line(words);
+    }
+    Err(LineError::Refused)
+}
+
+#[tactic(auto, unfolding(crate::specs::Unbuilt::connect_line))]
+fn connect_line(words: &mut Words) -> Result<(), LineError>
+    ensures { Gives result (connect_line words.old) }
+{
+    words.ipv4()?;
+    protocol(words)?;
+    delay(words)?;
+    connected(words)
+}
+
+#[tactic(auto, unfolding(crate::specs::Unbuilt::reply_line))]
+fn reply_line(alloc: Global, words: &mut Words) -> Result<(), LineError>
+    ensures { Gives result (reply_line words.old) }
+{
+    words.ipv4()?;
+    protocol(words)?;
+    let _name = words.full_name(alloc)?;
+    record_type(words)?;
+    delay(words)?;
+    told(words)
+}
+
+#[tactic(auto, unfolding(crate::specs::Unbuilt::question_line))]
+fn question_line(alloc: Global, words: &mut Words) -> Result<(), LineError>
+    ensures { Gives result (question_line words.old) }
+{
+    let _name = words.relaxed_name(alloc)?;
+    record_type(words)?;
+    dnssec(words)?;
+    words.end()?;
+    Ok(())
+}
+
+#[tactic(auto, unfolding(crate::specs::Unbuilt::turn_line))]
+fn turn_line(words: &mut Words, last: u64) -> Result<(), LineError>
+    ensures { Gives result (turn_line last words.old) }
+{
+    any_number(words)?;
+    words.number(last, 4_611_686_018_427_387_903)?;
+    words.end()?;
+    Ok(())
+}
+
+// ---- record lines
+
+#[tactic(auto, unfolding(crate::specs::Unbuilt::address_data))]
+fn address_data(words: &mut Words) -> Result<(), LineError>
+    ensures { Gives result (address_data words.old) }
+{
+    words.ipv4()?;
+    words.end()?;
+    Ok(())
+}
+
+#[tactic(auto, unfolding(crate::specs::Unbuilt::name_data))]
+fn name_data(alloc: Global, words: &mut Words) -> Result<(), LineError>
+    ensures { Gives result (name_data words.old) }
+{
+    let _name = words.full_name(alloc)?;
+    words.end()?;
+    Ok(())
+}
+
+#[tactic(auto, unfolding(crate::specs::Unbuilt::soa_data))]
+fn soa_data(alloc: Global, words: &mut Words) -> Result<(), LineError>
+    ensures { Gives result (soa_data words.old) }
+{
+    let _mname = words.full_name(alloc)?;
+    let _rname = words.full_name(alloc)?;
+    any_number(words)?;
+    any_number(words)?;
+    any_number(words)?;
+    any_number(words)?;
+    any_number(words)?;
+    words.end()?;
+    Ok(())
+}
+
+#[tactic(auto, unfolding(crate::specs::Unbuilt::signature_data))]
+fn signature_data(words: &mut Words) -> Result<(), LineError>
+    ensures { Gives result (signature_data words.old) }
+{
+    record_type(words)?;
+    bytes(words)?;
+    words.end()?;
+    Ok(())
+}
+
+#[tactic(auto, unfolding(crate::specs::Unbuilt::bytes_data))]
+fn bytes_data(words: &mut Words) -> Result<(), LineError>
+    ensures { Gives result (bytes_data words.old) }
+{
+    bytes(words)?;
+    words.end()?;
+    Ok(())
+}
+
+/// The data of the type that the next word names.
+fn data_line(alloc: Global, words: &mut Words) -> Result<(), LineError>
+    ensures { Gives result (data_line words.old) }
+{
+    let Some(word) = words.next() else {
+        return Err(LineError::Refused);
+    };
+    if word == b"A".as_slice() {
+        return address_data(words);
+    }
+    if word == b"NS".as_slice() {
+        return name_data(alloc, words);
+    }
+    if word == b"CNAME".as_slice() {
+        return name_data(alloc, words);
+    }
+    if word == b"SOA".as_slice() {
+        return soa_data(alloc, words);
+    }
+    if word == b"RRSIG".as_slice() {
+        return signature_data(words);
+    }
+    if word == b"AAAA".as_slice() {
+        return Err(LineError::Refused);
+    }
+    if is_type(word) {
+        return bytes_data(words);
+    }
+    Err(LineError::Refused)
+}
+
+#[tactic(auto, unfolding(crate::specs::Unbuilt::record_line))]
+fn record_line(alloc: Global, words: &mut Words) -> Result<(), LineError>
+    ensures { Gives result (record_line words.old) }
+{
+    let _name = words.full_name(alloc)?;
+    any_number(words)?;
+    class(words)?;
+    data_line(alloc, words)
+}
+
+// ---- where a line can stand
+
+fn is_at_roots(stage: Stage) -> bool
+    ensures { result ≡ is_at_roots stage }
+{
+    matches!(&stage, Stage::Headed | Stage::Rooted)
+}
+
+fn is_at_options(stage: Stage) -> bool
+    ensures { result ≡ is_at_options stage }
+{
+    matches!(&stage, Stage::Rooted)
+}
+
+fn is_at_told(stage: Stage) -> bool
+    ensures { result ≡ is_at_told stage }
+{
+    matches!(&stage, Stage::Patient)
+}
+
+fn is_at_rules(stage: Stage) -> bool
+    ensures { result ≡ is_at_rules stage }
+{
+    matches!(&stage, Stage::Scripted)
+}
+
+fn is_at_questions(stage: Stage) -> bool
+    ensures { result ≡ is_at_questions stage }
+{
+    matches!(&stage, Stage::Scripted | Stage::Asked)
+}
+
+fn is_at_turns(stage: Stage) -> bool
+    ensures { result ≡ is_at_turns stage }
+{
+    matches!(&stage, Stage::Scripted | Stage::Asked | Stage::Turned)
+}
+
+/// What was read, where it may stand.
+fn stands(may: bool, read: Result<(), LineError>) -> Result<(), LineError>
+    ensures { (spec : Option (Unit {0})) → Gives read spec → Gives result (stands may spec) }
+{
+    if may { read } else { Err(LineError::Refused) }
+}
+
+#[tactic(auto, unfolding(crate::specs::Unbuilt::other_line))]
+fn other_line(alloc: Global, place: Place, words: &mut Words) -> Result<(), LineError>
+    ensures { Gives result (other_line place words.old) }
+{
+    let Some(word) = words.next() else {
+        return Err(LineError::Refused);
+    };
+    let stage = place.stage;
+    if word == b"root".as_slice() {
+        return stands(is_at_roots(stage), root_line(words));
+    }
+    if word == b"option".as_slice() {
+        return stands(is_at_options(stage), option_line(words));
+    }
+    if word == b"told".as_slice() {
+        return stands(is_at_told(stage), told_line(words));
+    }
+    if word == b"connect".as_slice() {
+        return stands(is_at_rules(stage), connect_line(words));
+    }
+    if word == b"refuse".as_slice() {
+        return stands(is_at_rules(stage), refuse_line(words));
+    }
+    if word == b"reply".as_slice() {
+        return stands(is_at_rules(stage), reply_line(alloc, words));
+    }
+    if word == b"question".as_slice() {
+        return stands(is_at_questions(stage), question_line(alloc, words));
+    }
+    if word == b"turn".as_slice() {
+        return stands(is_at_turns(stage), turn_line(words, place.last));
+    }
+    if word == b"end".as_slice() {
+        return stands(is_at_turns(stage), ok_line(words));
+    }
+    Err(LineError::Refused)
+}
+
+#[tactic(auto, unfolding(crate::specs::Unbuilt::line_at))]
+fn line_at(alloc: Global, place: Place, line: &[u8]) -> Result<(), LineError>
+    ensures { Gives result (line_at place line.now) }
+{
+    let mut words = Words::new(line);
+    if place.owes {
+        record_line(alloc, &mut words)
+    } else {
+        other_line(alloc, place, &mut words)
+    }
+}
+
+/// How a line is refused that is not taken at its place.
+pub fn refusal(alloc: Global, place: Place, line: &[u8]) -> Result<Refusal, NoMemory>
+    ensures { IfOk result (λ why. why ≡ refusal_at place line.now) }
+{
+    match line_at(alloc, place, line) {
+        Ok(()) => Ok(Refusal::NotBuilt),
+        Err(LineError::Refused) => Ok(Refusal::Bad),
+        Err(LineError::NoMemory) => Err(NoMemory),
+    }
+}

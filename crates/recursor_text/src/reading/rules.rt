@@ -1,0 +1,22 @@
+//! Rules of a script while their records are read.
+
+use dns_core::{Message, Protocol};
+use std::net::IpAddr;
+
+/// How many records of each section are still to come.
+#[derive(Clone, Copy, Debug, PartialEq, Eq)]
+pub struct Counts {
+    pub answers: u32,
+    pub authorities: u32,
+    pub additionals: u32,
+}
+
+/// A rule that tells a message, some of whose records are still to come.
+#[derive(Drop, Debug)]
+pub struct OpenRule {
+    pub ip: IpAddr,
+    pub protocol: Protocol,
+    pub delay: u32,
+    pub message: Message,
+    pub owed: Counts,
+}

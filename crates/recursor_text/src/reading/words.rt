@@ -1,0 +1,187 @@
+//! The words of a line, taken one by one.
+ghost use Rattle.std.specs.Prelude.{◌≡◌, ◌≤◌, ◌∷◌, [], Some, None, MatchOption, IfOk, if◌then◌else◌};
+ghost use Rattle.recursor_text.specs.Fields.{GivesFields, Ends, Gives, field, literal};
+ghost use Rattle.recursor_text.specs.Names.{relaxed_name, full_name, short_name};
+ghost use Rattle.recursor_text.specs.Numbers.{number_within, ipv4_of};
+ghost use Rattle.recursor_text.specs.Pieces.{pieces};
+
+use super::numbers::{ipv4, number};
+use super::pieces::cut;
+use dns_core::{Name, NameError, NoMemory};
+use std::alloc::Global;
+use std::marker::Model;
+use std::net::Ipv4Addr;
+
+/// Why a line was not taken.
+#[derive(Clone, Copy, Debug, PartialEq, Eq)]
+pub enum LineError {
+    Refused,
+    NoMemory,
+}
+
+impl From<NoMemory> for LineError {
+    ghost use Rattle.std.specs.Prelude.{◌≡◌};
+    ghost use Rattle.recursor_text.specs.declared.reading.words.LineError.TheVariants.{NoMemory as no_memory};
+
+    ghost from_gives = { λ _ e. e ≡ no_memory };
+
+    fn from(_e: NoMemory) -> LineError {
+        LineError::NoMemory
+    }
+}
+
+/// The words of a line that are left; clauses see their list.
+#[derive(Drop)]
+pub struct Words<'a> {
+    rest: Option<&'a [u8]>,
+}
+
+impl<'a> Model for Words<'a> {
+    ghost use Rattle.std.specs.Prelude.{List, ℕ, option_map};
+    ghost use Rattle.recursor_text.specs.Pieces.{pieces_after};
+
+    ghost Value = { List (List ℕ) };
+
+    ghost view = { λ w. pieces_after 32 (option_map (λ r. r.now) w.rest) };
+}
+
+/// Takes a word that fits.
+pub fn pass(fits: bool) -> Result<(), LineError>
+    ensures { Gives result (if fits then Some tt else None) }
+{
+    if fits {
+        Ok(())
+    } else {
+        Err(LineError::Refused)
+    }
+}
+
+fn relaxed_name(alloc: Global, word: &[u8]) -> Result<Name, LineError>
+    ensures { Gives result (relaxed_name word.now) }
+{
+    match Name::parse_relaxed_bytes(alloc, word) {
+        Ok(name) => Ok(name),
+        Err(NameError::NoMemory) => Err(LineError::NoMemory),
+        Err(_) => Err(LineError::Refused),
+    }
+}
+
+fn full_name(alloc: Global, word: &[u8]) -> Result<Name, LineError>
+    ensures { Gives result (full_name word.now) }
+{
+    let name = relaxed_name(alloc, word)?;
+    if name.is_fqdn() {
+        Ok(name)
+    } else {
+        Err(LineError::Refused)
+    }
+}
+
+fn short_name(alloc: Global, word: &[u8], most: u8) -> Result<Name, LineError>
+    ensures { Gives result (short_name most word.now) }
+{
+    let name = relaxed_name(alloc, word)?;
+    if name.num_labels() > most {
+        Err(LineError::Refused)
+    } else {
+        Ok(name)
+    }
+}
+
+impl<'a> Words<'a> {
+    pub fn new(line: &'a [u8]) -> Self
+        ensures { result ≡ pieces 32 line.now }
+    {
+        Words { rest: Some(line) }
+    }
+
+    /// Takes the next word; without one nothing changes.
+    pub fn next(&mut self) -> Option<&'a [u8]>
+        ensures { MatchOption result ((self.old ≡ []) × (self.new ≡ [])) (λ w. self.old ≡ w.now ∷ self.new) }
+    {
+        let rest = self.rest?;
+        let (word, after) = cut(rest, b' ');
+        self.rest = after;
+        Some(word)
+    }
+
+    /// No word is left.
+    pub fn end(&self) -> Result<(), LineError>
+        ensures { Ends result self.now }
+    {
+        match self.rest {
+            None => Ok(()),
+            Some(_) => Err(LineError::Refused),
+        }
+    }
+
+    pub fn literal(&mut self, text: &[u8]) -> Result<(), LineError>
+        ensures { GivesFields result self.new (field (literal text.now) self.old) }
+    {
+        let Some(word) = self.next() else {
+            return Err(LineError::Refused);
+        };
+        if word == text {
+            Ok(())
+        } else {
+            Err(LineError::Refused)
+        }
+    }
+
+    /// A number from `low` to `most`.
+    pub fn number(&mut self, low: u64, most: u64) -> Result<u64, LineError>
+        ensures read { GivesFields result self.new (field (number_within low most) self.old) }
+        ensures within { IfOk result (λ n. n ≤ most) }
+    {
+        let Some(word) = self.next() else {
+            return Err(LineError::Refused);
+        };
+        match number(word, most) {
+            Some(n) if low <= n => Ok(n),
+            _ => Err(LineError::Refused),
+        }
+    }
+
+    /// An IPv4 address.
+    pub fn ipv4(&mut self) -> Result<Ipv4Addr, LineError>
+        ensures { GivesFields result self.new (field ipv4_of self.old) }
+    {
+        let Some(word) = self.next() else {
+            return Err(LineError::Refused);
+        };
+        match ipv4(word) {
+            Some(found) => Ok(found),
+            None => Err(LineError::Refused),
+        }
+    }
+
+    /// A relaxed name.
+    pub fn relaxed_name(&mut self, alloc: Global) -> Result<Name, LineError>
+        ensures { GivesFields result self.new (field relaxed_name self.old) }
+    {
+        let Some(word) = self.next() else {
+            return Err(LineError::Refused);
+        };
+        relaxed_name(alloc, word)
+    }
+
+    /// A name that is fully qualified.
+    pub fn full_name(&mut self, alloc: Global) -> Result<Name, LineError>
+        ensures { GivesFields result self.new (field full_name self.old) }
+    {
+        let Some(word) = self.next() else {
+            return Err(LineError::Refused);
+        };
+        full_name(alloc, word)
+    }
+
+    /// A name with at most `most` labels.
+    pub fn short_name(&mut self, alloc: Global, most: u8) -> Result<Name, LineError>
+        ensures { GivesFields result self.new (field (short_name most) self.old) }
+    {
+        let Some(word) = self.next() else {
+            return Err(LineError::Refused);
+        };
+        short_name(alloc, word, most)
+    }
+}

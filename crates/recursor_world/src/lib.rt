@@ -1,0 +1,25 @@
+//! Upstreams in memory: scripts, which say line by line what is told of each connection and each
+//! question.
+//!
+//! A `ScriptUpstream` is a provider of connections whose log is, at every moment, one that its script
+//! gives (`Gives`).
+#![tactic(auto)]
+
+mod book;
+mod course;
+mod index;
+mod late;
+mod laws;
+mod provider;
+mod qualified;
+mod script;
+mod upstream;
+
+pub use index::Endpoint;
+pub use laws::fronts_are_given;
+pub use provider::{ScriptExchange, ScriptOpening};
+pub use script::{Script, ScriptLine};
+pub use upstream::ScriptUpstream;
+
+#[cfg(test)]
+mod tests;

@@ -1,0 +1,16 @@
+pub mod Members
+pub mod Above
+pub mod Sameness
+pub mod Keeping
+pub mod Invented
+pub mod Caseless
+pub mod ZoneCase
+pub mod Classified
+pub mod Numbered
+pub mod FailuresKept
+pub mod TimingKept
+pub mod FailuresCaseless
+pub mod SectionTests
+pub mod PlainServed
+pub mod RootsTried
+pub mod KeptErrors

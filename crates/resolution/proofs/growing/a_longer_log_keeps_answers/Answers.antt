@@ -1,0 +1,11 @@
+use Rattle.resolution.proofs.Keeping.{Serves-extend, Base-extend, Answer-extend}
+use Rattle.resolution.proofs.growing.a_longer_log_keeps_answers.Goals as goal
+
+pub returns-clause-serves : goal.returns-clause-serves
+returns-clause-serves c = λ given old new n ip z x s. Serves-extend given given.patience old new x s
+
+pub returns-clause-base : goal.returns-clause-base
+returns-clause-base c = λ given old new t0 q i z v x b. Base-extend given given.patience old new x b
+
+pub returns-clause-answer : goal.returns-clause-answer
+returns-clause-answer c = λ given old new t0 q dnssec g r x a. Answer-extend given given.patience old new x a

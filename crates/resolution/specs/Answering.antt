@@ -1,0 +1,64 @@
+-- What a reply rests on.
+use Rattle.std.specs.Prelude.{◌≡◌, ℕ, ◌≤◌, ◌⊎◌, Bool, false, ◌||◌, ◌==◌, IsTrue, List, [], ◌∷◌, ◌++◌, filter, length, Some}
+use Rattle.dns_core.specs.Name.{DomainName}
+use Rattle.dns_core.specs.Log.{Log}
+use Rattle.dns_core.specs.Stripping.{strip_of}
+use Rattle.dns_core.specs.declared.codes.RecordType.{RecordType}
+use Rattle.dns_core.specs.declared.message.Query.{Query}
+use Rattle.dns_core.specs.declared.message.Message.{Message}
+use Rattle.dns_core.specs.declared.record.Record.{Record}
+use Rattle.dns_core.specs.declared.record.RData.TheVariants.{RRSIG}
+use Rattle.dns_core.specs.declared.log.ToldOutcome.{ToldOutcome}
+use Rattle.resolution.specs.Same.{Same}
+use Rattle.resolution.specs.Given.{Given}
+use Rattle.resolution.specs.Verdict.{verdict}
+use Rattle.resolution.specs.Life.{Fresh}
+use Rattle.resolution.specs.Serving.{Heard}
+use Rattle.resolution.specs.Following.{follow}
+use Rattle.resolution.specs.declared.verdict.Verdict.{Verdict}
+use Rattle.resolution.specs.declared.verdict.Verdict.TheVariants.{Pos}
+use Rattle.resolution.specs.declared.following.Follow.TheVariants.{Done, Restart}
+
+-- Entry i tells for q, by a server of the zone z at or above its name, an outcome that counts as v and is fresh at t0.
+pub record Base (given : Given) (log : Log) (t0 : ℕ) (q : Query) (i : ℕ) (z : DomainName) (v : Verdict) : Type 0 where
+  pub told : ToldOutcome
+  pub moment : ℕ
+  pub heard : Heard given log i q told moment z
+  pub counts : verdict given told q z ≡ Some v
+  pub fresh : Fresh given t0 moment q v
+
+-- authoritative, or told at or after t0
+abbrev pub IsCurrent : ℕ → ℕ → Message → Type 0
+IsCurrent t0 moment k = IsTrue k.authoritative ⊎ (t0 ≤ moment)
+
+-- a signature of records of the type, or of CNAME
+abbrev pub is_signature_of : RecordType → Record → Bool
+is_signature_of t r = elim (r.rdata) [ RRSIG covered rest ↦ (covered.code == t.code || covered.code == 5) | _ ↦ false ]
+
+-- of the asked type, a CNAME, or a signature of one of the two
+abbrev pub is_appended : RecordType → Record → Bool
+is_appended t r = r.record_type.code == t.code || r.record_type.code == 5 || is_signature_of t r
+
+-- a response with such answers of the reply for its alias
+abbrev pub joined : Message → Query → Message → Message
+joined k q further = record k { answers = k.answers ++ filter (is_appended q.query_type) further.answers }
+
+abbrev pub with_name : DomainName → Query → Query
+with_name n q = record q { name = n }
+
+-- The reply to q rests on these entries, in their order.
+pub data Answers (given : Given) (log : Log) (t0 : ℕ) (dnssec : Bool) : Query → List ℕ → Message → Type 0 where
+  -- what counts of one entry is the reply, less the records that were not asked for
+  direct : {q : Query} {i : ℕ} {z : DomainName} {k r : Message}
+      → (b : Base given log t0 q i z (Pos k)) → IsCurrent t0 b.moment k → follow k q ≡ Done
+      → Same r (strip_of k dnssec) → Answers given log t0 dnssec q (i ∷ []) r
+  -- its aliases lead to another name, and the reply for this is appended
+  by_alias : {q : Query} {i : ℕ} {z n : DomainName} {k r further : Message} {g : List ℕ}
+      → (b : Base given log t0 q i z (Pos k)) → IsCurrent t0 b.moment k → follow k q ≡ Restart n
+      → Answers given log t0 dnssec (with_name n q) g further
+      → Same r (joined (strip_of k dnssec) q further) → Answers given log t0 dnssec q (i ∷ g) r
+
+-- So it does, and the entries are at most 65.
+pub record Answer (given : Given) (log : Log) (t0 : ℕ) (q : Query) (dnssec : Bool) (g : List ℕ) (r : Message) : Type 0 where
+  pub answers : Answers given log t0 dnssec q g r
+  pub few : length g ≤ 65

@@ -1,0 +1,129 @@
+-- How the sends of a lookup ended, and when a lookup ended so.
+use Rattle.std.specs.Prelude.{◌≡◌, ℕ, zero, suc, ◌+◌, ◌<◌, ◌≤◌, ◌⊎◌, Bool, true, false, ◌&&◌, ◌==◌, nat_le, nat_eq, IsTrue, List, [], ◌∷◌, length, if◌then◌else◌, Option, Some, None, IsSomeAnd, Contains, Ok, Err}
+use Rattle.std.specs.List.{list_all, last_or, AllByRecursion}
+use Rattle.std.specs.Cmp.Lexicographic.{pointwise}
+use Rattle.std.specs.declared.net.ip_addr.IpAddr.{IpAddr}
+use Rattle.std.specs.declared.net.ip_addr.IpAddr.TheVariants.{V4, V6}
+use Rattle.dns_core.specs.Name.{DomainName}
+use Rattle.dns_core.specs.Log.{Log}
+use Rattle.dns_core.specs.declared.message.Query.{Query}
+use Rattle.dns_core.specs.declared.message.Message.{Message}
+use Rattle.dns_core.specs.declared.connection.Protocol.{Protocol}
+use Rattle.dns_core.specs.declared.net_error.NetError.{NetError}
+use Rattle.dns_core.specs.declared.net_error.NetError.TheVariants as net
+use Rattle.dns_core.specs.declared.log.LogEntry.{LogEntry}
+use Rattle.dns_core.specs.declared.log.LogEntry.TheVariants.{Opened, Asked, Waited, Told, GaveUp}
+use Rattle.dns_core.specs.declared.log.ToldOutcome.TheVariants as outcome
+use Rattle.resolution.specs.Names.{root, is_above, walk, same_query}
+use Rattle.resolution.specs.Given.{Given}
+use Rattle.resolution.specs.Telling.{Logged}
+use Rattle.resolution.specs.Serving.{Serves, Delegates, glue, allowed}
+use Rattle.resolution.specs.Lookups.{Answered, class_of_answer, End, Rules, PoolRun}
+
+-- What a caller knows of the moments of a finished lookup (its question, addresses, entries, their ends and moments, its start and its answer),
+-- and what it knows of counts that stand at their limit.
+pub record Known : Type 1 where
+  pub Timed : Query → List IpAddr → List ℕ → List (End IpAddr) → List ℕ → ℕ → ℕ → Type 0
+  pub exhausted : Bool
+
+abbrev pub same_ip : IpAddr → IpAddr → Bool
+same_ip (V4 a) (V4 b) = pointwise nat_eq a.octets b.octets
+same_ip (V4 a) (V6 b) = false
+same_ip (V6 a) (V4 b) = false
+same_ip (V6 a) (V6 b) = pointwise nat_eq a.segments b.segments
+
+-- the servers of a recursor: known by address, with negatives that are trusted, each by TCP too
+abbrev pub by_address : ℕ → Rules IpAddr
+by_address timeout = record { same = same_ip; trusts = λ _. true; beyond_udp = λ _. true; timeout = timeout }
+
+-- ---- ends of sends
+
+-- the entry says that entry `of` was still waited for
+abbrev pub is_wait_for : ℕ → Option LogEntry → Bool
+is_wait_for of (Some (Waited k)) = k == of
+is_wait_for of _ = false
+
+-- how often entry `of` was still waited for, below n
+abbrev pub waits : Log → ℕ → ℕ → ℕ
+waits log of zero = 0
+waits log of (suc n) = waits log of n + (if is_wait_for of (log.entry n) then 1 else 0)
+
+-- an open of the address, or an ask for q there, that was not refused
+abbrev pub is_begun : Query → IpAddr → LogEntry → Bool
+is_begun q ip (Opened at protocol moment None) = same_ip at ip
+is_begun q ip (Asked at protocol asked moment None) = same_ip at ip && same_query asked q
+is_begun q ip _ = false
+
+-- Entry n ends a send for q.
+pub data EndsSend (given : Given) (log : Log) (q : Query) : ℕ → End IpAddr → ℕ → Type 0 where
+  open_refused : {n moment : ℕ} {ip : IpAddr} {protocol : Protocol} {e : NetError}
+      → Logged log n (Opened ip protocol moment (Some e)) → EndsSend given log q n (record { server = ip; outcome = Err e }) moment
+  ask_refused : {n moment : ℕ} {ip : IpAddr} {protocol : Protocol} {asked : Query} {e : NetError}
+      → Logged log n (Asked ip protocol asked moment (Some e)) → IsTrue (same_query asked q) → EndsSend given log q n (record { server = ip; outcome = Err e }) moment
+  open_failed : {n k since moment : ℕ} {ip : IpAddr} {protocol : Protocol} {e : NetError}
+      → Logged log n (Told k moment (outcome.Error e)) → Logged log k (Opened ip protocol since None) → EndsSend given log q n (record { server = ip; outcome = Err e }) moment
+  ask_failed : {n k since moment : ℕ} {ip : IpAddr} {protocol : Protocol} {asked : Query} {e : NetError}
+      → Logged log n (Told k moment (outcome.Error e)) → Logged log k (Asked ip protocol asked since None) → IsTrue (same_query asked q)
+      → EndsSend given log q n (record { server = ip; outcome = Err e }) moment
+  answered : {n k since moment : ℕ} {ip : IpAddr} {protocol : Protocol} {asked : Query} {m : Message}
+      → Logged log n (Told k moment (outcome.Message m)) → Logged log k (Asked ip protocol asked since None) → IsTrue (same_query asked q)
+      → EndsSend given log q n (record { server = ip; outcome = Ok m }) moment
+  given_up : {n k moment : ℕ} {ip : IpAddr} {e : LogEntry}
+      → Logged log n (GaveUp k moment) → Logged log k e → IsTrue (is_begun q ip e) → given.patience ≤ waits log k n
+      → EndsSend given log q n (record { server = ip; outcome = Err net.Timeout }) moment
+
+-- These entries end sends for q to some of these addresses, each the one beside it.
+pub data EndSends (given : Given) (log : Log) (q : Query) (ips : List IpAddr) : List ℕ → List (End IpAddr) → List ℕ → Type 0 where
+  no_send : EndSends given log q ips [] [] []
+  and_send : {n moment : ℕ} {e : End IpAddr} {g moments : List ℕ} {ends : List (End IpAddr)}
+      → EndsSend given log q n e moment → Contains ips e.server → EndSends given log q ips g ends moments
+      → EndSends given log q ips (n ∷ g) (e ∷ ends) (moment ∷ moments)
+
+-- numbers rise
+abbrev pub Rise : List ℕ → Type 0
+Rise [] = Unit {0}
+Rise (n ∷ []) = Unit {0}
+Rise (n ∷ m ∷ ns) = (n < m) × Rise (m ∷ ns)
+
+-- ---- whom a lookup asked
+
+-- Some answers for the zone's NS lists only addresses among these.
+pub record IsListed (given : Given) (log : Log) (z : DomainName) (ips : List IpAddr) : Type 0 where
+  pub below : ℕ
+  pub serve : AllByRecursion (λ ip. Serves given log below ip z) ips
+  pub some : 0 < length ips
+  pub k : Message
+  pub told : Delegates given log below z k
+  pub whole : AllByRecursion (Contains ips) (allowed given.server_denied (glue k z))
+
+-- the addresses of a pool for the zone: the roots, or by a delegation
+pub data Listed (given : Given) (log : Log) : DomainName → List IpAddr → Type 0 where
+  of_roots : Listed given log root given.roots
+  of_told : {z : DomainName} {ips : List IpAddr} → IsListed given log z ips → Listed given log z ips
+
+-- A lookup for q at servers of z ended by the entries g with this result, in time for t0.
+pub record Finished (given : Given) (known : Known) (log : Log) (t0 : ℕ) (q : Query) (z : DomainName) (g : List ℕ) (result : Answered) : Type 0 where
+  pub ips : List IpAddr
+  pub ends : List (End IpAddr)
+  pub moments : List ℕ
+  pub start : ℕ
+  pub now : ℕ
+  pub above : IsTrue (is_above z (walk q))
+  pub listed : Listed given log z ips
+  pub rises : Rise g
+  pub logged : EndSends given log q ips g ends moments
+  pub run : PoolRun (by_address given.timeout) (class_of_answer q) ips ends result start now
+  pub since : IsTrue (list_all (nat_le start) moments)
+  pub till : IsTrue (list_all (λ m. nat_le m now) moments)
+  pub asked : t0 ≤ now
+  pub timed : known.Timed q ips g ends moments start now
+  -- its last entry is not before t0, or the deadline ended it
+  pub fresh : IsSomeAnd (last_or None moments) (λ m. t0 ≤ m) ⊎ ((result ≡ Err net.Timeout) × (start + given.timeout ≤ now))
+
+-- a lookup ended by this error
+abbrev pub Ended : Given → Known → Log → ℕ → Query → DomainName → List ℕ → NetError → Type 0
+Ended given known log t0 q z g e = Finished given known log t0 q z g (Err e)
+
+abbrev pub is_timeout : NetError → Bool
+is_timeout net.Timeout = true
+is_timeout _ = false

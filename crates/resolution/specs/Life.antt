@@ -1,0 +1,39 @@
+-- How long a response counts (RFC 1034 section 3.6, RFC 2308 section 5).
+use Rattle.std.specs.Prelude.{◌≡◌, ℕ, ◌+◌, ◌*◌, ◌≤◌, ◌⊎◌, min, max, List, [], ◌∷◌, fold, Option, Some, None, IsSomeAnd}
+use Rattle.dns_core.specs.declared.codes.RecordType.{RecordType}
+use Rattle.dns_core.specs.declared.message.Query.{Query}
+use Rattle.dns_core.specs.declared.record.Record.{Record}
+use Rattle.dns_core.specs.declared.record.RData.TheVariants.{SOA}
+use Rattle.resolution.specs.Records.{records}
+use Rattle.resolution.specs.Given.{Bounds, Given}
+use Rattle.resolution.specs.declared.verdict.Verdict.{Verdict}
+use Rattle.resolution.specs.declared.verdict.Verdict.TheVariants.{Pos, Neg, Made}
+use Rattle.resolution.specs.declared.verdict.Cause.TheVariants.{Filter, Zone}
+
+abbrev pub clamp : Bounds → ℕ → ℕ
+clamp b n = max b.least (min b.most n)
+
+-- the least TTL, 0 without records
+abbrev pub least_ttl : List Record → ℕ
+least_ttl [] = 0
+least_ttl (r ∷ rs) = fold (λ n s. min n s.ttl) r.ttl rs
+
+-- the TTL of an SOA or its minimum, the lesser (RFC 2308 section 5)
+abbrev pub soa_life : Record → ℕ
+soa_life r = elim (r.rdata) [ SOA s ↦ min r.ttl s.minimum | _ ↦ r.ttl ]
+
+-- that, within the bounds; without an SOA the least that they allow
+abbrev pub negative_life : Bounds → Option Record → ℕ
+negative_life b None = b.least
+negative_life b (Some r) = clamp b (soa_life r)
+
+-- the seconds of a verdict; a denial that a zone made has none
+abbrev pub life_in_seconds : Given → RecordType → Verdict → Option ℕ
+life_in_seconds given t (Pos k) = Some (clamp (given.positive_bounds t) (least_ttl (records k)))
+life_in_seconds given t (Neg n) = Some (negative_life (given.negative_bounds t) n.soa)
+life_in_seconds given t (Made Filter) = Some (negative_life (given.negative_bounds t) None)
+life_in_seconds given t (Made Zone) = None
+
+-- It was told at or after t0, or t0 is still in its life. Moments are in microseconds.
+abbrev pub Fresh : Given → ℕ → ℕ → Query → Verdict → Type 0
+Fresh given t0 moment q v = (t0 ≤ moment) ⊎ IsSomeAnd (life_in_seconds given q.query_type v) (λ life. t0 ≤ moment + 1000000 * life)

@@ -1,0 +1,78 @@
+-- What a response counts for, seen from a zone of its teller.
+use Rattle.std.specs.Prelude.{Bool, true, false, not, ◌&&◌, ◌||◌, ◌==◌, length, filter, if◌then◌else◌, Option, Some, None}
+use Rattle.std.specs.Option.{option_map}
+use Rattle.std.specs.declared.net.ip_addr.IpAddr.{IpAddr}
+use Rattle.dns_core.specs.Name.{DomainName}
+use Rattle.dns_core.specs.declared.message.Query.{Query}
+use Rattle.dns_core.specs.declared.message.Message.{Message}
+use Rattle.dns_core.specs.declared.record.Record.{Record}
+use Rattle.dns_core.specs.declared.net_error.NoRecords.{NoRecords}
+use Rattle.dns_core.specs.declared.log.ToldOutcome.{ToldOutcome}
+use Rattle.resolution.specs.Names.{is_above}
+use Rattle.resolution.specs.Records.{address, only}
+use Rattle.resolution.specs.Class.{class_of}
+use Rattle.resolution.specs.Given.{Given}
+use Rattle.resolution.specs.declared.class.Class.{Class}
+use Rattle.resolution.specs.declared.class.Class.TheVariants.{Error, Code, Truncated, Negative, Foreign, Positive}
+use Rattle.resolution.specs.declared.verdict.Verdict.{Verdict}
+use Rattle.resolution.specs.declared.verdict.Verdict.TheVariants.{Pos, Neg, Made}
+use Rattle.resolution.specs.declared.verdict.Cause.TheVariants.{Filter, Zone}
+
+-- the filter denies the address that the record holds
+abbrev pub holds_denied : (IpAddr → Bool) → Record → Bool
+holds_denied denied r = elim (address r) [ None ↦ false | Some ip ↦ denied ip ]
+
+-- without the records that hold a denied address
+abbrev pub without_denied : (IpAddr → Bool) → Message → Message
+without_denied denied m = only (λ r. not (holds_denied denied r)) m
+
+-- the record lies in the zone
+abbrev pub in_zone : DomainName → Record → Bool
+in_zone z r = is_above z r.name
+
+-- without the records outside the zone, which its servers cannot vouch for
+abbrev pub within : DomainName → Message → Message
+within z m = only (in_zone z) m
+
+-- What was left out emptied the answers, or the authorities of a message that has no answers left.
+abbrev pub emptied : Message → Message → Bool
+emptied old new =
+    (not (length old.answers == 0) && length new.answers == 0)
+    || (length new.answers == 0 && not (length old.authorities == 0) && length new.authorities == 0)
+
+-- the filter leaves nothing of the answer
+abbrev pub is_all_denied : (IpAddr → Bool) → Message → Bool
+is_all_denied denied m = emptied m (without_denied denied m)
+
+-- An answer counts with what the filter and then the zone leave of it; where one of the two leaves nothing, it counts as a denial that this one made.
+abbrev pub verdict_of_message : (IpAddr → Bool) → Message → DomainName → Verdict
+verdict_of_message denied m z =
+    if is_all_denied denied m then Made Filter else (
+    if emptied (without_denied denied m) (within z (without_denied denied m)) then Made Zone else
+    Pos (within z (without_denied denied m)))
+
+-- a record, where it lies in the zone
+abbrev pub if_in_zone : DomainName → Option Record → Option Record
+if_in_zone z None = None
+if_in_zone z (Some r) = if in_zone z r then Some r else None
+
+-- a negative without an SOA and authorities outside the zone
+abbrev pub negative_within : DomainName → NoRecords → NoRecords
+negative_within z n = record n { soa = if_in_zone z n.soa; authorities = filter (in_zone z) n.authorities }
+
+-- Answers and negatives count; nothing else does.
+abbrev pub verdict_of_class : (IpAddr → Bool) → Class → DomainName → Option Verdict
+verdict_of_class denied (Positive m) z = Some (verdict_of_message denied m z)
+verdict_of_class denied (Negative n) z = Some (Neg (negative_within z n))
+verdict_of_class denied (Error e) z = None
+verdict_of_class denied (Code c) z = None
+verdict_of_class denied Truncated z = None
+verdict_of_class denied (Foreign r) z = None
+
+abbrev pub verdict_of_told : (IpAddr → Bool) → Option Class → DomainName → Option Verdict
+verdict_of_told denied None z = None
+verdict_of_told denied (Some class) z = verdict_of_class denied class z
+
+-- what was told for a question counts for, seen from a zone
+abbrev pub verdict : Given → ToldOutcome → Query → DomainName → Option Verdict
+verdict given o q z = verdict_of_told given.answer_denied (class_of o q) z
