@@ -26,10 +26,14 @@ fn rules(scenario: &Scenario) -> &[ScriptLine] {
 }
 
 /// The base script with a line in place of the one of this number.
-fn with_line(alloc: Global, number: usize, line: &str) -> Result<String, Fail> {
+fn with_line(alloc: Global, number: u32, line: &str) -> Result<String, Fail> {
     let mut text = String::new(alloc);
     for (i, old) in BASE.lines().enumerate() {
-        text.push_str(if i + 1 == number { line } else { old })?;
+        text.push_str(if i as u64 + 1 == number as u64 {
+            line
+        } else {
+            old
+        })?;
         text.push_str("\n")?;
     }
     Ok(text)
@@ -60,15 +64,17 @@ fn reads_the_base_script(rt: HostRuntime) -> Result<(), Fail> {
 fn reads_the_rules_of_the_base_script(rt: HostRuntime) -> Result<(), Fail> {
     let alloc = rt.alloc();
     let scenario = read_scenario(alloc, BASE.as_bytes())?;
-    match &rules(&scenario)[2] {
-        ScriptLine::Reply {
-            ip,
-            protocol,
-            name,
-            query_type,
-            delay,
-            outcome: Ok(message),
-        } => {
+    match rules(&scenario).get(2) {
+        Some(
+            ScriptLine::Reply {
+                ip,
+                protocol,
+                name,
+                query_type,
+                delay,
+                outcome: Ok(message),
+            },
+        ) => {
             assert_eq!(rt; *ip, IpAddr::V4(Ipv4Addr::new(11, 0, 0, 3)));
             assert_eq!(rt; *protocol, Protocol::Udp);
             assert_eq!(rt; *name, Name::parse(alloc, "example.com.")?);
@@ -152,7 +158,7 @@ fn bad_lines_are_told(rt: HostRuntime) -> Result<(), Fail> {
     for (line, bad) in cases {
         let text = with_line(alloc, line, bad)?;
         let error = ScenarioError {
-            line: line as u32,
+            line,
             cause: Cause::Line,
         };
         assert_eq!(rt; fault(alloc, text.as_bytes()), Some(error), "at {bad}");
@@ -200,7 +206,7 @@ fn lines_that_are_not_built_are_told_so(rt: HostRuntime) -> Result<(), Fail> {
     for (line, unbuilt) in cases {
         let text = with_line(alloc, line, unbuilt)?;
         let error = ScenarioError {
-            line: line as u32,
+            line,
             cause: Cause::NotBuilt,
         };
         assert_eq!(rt; fault(alloc, text.as_bytes()), Some(error), "at {unbuilt}");
