@@ -1,0 +1,96 @@
+//! What a response counts for, as told by a server of a zone: only records at or below the apex of
+//! its zone are believed (RFC 2181 section 5.4.1, RFC 5452 section 6).
+ghost use Rattle.std.specs.Prelude.{◌≡◌, ◌&&◌, ◌||◌, filter};
+ghost use Rattle.resolution.specs.Given.{allows_all};
+ghost use Rattle.resolution.specs.Verdict.{in_zone, within, negative_within, verdict_of_message, if_in_zone};
+
+use dns_core::{Items, Message, Name, NoRecords, Record, Records, is_subzone};
+use resolution::{Cause, Verdict};
+
+fn is_in_zone(zone: &Name, r: &Record) -> bool
+    ensures { result ≡ in_zone zone.now r.now }
+{
+    zone.is_fqdn() && is_subzone(zone, &r.name)
+}
+
+fn keep(records: &mut Vec<Record>, zone: &Name)
+    ensures { records.new.items ≡ filter (in_zone zone.now) records.old.items }
+{
+    records.retain(|r| is_in_zone(zone, r));
+}
+
+fn kept_section(records: Records, zone: &Name) -> Records
+    ensures { result ≡ filter (in_zone zone.now) records }
+{
+    let mut items = records.into_vec();
+    keep(&mut items, zone);
+    Items::new(items)
+}
+
+/// The records of a message that are inside the zone.
+fn within(message: Message, zone: &Name) -> Message
+    ensures { result ≡ within zone.now message }
+{
+    Message {
+        query: message.query,
+        response_code: message.response_code,
+        authoritative: message.authoritative,
+        truncation: message.truncation,
+        answers: kept_section(message.answers, zone),
+        authorities: kept_section(message.authorities, zone),
+        additionals: kept_section(message.additionals, zone),
+    }
+}
+
+fn soa_within(soa: Option<Record>, zone: &Name) -> Option<Record>
+    ensures { result ≡ if_in_zone zone.now soa }
+{
+    match soa {
+        Some(r) => { if is_in_zone(zone, &r) { Some(r) } else { None } }
+        None => None,
+    }
+}
+
+/// A negative response without an SOA and authorities outside the zone.
+pub fn negative_within(found: NoRecords, zone: &Name) -> NoRecords
+    ensures { result ≡ negative_within zone.now found }
+{
+    let NoRecords {
+        query,
+        soa,
+        ns,
+        response_code,
+        authorities,
+    } = found;
+    NoRecords {
+        query,
+        soa: soa_within(soa, zone),
+        ns,
+        response_code,
+        authorities: kept_section(authorities, zone),
+    }
+}
+
+/// Whether what was left out emptied the answers, or the authorities beside no answers.
+fn is_emptied(answered: bool, no_answers: bool, delegated: bool, no_authorities: bool) -> bool
+    ensures { result ≡ ((answered && no_answers) || (no_answers && delegated && no_authorities)) }
+{
+    (answered && no_answers) || (no_answers && delegated && no_authorities)
+}
+
+/// What an answer counts for, as told by a server of the zone: the records inside the zone, or a
+/// denial where the zone leaves no answer, or no authority beside no answer.
+pub fn answer_within(message: Message, zone: &Name) -> Verdict
+    ensures { result ≡ verdict_of_message allows_all message zone.now }
+{
+    let answered = !message.answers.is_empty();
+    let delegated = !message.authorities.is_empty();
+    let kept = within(message, zone);
+    let no_answers = kept.answers.is_empty();
+    let no_authorities = kept.authorities.is_empty();
+    if is_emptied(answered, no_answers, delegated, no_authorities) {
+        Verdict::Made(Cause::Zone)
+    } else {
+        Verdict::Pos(kept)
+    }
+}
