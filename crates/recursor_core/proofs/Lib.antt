@@ -1,2 +1,13 @@
 pub mod Plays
 pub mod Ranks
+pub mod Kept
+pub mod Candidates
+pub mod Walks
+pub mod Resolved
+pub mod Cores
+pub mod Sends
+pub mod Earlier
+pub mod Standing
+pub mod Playing
+pub mod Growing
+pub mod Slots

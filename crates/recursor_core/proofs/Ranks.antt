@@ -1,17 +1,20 @@
 -- Ranks of resolutions, and of a list of them in which one is changed.
-use Rattle.std.proofs.Common.{◌≡◌, ◌≢◌, ◌≤◌, ◌<◌, ◌+◌, ◌*◌, ℕ, zero, suc, List, [], ◌∷◌, length, get_or, Option, Some, None, refl, arith, sym, ap, slice_get, sum_by}
+use Rattle.std.proofs.Common.{◌≡◌, ◌≢◌, ◌≤◌, ◌<◌, ◌+◌, ◌*◌, ℕ, zero, suc, List, [], ◌∷◌, length, get_or, Option, Some, None, refl, arith, sym, ap, slice_get, sum_by, ◌⊎◌, inl, inr}
 use Rattle.std.proofs.Math.ListN.{set}
 use Rattle.std.proofs.Math.Nat.{mul-le-mul_left}
 use Rattle.std.proofs.lemmas.List.Sums.{sum_by-set}
 use Rattle.std.proofs.lemmas.Option.{slice_get_read}
+use Rattle.std.specs.declared.net.ip_addr.IpAddr.{IpAddr}
 use Rattle.recursor_core.specs.Lookup.{polls_left}
 use Rattle.recursor_core.specs.declared.lookup.Send.{Send}
 use Rattle.recursor_core.specs.declared.lookup.Send.TheVariants as send
-use Rattle.recursor_core.specs.Resolution.{rank, steps, state_polls, order_of, want_of}
-use Rattle.recursor_core.specs.declared.resolution.State.{State}
-use Rattle.recursor_core.specs.declared.resolution.State.TheVariants.{Under, Done, Ended}
-use Rattle.recursor_core.specs.declared.resolution.Resolution.{Resolution}
-use Rattle.recursor_core.specs.declared.resolution.Need.TheVariants as need
+use Rattle.recursor_core.specs.declared.order.After.{After}
+use Rattle.recursor_core.specs.declared.order.After.TheVariants as after
+use Rattle.recursor_core.specs.Resolving.{rank, steps, state_polls, order_of, want_of}
+use Rattle.recursor_core.specs.declared.resolving.State.{State}
+use Rattle.recursor_core.specs.declared.resolving.State.TheVariants.{Under, Done, Ended}
+use Rattle.recursor_core.specs.declared.resolving.Resolution.{Resolution}
+use Rattle.recursor_core.specs.declared.resolving.Need.TheVariants as need
 use Rattle.recursor_core.specs.Machine.{need_in, MayAskOf}
 
 fewer : (p s t a b : ℕ) → s < t → a ≤ p → (p + 1) * s + a < (p + 1) * t + b
@@ -22,7 +25,7 @@ send_polls p send.Ready = omega arith
 send_polls p (send.Chosen ip) = omega arith
 send_polls p (send.Opening ip order polls) = omega arith
 send_polls p (send.Connected ip conn) = omega arith
-send_polls p (send.Asking ip order polls) = omega arith
+send_polls p (send.Asking ip order since polls) = omega arith
 send_polls p (send.Told entry message) = omega arith
 send_polls p (send.Failed entry error) = omega arith
 
@@ -49,10 +52,10 @@ sum_falls p xs i f g within is h = let moved = rw (sym (ap (rank p) is)) at (sum
 pub read_at : (xs : List Resolution) (i : ℕ) (f : Resolution) → i < length xs → f ≡ get_or xs i f → slice_get xs i ≡ Some f
 read_at xs i f within is = slice_get_read xs (length xs) i f refl within is
 
-pub may_ask_within : (xs : List Resolution) (i : ℕ) → MayAskOf (slice_get xs i) → i < length xs
-may_ask_within [] i h = absurd h
-may_ask_within (x ∷ xs) zero h = omega arith
-may_ask_within (x ∷ xs) (suc i) h = omega (arith, may_ask_within xs i h)
+pub may_ask_within : (ip : IpAddr) (xs : List Resolution) (i : ℕ) → MayAskOf ip (slice_get xs i) → i < length xs
+may_ask_within ip [] i h = absurd h
+may_ask_within ip (x ∷ xs) zero h = omega arith
+may_ask_within ip (x ∷ xs) (suc i) h = omega (arith, may_ask_within ip xs i h)
 
 pub order_within : (xs : List Resolution) (i : ℕ) → order_of (need_in (slice_get xs i)) ≢ None → i < length xs
 order_within [] i h = absurd (h refl)
@@ -62,3 +65,13 @@ order_within (x ∷ xs) (suc i) h = omega (arith, order_within xs i h)
 -- what is beside a lookup does not change how its rank falls
 pub lifted : (p a s t x y : ℕ) → (p + 1) * s + x < (p + 1) * t + y → (p + 1) * (a + s) + x < (p + 1) * (a + t) + y
 lifted p a s t x y h = omega arith
+
+pub sum_keeps : (p : ℕ) (xs : List Resolution) (i : ℕ) (f g : Resolution) → i < length xs → f ≡ get_or xs i f → rank p g ≤ rank p f → sum_by (rank p) (set xs i g) ≤ sum_by (rank p) xs
+sum_keeps p xs i f g within is h = let moved = rw (sym (ap (rank p) is)) at (sum_by-set (rank p) xs i g f within) in omega (arith, moved, h)
+
+-- an outcome was late or not
+pub late_or_not : (a : After) → (a ≡ after.Late) ⊎ (a ≢ after.Late)
+late_or_not after.Kept = inr (λ e. cc)
+late_or_not after.Ended = inr (λ e. cc)
+late_or_not after.GiveUp = inr (λ e. cc)
+late_or_not after.Late = inl refl

@@ -1,7 +1,10 @@
-pub mod Lookup
-pub mod Machine
 pub mod Order
-pub mod Resolution
-pub mod Turns
-pub mod Verdict
+pub mod Lookup
 pub mod Walk
+pub mod Resolving
+pub mod Replies
+pub mod Derived
+pub mod Machine
+pub mod Turns
+pub mod Carrying
+pub mod Standing

@@ -1,6 +1,7 @@
 -- Where a lookup stands, and how much of it is left.
-use Rattle.std.specs.Prelude.{◌≡◌, ℕ, ◌+◌, ◌-◌, ◌*◌, ◌⊎◌, vec_len}
+use Rattle.std.specs.Prelude.{◌≡◌, ℕ, ◌+◌, ◌-◌, ◌*◌, ◌<◌, vec_len}
 use Rattle.std.specs.declared.net.ip_addr.IpAddr.{IpAddr}
+use Rattle.dns_core.specs.declared.message.Query.{Query}
 use Rattle.recursor_core.specs.declared.lookup.Send.{Send}
 use Rattle.recursor_core.specs.declared.lookup.Send.TheVariants as send
 use Rattle.recursor_core.specs.declared.lookup.Want.{Want}
@@ -12,7 +13,7 @@ send_want send.Ready = Choose
 send_want (send.Chosen ip) = Connect ip
 send_want (send.Opening ip order polls) = Wait order
 send_want (send.Connected ip conn) = Ask ip conn
-send_want (send.Asking ip order polls) = Wait order
+send_want (send.Asking ip order since polls) = Wait order
 send_want (send.Told entry message) = Hear
 send_want (send.Failed entry error) = Hear
 
@@ -22,26 +23,39 @@ IsWaiting send.Ready = ⊥
 IsWaiting (send.Chosen ip) = ⊥
 IsWaiting (send.Opening ip order polls) = Unit {0}
 IsWaiting (send.Connected ip conn) = ⊥
-IsWaiting (send.Asking ip order polls) = Unit {0}
+IsWaiting (send.Asking ip order since polls) = Unit {0}
 IsWaiting (send.Told entry message) = ⊥
 IsWaiting (send.Failed entry error) = ⊥
 
--- a question may be asked: the server is chosen, or the connection to it is there
-abbrev pub MayAsk : Send → Type 0
-MayAsk send.Ready = ⊥
-MayAsk (send.Chosen ip) = Unit {0}
-MayAsk (send.Opening ip order polls) = ⊥
-MayAsk (send.Connected ip conn) = Unit {0}
-MayAsk (send.Asking ip order polls) = ⊥
-MayAsk (send.Told entry message) = ⊥
-MayAsk (send.Failed entry error) = ⊥
+-- a question may be asked of the address: it is chosen, or the connection to it is there
+abbrev pub MayAsk : IpAddr → Send → Type 0
+MayAsk ip send.Ready = ⊥
+MayAsk ip (send.Chosen chosen) = chosen ≡ ip
+MayAsk ip (send.Opening to order polls) = ⊥
+MayAsk ip (send.Connected to conn) = to ≡ ip
+MayAsk ip (send.Asking to order since polls) = ⊥
+MayAsk ip (send.Told entry message) = ⊥
+MayAsk ip (send.Failed entry error) = ⊥
+
+-- a question is asked of the address by entry `of`, which is later than what was put before
+abbrev pub SendAsks : ℕ → IpAddr → Send → Type 0
+SendAsks of ip send.Ready = ⊥
+SendAsks of ip (send.Chosen chosen) = ⊥
+SendAsks of ip (send.Opening to order polls) = ⊥
+SendAsks of ip (send.Connected to conn) = ⊥
+SendAsks of ip (send.Asking to order since polls) = (to ≡ ip) × (since < of)
+SendAsks of ip (send.Told entry message) = ⊥
+SendAsks of ip (send.Failed entry error) = ⊥
+
+abbrev pub AsksOf : ℕ → IpAddr → Query → Lookup → Type 0
+AsksOf of ip query l = (query ≡ l.query) × SendAsks of ip l.send
 
 -- how many steps a send has before it
 abbrev pub send_steps : Send → ℕ
 send_steps send.Ready = 0
 send_steps (send.Told entry message) = 1
 send_steps (send.Failed entry error) = 1
-send_steps (send.Asking ip order polls) = 2
+send_steps (send.Asking ip order since polls) = 2
 send_steps (send.Connected ip conn) = 3
 send_steps (send.Opening ip order polls) = 4
 send_steps (send.Chosen ip) = 5
@@ -56,7 +70,7 @@ polls_left patience send.Ready = 0
 polls_left patience (send.Chosen ip) = 0
 polls_left patience (send.Opening ip order polls) = patience - polls
 polls_left patience (send.Connected ip conn) = 0
-polls_left patience (send.Asking ip order polls) = patience - polls
+polls_left patience (send.Asking ip order since polls) = patience - polls
 polls_left patience (send.Told entry message) = 0
 polls_left patience (send.Failed entry error) = 0
 

@@ -1,13 +1,21 @@
 -- The machine as a whole.
-use Rattle.std.specs.Prelude.{◌≡◌, ◌≤◌, ◌<◌, ℕ, List, Option, Some, None, Result, Ok, Err, slice_get, option_and_then, sum_by, ◌⊎◌}
+use Rattle.std.specs.Prelude.{◌≡◌, ◌≤◌, ◌<◌, ◌+◌, ℕ, List, Option, Some, None, Result, Ok, Err, slice_get, sum_by, ◌⊎◌}
+use Rattle.std.specs.Option.{option_map}
+use Rattle.std.specs.declared.net.ip_addr.IpAddr.{IpAddr}
+use Rattle.dns_core.specs.Log.{Log}
+use Rattle.dns_core.specs.declared.message.Query.{Query}
+use Rattle.dns_core.specs.declared.request.Question.{Question}
+use Rattle.recursor_core.specs.Order.{GoesToServer}
+use Rattle.recursor_core.specs.Replies.{given_of, ReplyHolds}
+use Rattle.recursor_core.specs.declared.reply.Reply.{Reply}
 use Rattle.dns_core.specs.declared.errors.NoMemory.{NoMemory}
-use Rattle.recursor_core.specs.Resolution as one
+use Rattle.recursor_core.specs.Resolving as one
 use Rattle.recursor_core.specs.declared.error.MessageKind.TheVariants as kind
 use Rattle.recursor_core.specs.declared.error.RecursorError.{RecursorError}
 use Rattle.recursor_core.specs.declared.error.RecursorError.TheVariants as error
-use Rattle.recursor_core.specs.declared.resolution.Need.{Need}
-use Rattle.recursor_core.specs.declared.resolution.Need.TheVariants as need
-use Rattle.recursor_core.specs.declared.resolution.Resolution.{Resolution}
+use Rattle.recursor_core.specs.declared.resolving.Need.{Need}
+use Rattle.recursor_core.specs.declared.resolving.Need.TheVariants as need
+use Rattle.recursor_core.specs.declared.resolving.Resolution.{Resolution}
 use Rattle.recursor_core.specs.declared.machine.Step.{Step}
 use Rattle.recursor_core.specs.declared.machine.Step.TheVariants as step
 use Rattle.recursor_core.specs.declared.machine.Progress.{Progress}
@@ -26,13 +34,48 @@ need_at core r = need_in (slice_get core.resolutions.items r)
 abbrev pub order_at : RecursorCore → ℕ → Option ℕ
 order_at core r = one.order_of (need_at core r)
 
-abbrev pub MayAskOf : Option Resolution → Type 0
-MayAskOf None = ⊥
-MayAskOf (Some r) = one.MayAskNow r
+abbrev pub MayAskOf : IpAddr → Option Resolution → Type 0
+MayAskOf ip None = ⊥
+MayAskOf ip (Some r) = one.MayAskNow ip r
 
--- its question may be asked
-abbrev pub MayAskAt : RecursorCore → ℕ → Type 0
-MayAskAt core r = MayAskOf (slice_get core.resolutions.items r)
+-- its question may be asked of the address
+abbrev pub MayAskAt : RecursorCore → ℕ → IpAddr → Type 0
+MayAskAt core r ip = MayAskOf ip (slice_get core.resolutions.items r)
+
+abbrev pub asked_in : Option Resolution → Option Query
+asked_in None = None
+asked_in (Some r) = one.asked_of r.state
+
+-- the question that it asks now
+abbrev pub asked_at : RecursorCore → ℕ → Option Query
+asked_at core r = asked_in (slice_get core.resolutions.items r)
+
+-- a question, and the moment at which it began
+pub record Begun : Type 0 where
+  pub question : Question
+  pub moment : ℕ
+
+abbrev pub begun_of : Resolution → Begun
+begun_of r = record { question = r.question; moment = r.begun }
+
+-- what the resolution at a place is of
+abbrev pub begun_at : RecursorCore → ℕ → Option Begun
+begun_at core r = option_map begun_of (slice_get core.resolutions.items r)
+
+-- the resolution at a place is of this question, which began at the moment
+abbrev pub IsBegunAt : RecursorCore → ℕ → Question → ℕ → Type 0
+IsBegunAt core r question now = begun_at core r ≡ Some (record { question = question; moment = now })
+
+-- nothing but the numbers of orders and the connections has changed
+abbrev pub IsSetAs : RecursorCore → RecursorCore → Type 0
+IsSetAs old new = (new.resolutions ≡ old.resolutions) × (new.roots ≡ old.roots) × (new.greatest ≡ old.greatest) × (new.moment ≡ old.moment)
+
+-- The roots, the greatest entry and moment and the questions are as before.
+pub record SameCore (old new : RecursorCore) : Type 0 where
+  pub roots : new.roots ≡ old.roots
+  pub greatest : new.greatest ≡ old.greatest
+  pub moment : new.moment ≡ old.moment
+  pub begun : (k : ℕ) → begun_at new k ≡ begun_at old k
 
 -- some resolution waits for the order
 abbrev pub IsAwaited : RecursorCore → ℕ → Type 0
@@ -57,6 +100,21 @@ abbrev pub GoesOn : RecursorCore → RecursorCore → Result Progress NoMemory �
 GoesOn old new (Ok progress.Again) = (p : ℕ) → rank p new < rank p old
 GoesOn old new (Ok (progress.Step s)) = StepFalls old new s
 GoesOn old new (Err e) = (p : ℕ) → rank p new ≤ rank p old
+
+abbrev pub ReplyGiven : List IpAddr → Log → Option Begun → Reply → Type 0
+ReplyGiven roots log None reply = Unit {0}
+ReplyGiven roots log (Some b) reply = ReplyHolds roots log b.moment b.question reply
+
+-- what a step gives is derived: an order goes to a server by what was put before, and a reply holds
+abbrev pub StepGives : RecursorCore → Log → ℕ → Step → Type 0
+StepGives core log r (step.Order number order) = GoesToServer (given_of core.roots) log (core.greatest + 1) order
+StepGives core log r (step.Waiting number) = Unit {0}
+StepGives core log r (step.Done reply) = ReplyGiven core.roots log (begun_at core r) reply
+StepGives core log r step.Ended = Unit {0}
+
+abbrev pub Gives : RecursorCore → Log → ℕ → Progress → Type 0
+Gives core log r progress.Again = Unit {0}
+Gives core log r (progress.Step s) = StepGives core log r s
 
 -- what a new machine is refused for
 abbrev pub IsNewError : RecursorError → Type 0

@@ -1,6 +1,11 @@
 -- How much is left of the questions of a run.
-use Rattle.std.specs.Prelude.{◌≡◌, ◌≤◌, ◌<◌, ◌+◌, ℕ, List, Option, Some, None, slice_get, sum_by}
+use Rattle.std.specs.Prelude.{◌≡◌, ◌≤◌, ◌<◌, ◌+◌, ℕ, List, Option, Some, None, Err, slice_get, sum_by}
+use Rattle.dns_core.specs.declared.request.Question.{Question}
+use Rattle.recursor_core.specs.Machine as machine
 use Rattle.recursor_core.specs.Machine.{rank}
+use Rattle.recursor_core.specs.declared.error.RecursorError.{RecursorError}
+use Rattle.recursor_core.specs.declared.error.RecursorError.TheVariants as error
+use Rattle.recursor_core.specs.declared.reply.Reply.{Reply}
 use Rattle.recursor_core.specs.declared.machine.RecursorCore.{RecursorCore}
 use Rattle.recursor_core.specs.declared.turns.Turned.{Turned}
 use Rattle.recursor_core.specs.declared.turns.Turned.TheVariants as turned
@@ -34,3 +39,22 @@ IsBegunAt plays q = (r : ℕ) × (slice_get plays q ≡ Some (played.Begun r))
 abbrev pub IsUnderWay : List Played → ℕ → Option ℕ → Type 0
 IsUnderWay plays q None = Unit {0}
 IsUnderWay plays q (Some r) = slice_get plays q ≡ Some (played.Begun r)
+
+-- A question as it begins: under way, or refused.
+abbrev pub Begins : Question → ℕ → RecursorCore → Played → Type 0
+Begins question now core played.Waiting = ⊥
+Begins question now core (played.Begun r) = machine.IsBegunAt core r question now
+Begins question now core (played.Answered reply) = (e : RecursorError) × (reply.outcome ≡ Err e)
+
+-- the reply of a question, or want of memory where it has none
+abbrev pub ReplyOf : Option Played → Reply → Type 0
+ReplyOf (Some (played.Answered reply)) given = given ≡ reply
+ReplyOf _ given = given.outcome ≡ Err error.NoMemory
+
+abbrev pub BeginsIf : Option Question → ℕ → RecursorCore → Option Played → Option Played → Type 0
+BeginsIf (Some question) now core (Some played.Waiting) (Some new) = Begins question now core new
+BeginsIf question now core old new = new ≡ old
+
+-- Where the question at a place waits it begins; else its place stays as it is.
+abbrev pub BeginsAt : List Question → ℕ → ℕ → RecursorCore → Option Played → Option Played → Type 0
+BeginsAt questions q now core old new = BeginsIf (slice_get questions q) now core old new

@@ -1,5 +1,12 @@
 -- Where a walk stands, and how much of it is left.
-use Rattle.std.specs.Prelude.{◌≡◌, ℕ, ◌+◌, ◌-◌, ◌*◌, ◌<◌, ◌^◌, length, Option, Some, None, Result, IfOk, IfNone}
+use Rattle.std.specs.Prelude.{◌≡◌, ℕ, Bool, true, false, [], ◌+◌, ◌-◌, ◌*◌, ◌<◌, ◌^◌, ◌==◌, ◌&&◌, nat_lt, if◌then◌else◌, length, Option, Some, None, Result, IfOk, IfNone}
+use Rattle.std.specs.Option.{is_none}
+use Rattle.dns_core.specs.Name.{DomainName, last_labels}
+use Rattle.dns_core.specs.declared.message.Query.{Query}
+use Rattle.dns_core.specs.declared.net_error.NoRecords.{NoRecords}
+use Rattle.resolution.specs.Names.{question}
+use Rattle.recursor_core.specs.declared.error.RecursorError.{RecursorError}
+use Rattle.recursor_core.specs.declared.error.RecursorError.TheVariants.{Negative, ForwardNS}
 use Rattle.dns_core.specs.declared.errors.NoMemory.{NoMemory}
 use Rattle.recursor_core.specs.Lookup as lookup
 use Rattle.recursor_core.specs.declared.reply.Reply.{Reply}
@@ -15,6 +22,30 @@ IsCandidate Last = ⊥
 abbrev pub lookups_after : ℕ → Stage → ℕ
 lookups_after total (Candidate labels) = total - labels + 1
 lookups_after total Last = 0
+
+-- the stage after a candidate of so many labels
+abbrev pub next_stage : ℕ → ℕ → Stage
+next_stage total labels = if nat_lt labels total then Candidate (labels + 1) else Last
+
+-- what is asked: the NS records of a candidate, and at last the question itself
+abbrev pub query_of : DomainName → Query → Stage → Query
+query_of name q (Candidate labels) = question (record { labels = last_labels labels name.labels; fqdn = name.fqdn }) 2
+query_of name q Last = q
+
+-- A negative that the recursor makes, where the zone leaves nothing of what was told.
+abbrev pub made_negative : Query → RecursorError
+made_negative q = Negative (record { query = q; soa = None; no_records_found = false; nx_domain = true; authorities = [] })
+
+-- A negative that was told, or a referral where it names servers.
+abbrev pub told_negative : NoRecords → RecursorError
+told_negative found = elim (found.ns) [
+  | Some forward ↦ ForwardNS forward
+  | None ↦ Negative (record { query = found.query; soa = found.soa; no_records_found = true; nx_domain = found.response_code.code == 3; authorities = found.authorities })
+]
+
+-- Nothing exists at or below a candidate for which a denial of the name came, and no referral (RFC 8020).
+abbrev pub ends_walk : NoRecords → Bool
+ends_walk found = found.response_code.code == 3 && is_none found.ns
 
 -- how many steps a walk has before it; a lookup has fewer than 2 ^ 70
 abbrev pub steps : Walk → ℕ

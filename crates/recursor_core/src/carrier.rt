@@ -1,8 +1,15 @@
 //! Carries orders over a provider, and counts the entries of its log.
-ghost use Rattle.std.specs.Prelude.{◌≡◌, IsTrue, List};
+ghost use Rattle.std.specs.Prelude.{◌≡◌, ◌<◌, ◌+◌, ◌-◌, ◌^◌, ◌&&◌, ◌↔◌, ℕ, not, unwrap_or, IsTrue, List, [], Some, IfOk, IfSome, min, is_ok, is_some, if◌then◌else◌};
+ghost use Rattle.std.specs.Ordering.{nat_cmp, is_eq};
 ghost use Rattle.dns_core.specs.declared.log.LogEntry.{LogEntry};
+ghost use Rattle.dns_core.specs.NetError.{is_memory};
+ghost use Rattle.resolution.specs.Given.{Given};
+ghost use Rattle.resolution.specs.Asking.{IsServer, IsServerFor, AsksServers};
+ghost use Rattle.recursor_core.specs.Order.{Fits, GoesToServer};
+ghost use Rattle.recursor_core.specs.Carrying.{TellsThat, Grown, IsAskedBy, slot_at, CarrierHolds};
 
 use crate::order::{Order, Outcome};
+use crate::slot::{Asking, Connection, Opening, Slot};
 use dns_core::{
     ConnectOptions, ConnectionConfig, ConnectionProvider, DnsRequest, NetError, NoMemory, Poll,
 };
@@ -11,41 +18,20 @@ use std::collections::BTreeMap;
 use std::mem;
 use std::net::IpAddr;
 
-/// A connection that is being opened.
-#[derive(Drop)]
-pub struct Opening<P: ConnectionProvider> {
-    future: P::FutureConn,
-    ghost awaited: { IsTrue (P.opens future) },
-}
-
-/// A question that was asked.
-#[derive(Drop)]
-pub struct Asking<P: ConnectionProvider> {
-    exchange: P::Exchange,
-    ghost awaited: { IsTrue (P.waits exchange) },
-}
-
-/// What is under way for an order.
-#[derive(Drop)]
-pub enum Slot<P: ConnectionProvider> {
-    Opening(Opening<P>),
-    Asking(Asking<P>),
-    Over,
-}
-
 /// Orders under way, and the connections that were made, each under the number of its order.
 #[derive(Drop)]
 pub struct Carrier<P: ConnectionProvider> {
     provider: P,
     options: ConnectOptions,
     slots: BTreeMap<u64, Slot<P>>,
-    connections: BTreeMap<u64, P::Conn>,
+    connections: BTreeMap<u64, Connection<P>>,
     entries: u64,
 }
 
 impl<P: ConnectionProvider> Carrier<P> {
     pub fn new(alloc: Global, provider: P, options: ConnectOptions) -> Carrier<P>
-        ensures { result.provider ≡ provider }
+        ensures provider { result.provider ≡ provider }
+        ensures holds { ((es : List LogEntry) → P.log provider ≡ Some es → es ≡ []) → CarrierHolds P.ConnectionProvider result }
     {
         Carrier {
             provider,
@@ -76,27 +62,34 @@ impl<P: ConnectionProvider> Carrier<P> {
     }
 
     /// Whether numbers are left for the entries of a step and of a give-up.
-    fn has_numbers(&self) -> bool {
+    fn has_numbers(&self) -> bool
+        ensures { IsTrue result ↔ (self.now.entries + 5 < 2 ^ 64) }
+    {
         self.entries < u64::MAX - 4
     }
 
     /// The number of the entry that the last call appended.
     fn count(&mut self) -> u64
-        ensures { self.new.provider ≡ self.old.provider }
+        ensures entry { result ≡ self.new.entries }
+        ensures counts { self.new.entries ≡ min (self.old.entries + 1) (2 ^ 64 - 1) }
+        ensures same { (self.new.provider ≡ self.old.provider) × (self.new.slots ≡ self.old.slots) }
     {
         self.entries = self.entries.saturating_add(1);
         self.entries
     }
 
     fn make_room(&mut self, number: u64) -> Result<(), NoMemory>
-        ensures { self.new.provider ≡ self.old.provider }
+        ensures same { (self.new.provider ≡ self.old.provider) × (self.new.entries ≡ self.old.entries) }
+        ensures slots { (n : ℕ) → slot_at self.new.slots n ≡ (if is_ok result && is_eq (nat_cmp number n) then Some Slot.Over else slot_at self.old.slots n) }
     {
         let _before = self.slots.insert(number, Slot::Over)?;
         Ok(())
     }
 
+    /// Puts what is under way back, where there is room for it.
     fn keep(&mut self, number: u64, slot: Slot<P>)
-        ensures { self.new.provider ≡ self.old.provider }
+        ensures same { (self.new.provider ≡ self.old.provider) × (self.new.entries ≡ self.old.entries) }
+        ensures slots { (n : ℕ) → slot_at self.new.slots n ≡ (if is_some (slot_at self.old.slots number) && is_eq (nat_cmp number n) then Some slot else slot_at self.old.slots n) }
     {
         match self.slots.get_mut(&number) {
             Some(place) => *place = slot,
@@ -104,8 +97,11 @@ impl<P: ConnectionProvider> Carrier<P> {
         }
     }
 
+    /// Takes what is under way, and leaves its room.
     fn take(&mut self, number: u64) -> Slot<P>
-        ensures { self.new.provider ≡ self.old.provider }
+        ensures same { (self.new.provider ≡ self.old.provider) × (self.new.entries ≡ self.old.entries) }
+        ensures was { result ≡ unwrap_or (slot_at self.old.slots number) Slot.Over }
+        ensures slots { (n : ℕ) → slot_at self.new.slots n ≡ (if is_some (slot_at self.old.slots number) && is_eq (nat_cmp number n) then Some Slot.Over else slot_at self.old.slots n) }
     {
         match self.slots.get_mut(&number) {
             Some(place) => mem::replace(place, Slot::Over),
@@ -115,7 +111,10 @@ impl<P: ConnectionProvider> Carrier<P> {
 
     /// A call failed: its outcome, or want of memory, which leaves no entry.
     fn failed(&mut self, refused: bool, error: NetError) -> Result<Outcome, NoMemory>
-        ensures { self.new.provider ≡ self.old.provider }
+        ensures ok { IfOk result (λ outcome. outcome ≡ Outcome.Failed self.new.entries refused error) }
+        ensures memory { is_ok result ≡ not (is_memory error) }
+        ensures counts { self.new.entries ≡ (if is_memory error then self.old.entries else min (self.old.entries + 1) (2 ^ 64 - 1)) }
+        ensures same { (self.new.provider ≡ self.old.provider) × (self.new.slots ≡ self.old.slots) }
     {
         if error.is_memory() {
             return Err(NoMemory);
@@ -128,11 +127,13 @@ impl<P: ConnectionProvider> Carrier<P> {
         })
     }
 
-    fn connected(&mut self, number: u64, conn: P::Conn) -> Result<Outcome, NoMemory>
-        ensures { self.new.provider ≡ self.old.provider }
+    fn connected(&mut self, number: u64, connection: Connection<P>) -> Result<Outcome, NoMemory>
+        ensures ok { IfOk result (λ outcome. outcome ≡ Outcome.Connected self.new.entries) }
+        ensures counts { self.new.entries ≡ min (self.old.entries + 1) (2 ^ 64 - 1) }
+        ensures same { (self.new.provider ≡ self.old.provider) × (self.new.slots ≡ self.old.slots) }
     {
         let entry = self.count();
-        let _before = self.connections.insert(number, conn)?;
+        let _before = self.connections.insert(number, connection)?;
         Ok(Outcome::Connected { entry })
     }
 
@@ -142,19 +143,25 @@ impl<P: ConnectionProvider> Carrier<P> {
         opening: Opening<P>,
         now: u64,
     ) -> Result<Outcome, NoMemory>
-        ensures { (es : List LogEntry) → P.vouches self.new.provider es → P.vouches self.old.provider es }
+        requires holds { CarrierHolds P.ConnectionProvider self.old }
+        requires room { self.old.entries + 2 < 2 ^ 64 }
+        ensures vouches { (es : List LogEntry) → P.vouches self.new.provider es → P.vouches self.old.provider es }
+        ensures holds { CarrierHolds P.ConnectionProvider self.new }
+        ensures grown { Grown (P.log self.old.provider) (P.log self.new.provider) }
+        ensures fits { IfOk result (λ outcome. TellsThat (P.log self.new.provider) (λ log. Fits log now outcome)) }
+        ensures asks { (given : Given) → TellsThat (P.log self.old.provider) (AsksServers given) → TellsThat (P.log self.new.provider) (AsksServers given) }
     {
-        let Opening { mut future } = opening;
+        let Opening { mut future, ip } = opening;
         match self.provider.poll_connection(&mut future, now) {
             Poll::Pending => {
                 let entry = self.count();
-                self.keep(number, Slot::Opening(Opening { future }));
+                self.keep(number, Slot::Opening(Opening { future, ip }));
                 Ok(Outcome::Pending { entry })
             }
-            Poll::Ready(Ok(conn)) => self.connected(number, conn),
+            Poll::Ready(Ok(conn)) => self.connected(number, Connection { conn, ip }),
             Poll::Ready(Err(error)) => {
                 if error.is_memory() {
-                    self.keep(number, Slot::Opening(Opening { future }));
+                    self.keep(number, Slot::Opening(Opening { future, ip }));
                     return Err(NoMemory);
                 }
                 self.failed(false, error)
@@ -163,22 +170,38 @@ impl<P: ConnectionProvider> Carrier<P> {
     }
 
     fn poll_asking(&mut self, number: u64, asking: Asking<P>, now: u64) -> Result<Outcome, NoMemory>
-        ensures { (es : List LogEntry) → P.vouches self.new.provider es → P.vouches self.old.provider es }
+        requires holds { CarrierHolds P.ConnectionProvider self.old }
+        requires room { self.old.entries + 2 < 2 ^ 64 }
+        requires asked { TellsThat (P.log self.old.provider) (IsAskedBy P.ConnectionProvider asking) }
+        ensures vouches { (es : List LogEntry) → P.vouches self.new.provider es → P.vouches self.old.provider es }
+        ensures holds { CarrierHolds P.ConnectionProvider self.new }
+        ensures grown { Grown (P.log self.old.provider) (P.log self.new.provider) }
+        ensures fits { IfOk result (λ outcome. TellsThat (P.log self.new.provider) (λ log. Fits log now outcome)) }
+        ensures asks { (given : Given) → TellsThat (P.log self.old.provider) (AsksServers given) → TellsThat (P.log self.new.provider) (AsksServers given) }
     {
-        let Asking { mut exchange } = asking;
+        let Asking {
+            mut exchange,
+            ip,
+            of,
+        } = asking;
         match self.provider.poll_exchange(&mut exchange, now) {
             Poll::Pending => {
                 let entry = self.count();
-                self.keep(number, Slot::Asking(Asking { exchange }));
+                self.keep(number, Slot::Asking(Asking { exchange, ip, of }));
                 Ok(Outcome::Pending { entry })
             }
             Poll::Ready(Ok(message)) => {
                 let entry = self.count();
-                Ok(Outcome::Told { entry, message })
+                Ok(Outcome::Told {
+                    entry,
+                    of,
+                    ip,
+                    message,
+                })
             }
             Poll::Ready(Err(error)) => {
                 if error.is_memory() {
-                    self.keep(number, Slot::Asking(Asking { exchange }));
+                    self.keep(number, Slot::Asking(Asking { exchange, ip, of }));
                     return Err(NoMemory);
                 }
                 self.failed(false, error)
@@ -193,12 +216,19 @@ impl<P: ConnectionProvider> Carrier<P> {
         config: &ConnectionConfig,
         now: u64,
     ) -> Result<Outcome, NoMemory>
-        ensures { (es : List LogEntry) → P.vouches self.new.provider es → P.vouches self.old.provider es }
+        requires holds { CarrierHolds P.ConnectionProvider self.old }
+        requires room { self.old.entries + 3 < 2 ^ 64 }
+        ensures vouches { (es : List LogEntry) → P.vouches self.new.provider es → P.vouches self.old.provider es }
+        ensures holds { CarrierHolds P.ConnectionProvider self.new }
+        ensures grown { Grown (P.log self.old.provider) (P.log self.new.provider) }
+        ensures fits { IfOk result (λ outcome. TellsThat (P.log self.new.provider) (λ log. Fits log now outcome)) }
+        ensures asks { (given : Given) → TellsThat (P.log self.old.provider) (λ log. IsServer given log log.next ip)
+            → TellsThat (P.log self.old.provider) (AsksServers given) → TellsThat (P.log self.new.provider) (AsksServers given) }
     {
         match self.provider.new_connection(ip, config, &self.options, now) {
             Ok(future) => {
                 let _entry = self.count();
-                self.poll_opening(number, Opening { future }, now)
+                self.poll_opening(number, Opening { future, ip }, now)
             }
             Err(error) => self.failed(true, error),
         }
@@ -207,28 +237,52 @@ impl<P: ConnectionProvider> Carrier<P> {
     fn ask(
         &mut self,
         number: u64,
-        conn: P::Conn,
+        connection: Connection<P>,
         request: &DnsRequest,
         now: u64,
     ) -> Result<Outcome, NoMemory>
-        ensures { (es : List LogEntry) → P.vouches self.new.provider es → P.vouches self.old.provider es }
+        requires holds { CarrierHolds P.ConnectionProvider self.old }
+        requires room { self.old.entries + 3 < 2 ^ 64 }
+        ensures vouches { (es : List LogEntry) → P.vouches self.new.provider es → P.vouches self.old.provider es }
+        ensures holds { CarrierHolds P.ConnectionProvider self.new }
+        ensures grown { Grown (P.log self.old.provider) (P.log self.new.provider) }
+        ensures fits { IfOk result (λ outcome. TellsThat (P.log self.new.provider) (λ log. Fits log now outcome)) }
+        ensures asks { (given : Given) → TellsThat (P.log self.old.provider) (λ log. IsServerFor given log log.next connection.ip request.now.query)
+            → TellsThat (P.log self.old.provider) (AsksServers given) → TellsThat (P.log self.new.provider) (AsksServers given) }
     {
+        let Connection { conn, ip } = connection;
         match self.provider.send(conn, request, now) {
             Ok(exchange) => {
-                let _entry = self.count();
-                self.poll_asking(number, Asking { exchange }, now)
+                let of = self.count();
+                self.poll_asking(number, Asking { exchange, ip, of }, now)
             }
             Err(error) => self.failed(true, error),
         }
     }
 
-    fn connection(&self, conn: u64) -> Option<P::Conn> {
-        self.connections.get(&conn).copied()
+    /// The connection that an order made, where it is to this address.
+    fn connection(&self, conn: u64, ip: IpAddr) -> Option<Connection<P>>
+        ensures { IfSome result (λ made. made.ip ≡ ip) }
+    {
+        let made = self.connections.get(&conn)?;
+        if made.ip != ip {
+            return None;
+        }
+        Some(Connection {
+            conn: made.conn,
+            ip: made.ip,
+        })
     }
 
     /// Starts an order and polls it once.
     pub fn start(&mut self, number: u64, order: Order, now: u64) -> Result<Outcome, NoMemory>
-        ensures { (es : List LogEntry) → P.vouches self.new.provider es → P.vouches self.old.provider es }
+        requires holds { CarrierHolds P.ConnectionProvider self.old }
+        ensures vouches { (es : List LogEntry) → P.vouches self.new.provider es → P.vouches self.old.provider es }
+        ensures holds { CarrierHolds P.ConnectionProvider self.new }
+        ensures grown { Grown (P.log self.old.provider) (P.log self.new.provider) }
+        ensures fits { IfOk result (λ outcome. TellsThat (P.log self.new.provider) (λ log. Fits log now outcome)) }
+        ensures asks { (given : Given) → TellsThat (P.log self.old.provider) (λ log. GoesToServer given log log.next order)
+            → TellsThat (P.log self.old.provider) (AsksServers given) → TellsThat (P.log self.new.provider) (AsksServers given) }
     {
         if !self.has_numbers() {
             return Err(NoMemory);
@@ -236,8 +290,13 @@ impl<P: ConnectionProvider> Carrier<P> {
         self.make_room(number)?;
         match order {
             Order::Open { ip, config } => self.open(number, ip, &config, now),
-            Order::Ask { conn, request, .. } => match self.connection(conn) {
-                Some(conn) => self.ask(number, conn, &request, now),
+            Order::Ask {
+                conn,
+                ip,
+                request,
+                ..
+            } => match self.connection(conn, ip) {
+                Some(connection) => self.ask(number, connection, &request, now),
                 None => Err(NoMemory),
             },
         }
@@ -245,7 +304,12 @@ impl<P: ConnectionProvider> Carrier<P> {
 
     /// Polls an order that is under way.
     pub fn poll(&mut self, number: u64, now: u64) -> Result<Outcome, NoMemory>
-        ensures { (es : List LogEntry) → P.vouches self.new.provider es → P.vouches self.old.provider es }
+        requires holds { CarrierHolds P.ConnectionProvider self.old }
+        ensures vouches { (es : List LogEntry) → P.vouches self.new.provider es → P.vouches self.old.provider es }
+        ensures holds { CarrierHolds P.ConnectionProvider self.new }
+        ensures grown { Grown (P.log self.old.provider) (P.log self.new.provider) }
+        ensures fits { IfOk result (λ outcome. TellsThat (P.log self.new.provider) (λ log. Fits log now outcome)) }
+        ensures asks { (given : Given) → TellsThat (P.log self.old.provider) (AsksServers given) → TellsThat (P.log self.new.provider) (AsksServers given) }
     {
         if !self.has_numbers() {
             return Err(NoMemory);
@@ -259,16 +323,24 @@ impl<P: ConnectionProvider> Carrier<P> {
 
     /// Gives up an order that is under way.
     pub fn give_up(&mut self, number: u64, now: u64)
-        ensures { (es : List LogEntry) → P.vouches self.new.provider es → P.vouches self.old.provider es }
+        requires holds { CarrierHolds P.ConnectionProvider self.old }
+        ensures vouches { (es : List LogEntry) → P.vouches self.new.provider es → P.vouches self.old.provider es }
+        ensures holds { CarrierHolds P.ConnectionProvider self.new }
+        ensures grown { Grown (P.log self.old.provider) (P.log self.new.provider) }
+        ensures asks { (given : Given) → TellsThat (P.log self.old.provider) (AsksServers given) → TellsThat (P.log self.new.provider) (AsksServers given) }
     {
         match self.take(number) {
             Slot::Opening(opening) => {
-                let Opening { future } = opening;
+                let Opening { future, ip: _ } = opening;
                 self.provider.give_up_connection(future, now);
                 let _entry = self.count();
             }
             Slot::Asking(asking) => {
-                let Asking { exchange } = asking;
+                let Asking {
+                    exchange,
+                    ip: _,
+                    of: _,
+                } = asking;
                 self.provider.give_up(exchange, now);
                 let _entry = self.count();
             }

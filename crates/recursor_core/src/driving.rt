@@ -1,7 +1,17 @@
 //! Answers questions over a provider, whatever it tells.
-ghost use Rattle.std.specs.Prelude.{◌≡◌, ◌≤◌, ◌<◌, List, length, IfOk, MatchBool, vec_len};
+ghost use Rattle.std.specs.Prelude.{◌≡◌, ◌≤◌, ◌<◌, ℕ, List, [], ◌∷◌, Option, Some, All, ◌≢◌, length, IfOk, MatchBool, slice_get, vec_len};
+ghost use Rattle.dns_core.specs.Log.{Log};
 ghost use Rattle.dns_core.specs.declared.log.LogEntry.{LogEntry};
-ghost use Rattle.recursor_core.specs.Turns.{work};
+ghost use Rattle.dns_core.specs.declared.request.Turn.{Turn};
+ghost use Rattle.resolution.specs.Asking.{AsksServers};
+ghost use Rattle.recursor_core.specs.Replies.{given_of};
+ghost use Rattle.recursor_core.specs.Carrying.{TellsThat};
+ghost use Rattle.recursor_core.specs.Derived.{Derived};
+ghost use Rattle.recursor_core.specs.Machine.{Begun, begun_at};
+ghost use Rattle.recursor_core.specs.Standing.{Holds, PlaysHold, RepliesHold, last_moment};
+ghost use Rattle.recursor_core.specs.Turns.{work, BeginsAt, ReplyOf};
+ghost use Rattle.recursor_core.specs.declared.reply.Reply.{Reply};
+ghost use Rattle.dns_core.specs.declared.request.Question.{Question};
 
 use crate::carrier::Carrier;
 use crate::machine::RecursorCore;
@@ -21,7 +31,14 @@ fn begin_one(
     q: usize,
     now: u64,
 )
-    ensures { vec_len plays.new ≡ vec_len plays.old }
+    requires { core.old.moment ≤ now }
+    ensures derived { (log : Log) → Derived core.old log → Derived core.new log }
+    ensures roots { core.new.roots ≡ core.old.roots }
+    ensures moment { core.new.moment ≤ now }
+    ensures begun { (k : ℕ) (b : Begun) → begun_at core.old k ≡ Some b → begun_at core.new k ≡ Some b }
+    ensures count { vec_len plays.new ≡ vec_len plays.old }
+    ensures others { (k : ℕ) → k ≢ q → slice_get plays.new.items k ≡ slice_get plays.old.items k }
+    ensures begins { BeginsAt questions.now q now core.new (slice_get plays.old.items q) (slice_get plays.new.items q) }
 {
     if q >= plays.len() || q >= questions.len() {
         return;
@@ -38,14 +55,49 @@ fn begin_all(
     plays: &mut Vec<Played>,
     now: u64,
 )
-    ensures { vec_len plays.new ≡ vec_len plays.old }
+    requires { core.old.moment ≤ now }
+    ensures derived { (log : Log) → Derived core.old log → Derived core.new log }
+    ensures roots { core.new.roots ≡ core.old.roots }
+    ensures moment { core.new.moment ≤ now }
+    ensures begun { (k : ℕ) (b : Begun) → begun_at core.old k ≡ Some b → begun_at core.new k ≡ Some b }
+    ensures count { vec_len plays.new ≡ vec_len plays.old }
+    ensures plays { (told : Option (List LogEntry)) (start : ℕ) (turns : List Turn) → last_moment start turns ≤ now
+        → PlaysHold core.old told start turns [] questions.now plays.old.items → PlaysHold core.new told start turns [] questions.now plays.new.items }
 {
     for q in 0..questions.len() {
         begin_one(alloc, core, questions, plays, q, now);
     }
 }
 
-/// The turns, in order. One that names no question does nothing.
+/// A turn. One that names no question does nothing; one at a moment before the greatest so far
+/// happens at that one.
+fn play_turn<P: ConnectionProvider>(
+    alloc: Global,
+    core: &mut RecursorCore,
+    carrier: &mut Carrier<P>,
+    questions: &[Question],
+    plays: &mut Vec<Played>,
+    turn: &Turn,
+    patience: u32,
+)
+    requires { Holds P.ConnectionProvider core.old carrier.old }
+    ensures vouches { (es : List LogEntry) → P.vouches carrier.new.provider es → P.vouches carrier.old.provider es }
+    ensures holds { Holds P.ConnectionProvider core.new carrier.new }
+    ensures roots { core.new.roots ≡ core.old.roots }
+    ensures plays { (start : ℕ) (turns rest : List Turn) → PlaysHold core.old (P.log carrier.old.provider) start turns (turn.now ∷ rest) questions.now plays.old.items
+        → PlaysHold core.new (P.log carrier.new.provider) start turns rest questions.now plays.new.items }
+    ensures count { vec_len plays.new ≡ vec_len plays.old }
+{
+    if turn.question == 0 {
+        return;
+    }
+    let q = (turn.question - 1) as usize;
+    let now = turn.moment.max(core.moment());
+    begin_one(alloc, core, questions, plays, q, now);
+    let _played = play(alloc, core, carrier, plays, q, Tick { now, patience });
+}
+
+/// The turns, in order.
 fn play_turns<P: ConnectionProvider>(
     alloc: Global,
     core: &mut RecursorCore,
@@ -55,16 +107,16 @@ fn play_turns<P: ConnectionProvider>(
     turns: &[Turn],
     patience: u32,
 )
+    requires { Holds P.ConnectionProvider core.old carrier.old }
     ensures vouches { (es : List LogEntry) → P.vouches carrier.new.provider es → P.vouches carrier.old.provider es }
+    ensures holds { Holds P.ConnectionProvider core.new carrier.new }
+    ensures roots { core.new.roots ≡ core.old.roots }
+    ensures plays { (start : ℕ) → PlaysHold core.old (P.log carrier.old.provider) start turns.now turns.now questions.now plays.old.items
+        → PlaysHold core.new (P.log carrier.new.provider) start turns.now [] questions.now plays.new.items }
     ensures count { vec_len plays.new ≡ vec_len plays.old }
 {
     for turn in turns {
-        if turn.question > 0 {
-            let q = (turn.question - 1) as usize;
-            let now = turn.moment;
-            begin_one(alloc, core, questions, plays, q, now);
-            let _played = play(alloc, core, carrier, plays, q, Tick { now, patience });
-        }
+        play_turn(alloc, core, carrier, questions, plays, turn, patience);
     }
 }
 
@@ -76,7 +128,14 @@ fn round<P: ConnectionProvider>(
     plays: &mut Vec<Played>,
     tick: Tick,
 ) -> bool
+    requires holds { Holds P.ConnectionProvider core.old carrier.old }
+    requires moment { core.old.moment ≤ tick.now }
     ensures vouches { (es : List LogEntry) → P.vouches carrier.new.provider es → P.vouches carrier.old.provider es }
+    ensures holds { Holds P.ConnectionProvider core.new carrier.new }
+    ensures roots { core.new.roots ≡ core.old.roots }
+    ensures moment { core.new.moment ≤ tick.now }
+    ensures plays { (start : ℕ) (turns rest : List Turn) (questions : List Question) → PlaysHold core.old (P.log carrier.old.provider) start turns rest questions plays.old.items
+        → PlaysHold core.new (P.log carrier.new.provider) start turns rest questions plays.new.items }
     ensures falls { MatchBool result (work tick.patience core.new plays.new.items < work tick.patience core.old plays.old.items) (work tick.patience core.new plays.new.items ≤ work tick.patience core.old plays.old.items) }
     ensures count { vec_len plays.new ≡ vec_len plays.old }
 {
@@ -97,7 +156,14 @@ fn finish<P: ConnectionProvider>(
     plays: &mut Vec<Played>,
     tick: Tick,
 )
+    requires holds { Holds P.ConnectionProvider core.old carrier.old }
+    requires moment { core.old.moment ≤ tick.now }
     ensures vouches { (es : List LogEntry) → P.vouches carrier.new.provider es → P.vouches carrier.old.provider es }
+    ensures holds { Holds P.ConnectionProvider core.new carrier.new }
+    ensures roots { core.new.roots ≡ core.old.roots }
+    ensures moment { core.new.moment ≤ tick.now }
+    ensures plays { (start : ℕ) (turns rest : List Turn) (questions : List Question) → PlaysHold core.old (P.log carrier.old.provider) start turns rest questions plays.old.items
+        → PlaysHold core.new (P.log carrier.new.provider) start turns rest questions plays.new.items }
     ensures count { vec_len plays.new ≡ vec_len plays.old }
 {
     'rounds: loop {
@@ -108,7 +174,8 @@ fn finish<P: ConnectionProvider>(
 }
 
 fn waiting(alloc: Global, questions: &[Question]) -> Result<Vec<Played>, NoMemory>
-    ensures { IfOk result (λ plays. vec_len plays ≡ length questions.now) }
+    ensures count { IfOk result (λ plays. vec_len plays ≡ length questions.now) }
+    ensures waits { IfOk result (λ plays. All (λ p. p ≡ Played.Waiting) plays.items) }
 {
     let mut plays = Vec::new(alloc);
     for _question in questions {
@@ -118,7 +185,8 @@ fn waiting(alloc: Global, questions: &[Question]) -> Result<Vec<Played>, NoMemor
 }
 
 fn replies(alloc: Global, plays: &mut Vec<Played>) -> Result<Vec<Reply>, NoMemory>
-    ensures { IfOk result (λ replies. vec_len replies ≡ vec_len plays.old) }
+    ensures count { IfOk result (λ replies. vec_len replies ≡ vec_len plays.old) }
+    ensures each { IfOk result (λ replies. (q : ℕ) (reply : Reply) → slice_get replies.items q ≡ Some reply → ReplyOf (slice_get plays.old.items q) reply) }
 {
     let mut replies = Vec::new(alloc);
     for place in 0..plays.len() {
@@ -129,11 +197,38 @@ fn replies(alloc: Global, plays: &mut Vec<Played>) -> Result<Vec<Reply>, NoMemor
 }
 
 /// The moment after the turns: that of the last one, or the greatest so far.
-fn last_moment(core: &RecursorCore, turns: &[Turn]) -> u64 {
+fn last_moment(start: u64, turns: &[Turn]) -> u64
+    ensures { result ≡ last_moment start turns.now }
+{
     match turns.last() {
         Some(turn) => turn.moment,
-        None => core.moment(),
+        None => start,
     }
+}
+
+/// Answers the questions over a machine and what carries out its orders.
+fn answer<P: ConnectionProvider>(
+    alloc: Global,
+    core: &mut RecursorCore,
+    carrier: &mut Carrier<P>,
+    questions: &[Question],
+    turns: &[Turn],
+    patience: u32,
+) -> Result<Vec<Reply>, NoMemory>
+    requires { Holds P.ConnectionProvider core.old carrier.old }
+    ensures vouches { (es : List LogEntry) → P.vouches carrier.new.provider es → P.vouches carrier.old.provider es }
+    ensures holds { Holds P.ConnectionProvider core.new carrier.new }
+    ensures roots { core.new.roots ≡ core.old.roots }
+    ensures answered { IfOk result (λ replies. vec_len replies ≡ length questions.now) }
+    ensures replies { IfOk result (λ replies. TellsThat (P.log carrier.new.provider) (λ log. RepliesHold core.old.roots log core.old.moment turns.now questions.now replies.items)) }
+{
+    let mut plays = waiting(alloc, questions)?;
+    let last = last_moment(core.moment(), turns);
+    play_turns(alloc, core, carrier, questions, &mut plays, turns, patience);
+    let now = last.max(core.moment());
+    begin_all(alloc, core, questions, &mut plays, now);
+    finish(alloc, core, carrier, &mut plays, Tick { now, patience });
+    replies(alloc, &mut plays)
 }
 
 /// Answers the questions: the turns are played in order, and then the questions are gone round at
@@ -149,15 +244,21 @@ pub fn drive<P: ConnectionProvider>(
     // Each question has its reply, in order.
     ensures answered { IfOk result (λ replies. vec_len replies ≡ length questions.now) }
 
+    // Only servers were asked: by what was told before, each address that was opened serves a zone, and
+    // each one that was asked serves a zone at or above the name of the question.
+    ensures asks { TellsThat (P.log recursor.new.provider) (AsksServers (given_of recursor.old.roots)) }
+
+    // Each message that is answered is what counts of a response that a server of a zone at or above the
+    // name told since the question began.
+    ensures replies { IfOk result (λ replies. TellsThat (P.log recursor.new.provider) (λ log. RepliesHold recursor.old.roots log recursor.old.moment turns.now questions.now replies.items)) }
+
+    // The roots stay.
+    ensures roots { recursor.new.roots ≡ recursor.old.roots }
+
     // What the provider vouches for of its log it vouched for before.
-    ensures vouches { (es : List LogEntry) → P.vouches recursor.new es → P.vouches recursor.old es }
+    ensures vouches { (es : List LogEntry) → P.vouches recursor.new.provider es → P.vouches recursor.old.provider es }
 {
-    let mut plays = waiting(alloc, questions)?;
     let core = &mut recursor.core;
     let carrier = &mut recursor.carrier;
-    play_turns(alloc, core, carrier, questions, &mut plays, turns, patience);
-    let now = last_moment(core, turns);
-    begin_all(alloc, core, questions, &mut plays, now);
-    finish(alloc, core, carrier, &mut plays, Tick { now, patience });
-    replies(alloc, &mut plays)
+    answer(alloc, core, carrier, questions, turns, patience)
 }

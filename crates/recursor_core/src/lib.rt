@@ -4,16 +4,15 @@
 mod carrier;
 mod driving;
 mod error;
-mod glue;
 mod lookup;
 mod machine;
 mod options;
 mod order;
 mod recursor;
 mod reply;
-mod resolution;
+mod resolving;
+mod slot;
 mod turns;
-mod verdict;
 mod walk;
 
 pub use driving::drive;

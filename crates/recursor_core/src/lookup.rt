@@ -1,7 +1,13 @@
 //! One question put to the servers of a zone, one after the other, each once.
-ghost use Rattle.std.specs.Prelude.{◌≡◌, ◌≢◌, ◌≤◌, ◌<◌, ◌*◌, ◌^◌, ℕ, IfOk, IfNone, OnOk};
+ghost use Rattle.std.specs.Prelude.{◌≡◌, ◌≢◌, ◌≤◌, ◌<◌, ◌*◌, ◌+◌, ◌^◌, ℕ, List, max, IfOk, IfSome, IfNone, OnOk, IsTrue};
 ghost use Rattle.std.specs.declared.net.ip_addr.IpAddr.{IpAddr};
-ghost use Rattle.recursor_core.specs.Lookup.{send_want, send_steps, steps, polls_left, rank, IsWaiting, MayAsk};
+ghost use Rattle.dns_core.specs.Name.{DomainName};
+ghost use Rattle.dns_core.specs.Log.{Log, Extends};
+ghost use Rattle.dns_core.specs.declared.message.Query.{Query};
+ghost use Rattle.resolution.specs.Names.{is_above, walk};
+ghost use Rattle.recursor_core.specs.Order.{entry_of, OutcomeIs, Fits};
+ghost use Rattle.recursor_core.specs.Lookup.{send_want, send_steps, steps, polls_left, rank, IsWaiting, MayAsk, AsksOf};
+ghost use Rattle.recursor_core.specs.Derived.{AreServers, SendHolds, LookupHolds, FoundHolds};
 
 use crate::order::{After, Outcome};
 use dns_core::{Message, NetError, NoMemory, Numbers, Query};
@@ -9,16 +15,37 @@ use std::alloc::Global;
 use std::mem;
 use std::net::IpAddr;
 
-/// Where the send to one server stands. `polls` counts the polls of its order that found nothing.
+/// Where the send to one server stands. `polls` counts the polls of its order that found nothing;
+/// `since` is the greatest number of a log entry that was put before the order to ask was given.
 #[derive(Drop, Debug)]
 pub enum Send {
     Ready,
-    Chosen { ip: IpAddr },
-    Opening { ip: IpAddr, order: u64, polls: u32 },
-    Connected { ip: IpAddr, conn: u64 },
-    Asking { ip: IpAddr, order: u64, polls: u32 },
-    Told { entry: u64, message: Message },
-    Failed { entry: u64, error: NetError },
+    Chosen {
+        ip: IpAddr,
+    },
+    Opening {
+        ip: IpAddr,
+        order: u64,
+        polls: u32,
+    },
+    Connected {
+        ip: IpAddr,
+        conn: u64,
+    },
+    Asking {
+        ip: IpAddr,
+        order: u64,
+        since: u64,
+        polls: u32,
+    },
+    Told {
+        entry: u64,
+        message: Message,
+    },
+    Failed {
+        entry: u64,
+        error: NetError,
+    },
 }
 
 /// What a send wants next: a server to be chosen, a connection to it, a question over one, an
@@ -58,6 +85,15 @@ fn is_retryable(error: &NetError) -> bool {
     )
 }
 
+/// Whether two questions are equal, also in the case of their names.
+fn is_identical(left: &Query, right: &Query) -> bool
+    ensures { IsTrue result → left.now ≡ right.now }
+{
+    left.query_type == right.query_type
+        && left.query_class == right.query_class
+        && left.name.eq_case(&right.name)
+}
+
 impl Send {
     pub fn want(&self) -> Want
         ensures { result ≡ send_want self.now }
@@ -82,6 +118,8 @@ impl Send {
     fn count_poll(&mut self) -> u32
         requires { IsWaiting self.old }
         ensures same { IsWaiting self.new × (send_steps self.new ≡ send_steps self.old) }
+        ensures holds { (roots : List IpAddr) (greatest t0 : ℕ) (log : Log) (zone : DomainName) (q : Query)
+            → SendHolds roots greatest t0 log zone q self.old → SendHolds roots greatest t0 log zone q self.new }
         ensures falls { (patience : ℕ) → patience < 2 ^ 32 → result < patience → polls_left patience self.new < polls_left patience self.old }
     {
         match self {
@@ -101,7 +139,11 @@ impl Send {
 impl Lookup {
     /// A lookup of a question at these servers, the first of them to be asked first.
     pub fn new(alloc: Global, query: Query, servers: &[IpAddr]) -> Result<Lookup, NoMemory>
-        ensures { IfOk result (λ l. steps l ≤ 6 * 2 ^ 64) }
+        ensures steps { IfOk result (λ l. steps l ≤ 6 * 2 ^ 64) }
+        ensures holds { (roots : List IpAddr) (greatest t0 : ℕ) (log : Log) (zone : DomainName)
+            → IsTrue (is_above zone (walk query)) → AreServers roots log (greatest + 1) zone servers.now
+            → IfOk result (LookupHolds roots greatest t0 log zone) }
+        ensures query { IfOk result (λ l. l.query ≡ query) }
     {
         let mut left = Vec::from_slice(alloc, servers)?;
         left.reverse();
@@ -119,6 +161,10 @@ impl Lookup {
         requires { send_want self.old.send ≡ Want.Choose }
         ensures falls { IfNone result (steps self.new < steps self.old) }
         ensures keeps { steps self.new ≤ steps self.old }
+        ensures holds { (roots : List IpAddr) (greatest t0 : ℕ) (log : Log) (zone : DomainName)
+            → LookupHolds roots greatest t0 log zone self.old
+            → LookupHolds roots greatest t0 log zone self.new × IfSome result (FoundHolds roots greatest t0 log zone self.old.query) }
+        ensures query { self.new.query ≡ self.old.query }
     {
         match self.servers.pop() {
             Some(ip) => {
@@ -141,6 +187,9 @@ impl Lookup {
     pub fn opens(&mut self, ip: IpAddr, order: u64)
         ensures falls { (was : IpAddr) → send_want self.old.send ≡ Want.Connect was → steps self.new < steps self.old }
         ensures waits { send_want self.new.send ≡ Want.Wait order }
+        ensures holds { (roots : List IpAddr) (greatest t0 : ℕ) (log : Log) (zone : DomainName) → send_want self.old.send ≡ Want.Connect ip
+            → LookupHolds roots greatest t0 log zone self.old → LookupHolds roots greatest t0 log zone self.new }
+        ensures query { self.new.query ≡ self.old.query }
     {
         self.send = Send::Opening {
             ip,
@@ -150,13 +199,17 @@ impl Lookup {
     }
 
     /// The order to ask over a connection was given.
-    pub fn asks(&mut self, ip: IpAddr, order: u64)
-        ensures falls { MayAsk self.old.send → steps self.new < steps self.old }
+    pub fn asks(&mut self, ip: IpAddr, order: u64, since: u64)
+        ensures falls { MayAsk ip self.old.send → steps self.new < steps self.old }
         ensures waits { send_want self.new.send ≡ Want.Wait order }
+        ensures holds { (roots : List IpAddr) (t0 : ℕ) (log : Log) (zone : DomainName) → MayAsk ip self.old.send
+            → LookupHolds roots since t0 log zone self.old → LookupHolds roots since t0 log zone self.new }
+        ensures query { self.new.query ≡ self.old.query }
     {
         self.send = Send::Asking {
             ip,
             order,
+            since,
             polls: 0,
         };
     }
@@ -164,19 +217,22 @@ impl Lookup {
     /// Takes the outcome of the order that it waits for.
     pub fn take(&mut self, outcome: Outcome, patience: u32) -> After
         requires { IsWaiting self.old.send }
-        ensures falls { rank patience self.new < rank patience self.old }
-        ensures open { result ≢ After.Late }
+        ensures falls { result ≢ After.Late → rank patience self.new < rank patience self.old }
+        ensures late { result ≡ After.Late → self.new ≡ self.old }
+        ensures holds { (roots : List IpAddr) (greatest t0 now : ℕ) (log longer : Log) (zone : DomainName)
+            → LookupHolds roots greatest t0 log zone self.old → Extends log longer → Fits longer now outcome → t0 ≤ now
+            → LookupHolds roots (max greatest (entry_of outcome)) t0 longer zone self.new }
+        ensures query { self.new.query ≡ self.old.query }
     {
         match outcome {
             Outcome::Pending { entry } => self.wait(entry, patience),
-            Outcome::Connected { entry } => {
-                self.connect(entry);
-                After::Ended
-            }
-            Outcome::Told { entry, message } => {
-                self.send = Send::Told { entry, message };
-                After::Ended
-            }
+            Outcome::Connected { .. } => self.connect(),
+            Outcome::Told {
+                entry,
+                of,
+                ip,
+                message,
+            } => self.tell(entry, of, ip, message),
             Outcome::Failed {
                 entry,
                 refused: _,
@@ -188,21 +244,54 @@ impl Lookup {
         }
     }
 
-    /// The connection is there.
-    fn connect(&mut self, entry: u64)
+    /// The connection is there, where one was being opened.
+    fn connect(&mut self) -> After
         requires { IsWaiting self.old.send }
-        ensures { (patience : ℕ) → rank patience self.new < rank patience self.old }
+        ensures falls { (patience : ℕ) → result ≢ After.Late → rank patience self.new < rank patience self.old }
+        ensures late { result ≡ After.Late → self.new ≡ self.old }
+        ensures holds { (roots : List IpAddr) (greatest t0 : ℕ) (log : Log) (zone : DomainName)
+            → LookupHolds roots greatest t0 log zone self.old → LookupHolds roots greatest t0 log zone self.new }
+        ensures query { self.new.query ≡ self.old.query }
     {
-        self.send = match &self.send {
-            Send::Opening { ip, order, .. } => Send::Connected {
-                ip: *ip,
-                conn: *order,
-            },
-            _ => Send::Failed {
-                entry,
-                error: NetError::NoConnections,
-            },
+        let Send::Opening { ip, order, .. } = &self.send else {
+            return After::Late;
         };
+        self.send = Send::Connected {
+            ip: *ip,
+            conn: *order,
+        };
+        After::Ended
+    }
+
+    /// Whether the question is asked of this address, by an entry after what was put before.
+    fn asks_of(&self, of: u64, ip: IpAddr, query: &Query) -> bool
+        ensures { IsTrue result → AsksOf of ip query.now self.now }
+    {
+        match &self.send {
+            Send::Asking {
+                ip: asked,
+                since,
+                ..
+            } => { *since < of && *asked == ip && is_identical(&self.query, query) }
+            _ => false,
+        }
+    }
+
+    /// A message was told. One that answers another question, or comes from another server, is late.
+    fn tell(&mut self, entry: u64, of: u64, ip: IpAddr, message: Message) -> After
+        requires { IsWaiting self.old.send }
+        ensures falls { (patience : ℕ) → result ≢ After.Late → rank patience self.new < rank patience self.old }
+        ensures late { result ≡ After.Late → self.new ≡ self.old }
+        ensures holds { (roots : List IpAddr) (greatest t0 now : ℕ) (log longer : Log) (zone : DomainName)
+            → LookupHolds roots greatest t0 log zone self.old → Extends log longer → OutcomeIs longer now (Outcome.Told entry of ip message) → t0 ≤ now
+            → LookupHolds roots (max greatest entry) t0 longer zone self.new }
+        ensures query { self.new.query ≡ self.old.query }
+    {
+        if !self.asks_of(of, ip, &message.query) {
+            return After::Late;
+        }
+        self.send = Send::Told { entry, message };
+        After::Ended
     }
 
     /// One poll more found nothing. At the last one that patience allows the order is given up,
@@ -211,6 +300,9 @@ impl Lookup {
         requires { IsWaiting self.old.send }
         ensures falls { rank patience self.new < rank patience self.old }
         ensures open { result ≢ After.Late }
+        ensures holds { (roots : List IpAddr) (greatest t0 : ℕ) (log : Log) (zone : DomainName)
+            → LookupHolds roots greatest t0 log zone self.old → LookupHolds roots greatest t0 log zone self.new }
+        ensures query { self.new.query ≡ self.old.query }
     {
         if self.send.count_poll() < patience {
             return After::Kept;
@@ -226,7 +318,11 @@ impl Lookup {
     /// asked.
     pub fn hear(&mut self) -> Result<Option<Found>, NoMemory>
         requires { send_want self.old.send ≡ Want.Hear }
-        ensures { OnOk result (steps self.new < steps self.old) }
+        ensures falls { OnOk result (steps self.new < steps self.old) }
+        ensures holds { (roots : List IpAddr) (greatest t0 : ℕ) (log : Log) (zone : DomainName)
+            → LookupHolds roots greatest t0 log zone self.old
+            → LookupHolds roots greatest t0 log zone self.new × IfOk result (λ found. IfSome found (FoundHolds roots greatest t0 log zone self.old.query)) }
+        ensures query { self.new.query ≡ self.old.query }
     {
         match mem::replace(&mut self.send, Send::Ready) {
             Send::Told { entry, message } => {
@@ -242,7 +338,9 @@ impl Lookup {
     }
 
     fn heard_error(&mut self, error: NetError) -> Option<Found>
-        ensures { steps self.new ≡ steps self.old }
+        ensures steps { steps self.new ≡ steps self.old }
+        ensures same { (self.new.query ≡ self.old.query) × (self.new.servers ≡ self.old.servers) × (self.new.send ≡ self.old.send) }
+        ensures error { IfSome result (λ found. found ≡ Found.Error error) }
     {
         if !is_retryable(&error) {
             return Some(Found::Error(error));

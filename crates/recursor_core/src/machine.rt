@@ -1,14 +1,16 @@
 //! The machine: it gives orders and is fed their outcomes, and knows neither a provider nor a log.
-ghost use Rattle.std.specs.Prelude.{◌≡◌, ◌≢◌, ◌≤◌, ◌<◌, ◌+◌, ◌↔◌, ℕ, [], false, None, Some, Ok, Err, IfSome, IfNone, IfErr, IsSome};
-ghost use Rattle.recursor_core.specs.Machine.{need_at, order_at, MayAskAt, rank, GoesOn, Steps, IsAwaited, IsNewError, IsBeginError};
+ghost use Rattle.std.specs.Prelude.{◌≡◌, ◌≢◌, ◌≤◌, ◌<◌, ◌+◌, ◌↔◌, ℕ, [], true, false, max, length, None, Some, Ok, Err, IfOk, IfSome, IfNone, IfErr, IsSome};
+ghost use Rattle.dns_core.specs.Log.{Log, Extends};
+ghost use Rattle.recursor_core.specs.Order.{entry_of, Fits};
+ghost use Rattle.recursor_core.specs.Derived.{Derived};
+ghost use Rattle.recursor_core.specs.Machine.{need_at, order_at, asked_at, begun_at, MayAskAt, rank, GoesOn, Steps, Gives, StepGives, IsAwaited, IsNewError, IsBeginError, SameCore, IsSetAs, IsBegunAt};
 
 use crate::error::{MessageKind, RecursorError};
 use crate::lookup::Want;
 use crate::options::RecursorOptions;
 use crate::order::{After, Order, Outcome, Tick};
 use crate::reply::Reply;
-use crate::resolution::{Need, Resolution, State};
-use crate::walk::Walk;
+use crate::resolving::{Need, Resolution, State};
 use dns_core::{
     ConnectionConfig, DnsRequest, DnsRequestOptions, Ips, NoMemory, Protocol, ProtocolConfig,
     Question,
@@ -33,8 +35,9 @@ pub enum Progress {
     Step(Step),
 }
 
-/// The resolutions, in the order of their beginning, and what they share: the numbers of orders, and
-/// the connections, each under its address as the number of the order that opened it.
+/// The resolutions, in the order of their beginning, and what they share: the numbers of orders, the
+/// connections, each under its address as the number of the order that opened it, the greatest moment
+/// handed in so far, and the greatest number of a log entry.
 #[derive(Drop, Debug)]
 pub struct RecursorCore {
     roots: Ips,
@@ -43,6 +46,7 @@ pub struct RecursorCore {
     connections: BTreeMap<IpAddr, u64>,
     next_order: u64,
     moment: u64,
+    greatest: u64,
 }
 
 /// A connection over UDP to the port of DNS.
@@ -63,6 +67,7 @@ impl RecursorCore {
     ) -> Result<RecursorCore, RecursorError>
         ensures no_roots { (result ≡ Err (RecursorError.Message MessageKind.NoRoots)) ↔ (roots.now ≡ []) }
         ensures only { IfErr result IsNewError }
+        ensures new { IfOk result (λ core. (core.roots ≡ roots.now) × (core.moment ≡ 0) × (core.greatest ≡ 0) × (core.resolutions.items ≡ [])) }
     {
         if roots.is_empty() {
             return Err(RecursorError::Message(MessageKind::NoRoots));
@@ -77,11 +82,14 @@ impl RecursorCore {
             connections: BTreeMap::new(alloc),
             next_order: 1,
             moment: 0,
+            greatest: 0,
         })
     }
 
     /// The greatest moment handed in so far.
-    pub fn moment(&self) -> u64 {
+    pub fn moment(&self) -> u64
+        ensures { result ≡ self.now.moment }
+    {
         self.moment
     }
 
@@ -94,11 +102,17 @@ impl RecursorCore {
     ) -> Result<usize, RecursorError>
         ensures not_qualified { (result ≡ Err (RecursorError.Message MessageKind.NotQualified)) ↔ (question.query.name.fqdn ≡ false) }
         ensures only { IfErr result IsBeginError }
+        ensures derived { (log : Log) → self.old.moment ≤ now → Derived self.old log → Derived self.new log }
+        ensures roots { self.new.roots ≡ self.old.roots }
+        ensures moment { self.old.moment ≤ now → self.new.moment ≤ now }
+        ensures others { (k : ℕ) → k < length self.old.resolutions.items → begun_at self.new k ≡ begun_at self.old k }
+        ensures begun { IfOk result (λ r. (r ≡ length self.old.resolutions.items) × IsBegunAt self.new r question now) }
+        ensures count { length self.old.resolutions.items ≤ length self.new.resolutions.items }
     {
         if !question.query.name.is_fqdn() {
             return Err(RecursorError::Message(MessageKind::NotQualified));
         }
-        match self.begin_walk(alloc, question) {
+        match self.begin_walk(alloc, question, now) {
             Ok(place) => {
                 self.moment = self.moment.max(now);
                 Ok(place)
@@ -107,12 +121,19 @@ impl RecursorCore {
         }
     }
 
-    fn begin_walk(&mut self, alloc: Global, question: Question) -> Result<usize, NoMemory> {
-        let walk = Walk::new(alloc, question, &self.roots)?;
+    fn begin_walk(&mut self, alloc: Global, question: Question, now: u64) -> Result<usize, NoMemory>
+        requires { question.query.name.fqdn ≡ true }
+        ensures derived { (log : Log) → self.old.moment ≤ now → Derived self.old log
+            → IfOk result (λ r. Derived (record self.new { moment = now }) log) }
+        ensures same { (self.new.roots ≡ self.old.roots) × (self.new.moment ≡ self.old.moment) × (self.new.greatest ≡ self.old.greatest) }
+        ensures others { (k : ℕ) → k < length self.old.resolutions.items → begun_at self.new k ≡ begun_at self.old k }
+        ensures begun { IfOk result (λ r. (r ≡ length self.old.resolutions.items) × IsBegunAt self.new r question now) }
+        ensures err { IfErr result (λ e. self.new.resolutions.items ≡ self.old.resolutions.items) }
+        ensures count { length self.old.resolutions.items ≤ length self.new.resolutions.items }
+    {
+        let resolution = Resolution::begin(alloc, question, &self.roots, now)?;
         let place = self.resolutions.len();
-        self.resolutions.push(Resolution {
-            state: State::Under(walk),
-        })?;
+        self.resolutions.push(resolution)?;
         Ok(place)
     }
 
@@ -127,7 +148,9 @@ impl RecursorCore {
 
     fn choose(&mut self, alloc: Global, r: usize) -> Result<(), NoMemory>
         requires { need_at self.old r ≡ Need.Send Want.Choose }
-        ensures { (p : ℕ) → rank p self.new < rank p self.old }
+        ensures falls { (p : ℕ) → rank p self.new < rank p self.old }
+        ensures derived { (log : Log) → Derived self.old log → Derived self.new log }
+        ensures same { SameCore self.old self.new }
     {
         let resolution = &mut self.resolutions[r];
         resolution.choose(alloc)
@@ -135,7 +158,9 @@ impl RecursorCore {
 
     fn hear(&mut self, alloc: Global, r: usize) -> Result<(), NoMemory>
         requires { need_at self.old r ≡ Need.Send Want.Hear }
-        ensures { (p : ℕ) → rank p self.new < rank p self.old }
+        ensures falls { (p : ℕ) → rank p self.new < rank p self.old }
+        ensures derived { (log : Log) → Derived self.old log → Derived self.new log }
+        ensures same { SameCore self.old self.new }
     {
         let resolution = &mut self.resolutions[r];
         resolution.hear(alloc)
@@ -143,31 +168,38 @@ impl RecursorCore {
 
     fn opens(&mut self, r: usize, ip: IpAddr, order: u64)
         requires { need_at self.old r ≡ Need.Send (Want.Connect ip) }
-        ensures { (p : ℕ) → rank p self.new < rank p self.old }
+        ensures falls { (p : ℕ) → rank p self.new < rank p self.old }
+        ensures derived { (log : Log) → Derived self.old log → Derived self.new log }
+        ensures same { SameCore self.old self.new }
     {
         let resolution = &mut self.resolutions[r];
         resolution.opens(ip, order);
     }
 
     fn asks(&mut self, r: usize, ip: IpAddr, order: u64)
-        requires { MayAskAt self.old r }
-        ensures { (p : ℕ) → rank p self.new < rank p self.old }
+        requires { MayAskAt self.old r ip }
+        ensures falls { (p : ℕ) → rank p self.new < rank p self.old }
+        ensures derived { (log : Log) → Derived self.old log → Derived self.new log }
+        ensures same { SameCore self.old self.new }
     {
+        let since = self.greatest;
         let resolution = &mut self.resolutions[r];
-        resolution.asks(ip, order);
+        resolution.asks(ip, order, since);
     }
 
     fn take_reply(&mut self, r: usize) -> Option<Reply>
         requires { need_at self.old r ≡ Need.Reply }
         ensures falls { (p : ℕ) → rank p self.new < rank p self.old }
         ensures some { IsSome result }
+        ensures derived { (log : Log) → Derived self.old log → Derived self.new log × IfSome result (λ reply. StepGives self.old log r (Step.Done reply)) }
+        ensures same { SameCore self.old self.new }
     {
         let resolution = &mut self.resolutions[r];
         resolution.take_reply()
     }
 
     fn take_number(&mut self) -> Result<u64, NoMemory>
-        ensures { self.new.resolutions ≡ self.old.resolutions }
+        ensures { IsSetAs self.old self.new }
     {
         if self.next_order == u64::MAX {
             return Err(NoMemory);
@@ -183,13 +215,15 @@ impl RecursorCore {
     }
 
     fn keep_connection(&mut self, ip: IpAddr, conn: u64) -> Result<(), NoMemory>
-        ensures { self.new.resolutions ≡ self.old.resolutions }
+        ensures { IsSetAs self.old self.new }
     {
         let _before = self.connections.insert(ip, conn)?;
         Ok(())
     }
 
-    fn request(&self, alloc: Global, r: usize) -> Result<DnsRequest, NoMemory> {
+    fn request(&self, alloc: Global, r: usize) -> Result<DnsRequest, NoMemory>
+        ensures { IfOk result (λ request. asked_at self.now r ≡ Some request.query) }
+    {
         let query = match self.resolutions.get(r) {
             Some(resolution) => resolution.query(alloc)?,
             None => None,
@@ -207,7 +241,9 @@ impl RecursorCore {
     /// Gives the order to open a connection.
     fn open(&mut self, r: usize, ip: IpAddr) -> Result<Progress, NoMemory>
         requires { need_at self.old r ≡ Need.Send (Want.Connect ip) }
-        ensures { GoesOn self.old self.new result }
+        ensures goes { GoesOn self.old self.new result }
+        ensures gives { (log : Log) → Derived self.old log → Derived self.new log × IfOk result (Gives self.old log r) }
+        ensures same { SameCore self.old self.new }
     {
         let number = self.take_number()?;
         self.opens(r, ip, number);
@@ -219,8 +255,10 @@ impl RecursorCore {
 
     /// Gives the order to ask over a connection.
     fn ask(&mut self, alloc: Global, r: usize, ip: IpAddr, conn: u64) -> Result<Progress, NoMemory>
-        requires { MayAskAt self.old r }
-        ensures { GoesOn self.old self.new result }
+        requires { MayAskAt self.old r ip }
+        ensures goes { GoesOn self.old self.new result }
+        ensures gives { (log : Log) → Derived self.old log → Derived self.new log × IfOk result (Gives self.old log r) }
+        ensures same { SameCore self.old self.new }
     {
         let request = self.request(alloc, r)?;
         let number = self.take_number()?;
@@ -239,7 +277,9 @@ impl RecursorCore {
     /// Asks over the connection that is kept for the address, or opens one.
     fn connect(&mut self, alloc: Global, r: usize, ip: IpAddr) -> Result<Progress, NoMemory>
         requires { need_at self.old r ≡ Need.Send (Want.Connect ip) }
-        ensures { GoesOn self.old self.new result }
+        ensures goes { GoesOn self.old self.new result }
+        ensures gives { (log : Log) → Derived self.old log → Derived self.new log × IfOk result (Gives self.old log r) }
+        ensures same { SameCore self.old self.new }
     {
         match self.connection(ip) {
             Some(conn) => self.ask(alloc, r, ip, conn),
@@ -256,7 +296,9 @@ impl RecursorCore {
         conn: u64,
     ) -> Result<Progress, NoMemory>
         requires { need_at self.old r ≡ Need.Send (Want.Ask ip conn) }
-        ensures { GoesOn self.old self.new result }
+        ensures goes { GoesOn self.old self.new result }
+        ensures gives { (log : Log) → Derived self.old log → Derived self.new log × IfOk result (Gives self.old log r) }
+        ensures same { SameCore self.old self.new }
     {
         self.keep_connection(ip, conn)?;
         self.ask(alloc, r, ip, conn)
@@ -264,7 +306,9 @@ impl RecursorCore {
 
     fn reply(&mut self, r: usize) -> Progress
         requires { need_at self.old r ≡ Need.Reply }
-        ensures { GoesOn self.old self.new (Ok result) }
+        ensures goes { GoesOn self.old self.new (Ok result) }
+        ensures gives { (log : Log) → Derived self.old log → Derived self.new log × Gives self.old log r result }
+        ensures same { SameCore self.old self.new }
     {
         match self.take_reply(r) {
             Some(reply) => Progress::Step(Step::Done(reply)),
@@ -275,7 +319,9 @@ impl RecursorCore {
     /// One step of a send.
     fn send(&mut self, alloc: Global, r: usize, want: Want) -> Result<Progress, NoMemory>
         requires { need_at self.old r ≡ Need.Send want }
-        ensures { GoesOn self.old self.new result }
+        ensures goes { GoesOn self.old self.new result }
+        ensures gives { (log : Log) → Derived self.old log → Derived self.new log × IfOk result (Gives self.old log r) }
+        ensures same { SameCore self.old self.new }
     {
         match want {
             Want::Choose => {
@@ -293,7 +339,9 @@ impl RecursorCore {
     }
 
     fn step(&mut self, alloc: Global, r: usize) -> Result<Progress, NoMemory>
-        ensures { GoesOn self.old self.new result }
+        ensures goes { GoesOn self.old self.new result }
+        ensures gives { (log : Log) → Derived self.old log → Derived self.new log × IfOk result (Gives self.old log r) }
+        ensures same { SameCore self.old self.new }
     {
         match self.need(r) {
             Need::Send(want) => self.send(alloc, r, want),
@@ -304,7 +352,9 @@ impl RecursorCore {
 
     /// What a resolution has next: an order, one that it waits for, its reply once, or nothing more.
     pub fn next(&mut self, alloc: Global, r: usize) -> Result<Step, NoMemory>
-        ensures { Steps self.old self.new result }
+        ensures steps { Steps self.old self.new result }
+        ensures gives { (log : Log) → Derived self.old log → Derived self.new log × IfOk result (StepGives self.old log r) }
+        ensures same { SameCore self.old self.new }
     {
         'steps: loop {
             match self.step(alloc, r)? {
@@ -329,36 +379,50 @@ impl RecursorCore {
 
     fn take(&mut self, r: usize, outcome: Outcome, patience: u32) -> After
         requires { order_at self.old r ≢ None }
-        ensures falls { rank patience self.new < rank patience self.old }
-        ensures open { result ≢ After.Late }
+        ensures falls { result ≢ After.Late → rank patience self.new < rank patience self.old }
+        ensures keeps { rank patience self.new ≤ rank patience self.old }
+        ensures derived { (now : ℕ) (log longer : Log) → Derived self.old log → Extends log longer → Fits longer now outcome → self.old.moment ≤ now
+            → Derived (record self.new { greatest = max self.old.greatest (entry_of outcome); moment = now }) longer }
+        ensures same { SameCore self.old self.new }
     {
         let resolution = &mut self.resolutions[r];
         resolution.take(outcome, patience)
     }
 
-    /// Takes the outcome of an order. One that nobody waits for is late, and changes nothing.
+    /// Takes the outcome of an order. One that nobody waits for is late, and changes nothing; so is one
+    /// that does not fit the order.
     pub fn put(&mut self, number: u64, outcome: Outcome, tick: Tick) -> After
-        ensures falls { IsAwaited self.old number → rank tick.patience self.new < rank tick.patience self.old }
+        ensures falls { result ≢ After.Late → rank tick.patience self.new < rank tick.patience self.old }
         ensures keeps { rank tick.patience self.new ≤ rank tick.patience self.old }
-        ensures late { (result ≡ After.Late) ↔ (IsAwaited self.old number → ⊥) }
+        ensures late { (IsAwaited self.old number → ⊥) → result ≡ After.Late }
+        ensures derived { (log longer : Log) → Derived self.old log → Extends log longer → Fits longer tick.now outcome → self.old.moment ≤ tick.now
+            → Derived self.new longer }
+        ensures roots { self.new.roots ≡ self.old.roots }
+        ensures moment { self.old.moment ≤ tick.now → self.new.moment ≤ tick.now }
+        ensures begun { (k : ℕ) → begun_at self.new k ≡ begun_at self.old k }
     {
+        let Some(r) = self.waiter(number) else {
+            return After::Late;
+        };
+        let entry = outcome.entry();
+        let after = self.take(r, outcome, tick.patience);
+        self.greatest = self.greatest.max(entry);
         self.moment = self.moment.max(tick.now);
-        match self.waiter(number) {
-            Some(r) => self.take(r, outcome, tick.patience),
-            None => After::Late,
-        }
+        after
     }
 
     /// The connection to an address is not used again.
     pub fn forget_connection(&mut self, ip: IpAddr)
-        ensures { self.new.resolutions ≡ self.old.resolutions }
+        ensures { IsSetAs self.old self.new }
     {
         self.connections.remove(&ip);
     }
 
     /// Ends a resolution without a reply, and answers the order that it waited for.
     pub fn cancel(&mut self, r: usize) -> Option<u64>
-        ensures { (p : ℕ) → rank p self.new ≤ rank p self.old }
+        ensures keeps { (p : ℕ) → rank p self.new ≤ rank p self.old }
+        ensures derived { (log : Log) → Derived self.old log → Derived self.new log }
+        ensures same { SameCore self.old self.new }
     {
         if r >= self.resolutions.len() {
             return None;

@@ -28,8 +28,8 @@ pub enum Order {
     },
 }
 
-/// What came of it, with the number of the log entry that says so. `refused` tells a call that
-/// failed at once.
+/// What came of it, with the number of the log entry that says so. `of` is the number of the entry
+/// that asked, and `ip` the address that was asked; `refused` tells a call that failed at once.
 #[derive(Drop, Debug)]
 pub enum Outcome {
     Pending {
@@ -40,6 +40,8 @@ pub enum Outcome {
     },
     Told {
         entry: u64,
+        of: u64,
+        ip: IpAddr,
         message: Message,
     },
     Failed {

@@ -1,6 +1,8 @@
 //! The recursor: the machine over a provider.
-ghost use Rattle.std.specs.Prelude.{◌≡◌, ◌↔◌, [], Err, IfOk, IfErr};
+ghost use Rattle.std.specs.Prelude.{◌≡◌, ◌↔◌, List, [], Some, Err, IfOk, IfErr};
+ghost use Rattle.dns_core.specs.declared.log.LogEntry.{LogEntry};
 ghost use Rattle.recursor_core.specs.Machine.{IsNewError};
+ghost use Rattle.recursor_core.specs.Standing.{Standing, Holds};
 
 use crate::carrier::Carrier;
 use crate::error::{MessageKind, RecursorError};
@@ -11,7 +13,8 @@ use std::alloc::Global;
 use std::marker::Model;
 use std::net::IpAddr;
 
-/// A recursor over a provider. Contracts see the provider.
+/// A recursor over a provider. Contracts see the provider, the roots and the greatest moment handed
+/// in so far. What it keeps is derived from the provider's log.
 #[derive(Drop)]
 pub struct Recursor<P: ConnectionProvider> {
     pub(crate) core: RecursorCore,
@@ -19,9 +22,11 @@ pub struct Recursor<P: ConnectionProvider> {
 }
 
 impl<P: ConnectionProvider> Model for Recursor<P> {
-    ghost Value = { P };
+    ghost Value = { Standing P };
 
-    ghost view = { λ a. a.carrier.provider };
+    ghost view = { λ a. record { provider = a.carrier.provider; roots = a.core.roots; moment = a.core.moment } };
+
+    ghost invariant = { λ a. Holds P.ConnectionProvider a.core a.carrier };
 }
 
 fn connect_options(alloc: Global, options: &RecursorOptions) -> Result<ConnectOptions, NoMemory> {
@@ -44,7 +49,8 @@ impl<P: ConnectionProvider> Recursor<P> {
         options: RecursorOptions,
         provider: P,
     ) -> Result<Recursor<P>, RecursorError>
-        ensures ok { IfOk result (λ recursor. recursor ≡ provider) }
+        requires { (es : List LogEntry) → P.log provider ≡ Some es → es ≡ [] }
+        ensures ok { IfOk result (λ recursor. recursor ≡ record { provider = provider; roots = roots.now; moment = 0 }) }
         ensures no_roots { (result ≡ Err (RecursorError.Message MessageKind.NoRoots)) ↔ (roots.now ≡ []) }
         ensures only { IfErr result IsNewError }
     {
@@ -65,14 +71,14 @@ impl<P: ConnectionProvider> Recursor<P> {
 
     /// The provider.
     pub fn provider(&self) -> &P
-        ensures { result.now ≡ self.now }
+        ensures { result.now ≡ self.now.provider }
     {
         self.carrier.provider()
     }
 
     /// Gives the provider back.
     pub fn into_provider(self) -> P
-        ensures { result ≡ self }
+        ensures { result ≡ self.provider }
     {
         self.carrier.into_provider()
     }

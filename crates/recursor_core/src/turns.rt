@@ -1,13 +1,21 @@
 //! Turns of questions: the machine's orders are carried out until nothing new is found.
-ghost use Rattle.std.specs.Prelude.{◌≡◌, ◌≤◌, ◌<◌, ℕ, List, IfOk, IfNone, MatchBool, vec_len};
+ghost use Rattle.std.specs.Prelude.{◌≡◌, ◌≢◌, ◌≤◌, ◌<◌, ℕ, List, [], Option, Some, Err, IfOk, IfSome, IfNone, OnOk, MatchBool, slice_get, slice_set, vec_len};
+ghost use Rattle.dns_core.specs.Log.{Log};
 ghost use Rattle.dns_core.specs.declared.log.LogEntry.{LogEntry};
-ghost use Rattle.recursor_core.specs.Machine.{rank, IsAwaited};
-ghost use Rattle.recursor_core.specs.Turns.{TurnFalls, work, open_plays, IsBegunAt, IsUnderWay};
+ghost use Rattle.dns_core.specs.declared.request.Question.{Question};
+ghost use Rattle.dns_core.specs.declared.request.Turn.{Turn};
+ghost use Rattle.recursor_core.specs.Order.{Fits, GoesToServer};
+ghost use Rattle.recursor_core.specs.Replies.{given_of};
+ghost use Rattle.recursor_core.specs.Carrying.{TellsThat};
+ghost use Rattle.recursor_core.specs.Derived.{Derived};
+ghost use Rattle.recursor_core.specs.Machine.{rank, Begun, begun_at};
+ghost use Rattle.recursor_core.specs.Standing.{Holds, Moves, ReplyTold, TurnedTold, PlaysHold};
+ghost use Rattle.recursor_core.specs.Turns.{TurnFalls, work, open_plays, IsBegunAt, IsUnderWay, Begins, ReplyOf};
 
 use crate::carrier::Carrier;
 use crate::error::RecursorError;
 use crate::machine::{RecursorCore, Step};
-use crate::order::{After, Outcome, Tick};
+use crate::order::{After, Order, Outcome, Tick};
 use crate::reply::Reply;
 use dns_core::{ConnectionProvider, NoMemory, Numbers, Question, TryClone};
 use std::alloc::Global;
@@ -31,35 +39,88 @@ pub enum Played {
 }
 
 /// The reply where memory is wanting.
-pub fn no_memory(alloc: Global) -> Reply {
+pub fn no_memory(alloc: Global) -> Reply
+    ensures { result ≡ record { outcome = Err RecursorError.NoMemory; grounds = [] } }
+{
     Reply {
         outcome: Err(RecursorError::NoMemory),
         grounds: Numbers::empty(alloc),
     }
 }
 
-/// Feeds an outcome to the machine; an order that it gives up is given up.
+/// Feeds an outcome to the machine; an order that it gives up is given up. A late outcome, which no
+/// order that is open has, ends the turn as want of memory does.
 fn settle<P: ConnectionProvider>(
     core: &mut RecursorCore,
     carrier: &mut Carrier<P>,
     number: u64,
     outcome: Outcome,
     tick: Tick,
-) -> Turned
+) -> Result<Turned, NoMemory>
+    requires holds { Holds P.ConnectionProvider core.old carrier.old }
+    requires moment { core.old.moment ≤ tick.now }
+    requires fits { TellsThat (P.log carrier.old.provider) (λ log. Fits log tick.now outcome) }
     ensures vouches { (es : List LogEntry) → P.vouches carrier.new.provider es → P.vouches carrier.old.provider es }
-    ensures falls { IsAwaited core.old number → rank tick.patience core.new < rank tick.patience core.old }
+    ensures holds { Holds P.ConnectionProvider core.new carrier.new }
+    ensures moves { Moves P.ConnectionProvider core.old core.new carrier.old carrier.new }
+    ensures moment { core.new.moment ≤ tick.now }
+    ensures falls { OnOk result (rank tick.patience core.new < rank tick.patience core.old) }
     ensures keeps { rank tick.patience core.new ≤ rank tick.patience core.old }
-    ensures goes { TurnFalls 0 1 result }
+    ensures told { (b : Option Begun) → IfOk result (TurnedTold core.old.roots (P.log carrier.new.provider) b) }
 {
     match core.put(number, outcome, tick) {
-        After::Kept => Turned::Pending,
-        After::Ended => Turned::Again,
+        After::Kept => Ok(Turned::Pending),
+        After::Ended => Ok(Turned::Again),
         After::GiveUp => {
             carrier.give_up(number, tick.now);
-            Turned::Again
+            Ok(Turned::Again)
         }
-        After::Late => Turned::Pending,
+        After::Late => Err(NoMemory),
     }
+}
+
+/// Starts an order that the machine gave.
+fn start_order<P: ConnectionProvider>(
+    core: &mut RecursorCore,
+    carrier: &mut Carrier<P>,
+    number: u64,
+    order: Order,
+    tick: Tick,
+) -> Result<Turned, NoMemory>
+    requires holds { Holds P.ConnectionProvider core.old carrier.old }
+    requires moment { core.old.moment ≤ tick.now }
+    requires goes { TellsThat (P.log carrier.old.provider) (λ log. GoesToServer (given_of core.old.roots) log log.next order) }
+    ensures vouches { (es : List LogEntry) → P.vouches carrier.new.provider es → P.vouches carrier.old.provider es }
+    ensures holds { Holds P.ConnectionProvider core.new carrier.new }
+    ensures moves { Moves P.ConnectionProvider core.old core.new carrier.old carrier.new }
+    ensures moment { core.new.moment ≤ tick.now }
+    ensures falls { OnOk result (rank tick.patience core.new < rank tick.patience core.old) }
+    ensures keeps { rank tick.patience core.new ≤ rank tick.patience core.old }
+    ensures told { (b : Option Begun) → IfOk result (TurnedTold core.old.roots (P.log carrier.new.provider) b) }
+{
+    let outcome = carrier.start(number, order, tick.now)?;
+    settle(core, carrier, number, outcome, tick)
+}
+
+/// Polls an order that the machine waits for.
+fn poll_order<P: ConnectionProvider>(
+    core: &mut RecursorCore,
+    carrier: &mut Carrier<P>,
+    number: u64,
+    tick: Tick,
+) -> Result<Turned, NoMemory>
+    requires holds { Holds P.ConnectionProvider core.old carrier.old }
+    requires moment { core.old.moment ≤ tick.now }
+    ensures vouches { (es : List LogEntry) → P.vouches carrier.new.provider es → P.vouches carrier.old.provider es }
+    ensures holds { Holds P.ConnectionProvider core.new carrier.new }
+    ensures moves { Moves P.ConnectionProvider core.old core.new carrier.old carrier.new }
+    ensures moment { core.new.moment ≤ tick.now }
+    ensures falls { OnOk result (rank tick.patience core.new < rank tick.patience core.old) }
+    ensures keeps { rank tick.patience core.new ≤ rank tick.patience core.old }
+    ensures told { (b : Option Begun) → IfOk result (TurnedTold core.old.roots (P.log carrier.new.provider) b) }
+{
+    let outcome = carrier.poll(number, tick.now)?;
+    settle(core, carrier, number, outcome, tick)
 }
 
 /// One step of a question: an order is started, or polled, or its reply given.
@@ -70,19 +131,20 @@ fn step<P: ConnectionProvider>(
     r: usize,
     tick: Tick,
 ) -> Result<Turned, NoMemory>
+    requires holds { Holds P.ConnectionProvider core.old carrier.old }
+    requires moment { core.old.moment ≤ tick.now }
     ensures vouches { (es : List LogEntry) → P.vouches carrier.new.provider es → P.vouches carrier.old.provider es }
+    ensures holds { Holds P.ConnectionProvider core.new carrier.new }
+    ensures moves { Moves P.ConnectionProvider core.old core.new carrier.old carrier.new }
+    ensures moment { core.new.moment ≤ tick.now }
+    ensures told { IfOk result (TurnedTold core.old.roots (P.log carrier.new.provider) (begun_at core.old r)) }
     ensures falls { IfOk result (TurnFalls (rank tick.patience core.new) (rank tick.patience core.old)) }
     ensures keeps { rank tick.patience core.new ≤ rank tick.patience core.old }
 {
-    match core.next(alloc, r)? {
-        Step::Order { number, order } => {
-            let outcome = carrier.start(number, order, tick.now)?;
-            Ok(settle(core, carrier, number, outcome, tick))
-        }
-        Step::Waiting { number } => {
-            let outcome = carrier.poll(number, tick.now)?;
-            Ok(settle(core, carrier, number, outcome, tick))
-        }
+    let next = core.next(alloc, r)?;
+    match next {
+        Step::Order { number, order } => start_order(core, carrier, number, order, tick),
+        Step::Waiting { number } => poll_order(core, carrier, number, tick),
         Step::Done(reply) => Ok(Turned::Done(reply)),
         Step::Ended => Ok(Turned::Ended),
     }
@@ -96,7 +158,13 @@ fn turn<P: ConnectionProvider>(
     r: usize,
     tick: Tick,
 ) -> Result<Turned, NoMemory>
+    requires holds { Holds P.ConnectionProvider core.old carrier.old }
+    requires moment { core.old.moment ≤ tick.now }
     ensures vouches { (es : List LogEntry) → P.vouches carrier.new.provider es → P.vouches carrier.old.provider es }
+    ensures holds { Holds P.ConnectionProvider core.new carrier.new }
+    ensures moves { Moves P.ConnectionProvider core.old core.new carrier.old carrier.new }
+    ensures moment { core.new.moment ≤ tick.now }
+    ensures told { IfOk result (TurnedTold core.old.roots (P.log carrier.new.provider) (begun_at core.old r)) }
     ensures falls { IfOk result (TurnFalls (rank tick.patience core.new) (rank tick.patience core.old)) }
     ensures keeps { rank tick.patience core.new ≤ rank tick.patience core.old }
 {
@@ -117,7 +185,12 @@ fn abandon<P: ConnectionProvider>(
     r: usize,
     now: u64,
 )
+    requires holds { Holds P.ConnectionProvider core.old carrier.old }
+    requires moment { core.old.moment ≤ now }
     ensures vouches { (es : List LogEntry) → P.vouches carrier.new.provider es → P.vouches carrier.old.provider es }
+    ensures holds { Holds P.ConnectionProvider core.new carrier.new }
+    ensures moves { Moves P.ConnectionProvider core.old core.new carrier.old carrier.new }
+    ensures moment { core.new.moment ≤ now }
     ensures keeps { (p : ℕ) → rank p core.new ≤ rank p core.old }
 {
     if let Some(number) = core.cancel(r) {
@@ -134,7 +207,13 @@ fn answer_of<P: ConnectionProvider>(
     r: usize,
     tick: Tick,
 ) -> Option<Reply>
+    requires holds { Holds P.ConnectionProvider core.old carrier.old }
+    requires moment { core.old.moment ≤ tick.now }
     ensures vouches { (es : List LogEntry) → P.vouches carrier.new.provider es → P.vouches carrier.old.provider es }
+    ensures holds { Holds P.ConnectionProvider core.new carrier.new }
+    ensures moves { Moves P.ConnectionProvider core.old core.new carrier.old carrier.new }
+    ensures moment { core.new.moment ≤ tick.now }
+    ensures told { IfSome result (ReplyTold core.old.roots (P.log carrier.new.provider) (begun_at core.old r)) }
     ensures falls { IfNone result (rank tick.patience core.new < rank tick.patience core.old) }
     ensures keeps { rank tick.patience core.new ≤ rank tick.patience core.old }
 {
@@ -150,7 +229,13 @@ fn answer_of<P: ConnectionProvider>(
 }
 
 /// A question as it begins: under way, or refused.
-pub fn begun(alloc: Global, core: &mut RecursorCore, question: &Question, now: u64) -> Played {
+pub fn begun(alloc: Global, core: &mut RecursorCore, question: &Question, now: u64) -> Played
+    ensures derived { (log : Log) → core.old.moment ≤ now → Derived core.old log → Derived core.new log }
+    ensures roots { core.new.roots ≡ core.old.roots }
+    ensures moment { core.old.moment ≤ now → core.new.moment ≤ now }
+    ensures others { (k : ℕ) (b : Begun) → begun_at core.old k ≡ Some b → begun_at core.new k ≡ Some b }
+    ensures begun { Begins question.now now core.new result }
+{
     let Ok(question) = question.try_clone(alloc) else {
         return Played::Answered(no_memory(alloc));
     };
@@ -175,6 +260,7 @@ fn under_way(plays: &[Played], q: usize) -> Option<usize>
 
 fn put_answer(plays: &mut Vec<Played>, q: usize, reply: Reply)
     requires { IsBegunAt plays.old.items q }
+    ensures set { plays.new.items ≡ slice_set plays.old.items q (Played.Answered reply) }
     ensures falls { open_plays plays.new.items < open_plays plays.old.items }
     ensures count { vec_len plays.new ≡ vec_len plays.old }
 {
@@ -190,7 +276,14 @@ pub fn play<P: ConnectionProvider>(
     q: usize,
     tick: Tick,
 ) -> bool
+    requires holds { Holds P.ConnectionProvider core.old carrier.old }
+    requires moment { core.old.moment ≤ tick.now }
     ensures vouches { (es : List LogEntry) → P.vouches carrier.new.provider es → P.vouches carrier.old.provider es }
+    ensures holds { Holds P.ConnectionProvider core.new carrier.new }
+    ensures moves { Moves P.ConnectionProvider core.old core.new carrier.old carrier.new }
+    ensures moment { core.new.moment ≤ tick.now }
+    ensures plays { (start : ℕ) (turns rest : List Turn) (questions : List Question) → PlaysHold core.old (P.log carrier.old.provider) start turns rest questions plays.old.items
+        → PlaysHold core.new (P.log carrier.new.provider) start turns rest questions plays.new.items }
     ensures falls { MatchBool result (work tick.patience core.new plays.new.items < work tick.patience core.old plays.old.items) (work tick.patience core.new plays.new.items ≤ work tick.patience core.old plays.old.items) }
     ensures count { vec_len plays.new ≡ vec_len plays.old }
 {
@@ -206,7 +299,9 @@ pub fn play<P: ConnectionProvider>(
 /// Takes the reply of a question, which every question has in the end.
 pub fn take_reply(alloc: Global, plays: &mut Vec<Played>, q: usize) -> Reply
     requires { q < vec_len plays.old }
-    ensures { vec_len plays.new ≡ vec_len plays.old }
+    ensures count { vec_len plays.new ≡ vec_len plays.old }
+    ensures others { (k : ℕ) → k ≢ q → slice_get plays.new.items k ≡ slice_get plays.old.items k }
+    ensures reply { ReplyOf (slice_get plays.old.items q) result }
 {
     match mem::replace(&mut plays[q], Played::Waiting) {
         Played::Answered(reply) => reply,

@@ -1,18 +1,23 @@
 //! The way of one question: from the roots down the zone cuts to the servers of its name, and the
 //! question itself at them (RFC 1034 section 5.3.3).
-ghost use Rattle.std.specs.Prelude.{◌≡◌, ◌<◌, ◌≤◌, IfOk, IfNone, OnOk, IsSome, length};
+ghost use Rattle.std.specs.Prelude.{◌≡◌, ◌<◌, ◌≤◌, ◌+◌, ◌∷◌, [], ℕ, List, true, Ok, Err, Some, None, IfOk, OnOk};
+ghost use Rattle.std.specs.declared.net.ip_addr.IpAddr.{IpAddr};
+ghost use Rattle.dns_core.specs.Log.{Log};
+ghost use Rattle.resolution.specs.Names.{walk};
+ghost use Rattle.recursor_core.specs.Replies.{ReplyHolds};
 ghost use Rattle.recursor_core.specs.Lookup.{send_want};
-ghost use Rattle.recursor_core.specs.Walk.{lookups_after, IsCandidate, steps, Goes};
+ghost use Rattle.recursor_core.specs.Walk.{lookups_after, next_stage, query_of, made_negative, told_negative, ends_walk, IsCandidate, steps, Goes};
+ghost use Rattle.recursor_core.specs.Derived.{Counts, FoundHolds, IsHeard, WayHolds, WalkHolds, WalkComes};
 
 use crate::error::{AuthorityData, RecursorError, WalkCause};
-use crate::glue::{addresses, delegates};
 use crate::lookup::{Found, Lookup, Want};
 use crate::reply::Reply;
-use crate::verdict::{Verdict, verdict_of};
 use dns_core::{
-    DnsClass, DnsError, Ips, Message, Name, NetError, NoMemory, NoRecords, Numbers, Query,
-    Question, RecordType, Records, TryClone, strip,
+    DnsClass, Ips, Message, Name, NetError, NoMemory, NoRecords, Numbers, Query, Question,
+    RecordType, Records, TryClone, strip,
 };
+use recursor_walk::{addresses, is_delegation, verdict_of};
+use resolution::Verdict;
 use std::alloc::Global;
 use std::mem;
 
@@ -23,11 +28,10 @@ pub enum Stage {
     Last,
 }
 
-/// A question on its way. `servers` serve `zone`, the deepest zone that was found at or above the
+/// The way of a question: `name` is what it is walked to, and `servers` serve `zone`, the deepest zone that was found at or above the
 /// name walked to.
 #[derive(Drop, Debug)]
 pub struct Walk {
-    pub question: Question,
     pub name: Name,
     pub zone: Name,
     pub servers: Ips,
@@ -37,7 +41,9 @@ pub struct Walk {
 
 /// The name that a question is walked to: its own, and for DS the parent's, since DS records are
 /// the parent's (RFC 4035 section 3.1.4.1).
-fn walked_name(alloc: Global, query: &Query) -> Result<Name, NoMemory> {
+fn walked_name(alloc: Global, query: &Query) -> Result<Name, NoMemory>
+    ensures { IfOk result (λ name. name ≡ walk query.now) }
+{
     if query.query_type == RecordType::DS {
         query.name.base_name(alloc)
     } else {
@@ -47,7 +53,8 @@ fn walked_name(alloc: Global, query: &Query) -> Result<Name, NoMemory> {
 
 /// The stage after a candidate of so many labels.
 fn stage_after(total: usize, labels: usize) -> Stage
-    ensures { lookups_after total result < lookups_after total (Stage.Candidate labels) }
+    ensures falls { lookups_after total result < lookups_after total (Stage.Candidate labels) }
+    ensures next { result ≡ next_stage total labels }
 {
     if labels < total {
         Stage::Candidate { labels: labels + 1 }
@@ -56,7 +63,10 @@ fn stage_after(total: usize, labels: usize) -> Stage
     }
 }
 
-fn query_at(alloc: Global, name: &Name, query: &Query, stage: Stage) -> Result<Query, NoMemory> {
+/// What is asked at a stage.
+fn query_at(alloc: Global, name: &Name, query: &Query, stage: Stage) -> Result<Query, NoMemory>
+    ensures { IfOk result (λ asked. asked ≡ query_of name.now query.now stage) }
+{
     match stage {
         Stage::Candidate { labels } => Ok(Query {
             name: name.trim_to(alloc, labels)?,
@@ -68,14 +78,18 @@ fn query_at(alloc: Global, name: &Name, query: &Query, stage: Stage) -> Result<Q
 }
 
 /// The numbers that hold one.
-fn just(alloc: Global, entry: u64) -> Result<Numbers, NoMemory> {
+fn just(alloc: Global, entry: u64) -> Result<Numbers, NoMemory>
+    ensures { IfOk result (λ numbers. numbers ≡ entry ∷ []) }
+{
     let mut numbers = Numbers::empty(alloc);
     numbers.push(entry)?;
     Ok(numbers)
 }
 
 /// A negative response that the recursor makes where the zone leaves nothing of what was told.
-fn made_negative(alloc: Global, query: &Query) -> Result<RecursorError, NoMemory> {
+fn made_negative(alloc: Global, query: &Query) -> Result<RecursorError, NoMemory>
+    ensures { IfOk result (λ error. error ≡ made_negative query.now) }
+{
     Ok(RecursorError::Negative(AuthorityData {
         query: query.try_clone(alloc)?,
         soa: None,
@@ -86,7 +100,9 @@ fn made_negative(alloc: Global, query: &Query) -> Result<RecursorError, NoMemory
 }
 
 /// A told negative response, which is a referral where it names servers.
-fn told_negative(found: NoRecords) -> RecursorError {
+fn told_negative(found: NoRecords) -> RecursorError
+    ensures { result ≡ told_negative found }
+{
     let NoRecords {
         query,
         soa,
@@ -107,19 +123,38 @@ fn told_negative(found: NoRecords) -> RecursorError {
 }
 
 /// Whether a negative response to a candidate says that nothing exists at or below it (RFC 8020).
-fn ends_walk(found: &NoRecords) -> bool {
+fn ends_walk(found: &NoRecords) -> bool
+    ensures { result ≡ ends_walk found.now }
+{
     found.response_code.code == 3 && found.ns.is_none()
 }
 
+/// The reply that an entry gives.
+fn reply_by(
+    alloc: Global,
+    entry: u64,
+    outcome: Result<Message, RecursorError>,
+) -> Result<Reply, NoMemory>
+    ensures { IfOk result (λ reply. reply ≡ record { outcome = outcome; grounds = entry ∷ [] }) }
+{
+    Ok(Reply {
+        outcome,
+        grounds: just(alloc, entry)?,
+    })
+}
+
 impl Walk {
-    pub fn new(alloc: Global, question: Question, roots: &Ips) -> Result<Walk, NoMemory> {
+    /// A walk from the roots to the name of a question, which is fully qualified.
+    pub fn new(alloc: Global, question: &Question, roots: &Ips) -> Result<Walk, NoMemory>
+        requires { question.now.query.name.fqdn ≡ true }
+        ensures { (greatest t0 : ℕ) (log : Log) → IfOk result (WalkHolds roots.now greatest t0 log question.now.query) }
+    {
         let name = walked_name(alloc, &question.query)?;
         let stage = stage_after(name.labels().len(), 0);
         let query = query_at(alloc, &name, &question.query, stage)?;
         let lookup = Lookup::new(alloc, query, roots.items())?;
         let servers = roots.try_clone(alloc)?;
         Ok(Walk {
-            question,
             name,
             zone: Name::root(alloc),
             servers,
@@ -129,106 +164,153 @@ impl Walk {
     }
 
     /// The next server of the lookup is chosen; a reply where the walk ends for want of one.
-    pub fn choose(&mut self, alloc: Global) -> Result<Option<Reply>, NoMemory>
+    pub fn choose(&mut self, alloc: Global, question: &Question) -> Result<Option<Reply>, NoMemory>
         requires { send_want self.old.lookup.send ≡ Want.Choose }
-        ensures { Goes self.old self.new result }
+        ensures falls { Goes self.old self.new result }
+        ensures holds { (roots : List IpAddr) (greatest t0 : ℕ) (log : Log) → WalkHolds roots greatest t0 log question.now.query self.old
+            → IfOk result (WalkComes roots greatest t0 log question.now self.new) }
     {
         match self.lookup.choose() {
             None => Ok(None),
-            Some(found) => self.conclude(alloc, found),
+            Some(found) => self.conclude(alloc, question, found),
         }
     }
 
     /// Hears what was told to the lookup; a reply where the walk ends with it.
-    pub fn hear(&mut self, alloc: Global) -> Result<Option<Reply>, NoMemory>
+    pub fn hear(&mut self, alloc: Global, question: &Question) -> Result<Option<Reply>, NoMemory>
         requires { send_want self.old.lookup.send ≡ Want.Hear }
-        ensures { Goes self.old self.new result }
+        ensures falls { Goes self.old self.new result }
+        ensures holds { (roots : List IpAddr) (greatest t0 : ℕ) (log : Log) → WalkHolds roots greatest t0 log question.now.query self.old
+            → IfOk result (WalkComes roots greatest t0 log question.now self.new) }
     {
         match self.lookup.hear()? {
             None => Ok(None),
-            Some(found) => self.conclude(alloc, found),
+            Some(found) => self.conclude(alloc, question, found),
         }
     }
 
-    fn conclude(&mut self, alloc: Global, found: Found) -> Result<Option<Reply>, NoMemory>
-        ensures { Goes self.old self.new result }
+    fn conclude(
+        &mut self,
+        alloc: Global,
+        question: &Question,
+        found: Found,
+    ) -> Result<Option<Reply>, NoMemory>
+        ensures falls { Goes self.old self.new result }
+        ensures holds { (roots : List IpAddr) (greatest t0 : ℕ) (log : Log) → WayHolds roots greatest log question.now.query self.old
+            → FoundHolds roots greatest t0 log self.old.zone self.old.lookup.query found
+            → IfOk result (WalkComes roots greatest t0 log question.now self.new) }
     {
         match self.stage {
-            Stage::Candidate { .. } => self.conclude_candidate(alloc, found),
+            Stage::Candidate { .. } => self.conclude_candidate(alloc, question, found),
             Stage::Last => {
-                let reply = self.conclude_last(alloc, found)?;
+                let reply = self.conclude_last(alloc, question, found)?;
                 Ok(Some(reply))
             }
         }
     }
 
-    fn conclude_candidate(&mut self, alloc: Global, found: Found) -> Result<Option<Reply>, NoMemory>
+    fn conclude_candidate(
+        &mut self,
+        alloc: Global,
+        question: &Question,
+        found: Found,
+    ) -> Result<Option<Reply>, NoMemory>
         requires { IsCandidate self.old.stage }
-        ensures { Goes self.old self.new result }
+        ensures falls { Goes self.old self.new result }
+        ensures holds { (roots : List IpAddr) (greatest t0 : ℕ) (log : Log) → WayHolds roots greatest log question.now.query self.old
+            → FoundHolds roots greatest t0 log self.old.zone self.old.lookup.query found
+            → IfOk result (WalkComes roots greatest t0 log question.now self.new) }
     {
         match found {
-            Found::Message { entry, message } => self.hear_candidate(alloc, entry, message),
+            Found::Message { entry, message } => {
+                self.hear_candidate(alloc, question, entry, message)
+            }
             Found::Error(NetError::Timeout) => self.no_server(alloc, WalkCause::Timeout),
-            Found::Error(_) => self.advance(alloc),
+            Found::Error(_) => self.advance(alloc, question),
         }
     }
 
     fn hear_candidate(
         &mut self,
         alloc: Global,
+        question: &Question,
         entry: u64,
         message: Message,
     ) -> Result<Option<Reply>, NoMemory>
         requires { IsCandidate self.old.stage }
-        ensures { Goes self.old self.new result }
+        ensures falls { Goes self.old self.new result }
+        ensures holds { (roots : List IpAddr) (greatest t0 : ℕ) (log : Log) → WayHolds roots greatest log question.now.query self.old
+            → IsHeard roots greatest t0 log self.old.zone self.old.lookup.query entry message
+            → IfOk result (WalkComes roots greatest t0 log question.now self.new) }
     {
         match verdict_of(alloc, message, &self.zone)? {
-            Verdict::Positive(kept) => self.descend(alloc, &kept),
-            Verdict::Negative(found) => {
-                if ends_walk(&found) {
-                    return Ok(Some(Reply {
-                        outcome: Err(told_negative(found)),
-                        grounds: just(alloc, entry)?,
-                    }));
-                }
-                self.advance(alloc)
+            Ok(Verdict::Pos(kept)) => self.descend(alloc, question, &kept),
+            Ok(Verdict::Neg(found)) => self.deny_candidate(alloc, question, entry, found),
+            Ok(Verdict::Made(_)) => {
+                let denial = made_negative(alloc, &self.lookup.query)?;
+                Ok(Some(reply_by(alloc, entry, Err(denial))?))
             }
-            Verdict::Outside => Ok(Some(Reply {
-                outcome: Err(made_negative(alloc, &self.lookup.query)?),
-                grounds: just(alloc, entry)?,
-            })),
-            Verdict::Code(_) => self.advance(alloc),
-            Verdict::Truncated => self.advance(alloc),
+            Err(_) => self.advance(alloc, question),
         }
+    }
+
+    /// A negative response ends the walk where it says that the name is not there.
+    fn deny_candidate(
+        &mut self,
+        alloc: Global,
+        question: &Question,
+        entry: u64,
+        found: NoRecords,
+    ) -> Result<Option<Reply>, NoMemory>
+        requires { IsCandidate self.old.stage }
+        ensures falls { Goes self.old self.new result }
+        ensures holds { (roots : List IpAddr) (greatest t0 : ℕ) (log : Log) → WayHolds roots greatest log question.now.query self.old
+            → IfOk result (WalkComes roots greatest t0 log question.now self.new) }
+    {
+        if ends_walk(&found) {
+            return Ok(Some(reply_by(alloc, entry, Err(told_negative(found)))?));
+        }
+        self.advance(alloc, question)
     }
 
     /// Takes the zone cut of a response, where it has one.
-    fn descend(&mut self, alloc: Global, kept: &Message) -> Result<Option<Reply>, NoMemory>
+    fn descend(
+        &mut self,
+        alloc: Global,
+        question: &Question,
+        kept: &Message,
+    ) -> Result<Option<Reply>, NoMemory>
         requires { IsCandidate self.old.stage }
-        ensures { Goes self.old self.new result }
+        ensures falls { Goes self.old self.new result }
+        ensures holds { (roots : List IpAddr) (greatest t0 entry : ℕ) (log : Log) → WayHolds roots greatest log question.now.query self.old
+            → Counts roots greatest t0 log self.old.zone self.old.lookup.query entry kept.now
+            → IfOk result (WalkComes roots greatest t0 log question.now self.new) }
     {
-        if delegates(kept, &self.lookup.query.name) {
-            let ips = addresses(alloc, kept, &self.lookup.query.name)?;
-            if ips.is_empty() {
-                return self.no_server(alloc, WalkCause::NoAddress);
-            }
-            self.zone = self.lookup.query.name.try_clone(alloc)?;
-            self.servers = Ips::new(ips);
+        if !is_delegation(kept, &self.lookup.query.name) {
+            return self.advance(alloc, question);
         }
-        self.advance(alloc)
+        let ips = addresses(alloc, kept, &self.lookup.query.name)?;
+        if ips.is_empty() {
+            return self.no_server(alloc, WalkCause::NoAddress);
+        }
+        self.zone = self.lookup.query.name.try_clone(alloc)?;
+        self.servers = Ips::new(ips);
+        self.advance(alloc, question)
     }
 
     /// Goes on to the next stage, at the present servers.
-    fn advance(&mut self, alloc: Global) -> Result<Option<Reply>, NoMemory>
+    fn advance(&mut self, alloc: Global, question: &Question) -> Result<Option<Reply>, NoMemory>
         requires { IsCandidate self.old.stage }
         ensures falls { OnOk result (steps self.new < steps self.old) }
         ensures none { IfOk result (λ reply. reply ≡ None) }
+        ensures holds { (roots : List IpAddr) (greatest t0 : ℕ) (log : Log) → WayHolds roots greatest log question.now.query self.old
+            → IfOk result (WalkComes roots greatest t0 log question.now self.new) }
     {
         let Stage::Candidate { labels } = self.stage else {
             unreachable!()
         };
         let stage = stage_after(self.name.labels().len(), labels);
-        let query = query_at(alloc, &self.name, &self.question.query, stage)?;
+        let query = query_at(alloc, &self.name, &question.query, stage)?;
         let lookup = Lookup::new(alloc, query, self.servers.items())?;
         self.stage = stage;
         self.lookup = lookup;
@@ -236,7 +318,7 @@ impl Walk {
     }
 
     fn no_server(&self, alloc: Global, cause: WalkCause) -> Result<Option<Reply>, NoMemory>
-        ensures { IfOk result IsSome }
+        ensures { IfOk result (λ reply. reply ≡ Some (record { outcome = Err (RecursorError.NoNameServer self.now.name cause); grounds = [] })) }
     {
         let zone = self.name.try_clone(alloc)?;
         Ok(Some(Reply {
@@ -245,9 +327,18 @@ impl Walk {
         }))
     }
 
-    fn conclude_last(&mut self, alloc: Global, found: Found) -> Result<Reply, NoMemory> {
+    fn conclude_last(
+        &mut self,
+        alloc: Global,
+        question: &Question,
+        found: Found,
+    ) -> Result<Reply, NoMemory>
+        ensures { (roots : List IpAddr) (greatest t0 : ℕ) (log : Log) → self.old.lookup.query ≡ question.now.query
+            → FoundHolds roots greatest t0 log self.old.zone self.old.lookup.query found
+            → IfOk result (ReplyHolds roots log t0 question.now) }
+    {
         match found {
-            Found::Message { entry, message } => self.hear_last(alloc, entry, message),
+            Found::Message { entry, message } => self.hear_last(alloc, question, entry, message),
             Found::Error(error) => Ok(self.failed(alloc, error)),
         }
     }
@@ -255,31 +346,29 @@ impl Walk {
     fn hear_last(
         &mut self,
         alloc: Global,
+        question: &Question,
         entry: u64,
         message: Message,
-    ) -> Result<Reply, NoMemory> {
+    ) -> Result<Reply, NoMemory>
+        ensures { (roots : List IpAddr) (greatest t0 : ℕ) (log : Log) → self.old.lookup.query ≡ question.now.query
+            → IsHeard roots greatest t0 log self.old.zone self.old.lookup.query entry message
+            → IfOk result (ReplyHolds roots log t0 question.now) }
+    {
         match verdict_of(alloc, message, &self.zone)? {
-            Verdict::Positive(kept) => Ok(Reply {
-                outcome: Ok(strip(kept, self.question.dnssec_ok)),
-                grounds: just(alloc, entry)?,
-            }),
-            Verdict::Negative(found) => Ok(Reply {
-                outcome: Err(told_negative(found)),
-                grounds: just(alloc, entry)?,
-            }),
-            Verdict::Outside => Ok(Reply {
-                outcome: Err(made_negative(alloc, &self.lookup.query)?),
-                grounds: just(alloc, entry)?,
-            }),
-            Verdict::Code(code) => {
-                Ok(self.failed(alloc, NetError::Dns(DnsError::ResponseCode(code))))
+            Ok(Verdict::Pos(kept)) => reply_by(alloc, entry, Ok(strip(kept, question.dnssec_ok))),
+            Ok(Verdict::Neg(found)) => reply_by(alloc, entry, Err(told_negative(found))),
+            Ok(Verdict::Made(_)) => {
+                let denial = made_negative(alloc, &self.lookup.query)?;
+                reply_by(alloc, entry, Err(denial))
             }
-            Verdict::Truncated => Ok(self.failed(alloc, NetError::Truncated)),
+            Err(error) => Ok(self.failed(alloc, error)),
         }
     }
 
     /// The reply of a lookup that failed, with the entries by which its sends ended.
-    fn failed(&mut self, alloc: Global, error: NetError) -> Reply {
+    fn failed(&mut self, alloc: Global, error: NetError) -> Reply
+        ensures { result ≡ record { outcome = Err (RecursorError.Net error); grounds = self.old.lookup.ends } }
+    {
         let grounds = mem::replace(&mut self.lookup.ends, Numbers::empty(alloc));
         Reply {
             outcome: Err(RecursorError::Net(error)),

@@ -3,10 +3,12 @@
 
 mod class;
 mod glue;
+mod response;
 mod verdict;
 
 pub use class::class_of;
-pub use glue::is_delegation;
+pub use glue::{addresses, is_delegation};
+pub use response::verdict_of;
 pub use verdict::{answer_within, negative_within};
 
 #[cfg(test)]

@@ -1,43 +1,47 @@
-use crate::{answer_within, class_of, is_delegation};
+use crate::{addresses, answer_within, class_of, is_delegation};
 use dns_core::{
     DnsClass, Message, Name, NameError, NoMemory, Query, RData, Record, RecordType, Records,
     ResponseCode,
 };
 use resolution::{Class, Verdict};
 use std::alloc::Global;
-use std::net::Ipv4Addr;
+use std::net::{IpAddr, Ipv4Addr};
 use std::test::Fail;
 
-fn address(alloc: Global, owner: &str, class: DnsClass) -> Result<Record, NameError> {
+fn address(alloc: Global, owner: &str, class: DnsClass, ip: Ipv4Addr) -> Result<Record, NameError> {
     Ok(Record {
         name: Name::parse(alloc, owner)?,
         ttl: 300,
         dns_class: class,
         record_type: RecordType::A,
-        rdata: RData::A(Ipv4Addr::new(11, 0, 0, 2)),
+        rdata: RData::A(ip),
     })
 }
 
-fn delegation(alloc: Global) -> Result<Record, NameError> {
+fn host(alloc: Global, owner: &str, ip: Ipv4Addr) -> Result<Record, NameError> {
+    address(alloc, owner, DnsClass::IN, ip)
+}
+
+fn server(alloc: Global, zone: &str, target: &str) -> Result<Record, NameError> {
     Ok(Record {
-        name: Name::parse(alloc, "com.")?,
+        name: Name::parse(alloc, zone)?,
         ttl: 300,
         dns_class: DnsClass::IN,
         record_type: RecordType::NS,
-        rdata: RData::NS(Name::parse(alloc, "a.nic.com.")?),
+        rdata: RData::NS(Name::parse(alloc, target)?),
     })
 }
 
-/// A referral of `com.`, with an address of the class beside it, and one outside the zone.
-fn referral(alloc: Global, class: DnsClass) -> Result<Message, Fail> {
-    let mut authorities = Records::empty(alloc);
-    authorities.push(delegation(alloc)?)?;
-    let mut additionals = Records::empty(alloc);
-    additionals.push(address(alloc, "a.nic.com.", class)?)?;
-    additionals.push(address(alloc, "a.nic.org.", class)?)?;
+/// A response for the NS records of a zone.
+fn response(
+    alloc: Global,
+    zone: &str,
+    authorities: Records,
+    additionals: Records,
+) -> Result<Message, NameError> {
     Ok(Message {
         query: Query {
-            name: Name::parse(alloc, "com.")?,
+            name: Name::parse(alloc, zone)?,
             query_type: RecordType::NS,
             query_class: DnsClass::IN,
         },
@@ -48,6 +52,17 @@ fn referral(alloc: Global, class: DnsClass) -> Result<Message, Fail> {
         authorities,
         additionals,
     })
+}
+
+/// A referral of `com.`, with an address of the class beside it, and one outside the zone.
+fn referral(alloc: Global, class: DnsClass) -> Result<Message, Fail> {
+    let mut authorities = Records::empty(alloc);
+    authorities.push(server(alloc, "com.", "a.nic.com.")?)?;
+    let mut additionals = Records::empty(alloc);
+    let ip = Ipv4Addr::new(11, 0, 0, 2);
+    additionals.push(address(alloc, "a.nic.com.", class, ip)?)?;
+    additionals.push(address(alloc, "a.nic.org.", class, ip)?)?;
+    Ok(response(alloc, "com.", authorities, additionals)?)
 }
 
 /// How many additional records are left of an answer, as told by a server of the zone.
@@ -81,5 +96,56 @@ fn a_record_of_another_class_is_foreign(rt: HostRuntime) -> Result<(), Fail> {
     let alloc = rt.alloc();
     assert!(rt; !is_foreign(alloc, referral(alloc, DnsClass::IN)?)?);
     assert!(rt; is_foreign(alloc, referral(alloc, DnsClass::CH)?)?);
+    Ok(())
+}
+
+/// Two servers share an address, one of them has it twice, and a stranger has another.
+fn shared(alloc: Global) -> Result<Message, Fail> {
+    let mut authorities = Records::empty(alloc);
+    authorities.push(server(alloc, "example.com.", "ns1.example.com.")?)?;
+    authorities.push(server(alloc, "example.com.", "ns2.example.com.")?)?;
+    let mut additionals = Records::empty(alloc);
+    let ip = Ipv4Addr::new(11, 0, 0, 2);
+    additionals.push(host(alloc, "ns1.example.com.", ip)?)?;
+    additionals.push(host(alloc, "ns1.example.com.", ip)?)?;
+    additionals.push(host(alloc, "ns.evil.net.", Ipv4Addr::new(66, 6, 6, 6))?)?;
+    additionals.push(host(alloc, "ns2.example.com.", ip)?)?;
+    Ok(response(alloc, "example.com.", authorities, additionals)?)
+}
+
+/// Each server of the zone or of its parent has an address, and a server of `net.` has one too.
+fn neighbours(alloc: Global) -> Result<Message, Fail> {
+    let mut authorities = Records::empty(alloc);
+    authorities.push(server(alloc, "net.", "a.nic.net.")?)?;
+    authorities.push(server(alloc, "com.", "a.nic.com.")?)?;
+    authorities.push(server(alloc, "example.com.", "ns1.example.com.")?)?;
+    let mut additionals = Records::empty(alloc);
+    additionals.push(host(alloc, "ns1.example.com.", Ipv4Addr::new(11, 0, 0, 3))?)?;
+    additionals.push(host(alloc, "a.nic.net.", Ipv4Addr::new(11, 0, 0, 1))?)?;
+    additionals.push(host(alloc, "a.nic.com.", Ipv4Addr::new(11, 0, 0, 2))?)?;
+    Ok(response(alloc, "example.com.", authorities, additionals)?)
+}
+
+#[test]
+fn each_server_lends_its_address_once(rt: HostRuntime) -> Result<(), Fail> {
+    let alloc = rt.alloc();
+    let name = Name::parse(alloc, "example.com.")?;
+    let ips = addresses(alloc, &shared(alloc)?, &name)?;
+    assert_eq!(rt; ips.len(), 2);
+    let ip = IpAddr::V4(Ipv4Addr::new(11, 0, 0, 2));
+    assert!(rt; ips.iter().all(|lent| *lent == ip));
+    Ok(())
+}
+
+#[test]
+fn servers_lend_in_the_order_of_their_ns_records(rt: HostRuntime) -> Result<(), Fail> {
+    let alloc = rt.alloc();
+    let name = Name::parse(alloc, "example.com.")?;
+    let ips = addresses(alloc, &neighbours(alloc)?, &name)?;
+    let parents = IpAddr::V4(Ipv4Addr::new(11, 0, 0, 2));
+    let own = IpAddr::V4(Ipv4Addr::new(11, 0, 0, 3));
+    assert_eq!(rt; ips.len(), 2);
+    assert_eq!(rt; ips.first(), Some(&parents));
+    assert_eq!(rt; ips.last(), Some(&own));
     Ok(())
 }

@@ -9,6 +9,7 @@ pub mod Telling
 pub mod Serving
 pub mod Following
 pub mod Answering
+pub mod Asking
 pub mod Lookups
 pub mod KeptError
 pub mod Ending

@@ -1,5 +1,19 @@
-use Rattle.std.proofs.Common.{◌≡◌, vec_len}
+use Rattle.std.proofs.Common.{◌≡◌, ◌≤◌, ℕ, List, [], Option, Some, vec_len}
+use Rattle.dns_core.specs.Log.{Log}
+use Rattle.dns_core.specs.declared.log.LogEntry.{LogEntry}
+use Rattle.dns_core.specs.declared.request.Turn.{Turn}
+use Rattle.recursor_core.specs.Derived.{Derived}
+use Rattle.recursor_core.specs.Machine.{Begun, begun_at}
+use Rattle.recursor_core.specs.Standing.{PlaysHold, last_moment}
 use Rattle.recursor_core.proofs.driving.begin_all.Given as goal
 
 abbrev pub invariant-loop-q : goal.invariant-loop-q
-invariant-loop-q l = vec_len l.plays ≡ vec_len l.fn.plays
+invariant-loop-q l = record {
+  derived : (log : Log) → Derived l.fn.core log → Derived l.core log;
+  roots : l.core.roots ≡ l.fn.core.roots;
+  moment : l.core.moment ≤ l.now;
+  begun : (k : ℕ) (b : Begun) → begun_at l.fn.core k ≡ Some b → begun_at l.core k ≡ Some b;
+  plays : (told : Option (List LogEntry)) (start : ℕ) (turns : List Turn) → last_moment start turns ≤ l.now
+      → PlaysHold l.fn.core told start turns [] l.questions l.fn.plays.items → PlaysHold l.core told start turns [] l.questions l.plays.items;
+  count : vec_len l.plays ≡ vec_len l.fn.plays;
+}

@@ -1,12 +1,21 @@
-use Rattle.std.proofs.Common.{◌≡◌, List, vec_len}
+use Rattle.std.proofs.Common.{◌≡◌, ◌≤◌, ℕ, List, vec_len}
 use Rattle.dns_core.specs.declared.log.LogEntry.{LogEntry}
+use Rattle.dns_core.specs.declared.request.Question.{Question}
+use Rattle.dns_core.specs.declared.request.Turn.{Turn}
+use Rattle.recursor_core.specs.Standing.{Holds, PlaysHold}
 use Rattle.recursor_core.specs.Turns.{work}
 use Rattle.recursor_core.proofs.driving.finish.Given as goal
 
 abbrev pub invariant-rounds : goal.invariant-rounds
-invariant-rounds g l =
-    ((es : List LogEntry) → g.P.ConnectionProvider.vouches l.carrier.provider es → g.P.ConnectionProvider.vouches l.fn.carrier.provider es)
-    × (vec_len l.plays ≡ vec_len l.fn.plays)
+invariant-rounds g l = record {
+  vouches : (es : List LogEntry) → g.P.ConnectionProvider.vouches l.carrier.provider es → g.P.ConnectionProvider.vouches l.fn.carrier.provider es;
+  holds : Holds g.P.ConnectionProvider l.core l.carrier;
+  roots : l.core.roots ≡ l.fn.core.roots;
+  moment : l.core.moment ≤ l.tick.now;
+  plays : (start : ℕ) (turns rest : List Turn) (questions : List Question) → PlaysHold l.fn.core (g.P.ConnectionProvider.log l.fn.carrier.provider) start turns rest questions l.fn.plays.items
+      → PlaysHold l.core (g.P.ConnectionProvider.log l.carrier.provider) start turns rest questions l.plays.items;
+  count : vec_len l.plays ≡ vec_len l.fn.plays;
+}
 
 abbrev pub decreases-rounds : goal.decreases-rounds
 decreases-rounds g l = work l.tick.patience l.core l.plays.items

@@ -1,10 +1,19 @@
-use Rattle.std.proofs.Common.{◌≡◌, ◌≤◌, ◌<◌, List, MatchBool, vec_len}
+use Rattle.std.proofs.Common.{◌≡◌, ◌≤◌, ◌<◌, ℕ, List, MatchBool, vec_len}
 use Rattle.dns_core.specs.declared.log.LogEntry.{LogEntry}
+use Rattle.dns_core.specs.declared.request.Question.{Question}
+use Rattle.dns_core.specs.declared.request.Turn.{Turn}
+use Rattle.recursor_core.specs.Standing.{Holds, PlaysHold}
 use Rattle.recursor_core.specs.Turns.{work}
 use Rattle.recursor_core.proofs.driving.round.Given as goal
 
 abbrev pub invariant-loop-q : goal.invariant-loop-q
-invariant-loop-q g l =
-    ((es : List LogEntry) → g.P.ConnectionProvider.vouches l.carrier.provider es → g.P.ConnectionProvider.vouches l.fn.carrier.provider es)
-    × (vec_len l.plays ≡ vec_len l.fn.plays)
-    × MatchBool l.busy (work l.tick.patience l.core l.plays.items < work l.tick.patience l.fn.core l.fn.plays.items) (work l.tick.patience l.core l.plays.items ≤ work l.tick.patience l.fn.core l.fn.plays.items)
+invariant-loop-q g l = record {
+  vouches : (es : List LogEntry) → g.P.ConnectionProvider.vouches l.carrier.provider es → g.P.ConnectionProvider.vouches l.fn.carrier.provider es;
+  holds : Holds g.P.ConnectionProvider l.core l.carrier;
+  roots : l.core.roots ≡ l.fn.core.roots;
+  moment : l.core.moment ≤ l.tick.now;
+  plays : (start : ℕ) (turns rest : List Turn) (questions : List Question) → PlaysHold l.fn.core (g.P.ConnectionProvider.log l.fn.carrier.provider) start turns rest questions l.fn.plays.items
+      → PlaysHold l.core (g.P.ConnectionProvider.log l.carrier.provider) start turns rest questions l.plays.items;
+  falls : MatchBool l.busy (work l.tick.patience l.core l.plays.items < work l.tick.patience l.fn.core l.fn.plays.items) (work l.tick.patience l.core l.plays.items ≤ work l.tick.patience l.fn.core l.fn.plays.items);
+  count : vec_len l.plays ≡ vec_len l.fn.plays;
+}

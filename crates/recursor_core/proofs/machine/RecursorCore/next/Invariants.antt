@@ -1,9 +1,15 @@
 use Rattle.std.proofs.Common.{◌≤◌, ℕ}
-use Rattle.recursor_core.specs.Machine.{rank}
+use Rattle.dns_core.specs.Log.{Log}
+use Rattle.recursor_core.specs.Derived.{Derived}
+use Rattle.recursor_core.specs.Machine.{rank, SameCore}
 use Rattle.recursor_core.proofs.machine.RecursorCore.next.Given as goal
 
 abbrev pub invariant-steps : goal.invariant-steps
-invariant-steps l = (p : ℕ) → rank p l.self ≤ rank p l.fn.self
+invariant-steps l = record {
+  rank : (p : ℕ) → rank p l.self ≤ rank p l.fn.self;
+  derived : (log : Log) → Derived l.fn.self log → Derived l.self log;
+  same : SameCore l.fn.self l.self;
+}
 
 abbrev pub decreases-steps : goal.decreases-steps
 decreases-steps l = rank 0 l.self

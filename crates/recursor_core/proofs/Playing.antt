@@ -1,0 +1,205 @@
+-- The questions of a run, as their turns are played.
+use Rattle.std.proofs.Common.{◌≡◌, ◌≢◌, ◌≤◌, ◌<◌, ◌+◌, ◌-◌, ◌++◌, ◌∙◌, ◌⊎◌, ⊎_elim, inl, inr, ℕ, zero, suc, List, [], ◌∷◌, length, Option, Some, None, Err, refl, sym, ap, subst, arith, slice_get, if◌then◌else◌, eq-eqb, All}
+use Rattle.std.proofs.Math.ListN.{set}
+use Rattle.std.proofs.lemmas.Bool.{ne_eqb}
+use Rattle.std.proofs.lemmas.Option.{same_Some, slice_get_within, get_or_from_slice_get}
+use Rattle.std.proofs.lemmas.List.Elements.{All-get_or}
+use Rattle.std.specs.declared.net.ip_addr.IpAddr.{IpAddr}
+use Rattle.dns_core.specs.Log.{Log, log_of}
+use Rattle.dns_core.specs.declared.log.LogEntry.{LogEntry}
+use Rattle.dns_core.specs.declared.request.Question.{Question}
+use Rattle.dns_core.specs.declared.request.Turn.{Turn}
+use Rattle.dns_core.specs.declared.provider.ConnectionProvider.{Ghosts}
+use Rattle.recursor_core.specs.Replies.{ReplyHolds}
+use Rattle.recursor_core.specs.Carrying.{TellsThat, Grown}
+use Rattle.recursor_core.specs.Machine.{Begun, begun_at}
+use Rattle.recursor_core.specs.Standing.{Moves, ReplyTold, first_moment, last_moment, begin_moment, PlayHolds, PlaysHold, RepliesHold}
+use Rattle.recursor_core.specs.Turns.{BeginsIf, BeginsAt, ReplyOf}
+use Rattle.recursor_core.specs.declared.carrier.Carrier.{Carrier}
+use Rattle.recursor_core.specs.declared.error.RecursorError.{RecursorError}
+use Rattle.recursor_core.specs.declared.error.RecursorError.TheVariants as error
+use Rattle.recursor_core.specs.declared.machine.RecursorCore.{RecursorCore}
+use Rattle.recursor_core.specs.declared.reply.Reply.{Reply}
+use Rattle.recursor_core.specs.declared.turns.Played.{Played}
+use Rattle.recursor_core.specs.declared.turns.Played.TheVariants as played
+use Rattle.recursor_core.proofs.Earlier.{ReplyHolds-earlier}
+use Rattle.recursor_core.proofs.Standing.{ReplyHolds-grown, Grown-refl}
+
+same_or_not : (k n : ℕ) → (k ≡ n) ⊎ (k ≢ n)
+same_or_not zero zero = inl refl
+same_or_not zero (suc n) = inr (λ e. omega arith)
+same_or_not (suc k) zero = inr (λ e. omega arith)
+same_or_not (suc k) (suc n) = ⊎_elim (λ e. inl (ap suc e)) (λ ne. inr (λ e. ne (omega arith))) (same_or_not k n)
+
+slice_get-set_same : {X : Type 0} (xs : List X) (i : ℕ) (x : X) → i < length xs → slice_get (set xs i x) i ≡ Some x
+slice_get-set_same [] i x h = absurd (omega arith)
+slice_get-set_same (y ∷ xs) zero x h = refl
+slice_get-set_same (y ∷ xs) (suc i) x h = slice_get-set_same xs i x (omega arith)
+
+slice_get-set_other : {X : Type 0} (xs : List X) (i k : ℕ) (x : X) → k ≢ i → slice_get (set xs i x) k ≡ slice_get xs k
+slice_get-set_other [] i k x h = refl
+slice_get-set_other (y ∷ xs) zero zero x h = absurd (h refl)
+slice_get-set_other (y ∷ xs) zero (suc k) x h = refl
+slice_get-set_other (y ∷ xs) (suc i) zero x h = refl
+slice_get-set_other (y ∷ xs) (suc i) (suc k) x h = slice_get-set_other xs i k x (λ e. h (ap suc e))
+
+-- the first turn of a question is this one, or one of those after it
+first_here : (t : Turn) (rest : List Turn) (q : ℕ) → t.question ≡ q + 1 → first_moment (t ∷ rest) q ≡ Some t.moment
+first_here t rest q e = ap (λ b. if b then Some t.moment else first_moment rest q) (eq-eqb t.question (q + 1) e)
+
+first_other : (t : Turn) (rest : List Turn) (q : ℕ) → t.question ≢ q + 1 → first_moment (t ∷ rest) q ≡ first_moment rest q
+first_other t rest q ne = ap (λ b. if b then Some t.moment else first_moment rest q) (ne_eqb t.question (q + 1) ne)
+
+abbrev moment_of : (start : ℕ) (turns : List Turn) → Option ℕ → ℕ
+moment_of start turns found = elim found [ Some moment ↦ moment | None ↦ last_moment start turns ]
+
+-- when the question of the next turn begins, and one of no turn
+begins_now : (start : ℕ) (turns rest : List Turn) (t : Turn) (q : ℕ) → t.question ≡ q + 1 → first_moment turns q ≡ first_moment (t ∷ rest) q → begin_moment start turns q ≡ t.moment
+begins_now start turns rest t q e h = ap (moment_of start turns) (h ∙ first_here t rest q e)
+
+begins_last : (start : ℕ) (turns : List Turn) (q : ℕ) → first_moment turns q ≡ None → begin_moment start turns q ≡ last_moment start turns
+begins_last start turns q h = ap (moment_of start turns) h
+
+err_holds : (roots : List IpAddr) (log : Log) (moment : ℕ) (question : Question) (reply : Reply) (e : RecursorError) → reply.outcome ≡ Err e → ReplyHolds roots log moment question reply
+err_holds roots log moment question reply e h = rw h tt
+
+-- a question that goes on as it was
+play_on : (core new : RecursorCore) (told later : Option (List LogEntry)) (start : ℕ) (turns rest left : List Turn) (q : ℕ) (question : Question) (p : Played)
+    → new.roots ≡ core.roots → ((k : ℕ) (b : Begun) → begun_at core k ≡ Some b → begun_at new k ≡ Some b) → Grown told later
+    → (p ≡ played.Waiting → first_moment rest q ≡ first_moment left q)
+    → PlayHolds core told start turns rest q question p → PlayHolds new later start turns left q question p
+play_on core new told later start turns rest left q question played.Waiting roots begun grown same h = h ∙ same refl
+play_on core new told later start turns rest left q question (played.Begun r) roots begun grown same h = record { begun = h.begun; is = begun r h.begun h.is; question = h.question; late = h.late }
+play_on core new told later start turns rest left q question (played.Answered reply) roots begun grown same h =
+    subst (λ (ips : List IpAddr). TellsThat later (λ log. ReplyHolds ips log (begin_moment start turns q) question reply)) (sym roots)
+    (ReplyHolds-grown core.roots (begin_moment start turns q) question reply told later grown h)
+
+-- a question at the place where one begins
+begin_here : (core new : RecursorCore) (told : Option (List LogEntry)) (start : ℕ) (turns rest left : List Turn) (q now : ℕ) (question : Question) (old : Option Played) (p : Played)
+    → new.roots ≡ core.roots → ((k : ℕ) (b : Begun) → begun_at core k ≡ Some b → begun_at new k ≡ Some b)
+    → (first_moment turns q ≡ first_moment rest q → begin_moment start turns q ≤ now)
+    → BeginsIf (Some question) now new old (Some p) → ((was : Played) → old ≡ Some was → PlayHolds core told start turns rest q question was)
+    → PlayHolds new told start turns left q question p
+begin_here core new told start turns rest left q now question None p roots begun due begins h = cc
+begin_here core new told start turns rest left q now question (Some played.Waiting) played.Waiting roots begun due begins h = absurd begins
+begin_here core new told start turns rest left q now question (Some played.Waiting) (played.Begun r) roots begun due begins h =
+    record { begun = record { question = question; moment = now }; is = begins; question = refl; late = due (h played.Waiting refl) }
+begin_here core new told start turns rest left q now question (Some played.Waiting) (played.Answered reply) roots begun due begins h =
+    λ es t. err_holds new.roots (log_of es) (begin_moment start turns q) question reply begins.0 begins.1
+begin_here core new told start turns rest left q now question (Some (played.Begun r)) p roots begun due begins h =
+    subst (λ (x : Played). PlayHolds new told start turns left q question x) (sym (same_Some _ _ begins))
+    (play_on core new told told start turns rest left q question (played.Begun r) roots begun (Grown-refl told) (λ e. cc) (h (played.Begun r) refl))
+begin_here core new told start turns rest left q now question (Some (played.Answered reply)) p roots begun due begins h =
+    subst (λ (x : Played). PlayHolds new told start turns left q question x) (sym (same_Some _ _ begins))
+    (play_on core new told told start turns rest left q question (played.Answered reply) roots begun (Grown-refl told) (λ e. cc) (h (played.Answered reply) refl))
+
+-- Where a question waits at the place it begins, if its moment has come; the others go on.
+begins_hold : (core new : RecursorCore) (told : Option (List LogEntry)) (start : ℕ) (turns rest left : List Turn) (questions : List Question) (old plays : List Played) (q now : ℕ)
+    → new.roots ≡ core.roots → ((k : ℕ) (b : Begun) → begun_at core k ≡ Some b → begun_at new k ≡ Some b)
+    → ((k : ℕ) → k ≢ q → slice_get plays k ≡ slice_get old k)
+    → BeginsAt questions q now new (slice_get old q) (slice_get plays q)
+    → ((k : ℕ) → k ≢ q → first_moment rest k ≡ first_moment left k)
+    → (first_moment turns q ≡ first_moment rest q → begin_moment start turns q ≤ now)
+    → PlaysHold core told start turns rest questions old → PlaysHold new told start turns left questions plays
+begins_hold core new told start turns rest left questions old plays q now roots begun others begins after due h k question p asks plays_p = ⊎_elim
+    (λ (same : k ≡ q).
+    let asks_q : slice_get questions q ≡ Some question = subst (λ i. slice_get questions i ≡ Some question) same asks in
+    let plays_q : slice_get plays q ≡ Some p = subst (λ i. slice_get plays i ≡ Some p) same plays_p in
+    let at_q : BeginsIf (Some question) now new (slice_get old q) (Some p) = rw (asks_q, plays_q) at begins in
+    subst (λ i. PlayHolds new told start turns left i question p) (sym same)
+    (begin_here core new told start turns rest left q now question (slice_get old q) p roots begun due at_q (λ was e. h q question was asks_q e)))
+    (λ ne. play_on core new told told start turns rest left k question p roots begun (Grown-refl told) (λ e. after k ne) (h k question p asks (sym (others k ne) ∙ plays_p)))
+    (same_or_not k q)
+
+module _ {P C F E : Type 0} (p : Ghosts P C F E) (core new : RecursorCore) (c later : Carrier P C F E p) (moves : Moves p core new c later) where
+  -- the questions go on while the machine and the provider do
+  pub plays_moved : (start : ℕ) (turns rest : List Turn) (questions : List Question) (plays : List Played)
+      → PlaysHold core (p.log c.provider) start turns rest questions plays → PlaysHold new (p.log later.provider) start turns rest questions plays
+  plays_moved start turns rest questions plays h q question play asks at =
+      play_on core new (p.log c.provider) (p.log later.provider) start turns rest rest q question play moves.roots moves.begun moves.grown (λ e. refl) (h q question play asks at)
+
+  -- one has its reply
+  pub plays_answered : (start : ℕ) (turns rest : List Turn) (questions : List Question) (plays : List Played) (q r : ℕ) (reply : Reply)
+      → slice_get plays q ≡ Some (played.Begun r) → ReplyTold core.roots (p.log later.provider) (begun_at core r) reply
+      → PlaysHold core (p.log c.provider) start turns rest questions plays → PlaysHold new (p.log later.provider) start turns rest questions (set plays q (played.Answered reply))
+  plays_answered start turns rest questions plays q r reply at told h k question play asks play_k = ⊎_elim
+      (λ (same : k ≡ q).
+      let told_now = p.log later.provider in
+      let asks_q : slice_get questions q ≡ Some question = subst (λ i. slice_get questions i ≡ Some question) same asks in
+      let is : play ≡ played.Answered reply = same_Some _ _ (sym play_k ∙ (ap (slice_get (set plays q (played.Answered reply))) same ∙ slice_get-set_same plays q (played.Answered reply) (slice_get_within plays q _ at))) in
+      let f = h q question (played.Begun r) asks_q at in
+      let b = f.begun in
+      let holds : TellsThat told_now (λ log. ReplyHolds core.roots log b.moment b.question reply) = rw f.is at told in
+      let given : PlayHolds new told_now start turns rest q question (played.Answered reply) = λ es t.
+      ReplyHolds-earlier new.roots (log_of es) (begin_moment start turns q) b.moment question reply f.late
+      (subst (λ (ips : List IpAddr). ReplyHolds ips (log_of es) b.moment question reply) (sym moves.roots)
+      (subst (λ (x : Question). ReplyHolds core.roots (log_of es) b.moment x reply) f.question (holds es t))) in
+      subst (λ i. PlayHolds new told_now start turns rest i question play) (sym same)
+      (subst (λ (x : Played). PlayHolds new told_now start turns rest q question x) (sym is) given))
+      (λ ne. plays_moved start turns rest questions plays h k question play asks (sym (slice_get-set_other plays q k (played.Answered reply) ne) ∙ play_k))
+      (same_or_not k q)
+
+reply_of_play : (core : RecursorCore) (told : Option (List LogEntry)) (start : ℕ) (turns rest : List Turn) (q : ℕ) (question : Question) (found : Option Played) (reply : Reply) (es : List LogEntry)
+    → told ≡ Some es → ReplyOf found reply → ((p : Played) → found ≡ Some p → PlayHolds core told start turns rest q question p)
+    → ReplyHolds core.roots (log_of es) (begin_moment start turns q) question reply
+reply_of_play core told start turns rest q question None reply es t of h = err_holds core.roots (log_of es) (begin_moment start turns q) question reply error.NoMemory of
+reply_of_play core told start turns rest q question (Some played.Waiting) reply es t of h = err_holds core.roots (log_of es) (begin_moment start turns q) question reply error.NoMemory of
+reply_of_play core told start turns rest q question (Some (played.Begun r)) reply es t of h = err_holds core.roots (log_of es) (begin_moment start turns q) question reply error.NoMemory of
+reply_of_play core told start turns rest q question (Some (played.Answered a)) reply es t of h =
+    subst (λ (x : Reply). ReplyHolds core.roots (log_of es) (begin_moment start turns q) question x) (sym of) (h (played.Answered a) refl es t)
+
+-- the replies that are given hold
+pub replies_hold : (core : RecursorCore) (told : Option (List LogEntry)) (start : ℕ) (turns rest : List Turn) (questions : List Question) (plays : List Played) (replies : List Reply)
+    → PlaysHold core told start turns rest questions plays
+    → ((q : ℕ) (reply : Reply) → slice_get replies q ≡ Some reply → ReplyOf (slice_get plays q) reply)
+    → TellsThat told (λ log. RepliesHold core.roots log start turns questions replies)
+replies_hold core told start turns rest questions plays replies h of es t q question reply asks at =
+    reply_of_play core told start turns rest q question (slice_get plays q) reply es t (of q reply at) (λ p e. h q question p asks e)
+
+-- before the first turn each question waits
+pub plays_wait : (core : RecursorCore) (told : Option (List LogEntry)) (start : ℕ) (turns : List Turn) (questions : List Question) (plays : List Played)
+    → All (λ p. p ≡ played.Waiting) plays → PlaysHold core told start turns turns questions plays
+plays_wait core told start turns questions plays waits q question p asks at =
+    let read = get_or_from_slice_get plays q p p at in
+    let is : p ≡ played.Waiting = sym read ∙ All-get_or (λ x. x ≡ played.Waiting) plays q p (slice_get_within plays q p at) waits in
+    subst (λ (x : Played). PlayHolds core told start turns turns q question x) (sym is) refl
+
+-- a turn that names no question changes none
+pub plays_skip : (core : RecursorCore) (told : Option (List LogEntry)) (start : ℕ) (turns rest : List Turn) (t : Turn) (questions : List Question) (plays : List Played) → t.question ≡ 0
+    → PlaysHold core told start turns (t ∷ rest) questions plays → PlaysHold core told start turns rest questions plays
+plays_skip core told start turns rest t questions plays none h q question p asks at =
+    play_on core core told told start turns (t ∷ rest) rest q question p refl (λ k b e. e) (Grown-refl told) (λ e. first_other t rest q (λ named. omega arith)) (h q question p asks at)
+
+-- at its turn a question begins, if it waits
+pub plays_turn : (core new : RecursorCore) (told : Option (List LogEntry)) (start : ℕ) (turns rest : List Turn) (t : Turn) (questions : List Question) (old plays : List Played) (q now : ℕ)
+    → t.question ≡ q + 1 → t.moment ≤ now → new.roots ≡ core.roots → ((k : ℕ) (b : Begun) → begun_at core k ≡ Some b → begun_at new k ≡ Some b)
+    → ((k : ℕ) → k ≢ q → slice_get plays k ≡ slice_get old k) → BeginsAt questions q now new (slice_get old q) (slice_get plays q)
+    → PlaysHold core told start turns (t ∷ rest) questions old → PlaysHold new told start turns rest questions plays
+plays_turn core new told start turns rest t questions old plays q now names due roots begun others begins h =
+    begins_hold core new told start turns (t ∷ rest) rest questions old plays q now roots begun others begins
+    (λ k ne. first_other t rest k (λ named. ne (omega arith))) (λ e. let is = begins_now start turns rest t q names e in omega (arith, is, due)) h
+
+-- after the turns a question begins that waits still
+pub plays_end : (core new : RecursorCore) (told : Option (List LogEntry)) (start : ℕ) (turns : List Turn) (questions : List Question) (old plays : List Played) (q now : ℕ)
+    → last_moment start turns ≤ now → new.roots ≡ core.roots → ((k : ℕ) (b : Begun) → begun_at core k ≡ Some b → begun_at new k ≡ Some b)
+    → ((k : ℕ) → k ≢ q → slice_get plays k ≡ slice_get old k) → BeginsAt questions q now new (slice_get old q) (slice_get plays q)
+    → PlaysHold core told start turns [] questions old → PlaysHold new told start turns [] questions plays
+plays_end core new told start turns questions old plays q now due roots begun others begins h =
+    begins_hold core new told start turns [] [] questions old plays q now roots begun others begins
+    (λ k ne. refl) (λ e. let is = begins_last start turns q e in omega (arith, is, due)) h
+
+-- the last turn is at the last moment
+pub last_is : (start : ℕ) (turns : List Turn) (t : Turn) → Some t ≡ slice_get turns (length turns - 1) → t.moment ≡ last_moment start turns
+last_is start [] t h = cc
+last_is start (x ∷ []) t h = ap (λ (u : Turn). u.moment) (same_Some _ _ h)
+last_is start (x ∷ y ∷ ys) t h =
+    let next : length (x ∷ y ∷ ys) - 1 ≡ suc (length (y ∷ ys) - 1) = omega arith in
+    last_is x.moment (y ∷ ys) t (subst (λ k. Some t ≡ slice_get (x ∷ y ∷ ys) k) next h)
+
+-- what holds of each of a list, and of one more at its end
+pub each_push : {X : Type 0} (Q : ℕ → X → Type 0) (xs : List X) (y : X) → Q (length xs) y → ((q : ℕ) (x : X) → slice_get xs q ≡ Some x → Q q x)
+    → (q : ℕ) (x : X) → slice_get (xs ++ y ∷ []) q ≡ Some x → Q q x
+each_push Q [] y here h zero x e = subst (Q 0) (same_Some _ _ e) here
+each_push Q [] y here h (suc q) x e = cc
+each_push Q (z ∷ xs) y here h zero x e = h zero x e
+each_push Q (z ∷ xs) y here h (suc q) x e = each_push (λ k. Q (suc k)) xs y here (λ k. h (suc k)) q x e

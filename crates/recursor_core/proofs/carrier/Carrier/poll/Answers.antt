@@ -1,0 +1,19 @@
+use Rattle.std.proofs.Common.{sym, ◌∙◌, ap}
+use Rattle.recursor_core.proofs.Slots.{SlotHolds-taken}
+use Rattle.recursor_core.proofs.carrier.Carrier.poll.Goals as goal
+
+pub poll_asking-requires-clause-asked : goal.poll_asking-requires-clause-asked
+poll_asking-requires-clause-asked g c es told =
+    let p = g.P.ConnectionProvider in
+    let held = SlotHolds-taken p (p.log c.args.self.now.provider) c.args.self.now.slots c.args.number _ c.in-Asking.ensures.was c.requires.holds.slots in
+    held es (ap p.log (sym c.take.ensures.same.0) ∙ told)
+
+pub returns-in-Opening-clause-asks : goal.returns-in-Opening-clause-asks
+returns-in-Opening-clause-asks g c given asks =
+    let same = ap g.P.ConnectionProvider.log (sym c.take.ensures.same.0) in
+    c.poll_opening.ensures.asks given (λ es told. asks es (same ∙ told))
+
+pub returns-in-Asking-clause-asks : goal.returns-in-Asking-clause-asks
+returns-in-Asking-clause-asks g c given asks =
+    let same = ap g.P.ConnectionProvider.log (sym c.take.ensures.same.0) in
+    c.poll_asking.ensures.asks given (λ es told. asks es (same ∙ told))

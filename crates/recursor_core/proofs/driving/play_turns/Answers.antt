@@ -1,0 +1,31 @@
+use Rattle.std.proofs.Common.{◌<◌, ◌≤◌, ◌+◌, ◌∙◌, List, length, drop, arith, subst}
+use Rattle.std.proofs.Math.ListN.{drop_of_length-le}
+use Rattle.std.proofs.lemmas.List.{drop_more}
+use Rattle.dns_core.specs.declared.request.Turn.{Turn}
+use Rattle.recursor_core.specs.Standing.{PlaysHold}
+use Rattle.recursor_core.proofs.driving.play_turns.Goals as goal
+
+pub loop-turn-preserved : goal.loop-turn-preserved
+loop-turn-preserved g c =
+    let i = c.loop-turn.invariant in
+    let e = c.play_turn.ensures in
+    let n = c.loop-turn.turn-index in
+    let turns = c.args.turns.now in
+    let told = g.P.ConnectionProvider.log c.loop-turn.carrier.provider in
+    let within : n < length turns = omega (arith, c.loop-turn-test.true) in
+    record {
+      vouches = λ es h. i.vouches es (e.vouches es h);
+      holds = e.holds;
+      roots = e.roots ∙ i.roots;
+      plays = λ start h. e.plays start turns (drop (n + 1) turns)
+          (subst (λ (ts : List Turn). PlaysHold c.loop-turn.core told start turns ts c.args.questions.now c.loop-turn.plays.items) (drop_more turns n _ within) (i.plays start h));
+      count = e.count ∙ i.count;
+    }
+
+pub returns-clause-plays : goal.returns-clause-plays
+returns-clause-plays g c start h =
+    let n = c.loop-turn.turn-index in
+    let turns = c.args.turns.now in
+    let told = g.P.ConnectionProvider.log c.loop-turn.carrier.provider in
+    let past : length turns ≤ n = omega (arith, c.loop-turn-test.false) in
+    subst (λ (ts : List Turn). PlaysHold c.loop-turn.core told start turns ts c.args.questions.now c.loop-turn.plays.items) (drop_of_length-le turns past) (c.loop-turn.invariant.plays start h)

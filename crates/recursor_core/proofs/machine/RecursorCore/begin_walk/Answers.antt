@@ -1,0 +1,38 @@
+use Rattle.std.proofs.Common.{◌≡◌, ◌≤◌, ◌++◌, ◌∷◌, [], arith, refl, All, ℕ, List, Option, Some, length, ap, ◌∙◌, slice_get}
+use Rattle.std.specs.Option.{option_map}
+use Rattle.dns_core.specs.declared.request.Question.{Question}
+use Rattle.recursor_core.specs.Machine.{Begun, begun_of}
+use Rattle.recursor_core.specs.declared.resolving.Resolution.{Resolution}
+use Rattle.std.proofs.lemmas.List.Elements.{All-push}
+use Rattle.recursor_core.specs.Derived.{ResolutionHolds}
+use Rattle.recursor_core.proofs.Kept.{resolutions-kept}
+use Rattle.recursor_core.proofs.Growing.{Extends-refl}
+use Rattle.recursor_core.proofs.Cores.{derived-is, begun-push, begun-last}
+use Rattle.recursor_core.proofs.machine.RecursorCore.begin_walk.Goals as goal
+
+pub returns-clause-derived : goal.returns-clause-derived
+returns-clause-derived c log later d =
+    let core = c.args.self.now in
+    let r = c.in_ok-resolution.resolution in
+    let P = ResolutionHolds core.roots core.greatest c.args.now log in
+    derived-is _ log core.roots core.greatest c.args.now (core.resolutions.items ++ r ∷ []) refl refl refl c.in_ok-push.ensures.items d.bound
+    (All-push P core.resolutions.items r (resolutions-kept core.roots log log (Extends-refl log) core.greatest core.greatest core.moment c.args.now core.resolutions.items (omega arith) later d.resolutions) (c.in_ok-resolution.ensures.holds core.greatest log))
+
+pub returns-clause-others : goal.returns-clause-others
+returns-clause-others c k within =
+    let xs = c.args.self.now.resolutions.items in
+    ap (λ (rs : List Resolution). option_map begun_of (slice_get rs k)) c.in_ok-push.ensures.items ∙ begun-push xs c.in_ok-resolution.resolution k within
+
+pub returns-clause-begun : goal.returns-clause-begun
+returns-clause-begun c =
+    let xs = c.args.self.now.resolutions.items in
+    let r = c.in_ok-resolution.resolution in
+    let begun = c.in_ok-resolution.ensures.begun in
+    let count : c.len-place.result ≡ length xs = omega (arith, c.len-place.ensures) in (
+      count,
+      ap (λ (n : ℕ). option_map begun_of (slice_get c.push.new.self.items n)) count
+          ∙ ap (λ (rs : List Resolution). option_map begun_of (slice_get rs (length xs))) c.in_ok-push.ensures.items
+          ∙ begun-last xs r
+          ∙ ap (λ (q : Question). let b : Option Begun = Some (record { question = q; moment = r.begun }) in b) begun.0
+          ∙ ap (λ (n : ℕ). let b : Option Begun = Some (record { question = c.args.question; moment = n }) in b) begun.1,
+    )

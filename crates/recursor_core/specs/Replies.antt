@@ -1,0 +1,50 @@
+-- What is given to the recursor, and what its replies rest on.
+use Rattle.std.specs.Prelude.{◌≡◌, ℕ, Bool, true, List, [], ◌∷◌, IfOk}
+use Rattle.std.specs.declared.net.ip_addr.IpAddr.{IpAddr}
+use Rattle.dns_core.specs.Name.{DomainName}
+use Rattle.dns_core.specs.Log.{Log}
+use Rattle.dns_core.specs.Stripping.{strip_of}
+use Rattle.dns_core.specs.declared.message.Query.{Query}
+use Rattle.dns_core.specs.declared.message.Message.{Message}
+use Rattle.dns_core.specs.declared.request.Question.{Question}
+use Rattle.resolution.specs.Same.{Same}
+use Rattle.resolution.specs.Given.{Given, Bounds, allows_all}
+use Rattle.resolution.specs.Following.{follow}
+use Rattle.resolution.specs.Answering.{Base, IsCurrent, Answer}
+use Rattle.resolution.specs.declared.verdict.Verdict.TheVariants.{Pos}
+use Rattle.resolution.specs.declared.following.Follow.TheVariants.{Done}
+use Rattle.recursor_core.specs.declared.reply.Reply.{Reply}
+
+-- the bounds of lives where none are set: from nothing to a day
+abbrev pub standard_bounds : Bounds
+standard_bounds = record { least = 0; most = 86400 }
+
+-- these roots, filters that deny nothing, and the standard bounds and limits
+abbrev pub given_of : List IpAddr → Given
+given_of roots = record {
+  roots = roots;
+  server_denied = allows_all;
+  answer_denied = allows_all;
+  positive_bounds = λ _. standard_bounds;
+  negative_bounds = λ _. standard_bounds;
+  timeout = 5000000;
+  strict = true;
+  ns_recursion_limit = 24;
+  recursion_limit = 24;
+  patience = 1;
+}
+
+-- The message is what counts of one entry, less the DNSSEC records that were not asked for. Where its aliases lead no further, it is the answer.
+pub record IsToldAnswer (given : Given) (log : Log) (t0 : ℕ) (q : Query) (dnssec : Bool) (g : List ℕ) (r : Message) : Type 0 where
+  pub entry : ℕ
+  pub zone : DomainName
+  pub kept : Message
+  pub only : g ≡ entry ∷ []
+  pub base : Base given log t0 q entry zone (Pos kept)
+  pub current : IsCurrent t0 base.moment kept
+  pub same : Same r (strip_of kept dnssec)
+  pub answer : follow kept q ≡ Done → Answer given log t0 q dnssec g r
+
+-- A reply with a message has it so.
+abbrev pub ReplyHolds : List IpAddr → Log → ℕ → Question → Reply → Type 0
+ReplyHolds roots log t0 question reply = IfOk reply.outcome (IsToldAnswer (given_of roots) log t0 question.query question.dnssec_ok reply.grounds)

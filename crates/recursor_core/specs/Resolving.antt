@@ -1,0 +1,78 @@
+-- What a resolution needs, and how much of it is left.
+use Rattle.std.specs.Prelude.{◌≡◌, ℕ, ◌+◌, ◌*◌, Option, Some, None}
+use Rattle.std.specs.declared.net.ip_addr.IpAddr.{IpAddr}
+use Rattle.dns_core.specs.declared.message.Query.{Query}
+use Rattle.recursor_core.specs.Lookup as lookup
+use Rattle.recursor_core.specs.Walk as walk
+use Rattle.recursor_core.specs.declared.reply.Reply.{Reply}
+use Rattle.recursor_core.specs.declared.walk.Walk.{Walk}
+use Rattle.recursor_core.specs.declared.lookup.Want.{Want}
+use Rattle.recursor_core.specs.declared.lookup.Want.TheVariants as want
+use Rattle.recursor_core.specs.declared.resolving.Need.{Need}
+use Rattle.recursor_core.specs.declared.resolving.Need.TheVariants as need
+use Rattle.recursor_core.specs.declared.resolving.State.{State}
+use Rattle.recursor_core.specs.declared.resolving.State.TheVariants.{Under, Done, Ended}
+use Rattle.recursor_core.specs.declared.resolving.Resolution.{Resolution}
+
+abbrev pub state_want : State → Need
+state_want (Under w) = need.Send (lookup.send_want w.lookup.send)
+state_want (Done reply) = need.Reply
+state_want Ended = need.Nothing
+
+abbrev pub want_of : Resolution → Need
+want_of r = state_want r.state
+
+abbrev pub order_of : Need → Option ℕ
+order_of (need.Send want.Choose) = None
+order_of (need.Send (want.Connect ip)) = None
+order_of (need.Send (want.Ask ip conn)) = None
+order_of (need.Send (want.Wait order)) = Some order
+order_of (need.Send want.Hear) = None
+order_of need.Reply = None
+order_of need.Nothing = None
+
+-- the number of the order that it waits for
+abbrev pub waits_for : Resolution → Option ℕ
+waits_for r = order_of (want_of r)
+
+abbrev pub state_steps : State → ℕ
+state_steps (Under w) = walk.steps w
+state_steps (Done reply) = 1
+state_steps Ended = 0
+
+-- how many steps it has before it
+abbrev pub steps : Resolution → ℕ
+steps r = state_steps r.state
+
+abbrev pub state_polls : ℕ → State → ℕ
+state_polls patience (Under w) = lookup.polls_left patience w.lookup.send
+state_polls patience (Done reply) = 0
+state_polls patience Ended = 0
+
+-- steps, each of which may be as many polls as patience allows
+abbrev pub rank : ℕ → Resolution → ℕ
+rank patience r = (patience + 1) * steps r + state_polls patience r.state
+
+-- its question may be asked of the address
+abbrev pub MayAskIn : IpAddr → State → Type 0
+MayAskIn ip (Under w) = lookup.MayAsk ip w.lookup.send
+MayAskIn ip (Done reply) = ⊥
+MayAskIn ip Ended = ⊥
+
+abbrev pub MayAskNow : IpAddr → Resolution → Type 0
+MayAskNow ip r = MayAskIn ip r.state
+
+-- the question that it asks now
+abbrev pub asked_of : State → Option Query
+asked_of (Under w) = Some w.lookup.query
+asked_of (Done reply) = None
+asked_of Ended = None
+
+-- It is still of the same question, which began when it began.
+abbrev pub SameBegun : Resolution → Resolution → Type 0
+SameBegun old new = (new.question ≡ old.question) × (new.begun ≡ old.begun)
+
+-- the state after a walk that goes on, or that came to a reply
+abbrev pub IsAfter : Walk → Option Reply → State → Type 0
+IsAfter w None state = state ≡ Under w
+IsAfter w (Some reply) state = state ≡ Done reply

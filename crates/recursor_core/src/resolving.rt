@@ -1,0 +1,199 @@
+//! One question under way, answered, or ended.
+ghost use Rattle.std.specs.Prelude.{◌≡◌, ◌≢◌, ◌≤◌, ◌<◌, ℕ, List, true, max, Some, None, IfOk, IfSome, IsSome};
+ghost use Rattle.std.specs.declared.net.ip_addr.IpAddr.{IpAddr};
+ghost use Rattle.dns_core.specs.Log.{Log, Extends};
+ghost use Rattle.recursor_core.specs.Order.{entry_of, Fits};
+ghost use Rattle.recursor_core.specs.Replies.{ReplyHolds};
+ghost use Rattle.recursor_core.specs.Derived.{ResolutionHolds};
+ghost use Rattle.recursor_core.specs.Resolving.{want_of, waits_for, steps, rank, MayAskNow, IsAfter, SameBegun, asked_of};
+
+use crate::lookup::Want;
+use crate::order::{After, Outcome};
+use crate::reply::Reply;
+use crate::walk::Walk;
+use dns_core::{Ips, NoMemory, Query, Question, TryClone};
+use std::alloc::Global;
+use std::mem;
+use std::net::IpAddr;
+
+#[derive(Drop, Debug)]
+pub enum State {
+    Under(Walk),
+    Done(Reply),
+    Ended,
+}
+
+/// What a resolution needs next.
+#[derive(Clone, Copy, Debug)]
+pub enum Need {
+    Send(Want),
+    Reply,
+    Nothing,
+}
+
+/// A question, the moment at which it began, in microseconds, and where it stands.
+#[derive(Drop, Debug)]
+pub struct Resolution {
+    pub question: Question,
+    pub begun: u64,
+    pub state: State,
+}
+
+/// A walk that goes on, or the reply that it came to.
+fn state_after(walk: Walk, reply: Option<Reply>) -> State
+    ensures { IsAfter walk reply result }
+{
+    match reply {
+        Some(reply) => State::Done(reply),
+        None => State::Under(walk),
+    }
+}
+
+impl Resolution {
+    /// A question that begins. Its name is fully qualified.
+    pub fn begin(
+        alloc: Global,
+        question: Question,
+        roots: &Ips,
+        now: u64,
+    ) -> Result<Resolution, NoMemory>
+        requires { question.query.name.fqdn ≡ true }
+        ensures holds { (greatest : ℕ) (log : Log) → IfOk result (ResolutionHolds roots.now greatest now log) }
+        ensures begun { IfOk result (λ r. (r.question ≡ question) × (r.begun ≡ now)) }
+    {
+        let walk = Walk::new(alloc, &question, roots)?;
+        Ok(Resolution {
+            question,
+            begun: now,
+            state: State::Under(walk),
+        })
+    }
+
+    pub fn need(&self) -> Need
+        ensures { result ≡ want_of self.now }
+    {
+        match &self.state {
+            State::Under(walk) => Need::Send(walk.lookup.send.want()),
+            State::Done(_) => Need::Reply,
+            State::Ended => Need::Nothing,
+        }
+    }
+
+    /// The number of the order that it waits for.
+    pub fn open_order(&self) -> Option<u64>
+        ensures { result ≡ waits_for self.now }
+    {
+        match self.need() {
+            Need::Send(Want::Wait { order }) => Some(order),
+            _ => None,
+        }
+    }
+
+    /// A copy of the question that is to be asked now.
+    pub fn query(&self, alloc: Global) -> Result<Option<Query>, NoMemory>
+        ensures { IfOk result (λ query. query ≡ asked_of self.now.state) }
+    {
+        match &self.state {
+            State::Under(walk) => Ok(Some(walk.lookup.query.try_clone(alloc)?)),
+            _ => Ok(None),
+        }
+    }
+
+    /// The next server is chosen. On want of memory it has ended.
+    pub fn choose(&mut self, alloc: Global) -> Result<(), NoMemory>
+        requires { want_of self.old ≡ Need.Send Want.Choose }
+        ensures falls { steps self.new < steps self.old }
+        ensures begun { SameBegun self.old self.new }
+        ensures holds { (roots : List IpAddr) (greatest moment : ℕ) (log : Log)
+            → ResolutionHolds roots greatest moment log self.old → ResolutionHolds roots greatest moment log self.new }
+    {
+        if let State::Under(walk) = mem::replace(&mut self.state, State::Ended) {
+            let mut walk = walk;
+            let reply = walk.choose(alloc, &self.question)?;
+            self.state = state_after(walk, reply);
+        }
+        Ok(())
+    }
+
+    /// Hears what came of its order. On want of memory it has ended.
+    pub fn hear(&mut self, alloc: Global) -> Result<(), NoMemory>
+        requires { want_of self.old ≡ Need.Send Want.Hear }
+        ensures falls { steps self.new < steps self.old }
+        ensures begun { SameBegun self.old self.new }
+        ensures holds { (roots : List IpAddr) (greatest moment : ℕ) (log : Log)
+            → ResolutionHolds roots greatest moment log self.old → ResolutionHolds roots greatest moment log self.new }
+    {
+        if let State::Under(walk) = mem::replace(&mut self.state, State::Ended) {
+            let mut walk = walk;
+            let reply = walk.hear(alloc, &self.question)?;
+            self.state = state_after(walk, reply);
+        }
+        Ok(())
+    }
+
+    /// The order to open a connection was given.
+    pub fn opens(&mut self, ip: IpAddr, order: u64)
+        ensures falls { (was : IpAddr) → want_of self.old ≡ Need.Send (Want.Connect was) → steps self.new < steps self.old }
+        ensures begun { SameBegun self.old self.new }
+        ensures holds { (roots : List IpAddr) (greatest moment : ℕ) (log : Log) → want_of self.old ≡ Need.Send (Want.Connect ip)
+            → ResolutionHolds roots greatest moment log self.old → ResolutionHolds roots greatest moment log self.new }
+    {
+        if let State::Under(walk) = &mut self.state {
+            walk.lookup.opens(ip, order);
+        }
+    }
+
+    /// The order to ask over a connection was given.
+    pub fn asks(&mut self, ip: IpAddr, order: u64, since: u64)
+        ensures falls { MayAskNow ip self.old → steps self.new < steps self.old }
+        ensures begun { SameBegun self.old self.new }
+        ensures holds { (roots : List IpAddr) (moment : ℕ) (log : Log) → MayAskNow ip self.old
+            → ResolutionHolds roots since moment log self.old → ResolutionHolds roots since moment log self.new }
+    {
+        if let State::Under(walk) = &mut self.state {
+            walk.lookup.asks(ip, order, since);
+        }
+    }
+
+    /// Takes the outcome of the order that it waits for.
+    pub fn take(&mut self, outcome: Outcome, patience: u32) -> After
+        requires { waits_for self.old ≢ None }
+        ensures falls { result ≢ After.Late → rank patience self.new < rank patience self.old }
+        ensures late { result ≡ After.Late → self.new ≡ self.old }
+        ensures begun { SameBegun self.old self.new }
+        ensures holds { (roots : List IpAddr) (greatest moment now : ℕ) (log longer : Log)
+            → ResolutionHolds roots greatest moment log self.old → Extends log longer → Fits longer now outcome → moment ≤ now
+            → ResolutionHolds roots (max greatest (entry_of outcome)) now longer self.new }
+    {
+        match &mut self.state {
+            State::Under(walk) => walk.lookup.take(outcome, patience),
+            _ => unreachable!(),
+        }
+    }
+
+    /// Gives its reply away, and has ended.
+    pub fn take_reply(&mut self) -> Option<Reply>
+        requires { want_of self.old ≡ Need.Reply }
+        ensures falls { steps self.new < steps self.old }
+        ensures some { IsSome result }
+        ensures begun { SameBegun self.old self.new }
+        ensures holds { (roots : List IpAddr) (greatest moment : ℕ) (log : Log)
+            → ResolutionHolds roots greatest moment log self.old
+            → ResolutionHolds roots greatest moment log self.new × IfSome result (ReplyHolds roots log self.old.begun self.old.question) }
+    {
+        match mem::replace(&mut self.state, State::Ended) {
+            State::Done(reply) => Some(reply),
+            _ => None,
+        }
+    }
+
+    /// Ends without a reply.
+    pub fn end(&mut self)
+        ensures nothing { want_of self.new ≡ Need.Nothing }
+        ensures begun { SameBegun self.old self.new }
+        ensures holds { (roots : List IpAddr) (greatest moment : ℕ) (log : Log)
+            → ResolutionHolds roots greatest moment log self.old → ResolutionHolds roots greatest moment log self.new }
+    {
+        self.state = State::Ended;
+    }
+}

@@ -1,0 +1,31 @@
+-- Whom a run asks: only servers that the delegations told before lead to (RFC 1034 section 5.3.3).
+use Rattle.std.specs.Prelude.{ℕ, IsTrue, Option}
+use Rattle.std.specs.declared.net.ip_addr.IpAddr.{IpAddr}
+use Rattle.dns_core.specs.Name.{DomainName}
+use Rattle.dns_core.specs.Log.{Log}
+use Rattle.dns_core.specs.declared.message.Query.{Query}
+use Rattle.dns_core.specs.declared.net_error.NetError.{NetError}
+use Rattle.dns_core.specs.declared.connection.Protocol.{Protocol}
+use Rattle.dns_core.specs.declared.log.LogEntry.TheVariants.{Opened, Asked}
+use Rattle.resolution.specs.Names.{is_above, walk}
+use Rattle.resolution.specs.Given.{Given}
+use Rattle.resolution.specs.Telling.{Logged}
+use Rattle.resolution.specs.Serving.{Serves}
+
+-- By what was told below n, the address serves some zone.
+pub record IsServer (given : Given) (log : Log) (n : ℕ) (ip : IpAddr) : Type 0 where
+  pub zone : DomainName
+  pub serves : Serves given log n ip zone
+
+-- By what was told below n, the address serves a zone at or above the name of the question.
+pub record IsServerFor (given : Given) (log : Log) (n : ℕ) (ip : IpAddr) (q : Query) : Type 0 where
+  pub zone : DomainName
+  pub above : IsTrue (is_above zone (walk q))
+  pub serves : Serves given log n ip zone
+
+-- Whoever was opened or asked was a server by what was told before, and for a question one of a zone at or above its name.
+pub record AsksServers (given : Given) (log : Log) : Type 0 where
+  pub opened : (n : ℕ) (ip : IpAddr) (protocol : Protocol) (moment : ℕ) (refused : Option NetError)
+      → Logged log n (Opened ip protocol moment refused) → IsServer given log n ip
+  pub asked : (n : ℕ) (ip : IpAddr) (protocol : Protocol) (q : Query) (moment : ℕ) (refused : Option NetError)
+      → Logged log n (Asked ip protocol q moment refused) → IsServerFor given log n ip q
