@@ -19,6 +19,29 @@ fn fault(alloc: Global, text: &[u8]) -> Option<ScenarioError> {
     }
 }
 
+/// Reading the text fails at this line, for this cause.
+fn faulty(alloc: Global, text: &[u8], line: u32, cause: Cause) -> Result<(), Fail> {
+    let found = fault(alloc, text);
+    if found == Some(ScenarioError { line, cause }) {
+        return Ok(());
+    }
+    Err(Fail::new(format_args!("{found:?} in place of {line}, {cause:?}")))
+}
+
+/// The base script with this line in it fails at it.
+fn refused(alloc: Global, line: u32, words: &str, cause: Cause) -> Result<(), Fail> {
+    let text = with_line(alloc, line, words)?;
+    faulty(alloc, text.as_bytes(), line, cause)
+}
+
+fn bad(alloc: Global, line: u32, words: &str) -> Result<(), Fail> {
+    refused(alloc, line, words, Cause::Line)
+}
+
+fn not_built(alloc: Global, line: u32, words: &str) -> Result<(), Fail> {
+    refused(alloc, line, words, Cause::NotBuilt)
+}
+
 fn rules(scenario: &Scenario) -> &[ScriptLine] {
     match &scenario.upstream {
         Upstream::Script(script) => script.lines.items(),
@@ -211,6 +234,40 @@ fn lines_that_are_not_built_are_told_so(rt: HostRuntime) -> Result<(), Fail> {
         };
         assert_eq!(rt; fault(alloc, text.as_bytes()), Some(error), "at {unbuilt}");
     }
+    Ok(())
+}
+
+#[test]
+fn lines_with_ipv6_addresses_are_not_built(rt: HostRuntime) -> Result<(), Fail> {
+    let alloc = rt.alloc();
+    not_built(alloc, 2, "root 2001:db8::1")?;
+    not_built(alloc, 2, "root ::")?;
+    not_built(
+        alloc,
+        3,
+        "option deny_server ::/0,10.0.0.0/8,2001:db8::/128",
+    )?;
+    not_built(alloc, 5, "connect 2001:db8:0:1:1:1:1:1 h3 0 ok")?;
+    not_built(alloc, 5, "refuse 2001:db8::1:0:0:1 tcp")?;
+    not_built(alloc, 5, "reply ::1 udp com. NS 0 error io")?;
+    not_built(alloc, 7, "a.nic.com. 172800 IN AAAA ::ffff:c000:201")?;
+    Ok(())
+}
+
+#[test]
+fn other_spellings_of_ipv6_are_bad(rt: HostRuntime) -> Result<(), Fail> {
+    let alloc = rt.alloc();
+    bad(alloc, 2, "root 2001:DB8::1")?;
+    bad(alloc, 2, "root 2001:0db8::1")?;
+    bad(alloc, 2, "root 2001:db8::1:1:1:1:1")?;
+    bad(alloc, 2, "root 2001:db8:0:0:1::1")?;
+    bad(alloc, 2, "root 2001:db8:0:0:0:0:0:1")?;
+    bad(alloc, 2, "root ::ffff:192.0.2.1")?;
+    bad(alloc, 2, "root ::1%1")?;
+    bad(alloc, 3, "option deny_server ::/129")?;
+    bad(alloc, 3, "option deny_server 10.0.0.0/33")?;
+    bad(alloc, 7, "a.nic.com. 172800 IN AAAA 11.0.0.2")?;
+    bad(alloc, 7, "a.nic.com. 172800 IN A ::1")?;
     Ok(())
 }
 
