@@ -195,6 +195,22 @@ is_at_turns _ = false
 abbrev pub stands : Bool → Option (Unit {0}) → Option (Unit {0})
 stands may read = if may then read else None
 
+-- a line of a script, by its first word
+unfoldable pub rule_line : List ℕ → Line
+rule_line w ws =
+    if bytes_eq w (codes "connect") then connect_line ws
+    else if bytes_eq w (codes "refuse") then refuse_line ws
+    else if bytes_eq w (codes "reply") then reply_line ws
+    else None
+
+-- a line of a script, or one that follows it
+unfoldable pub late_line : Place → List ℕ → Line
+late_line place w ws =
+    if bytes_eq w (codes "question") then stands (is_at_questions place.stage) (question_line ws)
+    else if bytes_eq w (codes "turn") then stands (is_at_turns place.stage) (turn_line place.last ws)
+    else if bytes_eq w (codes "end") then stands (is_at_turns place.stage) (ok_line ws)
+    else stands (is_at_rules place.stage) (rule_line w ws)
+
 -- a line that is no record line
 unfoldable pub other_line : Place → Line
 other_line place [] = None
@@ -202,13 +218,7 @@ other_line place (w ∷ ws) =
     if bytes_eq w (codes "root") then stands (is_at_roots place.stage) (root_line ws)
     else if bytes_eq w (codes "option") then stands (is_at_options place.stage) (option_line ws)
     else if bytes_eq w (codes "told") then stands (is_at_told place.stage) (told_line ws)
-    else if bytes_eq w (codes "connect") then stands (is_at_rules place.stage) (connect_line ws)
-    else if bytes_eq w (codes "refuse") then stands (is_at_rules place.stage) (refuse_line ws)
-    else if bytes_eq w (codes "reply") then stands (is_at_rules place.stage) (reply_line ws)
-    else if bytes_eq w (codes "question") then stands (is_at_questions place.stage) (question_line ws)
-    else if bytes_eq w (codes "turn") then stands (is_at_turns place.stage) (turn_line place.last ws)
-    else if bytes_eq w (codes "end") then stands (is_at_turns place.stage) (ok_line ws)
-    else None
+    else late_line place w ws
 
 -- a line of the format, where it stands
 unfoldable pub line_at : Place → List ℕ → Option (Unit {0})

@@ -3,7 +3,7 @@ ghost use Rattle.std.specs.Prelude.{◌≡◌, Option, codes, IfOk};
 ghost use Rattle.std.specs.List.{list_all};
 ghost use Rattle.recursor_text.specs.Addresses.{is_address, is_ipv6};
 ghost use Rattle.recursor_text.specs.Fields.{Gives, GivesFields, checked};
-ghost use Rattle.recursor_text.specs.Unbuilt.{is_protocol, is_error_word, is_flags, is_dnssec, number_behind, is_named_type, is_early_type, is_late_type, is_type, is_named_class, is_class, is_named_code, is_code, is_hex_digit, is_bytes, root_line, told_line, refuse_line, error_line, message_line, ok_line, connect_line, reply_line, question_line, turn_line, ipv4_data, ipv6_data, name_data, soa_data, signature_data, bytes_data, data_line, delay_field, any_number, outcome_line, stands, record_line, is_at_roots, is_at_options, is_at_told, is_at_rules, is_at_questions, is_at_turns, other_line, line_at, refusal_at};
+ghost use Rattle.recursor_text.specs.Unbuilt.{is_protocol, is_error_word, is_flags, is_dnssec, number_behind, is_named_type, is_early_type, is_late_type, is_type, is_named_class, is_class, is_named_code, is_code, is_hex_digit, is_bytes, root_line, told_line, refuse_line, error_line, message_line, ok_line, connect_line, reply_line, question_line, turn_line, ipv4_data, ipv6_data, name_data, soa_data, signature_data, bytes_data, data_line, delay_field, any_number, outcome_line, stands, record_line, is_at_roots, is_at_options, is_at_told, is_at_rules, is_at_questions, is_at_turns, rule_line, late_line, other_line, line_at, refusal_at};
 
 use super::addresses::{is_address, is_ipv6};
 use super::draft::{Place, Refusal, Stage};
@@ -584,6 +584,42 @@ fn stands(may: bool, read: Result<(), LineError>) -> Result<(), LineError>
     if may { read } else { Err(LineError::Refused) }
 }
 
+/// A line of a script, by its first word.
+#[tactic(auto, unfolding(crate::specs::Unbuilt::rule_line))]
+fn rule_line(alloc: Global, word: &[u8], words: &mut Words) -> Result<(), LineError>
+    ensures { Gives result (rule_line word.now words.old) }
+{
+    if word == b"connect".as_slice() {
+        return connect_line(alloc, words);
+    }
+    if word == b"refuse".as_slice() {
+        return refuse_line(alloc, words);
+    }
+    if word == b"reply".as_slice() {
+        return reply_line(alloc, words);
+    }
+    Err(LineError::Refused)
+}
+
+/// A line of a script, or one that follows it, by its first word.
+#[tactic(auto, unfolding(crate::specs::Unbuilt::late_line))]
+fn late_line(alloc: Global, place: Place, word: &[u8], words: &mut Words) -> Result<(), LineError>
+    ensures { Gives result (late_line place word.now words.old) }
+{
+    let stage = place.stage;
+    if word == b"question".as_slice() {
+        return stands(is_at_questions(stage), question_line(alloc, words));
+    }
+    if word == b"turn".as_slice() {
+        return stands(is_at_turns(stage), turn_line(words, place.last));
+    }
+    if word == b"end".as_slice() {
+        return stands(is_at_turns(stage), ok_line(words));
+    }
+    stands(is_at_rules(stage), rule_line(alloc, word, words))
+}
+
+/// A line that is no record line.
 #[tactic(auto, unfolding(crate::specs::Unbuilt::other_line))]
 fn other_line(alloc: Global, place: Place, words: &mut Words) -> Result<(), LineError>
     ensures { Gives result (other_line place words.old) }
@@ -601,25 +637,7 @@ fn other_line(alloc: Global, place: Place, words: &mut Words) -> Result<(), Line
     if word == b"told".as_slice() {
         return stands(is_at_told(stage), told_line(words));
     }
-    if word == b"connect".as_slice() {
-        return stands(is_at_rules(stage), connect_line(alloc, words));
-    }
-    if word == b"refuse".as_slice() {
-        return stands(is_at_rules(stage), refuse_line(alloc, words));
-    }
-    if word == b"reply".as_slice() {
-        return stands(is_at_rules(stage), reply_line(alloc, words));
-    }
-    if word == b"question".as_slice() {
-        return stands(is_at_questions(stage), question_line(alloc, words));
-    }
-    if word == b"turn".as_slice() {
-        return stands(is_at_turns(stage), turn_line(words, place.last));
-    }
-    if word == b"end".as_slice() {
-        return stands(is_at_turns(stage), ok_line(words));
-    }
-    Err(LineError::Refused)
+    late_line(alloc, place, word, words)
 }
 
 #[tactic(auto, unfolding(crate::specs::Unbuilt::line_at))]
