@@ -1,3 +1,4 @@
+pub mod AddressLaws
 pub mod Appended
 pub mod AgainLaws
 pub mod Binds

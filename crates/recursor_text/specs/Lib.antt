@@ -1,3 +1,4 @@
+pub mod Addresses
 pub mod Appending
 pub mod Errors
 pub mod Faults

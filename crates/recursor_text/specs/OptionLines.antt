@@ -1,19 +1,20 @@
--- Option lines, none of which is read yet. IPv6 networks are no part of them yet.
+-- Option lines, none of which is read yet.
 use Rattle.std.specs.Prelude.{ℕ, ◌+◌, Bool, true, false, ◌&&◌, ◌||◌, nat_lt, List, [], ◌∷◌, Option, Some, None, is_some, if◌then◌else◌, codes}
 use Rattle.std.specs.Str.{bytes_eq}
 use Rattle.std.specs.List.{list_all}
+use Rattle.recursor_text.specs.Addresses.{is_prefix}
 use Rattle.recursor_text.specs.Fields.{Fields, checked, field, both, whole, nothing, end_of}
-use Rattle.recursor_text.specs.Numbers.{◌>>=◌, number_of, number_within, ipv4_of}
+use Rattle.recursor_text.specs.Numbers.{◌>>=◌, number_within}
 use Rattle.recursor_text.specs.Pieces.{pieces}
 
 abbrev pub OptionLine : Type 0
 OptionLine = List (List ℕ) → Option (Unit {0})
 
--- an address and a length up to 32
+-- an address and a length
 abbrev pub is_address_and_length : List (List ℕ) → Bool
 is_address_and_length [] = false
 is_address_and_length (a ∷ []) = false
-is_address_and_length (a ∷ p ∷ []) = is_some (ipv4_of a) && is_some (number_of 32 p)
+is_address_and_length (a ∷ p ∷ []) = is_prefix a p
 is_address_and_length (a ∷ p ∷ q ∷ rest) = false
 
 -- a network, its length behind a slash

@@ -1,4 +1,4 @@
--- Lines that the format has and that are not read yet. IPv6 addresses are no part of them yet.
+-- Lines that the format has and that are not read yet.
 use Rattle.std.specs.Prelude.{ℕ, ◌%◌, Bool, true, false, not, ◌&&◌, ◌||◌, ◌==◌, nat_le, nat_lt, List, [], ◌∷◌, length, take, drop, Option, Some, None, is_some, if◌then◌else◌, codes}
 use Rattle.std.specs.Str.{bytes_eq}
 use Rattle.std.specs.List.{list_all}
@@ -9,6 +9,7 @@ use Rattle.recursor_text.specs.declared.reading.draft.Stage.TheVariants.{Headed,
 use Rattle.recursor_text.specs.declared.reading.draft.Place.{Place}
 use Rattle.recursor_text.specs.declared.reading.draft.Refusal.{Refusal}
 use Rattle.recursor_text.specs.declared.reading.draft.Refusal.TheVariants.{Bad, NotBuilt}
+use Rattle.recursor_text.specs.Addresses.{is_ipv6, is_address}
 use Rattle.recursor_text.specs.Fields.{Fields, checked, field, both, skip, whole, nothing}
 use Rattle.recursor_text.specs.Names.{full_name, relaxed_name}
 use Rattle.recursor_text.specs.Numbers.{◌>>=◌, number_of, number_within, ipv4_of}
@@ -90,13 +91,13 @@ abbrev pub any_number : Fields ℕ
 any_number = field (number_within 0 4294967295)
 
 unfoldable pub root_line : Line
-root_line = whole (field ipv4_of) (λ x. tt)
+root_line = whole (checked is_address) (λ x. tt)
 
 unfoldable pub told_line : Line
 told_line = whole (skip (codes "world") nothing) (λ x. tt)
 
 unfoldable pub refuse_line : Line
-refuse_line = whole (both (field ipv4_of) (checked is_protocol)) (λ x. tt)
+refuse_line = whole (both (checked is_address) (checked is_protocol)) (λ x. tt)
 
 unfoldable pub error_line : Line
 error_line = whole (checked is_error_word) (λ x. tt)
@@ -113,10 +114,10 @@ outcome_line key l [] = None
 outcome_line key l (w ∷ ws) = if bytes_eq w key then l ws else if bytes_eq w (codes "error") then error_line ws else None
 
 unfoldable pub connect_line : Line
-connect_line ws = both (field ipv4_of) (both (checked is_protocol) delay_field) ws >>= λ x. outcome_line (codes "ok") ok_line x.1
+connect_line ws = both (checked is_address) (both (checked is_protocol) delay_field) ws >>= λ x. outcome_line (codes "ok") ok_line x.1
 
 unfoldable pub reply_line : Line
-reply_line ws = both (field ipv4_of) (both (checked is_protocol) (both (field full_name) (both (checked is_type) delay_field))) ws >>= λ x. outcome_line (codes "message") message_line x.1
+reply_line ws = both (checked is_address) (both (checked is_protocol) (both (field full_name) (both (checked is_type) delay_field))) ws >>= λ x. outcome_line (codes "message") message_line x.1
 
 unfoldable pub question_line : Line
 question_line = whole (both (field relaxed_name) (both (checked is_type) (checked is_dnssec))) (λ x. tt)
@@ -127,8 +128,11 @@ turn_line last = whole (both any_number (field (number_within last 4611686018427
 
 -- ---- record lines
 
-unfoldable pub address_data : Line
-address_data = whole (field ipv4_of) (λ x. tt)
+unfoldable pub ipv4_data : Line
+ipv4_data = whole (field ipv4_of) (λ x. tt)
+
+unfoldable pub ipv6_data : Line
+ipv6_data = whole (checked is_ipv6) (λ x. tt)
 
 unfoldable pub name_data : Line
 name_data = whole (field full_name) (λ x. tt)
@@ -142,16 +146,16 @@ signature_data = whole (both (checked is_type) (checked is_bytes)) (λ x. tt)
 unfoldable pub bytes_data : Line
 bytes_data = whole (checked is_bytes) (λ x. tt)
 
--- the data of the type that a word names; that of AAAA is an IPv6 address
+-- the data of the type that a word names
 abbrev pub data_line : Line
 data_line [] = None
 data_line (w ∷ ws) =
-    if bytes_eq w (codes "A") then address_data ws
+    if bytes_eq w (codes "A") then ipv4_data ws
     else if bytes_eq w (codes "NS") then name_data ws
     else if bytes_eq w (codes "CNAME") then name_data ws
     else if bytes_eq w (codes "SOA") then soa_data ws
     else if bytes_eq w (codes "RRSIG") then signature_data ws
-    else if bytes_eq w (codes "AAAA") then None
+    else if bytes_eq w (codes "AAAA") then ipv6_data ws
     else if is_type w then bytes_data ws
     else None
 
@@ -191,6 +195,22 @@ is_at_turns _ = false
 abbrev pub stands : Bool → Option (Unit {0}) → Option (Unit {0})
 stands may read = if may then read else None
 
+-- a line of a script, by its first word
+unfoldable pub rule_line : List ℕ → Line
+rule_line w ws =
+    if bytes_eq w (codes "connect") then connect_line ws
+    else if bytes_eq w (codes "refuse") then refuse_line ws
+    else if bytes_eq w (codes "reply") then reply_line ws
+    else None
+
+-- a line of a script, or one that follows it
+unfoldable pub late_line : Place → List ℕ → Line
+late_line place w ws =
+    if bytes_eq w (codes "question") then stands (is_at_questions place.stage) (question_line ws)
+    else if bytes_eq w (codes "turn") then stands (is_at_turns place.stage) (turn_line place.last ws)
+    else if bytes_eq w (codes "end") then stands (is_at_turns place.stage) (ok_line ws)
+    else stands (is_at_rules place.stage) (rule_line w ws)
+
 -- a line that is no record line
 unfoldable pub other_line : Place → Line
 other_line place [] = None
@@ -198,13 +218,7 @@ other_line place (w ∷ ws) =
     if bytes_eq w (codes "root") then stands (is_at_roots place.stage) (root_line ws)
     else if bytes_eq w (codes "option") then stands (is_at_options place.stage) (option_line ws)
     else if bytes_eq w (codes "told") then stands (is_at_told place.stage) (told_line ws)
-    else if bytes_eq w (codes "connect") then stands (is_at_rules place.stage) (connect_line ws)
-    else if bytes_eq w (codes "refuse") then stands (is_at_rules place.stage) (refuse_line ws)
-    else if bytes_eq w (codes "reply") then stands (is_at_rules place.stage) (reply_line ws)
-    else if bytes_eq w (codes "question") then stands (is_at_questions place.stage) (question_line ws)
-    else if bytes_eq w (codes "turn") then stands (is_at_turns place.stage) (turn_line place.last ws)
-    else if bytes_eq w (codes "end") then stands (is_at_turns place.stage) (ok_line ws)
-    else None
+    else late_line place w ws
 
 -- a line of the format, where it stands
 unfoldable pub line_at : Place → List ℕ → Option (Unit {0})

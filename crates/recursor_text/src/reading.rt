@@ -1,6 +1,7 @@
 //! How scenarios are read: pieces and words, the kinds of lines, what has come of the lines so
 //! far, and the whole text.
 
+pub mod addresses;
 pub mod draft;
 pub mod lines;
 pub mod numbers;

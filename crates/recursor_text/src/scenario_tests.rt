@@ -11,12 +11,53 @@ use std::test::Fail;
 const BASE: &str =
     "recursor 1\nroot 11.0.0.1\npatience 3\ntold script\nreply 11.0.0.1 udp com. NS 0 message NOERROR none 0 1 1\ncom. 172800 IN NS a.nic.com.\na.nic.com. 172800 IN A 11.0.0.2\nreply 11.0.0.2 udp example.com. NS 0 message NOERROR none 0 1 1\nexample.com. 172800 IN NS ns.example.com.\nns.example.com. 172800 IN A 11.0.0.3\nreply 11.0.0.3 udp example.com. A 0 message NOERROR aa 1 0 0\nexample.com. 300 IN A 93.184.215.14\nquestion example.com. A plain\nturn 1 0\nend\n";
 
+/// A question for a name whose one label has 64 letters.
+const LONG_LABEL: &str =
+    "question aaaaaaaaaaaaaaaaaaaaaaaaaaaaaaaaaaaaaaaaaaaaaaaaaaaaaaaaaaaaaaaa. A plain";
+
+/// A rule for a name that is not fully qualified.
+const UNQUALIFIED: &str = "reply 11.0.0.1 udp com NS 0 message NOERROR none 0 1 1";
+
+/// A rule that owes a record too many.
+const MANY_RECORDS: &str = "reply 11.0.0.1 udp com. NS 0 message NOERROR none 0 1 65536";
+
+const OVER_TCP: &str = "reply 11.0.0.1 tcp com. NS 0 message NOERROR none 0 1 1";
+
+const OTHER_CODE: &str = "reply 11.0.0.1 udp com. TYPE99 0 message RCODE6 aa+tc 0 0 0";
+
+const MANY_LABELS: &str = "question a.a.a.a.a.a.a.a.a.a.a.a.a.a.a.a.a.a.a.a.a.a.a.a. A plain";
+
+const NETWORKS: &str = "option deny_server ::/0,10.0.0.0/8,2001:db8::/128";
+
 /// What is wrong with a text, and `None` where it is a scenario.
 fn fault(alloc: Global, text: &[u8]) -> Option<ScenarioError> {
     match read_scenario(alloc, text) {
         Ok(_) => None,
         Err(error) => Some(error),
     }
+}
+
+/// Reading the text fails at this line, for this cause.
+fn faulty(alloc: Global, text: &[u8], line: u32, cause: Cause) -> Result<(), Fail> {
+    let found = fault(alloc, text);
+    if found == Some(ScenarioError { line, cause }) {
+        return Ok(());
+    }
+    Err(Fail::new(format_args!("{found:?} in place of {line}, {cause:?}")))
+}
+
+/// The base script with this line in it fails at it.
+fn refused(alloc: Global, line: u32, words: &str, cause: Cause) -> Result<(), Fail> {
+    let text = with_line(alloc, line, words)?;
+    faulty(alloc, text.as_bytes(), line, cause)
+}
+
+fn bad(alloc: Global, line: u32, words: &str) -> Result<(), Fail> {
+    refused(alloc, line, words, Cause::Line)
+}
+
+fn not_built(alloc: Global, line: u32, words: &str) -> Result<(), Fail> {
+    refused(alloc, line, words, Cause::NotBuilt)
 }
 
 fn rules(scenario: &Scenario) -> &[ScriptLine] {
@@ -103,17 +144,12 @@ fn reads_other_questions_and_moments(rt: HostRuntime) -> Result<(), Fail> {
     Ok(())
 }
 
-#[test]
-fn cuts_are_told_at_their_line(rt: HostRuntime) -> Result<(), Fail> {
-    let alloc = rt.alloc();
+/// Every front of the base script but the whole is cut off in its last line.
+fn each_cut(alloc: Global) -> Result<(), Fail> {
     let bytes = BASE.as_bytes();
     let mut line = 1;
     for (at, b) in bytes.iter().enumerate() {
-        let cut = ScenarioError {
-            line,
-            cause: Cause::Cut,
-        };
-        assert_eq!(rt; fault(alloc, &bytes[..at]), Some(cut), "after {at} bytes");
+        faulty(alloc, &bytes[..at], line, Cause::Cut)?;
         if *b == b'\n' && line < 100 {
             line += 1;
         }
@@ -121,116 +157,113 @@ fn cuts_are_told_at_their_line(rt: HostRuntime) -> Result<(), Fail> {
     Ok(())
 }
 
+/// What follows the end is bad.
+fn more(alloc: Global, rest: &str) -> Result<(), Fail> {
+    let mut text = String::new(alloc);
+    text.push_str(BASE)?;
+    text.push_str(rest)?;
+    faulty(alloc, text.as_bytes(), 16, Cause::Line)
+}
+
+/// Each kind of bad input names its line and its cause: no text and one that is cut off, unknown
+/// words, spaces, addresses, names, numbers, values of options, data, and lines out of place.
 #[test]
-fn bad_lines_are_told(rt: HostRuntime) -> Result<(), Fail> {
+fn bad_inputs_name_their_line(rt: HostRuntime) -> Result<(), Fail> {
     let alloc = rt.alloc();
-    let cases = [
-        (1, "recursor 2"),
-        (1, "frobnicate"),
-        (2, "root  11.0.0.1"),
-        (2, "root 11.0.0.01"),
-        (2, "root 11.0.0.256"),
-        (3, "patience 0"),
-        (3, "patience 1001"),
-        (3, "patience 03"),
-        (5, "reply 11.0.0.1 udp com NS 0 message NOERROR none 0 1 1"),
-        (
-            5,
-            "reply 11.0.0.1 udp com. NS 0 message NOERROR none 0 1 65536",
-        ),
-        (12, "example.com. 4294967296 IN A 93.184.215.14"),
-        (14, "turn 1 4611686018427387904"),
-        (14, "turn 1"),
-        (15, "end "),
-        (3, "option recursion_limit 256"),
-        (3, "option positive_ttl 2 1"),
-        (3, "option first_delays 32"),
-        (3, "option avoid_local_udp_ports 2,1"),
-        (5, "connect 11.0.0.1 udp 0 error none"),
-        (6, "com. 172800 IN TYPE1 00"),
-        (6, "com. 172800 IN TXT 0"),
-        (6, "refuse 11.0.0.1 udp"),
-        (
-            13,
-            "question aaaaaaaaaaaaaaaaaaaaaaaaaaaaaaaaaaaaaaaaaaaaaaaaaaaaaaaaaaaaaaaa. A plain",
-        ),
-    ];
-    for (line, bad) in cases {
-        let text = with_line(alloc, line, bad)?;
-        let error = ScenarioError {
-            line,
-            cause: Cause::Line,
-        };
-        assert_eq!(rt; fault(alloc, text.as_bytes()), Some(error), "at {bad}");
-    }
+    faulty(alloc, b"", 1, Cause::Cut)?;
+    each_cut(alloc)?;
+    bad(alloc, 1, "frobnicate")?;
+    bad(alloc, 1, "recursor 2")?;
+    bad(alloc, 5, "frobnicate 11.0.0.1")?;
+    bad(alloc, 5, "connect 11.0.0.1 udp 0 error none")?;
+    bad(alloc, 1, "recursor  1")?;
+    bad(alloc, 2, "root  11.0.0.1")?;
+    bad(alloc, 15, "end ")?;
+    bad(alloc, 3, "")?;
+    bad(alloc, 2, "root 11.0.0.01")?;
+    bad(alloc, 2, "root 11.0.0.256")?;
+    bad(alloc, 5, UNQUALIFIED)?;
+    bad(alloc, 6, "com. 172800 IN NS a.nic.com")?;
+    bad(alloc, 13, "question a..com. A plain")?;
+    bad(alloc, 13, LONG_LABEL)?;
+    bad(alloc, 3, "patience 0")?;
+    bad(alloc, 3, "patience 1001")?;
+    bad(alloc, 3, "patience 03")?;
+    bad(alloc, 5, MANY_RECORDS)?;
+    bad(alloc, 12, "example.com. 4294967296 IN A 93.184.215.14")?;
+    bad(alloc, 14, "turn 1 4611686018427387904")?;
+    bad(alloc, 3, "option recursion_limit 256")?;
+    bad(alloc, 3, "option positive_ttl 2 1")?;
+    bad(alloc, 3, "option first_delays 32")?;
+    bad(alloc, 3, "option avoid_local_udp_ports 2,1")?;
+    bad(alloc, 6, "com. 172800 IN TYPE1 00")?;
+    bad(alloc, 6, "com. 172800 IN TXT 0")?;
+    bad(alloc, 6, "refuse 11.0.0.1 udp")?;
+    bad(alloc, 14, "turn 1")?;
+    faulty(alloc, b"recursor 1\npatience 3\n", 2, Cause::Line)?;
+    more(alloc, "x")?;
+    more(alloc, "\n")?;
     Ok(())
 }
 
 #[test]
 fn lines_that_are_not_built_are_told_so(rt: HostRuntime) -> Result<(), Fail> {
     let alloc = rt.alloc();
-    let cases = [
-        (3, "root 11.0.0.9"),
-        (3, "option recursion_limit 255"),
-        (3, "option deny_server 11.0.0.3/32,10.0.0.0/8"),
-        (3, "option negative_ttl 1 1"),
-        (3, "option encryption on 300 300 10"),
-        (3, "option first_delays 1,31"),
-        (3, "option avoid_local_udp_ports -"),
-        (4, "told world"),
-        (5, "connect 11.0.0.1 udp 1000000 ok"),
-        (5, "connect 11.0.0.1 h3 0 error busy"),
-        (5, "refuse 11.0.0.1 tcp"),
-        (5, "reply 11.0.0.1 tcp com. NS 0 message NOERROR none 0 1 1"),
-        (5, "reply 11.0.0.1 udp com. NS 5 error mismatch"),
-        (
-            5,
-            "reply 11.0.0.1 udp com. TYPE99 0 message RCODE6 aa+tc 0 0 0",
-        ),
-        (6, "com. 172800 CH NS a.nic.com."),
-        (6, "com. 172800 IN TYPE99 00ff"),
-        (6, "com. 1 IN SOA a. b. 1 2 3 4 5"),
-        (12, "example.com. 300 IN NS ns.example.com."),
-        (13, "question example.com. MX dnssec"),
-        (
-            13,
-            "question a.a.a.a.a.a.a.a.a.a.a.a.a.a.a.a.a.a.a.a.a.a.a.a. A plain",
-        ),
-        (13, "turn 1 0"),
-        (13, "end"),
-        (14, "question example.com. A plain"),
-        (14, "turn 2 0"),
-        (14, "end"),
-        (15, "turn 1 0"),
-    ];
-    for (line, unbuilt) in cases {
-        let text = with_line(alloc, line, unbuilt)?;
-        let error = ScenarioError {
-            line,
-            cause: Cause::NotBuilt,
-        };
-        assert_eq!(rt; fault(alloc, text.as_bytes()), Some(error), "at {unbuilt}");
-    }
+    not_built(alloc, 3, "root 11.0.0.9")?;
+    not_built(alloc, 3, "option recursion_limit 255")?;
+    not_built(alloc, 3, "option deny_server 11.0.0.3/32,10.0.0.0/8")?;
+    not_built(alloc, 3, "option negative_ttl 1 1")?;
+    not_built(alloc, 3, "option encryption on 300 300 10")?;
+    not_built(alloc, 3, "option first_delays 1,31")?;
+    not_built(alloc, 3, "option avoid_local_udp_ports -")?;
+    not_built(alloc, 4, "told world")?;
+    not_built(alloc, 5, "connect 11.0.0.1 udp 1000000 ok")?;
+    not_built(alloc, 5, "connect 11.0.0.1 h3 0 error busy")?;
+    not_built(alloc, 5, "refuse 11.0.0.1 tcp")?;
+    not_built(alloc, 5, OVER_TCP)?;
+    not_built(alloc, 5, "reply 11.0.0.1 udp com. NS 5 error mismatch")?;
+    not_built(alloc, 5, OTHER_CODE)?;
+    not_built(alloc, 6, "com. 172800 CH NS a.nic.com.")?;
+    not_built(alloc, 6, "com. 172800 IN TYPE99 00ff")?;
+    not_built(alloc, 6, "com. 1 IN SOA a. b. 1 2 3 4 5")?;
+    not_built(alloc, 12, "example.com. 300 IN NS ns.example.com.")?;
+    not_built(alloc, 13, "question example.com. MX dnssec")?;
+    not_built(alloc, 13, MANY_LABELS)?;
+    not_built(alloc, 13, "turn 1 0")?;
+    not_built(alloc, 13, "end")?;
+    not_built(alloc, 14, "question example.com. A plain")?;
+    not_built(alloc, 14, "turn 2 0")?;
+    not_built(alloc, 14, "end")?;
+    not_built(alloc, 15, "turn 1 0")?;
     Ok(())
 }
 
 #[test]
-fn nothing_follows_the_end(rt: HostRuntime) -> Result<(), Fail> {
+fn lines_with_ipv6_addresses_are_not_built(rt: HostRuntime) -> Result<(), Fail> {
     let alloc = rt.alloc();
-    let bad = ScenarioError {
-        line: 16,
-        cause: Cause::Line,
-    };
-    for more in ["x", "x\n", "\n"] {
-        let mut text = String::new(alloc);
-        text.push_str(BASE)?;
-        text.push_str(more)?;
-        assert_eq!(rt; fault(alloc, text.as_bytes()), Some(bad));
-    }
-    let early = ScenarioError {
-        line: 2,
-        cause: Cause::Line,
-    };
-    assert_eq!(rt; fault(alloc, b"recursor 1\npatience 3\n"), Some(early));
+    not_built(alloc, 2, "root 2001:db8::1")?;
+    not_built(alloc, 2, "root ::")?;
+    not_built(alloc, 3, NETWORKS)?;
+    not_built(alloc, 5, "connect 2001:db8:0:1:1:1:1:1 h3 0 ok")?;
+    not_built(alloc, 5, "refuse 2001:db8::1:0:0:1 tcp")?;
+    not_built(alloc, 5, "reply ::1 udp com. NS 0 error io")?;
+    not_built(alloc, 7, "a.nic.com. 172800 IN AAAA ::ffff:c000:201")?;
+    Ok(())
+}
+
+#[test]
+fn other_spellings_of_ipv6_are_bad(rt: HostRuntime) -> Result<(), Fail> {
+    let alloc = rt.alloc();
+    bad(alloc, 2, "root 2001:DB8::1")?;
+    bad(alloc, 2, "root 2001:0db8::1")?;
+    bad(alloc, 2, "root 2001:db8::1:1:1:1:1")?;
+    bad(alloc, 2, "root 2001:db8:0:0:1::1")?;
+    bad(alloc, 2, "root 2001:db8:0:0:0:0:0:1")?;
+    bad(alloc, 2, "root ::ffff:192.0.2.1")?;
+    bad(alloc, 2, "root ::1%1")?;
+    bad(alloc, 3, "option deny_server ::/129")?;
+    bad(alloc, 3, "option deny_server 10.0.0.0/33")?;
+    bad(alloc, 7, "a.nic.com. 172800 IN AAAA 11.0.0.2")?;
+    bad(alloc, 7, "a.nic.com. 172800 IN A ::1")?;
     Ok(())
 }

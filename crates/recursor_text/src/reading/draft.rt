@@ -1,17 +1,19 @@
 //! What has come of a scenario so far.
-ghost use Rattle.std.specs.Prelude.{◌≡◌, OnOk, IfOk};
+ghost use Rattle.std.specs.Prelude.{◌≡◌, Some, None, OnOk, IfOk, if◌then◌else◌};
+ghost use Rattle.recursor_text.specs.declared.reading.lines.Form.TheVariants as form;
 ghost use Rattle.recursor_text.specs.Fields.{Gives};
 ghost use Rattle.recursor_text.specs.Unbuilt.{place_of, moment_of};
 ghost use Rattle.recursor_text.specs.Steps.{Steps, may_head, may_root, may_wait, may_tell, may_reply, may_ask, may_turn, may_end, is_ended, start, put, settle, add, taken, scenario_of, is_settled, rule_of};
 
 use super::lines::{Form, form_line, record_line};
 use super::rules::{Counts, OpenRule};
-use super::words::LineError;
+use super::words::{LineError, pass};
 use crate::scenario::{Scenario, Upstream};
 use dns_core::{Ips, Items, NoMemory, Question, Record, TryClone, Turn};
 use recursor_core::RecursorOptions;
 use recursor_world::{Script, ScriptLine};
 use std::alloc::Global;
+use std::net::IpAddr;
 
 /// How many roots, questions and turns a scenario may have.
 const MOST_ROOTS: usize = 1;
@@ -245,64 +247,73 @@ impl Draft {
         Ok(())
     }
 
+    /// Goes on to the next stage, where it may.
+    fn advance(&mut self, may: bool, next: Stage) -> Result<(), LineError>
+        ensures { Steps result self.new (if may then Some (record self.old { stage = next }) else None) }
+    {
+        pass(may)?;
+        self.stage = next;
+        Ok(())
+    }
+
+    fn put_root(&mut self, ip: IpAddr) -> Result<(), LineError>
+        ensures { Steps result self.new (put self.old (form.Root ip)) }
+    {
+        pass(self.stage.may_root() && self.roots.len() < MOST_ROOTS)?;
+        self.roots.push(ip)?;
+        self.stage = Stage::Rooted;
+        Ok(())
+    }
+
+    fn put_patience(&mut self, patience: u32) -> Result<(), LineError>
+        ensures { Steps result self.new (put self.old (form.Patience patience)) }
+    {
+        pass(self.stage.may_wait())?;
+        self.patience = patience;
+        self.stage = Stage::Patient;
+        Ok(())
+    }
+
+    fn put_reply(&mut self, alloc: Global, rule: OpenRule) -> Result<(), LineError>
+        ensures { Steps result self.new (put self.old (form.Reply rule)) }
+    {
+        pass(self.stage.may_reply())?;
+        self.settle(alloc, rule)?;
+        Ok(())
+    }
+
+    fn put_question(&mut self, question: Question) -> Result<(), LineError>
+        ensures { Steps result self.new (put self.old (form.Question question)) }
+    {
+        pass(self.stage.may_ask() && self.questions.len() < MOST_QUESTIONS)?;
+        self.questions.push(question)?;
+        self.stage = Stage::Asked;
+        Ok(())
+    }
+
+    fn put_turn(&mut self, turn: Turn) -> Result<(), LineError>
+        ensures { Steps result self.new (put self.old (form.Turn turn)) }
+    {
+        pass(self.stage.may_turn() && self.turns.len() < MOST_TURNS)?;
+        self.turns.push(turn)?;
+        self.stage = Stage::Turned;
+        Ok(())
+    }
+
     fn put(&mut self, alloc: Global, form: Form) -> Result<(), LineError>
         ensures { Steps result self.new (put self.old form) }
     {
+        let stage = self.stage;
         match form {
-            Form::Head => {
-                if !self.stage.may_head() {
-                    return Err(LineError::Refused);
-                }
-                self.stage = Stage::Headed;
-            }
-            Form::Root(ip) => {
-                if !self.stage.may_root() || self.roots.len() >= MOST_ROOTS {
-                    return Err(LineError::Refused);
-                }
-                self.roots.push(ip)?;
-                self.stage = Stage::Rooted;
-            }
-            Form::Patience(patience) => {
-                if !self.stage.may_wait() {
-                    return Err(LineError::Refused);
-                }
-                self.patience = patience;
-                self.stage = Stage::Patient;
-            }
-            Form::ToldScript => {
-                if !self.stage.may_tell() {
-                    return Err(LineError::Refused);
-                }
-                self.stage = Stage::Scripted;
-            }
-            Form::Reply(open) => {
-                if !self.stage.may_reply() {
-                    return Err(LineError::Refused);
-                }
-                self.settle(alloc, open)?;
-            }
-            Form::Question(question) => {
-                if !self.stage.may_ask() || self.questions.len() >= MOST_QUESTIONS {
-                    return Err(LineError::Refused);
-                }
-                self.questions.push(question)?;
-                self.stage = Stage::Asked;
-            }
-            Form::Turn(turn) => {
-                if !self.stage.may_turn() || self.turns.len() >= MOST_TURNS {
-                    return Err(LineError::Refused);
-                }
-                self.turns.push(turn)?;
-                self.stage = Stage::Turned;
-            }
-            Form::End => {
-                if !self.stage.may_end() {
-                    return Err(LineError::Refused);
-                }
-                self.stage = Stage::Ended;
-            }
+            Form::Head => self.advance(stage.may_head(), Stage::Headed),
+            Form::Root(ip) => self.put_root(ip),
+            Form::Patience(patience) => self.put_patience(patience),
+            Form::ToldScript => self.advance(stage.may_tell(), Stage::Scripted),
+            Form::Reply(rule) => self.put_reply(alloc, rule),
+            Form::Question(question) => self.put_question(question),
+            Form::Turn(turn) => self.put_turn(turn),
+            Form::End => self.advance(stage.may_end(), Stage::Ended),
         }
-        Ok(())
     }
 
     /// Takes the next line. After an error the draft is of no use.

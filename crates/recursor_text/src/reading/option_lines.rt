@@ -1,48 +1,54 @@
 //! Option lines, none of which is read yet: which values they may have.
-ghost use Rattle.std.specs.Prelude.{◌≡◌};
+ghost use Rattle.std.specs.Prelude.{◌≡◌, IfOk};
 ghost use Rattle.std.specs.List.{list_all};
 ghost use Rattle.recursor_text.specs.Fields.{Gives, GivesFields, checked};
 ghost use Rattle.recursor_text.specs.Pieces.{pieces};
 ghost use Rattle.recursor_text.specs.OptionLines.{is_network, are_networks, is_network_list, are_ports_from, is_port_list, is_delay, is_delay_list, number_line, networks_line, ports_line, delays_line, bounds_line, damping_line, encryption_line, is_minimization, minimization_line, is_network_option, is_bounds_option, most_of, listed_line, option_line};
 
-use super::numbers::{ipv4, number};
+use super::addresses::is_prefix;
+use super::numbers::number;
 use super::pieces::cut;
 use super::words::{LineError, Words, pass};
+use dns_core::NoMemory;
+use std::alloc::Global;
 
-fn is_network(word: &[u8]) -> bool
-    ensures { result ≡ is_network word.now }
+fn is_network(alloc: Global, word: &[u8]) -> Result<bool, NoMemory>
+    ensures { IfOk result (λ b. b ≡ is_network word.now) }
 {
     let (address, rest) = cut(word, b'/');
     let Some(rest) = rest else {
-        return false;
+        return Ok(false);
     };
     let (length, more) = cut(rest, b'/');
     if let Some(_more) = more {
-        return false;
+        return Ok(false);
     }
-    ipv4(address).is_some() && number(length, 32).is_some()
+    is_prefix(alloc, address, length)
 }
 
-fn are_networks(word: &[u8]) -> bool
-    ensures { result ≡ are_networks (pieces 44 word.now) }
+fn are_networks(alloc: Global, word: &[u8]) -> Result<bool, NoMemory>
+    ensures { IfOk result (λ b. b ≡ are_networks (pieces 44 word.now)) }
 {
     let mut rest = word;
     'items: loop {
         let (item, after) = cut(rest, b',');
-        if !is_network(item) {
-            return false;
+        if !is_network(alloc, item)? {
+            return Ok(false);
         }
         let Some(after) = after else {
-            return true;
+            return Ok(true);
         };
         rest = after;
     }
 }
 
-fn is_network_list(word: &[u8]) -> bool
-    ensures { result ≡ is_network_list word.now }
+fn is_network_list(alloc: Global, word: &[u8]) -> Result<bool, NoMemory>
+    ensures { IfOk result (λ b. b ≡ is_network_list word.now) }
 {
-    word == b"-".as_slice() || are_networks(word)
+    if word == b"-".as_slice() {
+        return Ok(true);
+    }
+    are_networks(alloc, word)
 }
 
 fn are_ports(word: &[u8]) -> bool
@@ -100,13 +106,13 @@ fn is_minimization(word: &[u8]) -> bool
     word == b"strict".as_slice() || word == b"relaxed".as_slice()
 }
 
-fn networks(words: &mut Words) -> Result<(), LineError>
+fn networks(alloc: Global, words: &mut Words) -> Result<(), LineError>
     ensures { GivesFields result words.new (checked is_network_list words.old) }
 {
     let Some(word) = words.next() else {
         return Err(LineError::Refused);
     };
-    pass(is_network_list(word))
+    pass(is_network_list(alloc, word)?)
 }
 
 fn ports(words: &mut Words) -> Result<(), LineError>
@@ -146,10 +152,10 @@ fn number_line(words: &mut Words, most: u64) -> Result<(), LineError>
 }
 
 #[tactic(auto, unfolding(crate::specs::OptionLines::networks_line))]
-fn networks_line(words: &mut Words) -> Result<(), LineError>
+fn networks_line(alloc: Global, words: &mut Words) -> Result<(), LineError>
     ensures { Gives result (networks_line words.old) }
 {
-    networks(words)?;
+    networks(alloc, words)?;
     words.end()?;
     Ok(())
 }
@@ -263,11 +269,11 @@ fn most_of(word: &[u8]) -> Option<u64>
 }
 
 #[tactic(auto, unfolding(crate::specs::OptionLines::listed_line))]
-fn listed_line(word: &[u8], words: &mut Words) -> Result<(), LineError>
+fn listed_line(alloc: Global, word: &[u8], words: &mut Words) -> Result<(), LineError>
     ensures { Gives result (listed_line word.now words.old) }
 {
     if is_network_option(word) {
-        return networks_line(words);
+        return networks_line(alloc, words);
     }
     if word == b"avoid_local_udp_ports".as_slice() {
         return ports_line(words);
@@ -289,7 +295,7 @@ fn listed_line(word: &[u8], words: &mut Words) -> Result<(), LineError>
 
 /// An option and its value.
 #[tactic(auto, unfolding(crate::specs::OptionLines::option_line))]
-pub fn option_line(words: &mut Words) -> Result<(), LineError>
+pub fn option_line(alloc: Global, words: &mut Words) -> Result<(), LineError>
     ensures { Gives result (option_line words.old) }
 {
     let Some(word) = words.next() else {
@@ -297,6 +303,6 @@ pub fn option_line(words: &mut Words) -> Result<(), LineError>
     };
     match most_of(word) {
         Some(most) => number_line(words, most),
-        None => listed_line(word, words),
+        None => listed_line(alloc, word, words),
     }
 }

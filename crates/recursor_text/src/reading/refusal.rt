@@ -1,9 +1,11 @@
 //! Lines that are not taken: which of them the format has, though they are not read yet.
 ghost use Rattle.std.specs.Prelude.{◌≡◌, Option, codes, IfOk};
 ghost use Rattle.std.specs.List.{list_all};
+ghost use Rattle.recursor_text.specs.Addresses.{is_address, is_ipv6};
 ghost use Rattle.recursor_text.specs.Fields.{Gives, GivesFields, checked};
-ghost use Rattle.recursor_text.specs.Unbuilt.{is_protocol, is_error_word, is_flags, is_dnssec, number_behind, is_named_type, is_early_type, is_late_type, is_type, is_named_class, is_class, is_named_code, is_code, is_hex_digit, is_bytes, root_line, told_line, refuse_line, error_line, message_line, ok_line, connect_line, reply_line, question_line, turn_line, address_data, name_data, soa_data, signature_data, bytes_data, data_line, delay_field, any_number, outcome_line, stands, record_line, is_at_roots, is_at_options, is_at_told, is_at_rules, is_at_questions, is_at_turns, other_line, line_at, refusal_at};
+ghost use Rattle.recursor_text.specs.Unbuilt.{is_protocol, is_error_word, is_flags, is_dnssec, number_behind, is_named_type, is_early_type, is_late_type, is_type, is_named_class, is_class, is_named_code, is_code, is_hex_digit, is_bytes, root_line, told_line, refuse_line, error_line, message_line, ok_line, connect_line, reply_line, question_line, turn_line, ipv4_data, ipv6_data, name_data, soa_data, signature_data, bytes_data, data_line, delay_field, any_number, outcome_line, stands, record_line, is_at_roots, is_at_options, is_at_told, is_at_rules, is_at_questions, is_at_turns, rule_line, late_line, other_line, line_at, refusal_at};
 
+use super::addresses::{is_address, is_ipv6};
 use super::draft::{Place, Refusal, Stage};
 use super::numbers::number;
 use super::option_lines::option_line;
@@ -196,6 +198,24 @@ fn is_bytes(word: &[u8]) -> bool
 
 // ---- fields
 
+fn address(alloc: Global, words: &mut Words) -> Result<(), LineError>
+    ensures { GivesFields result words.new (checked is_address words.old) }
+{
+    let Some(word) = words.next() else {
+        return Err(LineError::Refused);
+    };
+    pass(is_address(alloc, word)?)
+}
+
+fn ipv6(alloc: Global, words: &mut Words) -> Result<(), LineError>
+    ensures { GivesFields result words.new (checked is_ipv6 words.old) }
+{
+    let Some(word) = words.next() else {
+        return Err(LineError::Refused);
+    };
+    pass(is_ipv6(alloc, word)?)
+}
+
 fn protocol(words: &mut Words) -> Result<(), LineError>
     ensures { GivesFields result words.new (checked is_protocol words.old) }
 {
@@ -283,10 +303,10 @@ fn any_number(words: &mut Words) -> Result<u64, LineError>
 // ---- lines, each after its first word
 
 #[tactic(auto, unfolding(crate::specs::Unbuilt::root_line))]
-fn root_line(words: &mut Words) -> Result<(), LineError>
+fn root_line(alloc: Global, words: &mut Words) -> Result<(), LineError>
     ensures { Gives result (root_line words.old) }
 {
-    words.ipv4()?;
+    address(alloc, words)?;
     words.end()?;
     Ok(())
 }
@@ -301,10 +321,10 @@ fn told_line(words: &mut Words) -> Result<(), LineError>
 }
 
 #[tactic(auto, unfolding(crate::specs::Unbuilt::refuse_line))]
-fn refuse_line(words: &mut Words) -> Result<(), LineError>
+fn refuse_line(alloc: Global, words: &mut Words) -> Result<(), LineError>
     ensures { Gives result (refuse_line words.old) }
 {
-    words.ipv4()?;
+    address(alloc, words)?;
     protocol(words)?;
     words.end()?;
     Ok(())
@@ -373,10 +393,10 @@ fn told(words: &mut Words) -> Result<(), LineError>
 }
 
 #[tactic(auto, unfolding(crate::specs::Unbuilt::connect_line))]
-fn connect_line(words: &mut Words) -> Result<(), LineError>
+fn connect_line(alloc: Global, words: &mut Words) -> Result<(), LineError>
     ensures { Gives result (connect_line words.old) }
 {
-    words.ipv4()?;
+    address(alloc, words)?;
     protocol(words)?;
     delay(words)?;
     connected(words)
@@ -386,7 +406,7 @@ fn connect_line(words: &mut Words) -> Result<(), LineError>
 fn reply_line(alloc: Global, words: &mut Words) -> Result<(), LineError>
     ensures { Gives result (reply_line words.old) }
 {
-    words.ipv4()?;
+    address(alloc, words)?;
     protocol(words)?;
     let _name = words.full_name(alloc)?;
     record_type(words)?;
@@ -417,11 +437,20 @@ fn turn_line(words: &mut Words, last: u64) -> Result<(), LineError>
 
 // ---- record lines
 
-#[tactic(auto, unfolding(crate::specs::Unbuilt::address_data))]
-fn address_data(words: &mut Words) -> Result<(), LineError>
-    ensures { Gives result (address_data words.old) }
+#[tactic(auto, unfolding(crate::specs::Unbuilt::ipv4_data))]
+fn ipv4_data(words: &mut Words) -> Result<(), LineError>
+    ensures { Gives result (ipv4_data words.old) }
 {
     words.ipv4()?;
+    words.end()?;
+    Ok(())
+}
+
+#[tactic(auto, unfolding(crate::specs::Unbuilt::ipv6_data))]
+fn ipv6_data(alloc: Global, words: &mut Words) -> Result<(), LineError>
+    ensures { Gives result (ipv6_data words.old) }
+{
+    ipv6(alloc, words)?;
     words.end()?;
     Ok(())
 }
@@ -477,7 +506,7 @@ fn data_line(alloc: Global, words: &mut Words) -> Result<(), LineError>
         return Err(LineError::Refused);
     };
     if word == b"A".as_slice() {
-        return address_data(words);
+        return ipv4_data(words);
     }
     if word == b"NS".as_slice() {
         return name_data(alloc, words);
@@ -492,7 +521,7 @@ fn data_line(alloc: Global, words: &mut Words) -> Result<(), LineError>
         return signature_data(words);
     }
     if word == b"AAAA".as_slice() {
-        return Err(LineError::Refused);
+        return ipv6_data(alloc, words);
     }
     if is_type(word) {
         return bytes_data(words);
@@ -555,32 +584,29 @@ fn stands(may: bool, read: Result<(), LineError>) -> Result<(), LineError>
     if may { read } else { Err(LineError::Refused) }
 }
 
-#[tactic(auto, unfolding(crate::specs::Unbuilt::other_line))]
-fn other_line(alloc: Global, place: Place, words: &mut Words) -> Result<(), LineError>
-    ensures { Gives result (other_line place words.old) }
+/// A line of a script, by its first word.
+#[tactic(auto, unfolding(crate::specs::Unbuilt::rule_line))]
+fn rule_line(alloc: Global, word: &[u8], words: &mut Words) -> Result<(), LineError>
+    ensures { Gives result (rule_line word.now words.old) }
 {
-    let Some(word) = words.next() else {
-        return Err(LineError::Refused);
-    };
-    let stage = place.stage;
-    if word == b"root".as_slice() {
-        return stands(is_at_roots(stage), root_line(words));
-    }
-    if word == b"option".as_slice() {
-        return stands(is_at_options(stage), option_line(words));
-    }
-    if word == b"told".as_slice() {
-        return stands(is_at_told(stage), told_line(words));
-    }
     if word == b"connect".as_slice() {
-        return stands(is_at_rules(stage), connect_line(words));
+        return connect_line(alloc, words);
     }
     if word == b"refuse".as_slice() {
-        return stands(is_at_rules(stage), refuse_line(words));
+        return refuse_line(alloc, words);
     }
     if word == b"reply".as_slice() {
-        return stands(is_at_rules(stage), reply_line(alloc, words));
+        return reply_line(alloc, words);
     }
+    Err(LineError::Refused)
+}
+
+/// A line of a script, or one that follows it, by its first word.
+#[tactic(auto, unfolding(crate::specs::Unbuilt::late_line))]
+fn late_line(alloc: Global, place: Place, word: &[u8], words: &mut Words) -> Result<(), LineError>
+    ensures { Gives result (late_line place word.now words.old) }
+{
+    let stage = place.stage;
     if word == b"question".as_slice() {
         return stands(is_at_questions(stage), question_line(alloc, words));
     }
@@ -590,7 +616,28 @@ fn other_line(alloc: Global, place: Place, words: &mut Words) -> Result<(), Line
     if word == b"end".as_slice() {
         return stands(is_at_turns(stage), ok_line(words));
     }
-    Err(LineError::Refused)
+    stands(is_at_rules(stage), rule_line(alloc, word, words))
+}
+
+/// A line that is no record line.
+#[tactic(auto, unfolding(crate::specs::Unbuilt::other_line))]
+fn other_line(alloc: Global, place: Place, words: &mut Words) -> Result<(), LineError>
+    ensures { Gives result (other_line place words.old) }
+{
+    let Some(word) = words.next() else {
+        return Err(LineError::Refused);
+    };
+    let stage = place.stage;
+    if word == b"root".as_slice() {
+        return stands(is_at_roots(stage), root_line(alloc, words));
+    }
+    if word == b"option".as_slice() {
+        return stands(is_at_options(stage), option_line(alloc, words));
+    }
+    if word == b"told".as_slice() {
+        return stands(is_at_told(stage), told_line(words));
+    }
+    late_line(alloc, place, word, words)
 }
 
 #[tactic(auto, unfolding(crate::specs::Unbuilt::line_at))]
