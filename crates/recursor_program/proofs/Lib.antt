@@ -1,3 +1,4 @@
 pub mod Known
 pub mod Held
 pub mod Qualified
+pub mod Runs

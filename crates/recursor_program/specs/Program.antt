@@ -6,11 +6,17 @@ use Rattle.std.specs.Str.{bytes_eq}
 use Rattle.dns_core.specs.Faults.{Rose}
 use Rattle.recursor_world.specs.declared.script.Script.{Script}
 use Rattle.recursor_world.specs.Script.{Gives}
+use Rattle.recursor_world.specs.Upstream.{Upstream}
+use Rattle.dns_core.specs.Log.{log_of}
+use Rattle.resolution.specs.Asking.{AsksServers}
+use Rattle.recursor_core.specs.Replies.{given_of}
+use Rattle.recursor_core.specs.Standing.{Standing, RepliesHold}
+use Rattle.std.specs.declared.net.ip_addr.IpAddr.{IpAddr}
 use Rattle.recursor_text.specs.declared.scenario.Cause.{Cause}
 use Rattle.recursor_text.specs.declared.scenario.Cause.TheVariants as cause
 use Rattle.recursor_text.specs.declared.scenario.Scenario.{Scenario}
 use Rattle.recursor_text.specs.declared.scenario.ScenarioError.{ScenarioError}
-use Rattle.recursor_text.specs.declared.scenario.Upstream.{Upstream}
+use Rattle.recursor_text.specs.declared.scenario.Upstream.{Upstream as Told}
 use Rattle.recursor_text.specs.declared.scenario.Upstream.TheVariants as upstream
 use Rattle.recursor_text.specs.declared.transcript.Transcript.{Transcript}
 use Rattle.recursor_text.specs.Spelling.{Reads}
@@ -29,13 +35,20 @@ are_words [] = false
 are_words (w ∷ []) = bytes_eq w (codes "resolve")
 are_words (w ∷ v ∷ ws) = false
 
-abbrev pub script_of : Upstream → Script
+abbrev pub script_of : Told → Script
 script_of (upstream.Script s) = s
 
--- a run of a scenario: its log is one that the script gives, and each question has its reply, in order
+-- a new recursor over a script
+abbrev pub IsNewOver : List IpAddr → Script → Standing Upstream → Type 0
+IsNewOver roots script r = (r.provider.script ≡ script) × (r.roots ≡ roots) × (r.moment ≡ 0)
+
+-- A run of a scenario: its log is one that the script gives, and each question has its reply, in order. Only servers were asked,
+-- by what was told before; and a reply with a message is what counts of a response that a server of a zone at or above the name told since the question began.
 pub record Ran (s : Scenario) (t : Transcript) : Type 0 where
   pub gives : Gives (script_of s.upstream) t.log
   pub answered : length t.replies ≡ length s.questions
+  pub asks : AsksServers (given_of s.roots) (log_of t.log)
+  pub replies : RepliesHold s.roots (log_of t.log) 0 s.turns s.questions t.replies
 
 -- the text of a run of the scenario
 abbrev pub HasRun : Scenario → List ℕ → Type 0

@@ -1,10 +1,12 @@
 //! The program over any source and sink.
 ghost use Rattle.std.specs.Prelude.{◌≡◌, ◌≢◌, false, IfOk, IfErr, IfSome, IsTrue};
-ghost use Rattle.std.specs.Io.KnownBytes.{IsAtEnd};
+ghost use Rattle.std.specs.Io.KnownBytes.{IsAtEnd, Appends};
 ghost use Rattle.dns_core.specs.Faults.{Rose};
 ghost use Rattle.recursor_world.specs.Script.{Gives, is_qualified_script};
+ghost use Rattle.recursor_world.specs.Upstream.{told_by};
 ghost use Rattle.recursor_text.specs.Transcript.{transcript_text};
-ghost use Rattle.recursor_program.specs.Program.{are_words, script_of, fault_of, Ran, HasRun, HasOutput, IsFaultOf, Tells, HasWritten, HasRefused, WrotePart, IsRefusal};
+ghost use Rattle.recursor_program.specs.Faults.{fault_text};
+ghost use Rattle.recursor_program.specs.Program.{are_words, script_of, fault_of, IsNewOver, Ran, HasRun, HasOutput, IsFaultOf, Tells, HasWritten, HasRefused, WrotePart, IsRefusal};
 
 use crate::faults::{Fault, say};
 use crate::status::Status;
@@ -39,7 +41,7 @@ fn recursor_over(
     script: Script,
 ) -> Result<Recursor<ScriptUpstream>, NoMemory>
     requires { IsTrue (is_qualified_script script) }
-    ensures { IfOk result (λ recursor. recursor.script ≡ script) }
+    ensures { IfOk result (IsNewOver roots.now script) }
 {
     let upstream = ScriptUpstream::new(alloc, script)?;
     match Recursor::with_options(alloc, roots.items(), options, upstream) {
@@ -50,10 +52,20 @@ fn recursor_over(
 
 /// The whole log of an upstream.
 fn log_of(alloc: Global, mut upstream: ScriptUpstream) -> Result<Log, NoMemory>
-    ensures { IfOk result (λ log. Gives upstream.script log) }
+    ensures gives { IfOk result (λ log. Gives upstream.script log) }
+    ensures told { IfOk result (λ log. log ≡ told_by upstream) }
 {
     upstream.gather()?;
     upstream.log().try_clone(alloc)
+}
+
+/// The script of an upstream, of which there is no other kind yet.
+fn script_from(upstream: Upstream) -> Script
+    ensures { result ≡ script_of upstream }
+{
+    match upstream {
+        Upstream::Script(script) => script,
+    }
 }
 
 /// Answers the questions of a scenario over its script.
@@ -69,7 +81,7 @@ fn ran(alloc: Global, scenario: Scenario) -> Result<Transcript, NoMemory>
         questions,
         turns,
     } = scenario;
-    let Upstream::Script(script) = upstream;
+    let script = script_from(upstream);
     let mut recursor = recursor_over(alloc, &roots, options, script)?;
     let replies = drive(
         alloc,
@@ -169,12 +181,12 @@ pub fn run<S: Source, K: Sink>(
     // What the source held is no scenario of the forms that are built, and its fault was written.
     ensures scenario { result ≡ Status.BadScenario → IfSome (S.left source.old) (λ bytes. HasRefused bytes (K.written sink.old) (K.written sink.new)) }
 
-    // The words are none of the program's, and nothing was read.
-    ensures words { result ≡ Status.BadWords → are_words words.now ≡ false }
+    // The words are none of the program's, which was written; and nothing was read.
+    ensures words { result ≡ Status.BadWords → (are_words words.now ≡ false) × Appends (K.written sink.old) (K.written sink.new) (fault_text Fault.Words) }
     ensures refused { are_words words.now ≡ false → IsRefusal result × (source.new ≡ source.old) }
 
-    // The source failed; the sink failed, and a front of the text was written.
-    ensures read { result ≡ Status.ReadFault → Rose (S.faults source.old) (S.faults source.new) }
+    // The source failed, which was written; the sink failed, and a front of the text was written.
+    ensures read { result ≡ Status.ReadFault → Rose (S.faults source.old) (S.faults source.new) × Appends (K.written sink.old) (K.written sink.new) (fault_text Fault.Read) }
     ensures write { result ≡ Status.WriteFault → WrotePart (K.faults sink.old) (K.faults sink.new) (K.written sink.old) (K.written sink.new) }
 {
     if !are_words(words) {

@@ -25,6 +25,9 @@ const OUTSIDE: &str =
 const GLUELESS: &str =
     "reply 11.0.0.1 udp com. NS 0 message NOERROR none 0 1 0\ncom. 172800 IN NS a.nic.com.\n";
 
+const STRAY: &str =
+    "reply 11.0.0.2 udp example.com. NS 0 message NOERROR none 0 2 2\nexample.com. 172800 IN NS ns.evil.net.\nexample.com. 172800 IN NS ns.example.com.\nns.evil.net. 172800 IN A 66.6.6.6\nns.example.com. 172800 IN A 11.0.0.3\n";
+
 const TAIL: &str = "question example.com. A plain\nturn 1 0\nend\n";
 
 fn text(alloc: Global, parts: &[&str]) -> Result<Text, Fail> {
@@ -110,6 +113,18 @@ fn a_delegation_without_addresses_leads_nowhere(rt: HostRuntime) -> Result<(), F
             "reply 1 error NoNameServer example.com. NoAddress\nend\n"
         )
     );
+    Ok(())
+}
+
+#[test]
+fn glue_outside_the_zone_of_its_teller_is_never_opened(rt: HostRuntime) -> Result<(), Fail> {
+    let alloc = rt.alloc();
+    let (status, written) = outcome(alloc, &[HEAD, COM, STRAY, ANSWER, TAIL])?;
+    assert_eq!(rt; status, Status::Done);
+    // Three servers are opened and asked, and none of them is 66.6.6.6, of which the script tells nothing.
+    assert!(rt; written.starts_with(b"log 12\n1 opened 11.0.0.1 udp 0\n"));
+    let end = "reply 1 message NOERROR aa 1 0 0\nexample.com. 300 IN A 93.184.215.14\nend\n";
+    assert!(rt; ends_with(&written, end));
     Ok(())
 }
 

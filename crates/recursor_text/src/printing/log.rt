@@ -4,6 +4,7 @@ ghost use Rattle.dns_core.specs.NameText.{text_of};
 ghost use Rattle.recursor_text.specs.Appending.{Appends, spaced};
 ghost use Rattle.recursor_text.specs.Texts.{ip_text, protocol_text, type_text, error_word, has_error_word, line_of, record_lines};
 ghost use Rattle.recursor_text.specs.Log.{numbered_text, refused_words, outcome_words, entry_words, outcome_records, entry_records, entry_text, log_text, has_refusal_word, has_entry_words, has_log_words};
+ghost use Rattle.dns_core.specs.declared.log.LogEntry.TheVariants.{Opened, Asked};
 
 use super::codes::{put_error_word, put_protocol};
 use super::records::{put_message_details, put_sections, put_spaced_name, put_spaced_type};
@@ -73,6 +74,40 @@ fn put_outcome(outcome: &ToldOutcome, out: &mut Vec<u8>) -> Result<(), NoMemory>
     Ok(())
 }
 
+fn put_opened(
+    alloc: Global,
+    ip: IpAddr,
+    protocol: Protocol,
+    moment: u64,
+    refused: &Option<NetError>,
+    out: &mut Vec<u8>,
+) -> Result<(), NoMemory>
+    ensures { Appends result out.old.items out.new.items (spaced (entry_words (Opened ip protocol moment refused.now))) }
+{
+    put_bytes(b" opened", out)?;
+    put_peer(alloc, ip, protocol, out)?;
+    put_count(moment, out)?;
+    put_refused(refused, out)
+}
+
+fn put_asked(
+    alloc: Global,
+    ip: IpAddr,
+    protocol: Protocol,
+    query: &Query,
+    moment: u64,
+    refused: &Option<NetError>,
+    out: &mut Vec<u8>,
+) -> Result<(), NoMemory>
+    ensures { Appends result out.old.items out.new.items (spaced (entry_words (Asked ip protocol query.now moment refused.now))) }
+{
+    put_bytes(b" asked", out)?;
+    put_peer(alloc, ip, protocol, out)?;
+    put_query(query, out)?;
+    put_count(moment, out)?;
+    put_refused(refused, out)
+}
+
 fn put_entry_words(alloc: Global, entry: &LogEntry, out: &mut Vec<u8>) -> Result<(), NoMemory>
     ensures { Appends result out.old.items out.new.items (spaced (entry_words entry.now)) }
 {
@@ -82,25 +117,14 @@ fn put_entry_words(alloc: Global, entry: &LogEntry, out: &mut Vec<u8>) -> Result
             protocol,
             moment,
             refused,
-        } => {
-            put_bytes(b" opened", out)?;
-            put_peer(alloc, *ip, *protocol, out)?;
-            put_count(*moment, out)?;
-            put_refused(refused, out)?;
-        }
+        } => put_opened(alloc, *ip, *protocol, *moment, refused, out)?,
         LogEntry::Asked {
             ip,
             protocol,
             query,
             moment,
             refused,
-        } => {
-            put_bytes(b" asked", out)?;
-            put_peer(alloc, *ip, *protocol, out)?;
-            put_query(query, out)?;
-            put_count(*moment, out)?;
-            put_refused(refused, out)?;
-        }
+        } => put_asked(alloc, *ip, *protocol, query, *moment, refused, out)?,
         LogEntry::Waited { of } => {
             put_bytes(b" waited", out)?;
             put_count(*of, out)?;

@@ -1,0 +1,28 @@
+use Rattle.std.proofs.Common.{◌≡◌, ◌∙◌, List, length, refl, ap, subst, arith}
+use Rattle.dns_core.specs.declared.log.LogEntry.{LogEntry}
+use Rattle.dns_core.specs.declared.request.Question.{Question}
+use Rattle.recursor_core.specs.declared.reply.Reply.{Reply}
+use Rattle.recursor_world.specs.Script.{Gives}
+use Rattle.recursor_world.specs.Upstream.{Upstream, told_by}
+use Rattle.recursor_world.specs.declared.script.Script.{Script}
+use Rattle.recursor_program.proofs.Runs.{asks-of, replies-of}
+use Rattle.recursor_program.proofs.program.ran.Goals as goal
+
+pub returns : goal.returns
+returns c =
+    let s = c.args.scenario in
+    let new = c.in_ok-recursor.ensures in
+    let log = c.in_ok-log.log in
+    let provider = c.drive.new.recursor.provider in
+    let is : log ≡ told_by provider = c.in_ok-log.ensures.told ∙ ap told_by c.into_provider.ensures in
+    let gives = c.drive.ensures.vouches log (subst (λ (u : Upstream). Gives u.script log) c.into_provider.ensures c.in_ok-log.ensures.gives) in
+    let replied = ap (λ (rs : List Reply). length rs) c.new.ensures in
+    let asked = ap (λ (qs : List Question). length qs) c.items.ensures in
+    let answered = c.in_ok-replies.ensures.answered in
+    record {
+      gives = subst (λ (x : Script). Gives x log) (new.0 ∙ c.script_from-script.ensures) gives;
+      answered = omega (arith, replied, asked, answered);
+      asks = asks-of s.roots c.in_ok-recursor.recursor.roots log (told_by provider) new.1 is (c.drive.ensures.asks (told_by provider) refl);
+      replies = replies-of s.roots c.in_ok-recursor.recursor.roots log (told_by provider) c.in_ok-recursor.recursor.moment s.turns c.items-2.result.now s.questions c.items.result.now c.new.result c.in_ok-replies.replies.items
+          new.1 is new.2 c.items-2.ensures c.items.ensures c.new.ensures (c.in_ok-replies.ensures.replies (told_by provider) refl);
+    }
