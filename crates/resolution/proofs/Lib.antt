@@ -14,3 +14,4 @@ pub mod SectionTests
 pub mod PlainServed
 pub mod RootsTried
 pub mod KeptErrors
+pub mod PlainBased

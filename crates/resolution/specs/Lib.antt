@@ -19,3 +19,4 @@ pub mod Timing
 pub mod Plain
 pub mod PlainServing
 pub mod BaseScript
+pub mod PlainBase

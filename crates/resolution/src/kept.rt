@@ -40,7 +40,7 @@ pub(crate) fn is_among(ips: &[IpAddr], ip: IpAddr) -> bool
 }
 
 /// Whether the labels of a zone are the last of a name's.
-fn is_suffix(zone: &[Label], name: &[Label]) -> bool
+pub(crate) fn is_suffix(zone: &[Label], name: &[Label]) -> bool
     ensures { result ≡ is_suffix zone.now name.now }
 {
     zone.len() <= name.len() && zone == &name[name.len() - zone.len()..]

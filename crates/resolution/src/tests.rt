@@ -1,8 +1,8 @@
-//! The base script's log, and one with stray glue, told to the plain program.
+//! The base script's log, and one with stray glue, told to the plain programs.
 
 ghost use Rattle.std.specs.Prelude.{◌<◌};
 
-use crate::{Setting, serves};
+use crate::{Setting, base, serves};
 use dns_core::{
     DnsClass, LogEntry, Message, Name, NoMemory, Protocol, Query, RData, Record, RecordType,
     Records, ResponseCode, ToldOutcome,
@@ -147,6 +147,38 @@ fn by_root(log: &[LogEntry], n: usize, ip: Ipv4Addr, zone: &Name) -> bool {
     serves(&setting, n, IpAddr::V4(ip), zone)
 }
 
+/// A log below the same root, with bounds of lives, and addresses that no answer may hold.
+#[derive(Drop)]
+struct Given<'a> {
+    log: &'a [LogEntry],
+    answer_denied: &'a [IpAddr],
+    least_life: u32,
+    most_life: u32,
+}
+
+fn within_a_day(log: &[LogEntry], least_life: u32) -> Given<'_> {
+    Given {
+        log,
+        answer_denied: &[],
+        least_life,
+        most_life: 86400,
+    }
+}
+
+impl Given<'_> {
+    fn answers(&self, t0: u64, query: &Query, entry: usize, zone: &Name) -> bool {
+        let setting = Setting {
+            roots: &[IpAddr::V4(Ipv4Addr::new(11, 0, 0, 1))],
+            server_denied: &[],
+            answer_denied: self.answer_denied,
+            log: self.log,
+            least_life: self.least_life,
+            most_life: self.most_life,
+        };
+        base(&setting, t0, query, entry, zone)
+    }
+}
+
 #[test]
 fn the_base_script_shows_its_servers(rt: HostRuntime) -> Result<(), Fail> {
     let alloc = rt.alloc();
@@ -189,5 +221,90 @@ fn a_chased_server_serves(rt: HostRuntime) -> Result<(), Fail> {
     assert!(rt; by_root(&log, 13, found, &example));
     assert!(rt; !by_root(&log, 12, found, &example));
     assert!(rt; !by_root(&log, 13, stranger, &example));
+    Ok(())
+}
+
+#[test]
+fn the_base_script_answers(rt: HostRuntime) -> Result<(), Fail> {
+    let alloc = rt.alloc();
+    let log = base_script(alloc)?;
+    let asked = query(alloc, "Example.com.", RecordType::A)?;
+    let example = name(alloc, "example.com.")?;
+    let com = name(alloc, "com.")?;
+    let net = name(alloc, "net.")?;
+    let given = within_a_day(&log, 0);
+    assert!(rt; given.answers(0, &asked, 12, &example));
+    assert!(rt;
+        !given.answers(0, &asked, 12, &net),
+        "the zone is elsewhere"
+    );
+    assert!(rt;
+        !given.answers(0, &asked, 12, &com),
+        "11.0.0.3 serves another zone"
+    );
+    assert!(rt;
+        !given.answers(0, &asked, 4, &example),
+        "entry 4 tells another question"
+    );
+    assert!(rt; !given.answers(0, &asked, 11, &example), "entry 11 asks");
+    assert!(rt; !given.answers(0, &asked, 13, &example), "no entry is 13");
+    let other_type = query(alloc, "example.com.", RecordType::AAAA)?;
+    let other_name = query(alloc, "www.example.com.", RecordType::A)?;
+    assert!(rt; !given.answers(0, &other_type, 12, &example));
+    assert!(rt; !given.answers(0, &other_name, 12, &example));
+    Ok(())
+}
+
+#[test]
+fn the_referrals_answer_too(rt: HostRuntime) -> Result<(), Fail> {
+    let alloc = rt.alloc();
+    let log = base_script(alloc)?;
+    let root = Name::root(alloc);
+    let com = name(alloc, "com.")?;
+    let given = within_a_day(&log, 0);
+    let first = query(alloc, "com.", RecordType::NS)?;
+    let second = query(alloc, "example.com.", RecordType::NS)?;
+    assert!(rt; given.answers(0, &first, 4, &root));
+    assert!(rt; given.answers(0, &second, 8, &com));
+    assert!(rt; !given.answers(0, &second, 8, &root), "11.0.0.2 is no root");
+    Ok(())
+}
+
+#[test]
+fn an_answer_expires(rt: HostRuntime) -> Result<(), Fail> {
+    let alloc = rt.alloc();
+    let log = base_script(alloc)?;
+    let asked = query(alloc, "example.com.", RecordType::A)?;
+    let example = name(alloc, "example.com.")?;
+    let given = within_a_day(&log, 0);
+    assert!(rt; given.answers(300_000_000, &asked, 12, &example));
+    assert!(rt; !given.answers(300_000_001, &asked, 12, &example));
+    let short = Given {
+        log: &log,
+        answer_denied: &[],
+        least_life: 0,
+        most_life: 60,
+    };
+    assert!(rt; short.answers(60_000_000, &asked, 12, &example));
+    assert!(rt; !short.answers(60_000_001, &asked, 12, &example));
+    let long = within_a_day(&log, 600);
+    assert!(rt; long.answers(600_000_000, &asked, 12, &example));
+    assert!(rt; !long.answers(600_000_001, &asked, 12, &example));
+    Ok(())
+}
+
+#[test]
+fn a_denied_answer_is_none(rt: HostRuntime) -> Result<(), Fail> {
+    let alloc = rt.alloc();
+    let log = base_script(alloc)?;
+    let asked = query(alloc, "example.com.", RecordType::A)?;
+    let example = name(alloc, "example.com.")?;
+    let given = Given {
+        log: &log,
+        answer_denied: &[IpAddr::V4(Ipv4Addr::new(93, 184, 215, 14))],
+        least_life: 0,
+        most_life: 86400,
+    };
+    assert!(rt; !given.answers(0, &asked, 12, &example));
     Ok(())
 }
