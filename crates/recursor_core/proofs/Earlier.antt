@@ -1,6 +1,5 @@
 -- A reply to a question that began later is one to a question that began earlier.
-use Rattle.std.proofs.Common.{◌≤◌, ◌+◌, ◌*◌, ℕ, Bool, List, Option, Some, None, arith, inl, inr, ⊎_elim, IsSomeAnd}
-use Rattle.std.proofs.lemmas.Result.{IfOk-weaker}
+use Rattle.std.proofs.Common.{◌≤◌, ◌+◌, ◌*◌, ℕ, Bool, List, Option, Some, None, arith, inl, inr, ⊎_elim, IsSomeAnd, Result, Ok, Err}
 use Rattle.std.specs.declared.net.ip_addr.IpAddr.{IpAddr}
 use Rattle.dns_core.specs.Name.{DomainName}
 use Rattle.dns_core.specs.Log.{Log}
@@ -12,7 +11,16 @@ use Rattle.resolution.specs.Life.{Fresh, life_in_seconds}
 use Rattle.resolution.specs.Answering.{Base, IsCurrent, Answers, Answer}
 use Rattle.resolution.specs.Answering.Answers.{direct, by_alias}
 use Rattle.resolution.specs.declared.verdict.Verdict.{Verdict}
-use Rattle.recursor_core.specs.Replies.{given_of, IsToldAnswer, ReplyHolds}
+use Rattle.dns_core.specs.declared.net_error.ForwardNsData.{ForwardNsData}
+use Rattle.recursor_core.specs.Causes.{IsDenied, IsReferred, HasNoServer, ErrorHolds}
+use Rattle.recursor_core.specs.Causes.IsDenied.{told as denial_told, made as denial_made, told_on_the_way, made_on_the_way}
+use Rattle.recursor_core.specs.Causes.IsReferred.{referred}
+use Rattle.recursor_core.specs.declared.error.AuthorityData.{AuthorityData}
+use Rattle.recursor_core.specs.declared.error.WalkCause.{WalkCause}
+use Rattle.recursor_core.specs.declared.error.WalkCause.TheVariants as why
+use Rattle.recursor_core.specs.declared.error.RecursorError.{RecursorError}
+use Rattle.recursor_core.specs.declared.error.RecursorError.TheVariants as error
+use Rattle.recursor_core.specs.Replies.{given_of, IsToldAnswer, OutcomeHolds, ReplyHolds}
 use Rattle.recursor_core.specs.declared.reply.Reply.{Reply}
 
 lives : (o : Option ℕ) (early late moment : ℕ) → early ≤ late → IsSomeAnd o (λ life. late ≤ moment + 1000000 * life) → IsSomeAnd o (λ life. early ≤ moment + 1000000 * life)
@@ -48,6 +56,46 @@ module _ (given : Given) (log : Log) (early late : ℕ) (le : early ≤ late) wh
     answer = λ done. Answer-earlier (a.answer done);
   }
 
+  denied-earlier : (q : Query) (g : List ℕ) (d : AuthorityData) → IsDenied given log late q g d → IsDenied given log early q g d
+  denied-earlier q _ _ (denial_told b n) = denial_told (Base-earlier b) n
+  denied-earlier q _ _ (denial_made b) = denial_made (Base-earlier b)
+  denied-earlier q _ _ (told_on_the_way s c b e) = told_on_the_way s c (Base-earlier b) e
+  denied-earlier q _ _ (made_on_the_way s c b) = made_on_the_way s c (Base-earlier b)
+
+  referred-earlier : (q : Query) (g : List ℕ) (servers : List ForwardNsData) → IsReferred given log late q g servers → IsReferred given log early q g servers
+  referred-earlier q _ servers (referred b n) = referred (Base-earlier b) n
+
+  server-earlier : (q : Query) (cause : WalkCause) → HasNoServer given log late q cause → HasNoServer given log early q cause
+  server-earlier q why.NoAddress h = record {
+    candidate = h.candidate;
+    told = h.told;
+    on_the_way = h.on_the_way;
+    glueless = record { i = h.glueless.i; z = h.glueless.z; base = Base-earlier h.glueless.base; delegates = h.glueless.delegates; none = h.glueless.none };
+  }
+  server-earlier q why.Timeout h = tt
+  server-earlier q why.DepthLimit h = h
+  server-earlier q why.Budget h = h
+  server-earlier q why.ZoneEntries h = h
+  server-earlier q why.Collision h = h
+
+  error-earlier : (q : Query) (g : List ℕ) (e : RecursorError) → ErrorHolds given log late q g e → ErrorHolds given log early q g e
+  error-earlier q g (error.Message kind) h = h
+  error-earlier q g (error.Negative d) h = denied-earlier q g d h
+  error-earlier q g (error.ForwardNS servers) h = referred-earlier q g servers h
+  error-earlier q g (error.Net e) h = tt
+  error-earlier q g (error.NoNameServer zone cause) h = (h.0, server-earlier q cause h.1)
+  error-earlier q g error.NoMemory h = tt
+  error-earlier q g (error.MaxRecordLimitExceeded count kind) h = h
+  error-earlier q g (error.Msg text) h = h
+  error-earlier q g (error.Io kind) h = h
+  error-earlier q g error.Timeout h = h
+  error-earlier q g (error.RecursionLimitExceeded count) h = h
+  error-earlier q g error.QueryBudgetExceeded h = h
+
+  outcome-earlier : (question : Question) (g : List ℕ) (o : Result Message RecursorError) → OutcomeHolds given log late question g o → OutcomeHolds given log early question g o
+  outcome-earlier question g (Ok m) h = ToldAnswer-earlier question.query question.dnssec_ok g m h
+  outcome-earlier question g (Err e) h = error-earlier question.query g e h
+
 pub ReplyHolds-earlier : (roots : List IpAddr) (log : Log) (early late : ℕ) (question : Question) (reply : Reply) → early ≤ late → ReplyHolds roots log late question reply → ReplyHolds roots log early question reply
 ReplyHolds-earlier roots log early late question reply le h =
-    IfOk-weaker reply.outcome _ _ (λ r a. ToldAnswer-earlier (given_of roots) log early late le question.query question.dnssec_ok reply.grounds r a) h
+    outcome-earlier (given_of roots) log early late le question reply.grounds reply.outcome h

@@ -1,7 +1,6 @@
 -- What was derived from a log is derived from a longer one, and after later entries.
-use Rattle.std.proofs.Common.{◌≡◌, ◌≤◌, ◌<◌, ◌+◌, ℕ, List, All, IfOk, Option, Some, None, arith}
+use Rattle.std.proofs.Common.{◌≡◌, ◌≤◌, ◌<◌, ◌+◌, ℕ, List, All, Result, Ok, Err, Option, Some, None, arith}
 use Rattle.std.proofs.lemmas.List.Elements.{All-weaker}
-use Rattle.std.proofs.lemmas.Result.{IfOk-weaker}
 use Rattle.std.specs.declared.net.ip_addr.IpAddr.{IpAddr}
 use Rattle.dns_core.specs.Name.{DomainName}
 use Rattle.dns_core.specs.Log.{Log, Extends}
@@ -11,7 +10,16 @@ use Rattle.dns_core.specs.declared.request.Question.{Question}
 use Rattle.std.specs.Prelude.{Bool}
 use Rattle.resolution.specs.Serving.{Serves}
 use Rattle.resolution.proofs.Keeping.{Serves-extend, Serves-later, Heard-extend, Base-extend, Answer-extend}
-use Rattle.recursor_core.specs.Replies.{given_of, IsToldAnswer, ReplyHolds}
+use Rattle.dns_core.specs.declared.net_error.ForwardNsData.{ForwardNsData}
+use Rattle.recursor_core.specs.Causes.{IsDenied, IsReferred, HasNoServer, ErrorHolds}
+use Rattle.recursor_core.specs.Causes.IsDenied.{told as denial_told, made as denial_made, told_on_the_way, made_on_the_way}
+use Rattle.recursor_core.specs.Causes.IsReferred.{referred}
+use Rattle.recursor_core.specs.declared.error.AuthorityData.{AuthorityData}
+use Rattle.recursor_core.specs.declared.error.WalkCause.{WalkCause}
+use Rattle.recursor_core.specs.declared.error.WalkCause.TheVariants as why
+use Rattle.recursor_core.specs.declared.error.RecursorError.{RecursorError}
+use Rattle.recursor_core.specs.declared.error.RecursorError.TheVariants as error
+use Rattle.recursor_core.specs.Replies.{given_of, IsToldAnswer, OutcomeHolds, ReplyHolds}
 use Rattle.recursor_core.specs.Derived.{AreServers, IsHeard, SendHolds, LookupHolds, WayHolds, WalkHolds, StateHolds, ResolutionHolds, Derived}
 use Rattle.recursor_core.specs.declared.lookup.Send.{Send}
 use Rattle.recursor_core.specs.declared.lookup.Send.TheVariants as send
@@ -70,8 +78,48 @@ module _ (roots : List IpAddr) (log longer : Log) (x : Extends log longer) where
     answer = λ done. Answer-extend (given_of roots) 1 log longer x (a.answer done);
   }
 
+  denied-kept : (t0 : ℕ) (q : Query) (g : List ℕ) (d : AuthorityData) → IsDenied (given_of roots) log t0 q g d → IsDenied (given_of roots) longer t0 q g d
+  denied-kept t0 q _ _ (denial_told b n) = denial_told (Base-extend (given_of roots) 1 log longer x b) n
+  denied-kept t0 q _ _ (denial_made b) = denial_made (Base-extend (given_of roots) 1 log longer x b)
+  denied-kept t0 q _ _ (told_on_the_way s c b e) = told_on_the_way s c (Base-extend (given_of roots) 1 log longer x b) e
+  denied-kept t0 q _ _ (made_on_the_way s c b) = made_on_the_way s c (Base-extend (given_of roots) 1 log longer x b)
+
+  referred-kept : (t0 : ℕ) (q : Query) (g : List ℕ) (servers : List ForwardNsData) → IsReferred (given_of roots) log t0 q g servers → IsReferred (given_of roots) longer t0 q g servers
+  referred-kept t0 q _ servers (referred b n) = referred (Base-extend (given_of roots) 1 log longer x b) n
+
+  server-kept : (t0 : ℕ) (q : Query) (cause : WalkCause) → HasNoServer (given_of roots) log t0 q cause → HasNoServer (given_of roots) longer t0 q cause
+  server-kept t0 q why.NoAddress h = record {
+    candidate = h.candidate;
+    told = h.told;
+    on_the_way = h.on_the_way;
+    glueless = record { i = h.glueless.i; z = h.glueless.z; base = Base-extend (given_of roots) 1 log longer x h.glueless.base; delegates = h.glueless.delegates; none = h.glueless.none };
+  }
+  server-kept t0 q why.Timeout h = tt
+  server-kept t0 q why.DepthLimit h = h
+  server-kept t0 q why.Budget h = h
+  server-kept t0 q why.ZoneEntries h = h
+  server-kept t0 q why.Collision h = h
+
+  error-kept : (t0 : ℕ) (q : Query) (g : List ℕ) (e : RecursorError) → ErrorHolds (given_of roots) log t0 q g e → ErrorHolds (given_of roots) longer t0 q g e
+  error-kept t0 q g (error.Message kind) h = h
+  error-kept t0 q g (error.Negative d) h = denied-kept t0 q g d h
+  error-kept t0 q g (error.ForwardNS servers) h = referred-kept t0 q g servers h
+  error-kept t0 q g (error.Net e) h = tt
+  error-kept t0 q g (error.NoNameServer zone cause) h = (h.0, server-kept t0 q cause h.1)
+  error-kept t0 q g error.NoMemory h = tt
+  error-kept t0 q g (error.MaxRecordLimitExceeded count kind) h = h
+  error-kept t0 q g (error.Msg text) h = h
+  error-kept t0 q g (error.Io kind) h = h
+  error-kept t0 q g error.Timeout h = h
+  error-kept t0 q g (error.RecursionLimitExceeded count) h = h
+  error-kept t0 q g error.QueryBudgetExceeded h = h
+
+  outcome-kept : (t0 : ℕ) (question : Question) (g : List ℕ) (o : Result Message RecursorError) → OutcomeHolds (given_of roots) log t0 question g o → OutcomeHolds (given_of roots) longer t0 question g o
+  outcome-kept t0 question g (Ok m) h = told-kept t0 question.query question.dnssec_ok g m h
+  outcome-kept t0 question g (Err e) h = error-kept t0 question.query g e h
+
   pub reply-kept : (t0 : ℕ) (question : Question) (reply : Reply) → ReplyHolds roots log t0 question reply → ReplyHolds roots longer t0 question reply
-  reply-kept t0 question reply h = IfOk-weaker reply.outcome _ _ (λ m a. told-kept t0 question.query question.dnssec_ok reply.grounds m a) h
+  reply-kept t0 question reply h = outcome-kept t0 question reply.grounds reply.outcome h
 
   pub state-kept : (g g' t0 : ℕ) (question : Question) (s : State) → g ≤ g' → StateHolds roots g t0 log question s → StateHolds roots g' t0 longer question s
   state-kept g g' t0 question (Under w) le h = record { way = way-kept g g' question.query w le h.way; lookup = lookup-kept g g' t0 w.zone w.lookup le h.lookup }

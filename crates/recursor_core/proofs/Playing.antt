@@ -14,9 +14,8 @@ use Rattle.recursor_core.specs.Replies.{ReplyHolds}
 use Rattle.recursor_core.specs.Carrying.{TellsThat, Grown}
 use Rattle.recursor_core.specs.Machine.{Begun, begun_at}
 use Rattle.recursor_core.specs.Standing.{Moves, ReplyTold, first_moment, last_moment, begin_moment, PlayHolds, PlaysHold, RepliesHold}
-use Rattle.recursor_core.specs.Turns.{BeginsIf, BeginsAt, ReplyOf}
+use Rattle.recursor_core.specs.Turns.{BeginsIf, BeginsAt, IsRefused, ReplyOf}
 use Rattle.recursor_core.specs.declared.carrier.Carrier.{Carrier}
-use Rattle.recursor_core.specs.declared.error.RecursorError.{RecursorError}
 use Rattle.recursor_core.specs.declared.error.RecursorError.TheVariants as error
 use Rattle.recursor_core.specs.declared.machine.RecursorCore.{RecursorCore}
 use Rattle.recursor_core.specs.declared.reply.Reply.{Reply}
@@ -60,8 +59,11 @@ begins_now start turns rest t q e h = ap (moment_of start turns) (h ∙ first_he
 begins_last : (start : ℕ) (turns : List Turn) (q : ℕ) → first_moment turns q ≡ None → begin_moment start turns q ≡ last_moment start turns
 begins_last start turns q h = ap (moment_of start turns) h
 
-err_holds : (roots : List IpAddr) (log : Log) (moment : ℕ) (question : Question) (reply : Reply) (e : RecursorError) → reply.outcome ≡ Err e → ReplyHolds roots log moment question reply
-err_holds roots log moment question reply e h = rw h tt
+memory_holds : (roots : List IpAddr) (log : Log) (moment : ℕ) (question : Question) (reply : Reply) → reply.outcome ≡ Err error.NoMemory → ReplyHolds roots log moment question reply
+memory_holds roots log moment question reply h = rw h tt
+
+refused_holds : (roots : List IpAddr) (log : Log) (moment : ℕ) (question : Question) (reply : Reply) → IsRefused question reply → ReplyHolds roots log moment question reply
+refused_holds roots log moment question reply = ⊎_elim (memory_holds roots log moment question reply) (λ h. rw h.0 (refl, h.1))
 
 -- a question that goes on as it was
 play_on : (core new : RecursorCore) (told later : Option (List LogEntry)) (start : ℕ) (turns rest left : List Turn) (q : ℕ) (question : Question) (p : Played)
@@ -85,7 +87,7 @@ begin_here core new told start turns rest left q now question (Some played.Waiti
 begin_here core new told start turns rest left q now question (Some played.Waiting) (played.Begun r) roots begun due begins h =
     record { begun = record { question = question; moment = now }; is = begins; question = refl; late = due (h played.Waiting refl) }
 begin_here core new told start turns rest left q now question (Some played.Waiting) (played.Answered reply) roots begun due begins h =
-    λ es t. err_holds new.roots (log_of es) (begin_moment start turns q) question reply begins.0 begins.1
+    λ es t. refused_holds new.roots (log_of es) (begin_moment start turns q) question reply begins
 begin_here core new told start turns rest left q now question (Some (played.Begun r)) p roots begun due begins h =
     subst (λ (x : Played). PlayHolds new told start turns left q question x) (sym (same_Some _ _ begins))
     (play_on core new told told start turns rest left q question (played.Begun r) roots begun (Grown-refl told) (λ e. cc) (h (played.Begun r) refl))
@@ -142,9 +144,9 @@ module _ {P C F E : Type 0} (p : Ghosts P C F E) (core new : RecursorCore) (c la
 reply_of_play : (core : RecursorCore) (told : Option (List LogEntry)) (start : ℕ) (turns rest : List Turn) (q : ℕ) (question : Question) (found : Option Played) (reply : Reply) (es : List LogEntry)
     → told ≡ Some es → ReplyOf found reply → ((p : Played) → found ≡ Some p → PlayHolds core told start turns rest q question p)
     → ReplyHolds core.roots (log_of es) (begin_moment start turns q) question reply
-reply_of_play core told start turns rest q question None reply es t of h = err_holds core.roots (log_of es) (begin_moment start turns q) question reply error.NoMemory of
-reply_of_play core told start turns rest q question (Some played.Waiting) reply es t of h = err_holds core.roots (log_of es) (begin_moment start turns q) question reply error.NoMemory of
-reply_of_play core told start turns rest q question (Some (played.Begun r)) reply es t of h = err_holds core.roots (log_of es) (begin_moment start turns q) question reply error.NoMemory of
+reply_of_play core told start turns rest q question None reply es t of h = memory_holds core.roots (log_of es) (begin_moment start turns q) question reply of
+reply_of_play core told start turns rest q question (Some played.Waiting) reply es t of h = memory_holds core.roots (log_of es) (begin_moment start turns q) question reply of
+reply_of_play core told start turns rest q question (Some (played.Begun r)) reply es t of h = memory_holds core.roots (log_of es) (begin_moment start turns q) question reply of
 reply_of_play core told start turns rest q question (Some (played.Answered a)) reply es t of h =
     subst (λ (x : Reply). ReplyHolds core.roots (log_of es) (begin_moment start turns q) question x) (sym of) (h (played.Answered a) refl es t)
 

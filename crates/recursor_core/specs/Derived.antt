@@ -11,7 +11,7 @@ use Rattle.resolution.specs.Names.{is_above, walk, question as question_for}
 use Rattle.resolution.specs.Given.{Given, Bounds, allows_all}
 use Rattle.resolution.specs.Verdict.{verdict}
 use Rattle.resolution.specs.Serving.{Serves, Heard}
-use Rattle.resolution.specs.declared.verdict.Verdict.TheVariants.{Pos}
+use Rattle.resolution.specs.declared.verdict.Verdict.{Verdict}
 use Rattle.recursor_core.specs.Replies.{given_of, ReplyHolds}
 use Rattle.recursor_core.specs.declared.lookup.Send.{Send}
 use Rattle.recursor_core.specs.declared.lookup.Send.TheVariants as send
@@ -39,11 +39,11 @@ pub record IsHeard (roots : List IpAddr) (greatest t0 : ℕ) (log : Log) (zone :
   pub late : t0 ≤ moment
   pub asked : message.query ≡ q
 
--- That message counts as this answer.
-pub record Counts (roots : List IpAddr) (greatest t0 : ℕ) (log : Log) (zone : DomainName) (q : Query) (entry : ℕ) (kept : Message) : Type 0 where
+-- That message counts so.
+pub record Counts (roots : List IpAddr) (greatest t0 : ℕ) (log : Log) (zone : DomainName) (q : Query) (entry : ℕ) (v : Verdict) : Type 0 where
   pub message : Message
   pub is : IsHeard roots greatest t0 log zone q entry message
-  pub counts : verdict (given_of roots) (told.Message message) q zone ≡ Some (Pos kept)
+  pub counts : verdict (given_of roots) (told.Message message) q zone ≡ Some v
 
 -- A server that is asked serves the zone, by what was put before; what was told was told by such a one.
 abbrev pub SendHolds : List IpAddr → ℕ → ℕ → Log → DomainName → Query → Send → Type 0

@@ -2,6 +2,7 @@ pub mod Order
 pub mod Lookup
 pub mod Walk
 pub mod Resolving
+pub mod Causes
 pub mod Replies
 pub mod Derived
 pub mod Machine

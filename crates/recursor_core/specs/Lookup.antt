@@ -1,5 +1,5 @@
 -- Where a lookup stands, and how much of it is left.
-use Rattle.std.specs.Prelude.{◌≡◌, ℕ, ◌+◌, ◌-◌, ◌*◌, ◌<◌, vec_len}
+use Rattle.std.specs.Prelude.{◌≡◌, ℕ, ◌+◌, ◌-◌, ◌*◌, ◌<◌, vec_len, Option, Some, None}
 use Rattle.std.specs.declared.net.ip_addr.IpAddr.{IpAddr}
 use Rattle.dns_core.specs.declared.message.Query.{Query}
 use Rattle.recursor_core.specs.declared.lookup.Send.{Send}
@@ -16,6 +16,16 @@ send_want (send.Connected ip conn) = Ask ip conn
 send_want (send.Asking ip order since polls) = Wait order
 send_want (send.Told entry message) = Hear
 send_want (send.Failed entry error) = Hear
+
+-- the address that is asked now
+abbrev pub asked_address : Send → Option IpAddr
+asked_address send.Ready = None
+asked_address (send.Chosen ip) = None
+asked_address (send.Opening ip order polls) = None
+asked_address (send.Connected ip conn) = None
+asked_address (send.Asking ip order since polls) = Some ip
+asked_address (send.Told entry message) = None
+asked_address (send.Failed entry error) = None
 
 -- an order of it is open
 abbrev pub IsWaiting : Send → Type 0

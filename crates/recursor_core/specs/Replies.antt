@@ -1,5 +1,5 @@
 -- What is given to the recursor, and what its replies rest on.
-use Rattle.std.specs.Prelude.{◌≡◌, ℕ, Bool, true, List, [], ◌∷◌, IfOk}
+use Rattle.std.specs.Prelude.{◌≡◌, ℕ, Bool, true, List, [], ◌∷◌, Result, Ok, Err}
 use Rattle.std.specs.declared.net.ip_addr.IpAddr.{IpAddr}
 use Rattle.dns_core.specs.Name.{DomainName}
 use Rattle.dns_core.specs.Log.{Log}
@@ -13,7 +13,9 @@ use Rattle.resolution.specs.Following.{follow}
 use Rattle.resolution.specs.Answering.{Base, IsCurrent, Answer}
 use Rattle.resolution.specs.declared.verdict.Verdict.TheVariants.{Pos}
 use Rattle.resolution.specs.declared.following.Follow.TheVariants.{Done}
+use Rattle.recursor_core.specs.declared.error.RecursorError.{RecursorError}
 use Rattle.recursor_core.specs.declared.reply.Reply.{Reply}
+use Rattle.recursor_core.specs.Causes.{ErrorHolds}
 
 -- the bounds of lives where none are set: from nothing to a day
 abbrev pub standard_bounds : Bounds
@@ -45,6 +47,10 @@ pub record IsToldAnswer (given : Given) (log : Log) (t0 : ℕ) (q : Query) (dnss
   pub same : Same r (strip_of kept dnssec)
   pub answer : follow kept q ≡ Done → Answer given log t0 q dnssec g r
 
--- A reply with a message has it so.
+-- A message that is answered has it so, and an error has its cause.
+abbrev pub OutcomeHolds : Given → Log → ℕ → Question → List ℕ → Result Message RecursorError → Type 0
+OutcomeHolds given log t0 question g (Ok m) = IsToldAnswer given log t0 question.query question.dnssec_ok g m
+OutcomeHolds given log t0 question g (Err e) = ErrorHolds given log t0 question.query g e
+
 abbrev pub ReplyHolds : List IpAddr → Log → ℕ → Question → Reply → Type 0
-ReplyHolds roots log t0 question reply = IfOk reply.outcome (IsToldAnswer (given_of roots) log t0 question.query question.dnssec_ok reply.grounds)
+ReplyHolds roots log t0 question reply = OutcomeHolds (given_of roots) log t0 question reply.grounds reply.outcome

@@ -68,6 +68,12 @@ asked_of (Under w) = Some w.lookup.query
 asked_of (Done reply) = None
 asked_of Ended = None
 
+-- the address that it asks now
+abbrev pub address_of : State → Option IpAddr
+address_of (Under w) = lookup.asked_address w.lookup.send
+address_of (Done reply) = None
+address_of Ended = None
+
 -- It is still of the same question, which began when it began.
 abbrev pub SameBegun : Resolution → Resolution → Type 0
 SameBegun old new = (new.question ≡ old.question) × (new.begun ≡ old.begun)

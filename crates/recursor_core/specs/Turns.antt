@@ -1,9 +1,9 @@
 -- How much is left of the questions of a run.
-use Rattle.std.specs.Prelude.{◌≡◌, ◌≤◌, ◌<◌, ◌+◌, ℕ, List, Option, Some, None, Err, slice_get, sum_by}
+use Rattle.std.specs.Prelude.{◌≡◌, ◌≤◌, ◌<◌, ◌+◌, ℕ, List, Option, Some, None, Err, slice_get, sum_by, ◌⊎◌, false}
 use Rattle.dns_core.specs.declared.request.Question.{Question}
 use Rattle.recursor_core.specs.Machine as machine
 use Rattle.recursor_core.specs.Machine.{rank}
-use Rattle.recursor_core.specs.declared.error.RecursorError.{RecursorError}
+use Rattle.recursor_core.specs.declared.error.MessageKind.TheVariants as kind
 use Rattle.recursor_core.specs.declared.error.RecursorError.TheVariants as error
 use Rattle.recursor_core.specs.declared.reply.Reply.{Reply}
 use Rattle.recursor_core.specs.declared.machine.RecursorCore.{RecursorCore}
@@ -40,11 +40,16 @@ abbrev pub IsUnderWay : List Played → ℕ → Option ℕ → Type 0
 IsUnderWay plays q None = Unit {0}
 IsUnderWay plays q (Some r) = slice_get plays q ≡ Some (played.Begun r)
 
+-- The reply refuses the question, whose name is not fully qualified; or memory is wanting.
+abbrev pub IsRefused : Question → Reply → Type 0
+IsRefused question reply =
+    (reply.outcome ≡ Err error.NoMemory) ⊎ ((reply.outcome ≡ Err (error.Message kind.NotQualified)) × (question.query.name.fqdn ≡ false))
+
 -- A question as it begins: under way, or refused.
 abbrev pub Begins : Question → ℕ → RecursorCore → Played → Type 0
 Begins question now core played.Waiting = ⊥
 Begins question now core (played.Begun r) = machine.IsBegunAt core r question now
-Begins question now core (played.Answered reply) = (e : RecursorError) × (reply.outcome ≡ Err e)
+Begins question now core (played.Answered reply) = IsRefused question reply
 
 -- the reply of a question, or want of memory where it has none
 abbrev pub ReplyOf : Option Played → Reply → Type 0

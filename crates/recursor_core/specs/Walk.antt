@@ -8,6 +8,8 @@ use Rattle.resolution.specs.Names.{question}
 use Rattle.recursor_core.specs.declared.error.RecursorError.{RecursorError}
 use Rattle.recursor_core.specs.declared.error.RecursorError.TheVariants.{Negative, ForwardNS}
 use Rattle.dns_core.specs.declared.errors.NoMemory.{NoMemory}
+use Rattle.resolution.specs.declared.verdict.Cause.{Cause}
+use Rattle.recursor_core.specs.Causes.{told_data, made_data}
 use Rattle.recursor_core.specs.Lookup as lookup
 use Rattle.recursor_core.specs.declared.reply.Reply.{Reply}
 use Rattle.recursor_core.specs.declared.walk.Stage.{Stage}
@@ -32,15 +34,15 @@ abbrev pub query_of : DomainName → Query → Stage → Query
 query_of name q (Candidate labels) = question (record { labels = last_labels labels name.labels; fqdn = name.fqdn }) 2
 query_of name q Last = q
 
--- A negative that the recursor makes, where the zone leaves nothing of what was told.
-abbrev pub made_negative : Query → RecursorError
-made_negative q = Negative (record { query = q; soa = None; no_records_found = false; nx_domain = true; authorities = [] })
+-- A negative that the recursor makes, where the filter or the zone leaves nothing of what was told.
+abbrev pub made_negative : Query → Cause → RecursorError
+made_negative q cause = Negative (made_data q cause)
 
 -- A negative that was told, or a referral where it names servers.
 abbrev pub told_negative : NoRecords → RecursorError
 told_negative found = elim (found.ns) [
   | Some forward ↦ ForwardNS forward
-  | None ↦ Negative (record { query = found.query; soa = found.soa; no_records_found = true; nx_domain = found.response_code.code == 3; authorities = found.authorities })
+  | None ↦ Negative (told_data found)
 ]
 
 -- Nothing exists at or below a candidate for which a denial of the name came, and no referral (RFC 8020).

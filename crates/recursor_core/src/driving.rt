@@ -249,7 +249,9 @@ pub fn drive<P: ConnectionProvider>(
     ensures asks { TellsThat (P.log recursor.new.provider) (AsksServers (given_of recursor.old.roots)) }
 
     // Each message that is answered is what counts of a response that a server of a zone at or above the
-    // name told since the question began.
+    // name told since the question began. Each error has its cause: a name that is not fully qualified,
+    // a denial or a referral that such a server told, a delegation without addresses. What a failed
+    // lookup rests on is not said.
     ensures replies { IfOk result (λ replies. TellsThat (P.log recursor.new.provider) (λ log. RepliesHold recursor.old.roots log recursor.old.moment turns.now questions.now replies.items)) }
 
     // The roots stay.

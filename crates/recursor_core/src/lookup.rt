@@ -6,7 +6,7 @@ ghost use Rattle.dns_core.specs.Log.{Log, Extends};
 ghost use Rattle.dns_core.specs.declared.message.Query.{Query};
 ghost use Rattle.resolution.specs.Names.{is_above, walk};
 ghost use Rattle.recursor_core.specs.Order.{entry_of, OutcomeIs, Fits};
-ghost use Rattle.recursor_core.specs.Lookup.{send_want, send_steps, steps, polls_left, rank, IsWaiting, MayAsk, AsksOf};
+ghost use Rattle.recursor_core.specs.Lookup.{send_want, send_steps, steps, polls_left, rank, IsWaiting, MayAsk, AsksOf, asked_address};
 ghost use Rattle.recursor_core.specs.Derived.{AreServers, SendHolds, LookupHolds, FoundHolds};
 
 use crate::order::{After, Outcome};
@@ -114,6 +114,16 @@ impl Send {
 }
 
 impl Send {
+    /// The address that is asked now.
+    pub fn asked_address(&self) -> Option<IpAddr>
+        ensures { result ≡ asked_address self.now }
+    {
+        match self {
+            Send::Asking { ip, .. } => Some(*ip),
+            _ => None,
+        }
+    }
+
     /// Counts a poll that found nothing, and answers how many there were.
     fn count_poll(&mut self) -> u32
         requires { IsWaiting self.old }

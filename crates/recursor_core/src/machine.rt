@@ -389,6 +389,26 @@ impl RecursorCore {
         resolution.take(outcome, patience)
     }
 
+    /// The address that the resolution at a place asks.
+    fn asked_address(&self, r: usize) -> Option<IpAddr> {
+        match self.resolutions.get(r) {
+            Some(resolution) => resolution.asked_address(),
+            None => None,
+        }
+    }
+
+    /// Where an exchange is given up, the connection to its address is not used again.
+    fn forget_given_up(&mut self, after: After, asked: Option<IpAddr>)
+        ensures { IsSetAs self.old self.new }
+    {
+        match (after, asked) {
+            (After::GiveUp, Some(ip)) => {
+                self.connections.remove(&ip);
+            }
+            _ => {}
+        }
+    }
+
     /// Takes the outcome of an order. One that nobody waits for is late, and changes nothing; so is one
     /// that does not fit the order.
     pub fn put(&mut self, number: u64, outcome: Outcome, tick: Tick) -> After
@@ -405,17 +425,12 @@ impl RecursorCore {
             return After::Late;
         };
         let entry = outcome.entry();
+        let asked = self.asked_address(r);
         let after = self.take(r, outcome, tick.patience);
+        self.forget_given_up(after, asked);
         self.greatest = self.greatest.max(entry);
         self.moment = self.moment.max(tick.now);
         after
-    }
-
-    /// The connection to an address is not used again.
-    pub fn forget_connection(&mut self, ip: IpAddr)
-        ensures { IsSetAs self.old self.new }
-    {
-        self.connections.remove(&ip);
     }
 
     /// Ends a resolution without a reply, and answers the order that it waited for.

@@ -5,7 +5,7 @@ ghost use Rattle.dns_core.specs.Log.{Log, Extends};
 ghost use Rattle.recursor_core.specs.Order.{entry_of, Fits};
 ghost use Rattle.recursor_core.specs.Replies.{ReplyHolds};
 ghost use Rattle.recursor_core.specs.Derived.{ResolutionHolds};
-ghost use Rattle.recursor_core.specs.Resolving.{want_of, waits_for, steps, rank, MayAskNow, IsAfter, SameBegun, asked_of};
+ghost use Rattle.recursor_core.specs.Resolving.{want_of, waits_for, steps, rank, MayAskNow, IsAfter, SameBegun, asked_of, address_of};
 
 use crate::lookup::Want;
 use crate::order::{After, Outcome};
@@ -85,6 +85,16 @@ impl Resolution {
     {
         match self.need() {
             Need::Send(Want::Wait { order }) => Some(order),
+            _ => None,
+        }
+    }
+
+    /// The address that it asks now.
+    pub fn asked_address(&self) -> Option<IpAddr>
+        ensures { result ≡ address_of self.now.state }
+    {
+        match &self.state {
+            State::Under(walk) => walk.lookup.send.asked_address(),
             _ => None,
         }
     }

@@ -17,7 +17,7 @@ use dns_core::{
     RecordType, Records, TryClone, strip,
 };
 use recursor_walk::{addresses, is_delegation, verdict_of};
-use resolution::Verdict;
+use resolution::{Cause, Verdict};
 use std::alloc::Global;
 use std::mem;
 
@@ -86,14 +86,15 @@ fn just(alloc: Global, entry: u64) -> Result<Numbers, NoMemory>
     Ok(numbers)
 }
 
-/// A negative response that the recursor makes where the zone leaves nothing of what was told.
-fn made_negative(alloc: Global, query: &Query) -> Result<RecursorError, NoMemory>
-    ensures { IfOk result (λ error. error ≡ made_negative query.now) }
+/// A negative response that the recursor makes where the filter or the zone leaves nothing of what
+/// was told.
+fn made_negative(alloc: Global, query: &Query, cause: Cause) -> Result<RecursorError, NoMemory>
+    ensures { IfOk result (λ error. error ≡ made_negative query.now cause) }
 {
     Ok(RecursorError::Negative(AuthorityData {
         query: query.try_clone(alloc)?,
         soa: None,
-        no_records_found: false,
+        no_records_found: matches!(cause, Cause::Filter),
         nx_domain: true,
         authorities: Records::empty(alloc),
     }))
@@ -246,8 +247,8 @@ impl Walk {
         match verdict_of(alloc, message, &self.zone)? {
             Ok(Verdict::Pos(kept)) => self.descend(alloc, question, &kept),
             Ok(Verdict::Neg(found)) => self.deny_candidate(alloc, question, entry, found),
-            Ok(Verdict::Made(_)) => {
-                let denial = made_negative(alloc, &self.lookup.query)?;
+            Ok(Verdict::Made(cause)) => {
+                let denial = made_negative(alloc, &self.lookup.query, cause)?;
                 Ok(Some(reply_by(alloc, entry, Err(denial))?))
             }
             Err(_) => self.advance(alloc, question),
@@ -265,6 +266,7 @@ impl Walk {
         requires { IsCandidate self.old.stage }
         ensures falls { Goes self.old self.new result }
         ensures holds { (roots : List IpAddr) (greatest t0 : ℕ) (log : Log) → WayHolds roots greatest log question.now.query self.old
+            → Counts roots greatest t0 log self.old.zone self.old.lookup.query entry (Verdict.Neg found)
             → IfOk result (WalkComes roots greatest t0 log question.now self.new) }
     {
         if ends_walk(&found) {
@@ -283,7 +285,7 @@ impl Walk {
         requires { IsCandidate self.old.stage }
         ensures falls { Goes self.old self.new result }
         ensures holds { (roots : List IpAddr) (greatest t0 entry : ℕ) (log : Log) → WayHolds roots greatest log question.now.query self.old
-            → Counts roots greatest t0 log self.old.zone self.old.lookup.query entry kept.now
+            → Counts roots greatest t0 log self.old.zone self.old.lookup.query entry (Verdict.Pos kept.now)
             → IfOk result (WalkComes roots greatest t0 log question.now self.new) }
     {
         if !is_delegation(kept, &self.lookup.query.name) {
@@ -357,8 +359,8 @@ impl Walk {
         match verdict_of(alloc, message, &self.zone)? {
             Ok(Verdict::Pos(kept)) => reply_by(alloc, entry, Ok(strip(kept, question.dnssec_ok))),
             Ok(Verdict::Neg(found)) => reply_by(alloc, entry, Err(told_negative(found))),
-            Ok(Verdict::Made(_)) => {
-                let denial = made_negative(alloc, &self.lookup.query)?;
+            Ok(Verdict::Made(cause)) => {
+                let denial = made_negative(alloc, &self.lookup.query, cause)?;
                 reply_by(alloc, entry, Err(denial))
             }
             Err(error) => Ok(self.failed(alloc, error)),

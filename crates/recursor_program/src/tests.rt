@@ -28,6 +28,15 @@ const GLUELESS: &str =
 const STRAY: &str =
     "reply 11.0.0.2 udp example.com. NS 0 message NOERROR none 0 2 2\nexample.com. 172800 IN NS ns.evil.net.\nexample.com. 172800 IN NS ns.example.com.\nns.evil.net. 172800 IN A 66.6.6.6\nns.example.com. 172800 IN A 11.0.0.3\n";
 
+const TWO: &str =
+    "reply 11.0.0.1 udp com. NS 0 message NOERROR none 0 1 2\ncom. 172800 IN NS a.nic.com.\na.nic.com. 172800 IN A 11.0.0.2\na.nic.com. 172800 IN A 11.0.0.4\n";
+
+const NO_CUT: &str =
+    "reply 11.0.0.4 udp example.com. NS 0 message NOERROR none 0 1 0\ncom. 172800 IN NS a.nic.com.\n";
+
+const LATE_ANSWER: &str =
+    "reply 11.0.0.2 udp example.com. A 0 message NOERROR aa 1 0 0\nexample.com. 300 IN A 93.184.215.14\n";
+
 const TAIL: &str = "question example.com. A plain\nturn 1 0\nend\n";
 
 fn text(alloc: Global, parts: &[&str]) -> Result<Text, Fail> {
@@ -99,6 +108,18 @@ fn silence_is_a_timeout(rt: HostRuntime) -> Result<(), Fail> {
             "reply 1 error NoNameServer example.com. Timeout\nend\n"
         )
     );
+    Ok(())
+}
+
+#[test]
+fn a_connection_is_opened_again_after_a_give_up(rt: HostRuntime) -> Result<(), Fail> {
+    let alloc = rt.alloc();
+    let (status, written) = outcome(alloc, &[HEAD, TWO, NO_CUT, LATE_ANSWER, TAIL])?;
+    assert_eq!(rt; status, Status::Done);
+    assert!(rt; written.starts_with(b"log 19\n1 opened 11.0.0.1 udp 0\n"));
+    let end =
+        "16 opened 11.0.0.2 udp 0\n17 told 16 0 connected\n18 asked 11.0.0.2 udp example.com. A 0\n19 told 18 0 message NOERROR aa 1 0 0\nexample.com. 300 IN A 93.184.215.14\nreply 1 message NOERROR aa 1 0 0\nexample.com. 300 IN A 93.184.215.14\nend\n";
+    assert!(rt; ends_with(&written, end));
     Ok(())
 }
 
