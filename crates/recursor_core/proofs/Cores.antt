@@ -1,5 +1,7 @@
 -- The machine after a step of one of its resolutions.
-use Rattle.std.proofs.Common.{◌≡◌, ◌≢◌, ◌≤◌, ◌<◌, ◌+◌, ℕ, zero, suc, List, [], ◌∷◌, ◌++◌, length, All, get_or, Option, Some, None, refl, sym, ◌∙◌, ap, subst, arith, slice_get, IfSome, max}
+use Rattle.std.proofs.Common.{◌≡◌, ◌<◌, ◌+◌, ℕ, zero, suc, List, [], ◌∷◌, ◌++◌, length, All, get_or, Option, Some, None, refl, sym, ◌∙◌, ap, subst, arith}
+use Rattle.std.specs.Prelude.{IsTrue, slice_get, IfSome}
+use Rattle.std.proofs.lemmas.List.Elements.{All-set}
 use Rattle.std.proofs.Math.ListN.{set}
 use Rattle.std.specs.Option.{option_map}
 use Rattle.std.specs.Global.{Vec}
@@ -9,12 +11,11 @@ use Rattle.dns_core.specs.declared.request.Question.{Question}
 use Rattle.resolution.specs.Names.{is_above, walk}
 use Rattle.resolution.specs.Serving.{Serves}
 use Rattle.resolution.specs.Asking.{IsServer, IsServerFor}
-use Rattle.std.specs.Prelude.{IsTrue}
 use Rattle.recursor_core.specs.Order.{GoesToServer}
-use Rattle.recursor_core.specs.Replies.{given_of, ReplyHolds}
-use Rattle.recursor_core.specs.Derived.{SendHolds, ResolutionHolds, StateHolds, Derived}
-use Rattle.recursor_core.specs.Lookup as lookup
-use Rattle.recursor_core.specs.Resolving.{SameBegun, MayAskNow, MayAskIn, asked_of, want_of, state_want}
+use Rattle.recursor_core.specs.Replies.{Terms, given_of, ReplyHolds}
+use Rattle.recursor_core.specs.Tried.{machine_timer}
+use Rattle.recursor_core.specs.Derived.{ResolutionHolds, StateHolds, terms_of, Derived}
+use Rattle.recursor_core.specs.Resolving.{SameBegun, MayAskIn, asked_of, state_want}
 use Rattle.recursor_core.specs.Machine.{Begun, begun_of, begun_at, need_in, MayAskOf, asked_in, ReplyGiven, StepGives, Gives, SameCore, IsSetAs}
 use Rattle.recursor_core.specs.declared.machine.RecursorCore.{RecursorCore}
 use Rattle.recursor_core.specs.declared.machine.Step.{Step}
@@ -35,8 +36,14 @@ use Rattle.dns_core.specs.declared.message.Query.{Query}
 pub held-at : (P : Resolution → Type 0) (xs : List Resolution) (i : ℕ) (f : Resolution) → i < length xs → f ≡ get_or xs i f → All P xs → P f
 held-at P xs i f within at all = subst P (sym at) (all i f within)
 
+-- and of all after a step that keeps it
+pub all-after : (P : Resolution → Type 0) (xs : List Resolution) (i : ℕ) (f g : Resolution) → i < length xs → f ≡ get_or xs i f → (P f → P g)
+    → All P xs → All P (set xs i g)
+all-after P xs i f g within at step all = All-set P xs i g (step (held-at P xs i f within at all)) all
+
 -- a resolution that is still of its question leaves the questions as they are
-pub begun-set : (xs : List Resolution) (i : ℕ) (f g : Resolution) → i < length xs → f ≡ get_or xs i f → SameBegun f g → (k : ℕ) → option_map begun_of (slice_get (set xs i g) k) ≡ option_map begun_of (slice_get xs k)
+pub begun-set : (xs : List Resolution) (i : ℕ) (f g : Resolution) → i < length xs → f ≡ get_or xs i f → SameBegun f g → (k : ℕ)
+    → option_map begun_of (slice_get (set xs i g) k) ≡ option_map begun_of (slice_get xs k)
 begun-set [] i f g within at same k = let none : ⊥ = omega (arith, within) in absurd none
 begun-set (x ∷ xs) zero f g within at same zero =
     ap (λ (q : Question). let b : Option Begun = Some (record { question = q; moment = g.begun }) in b) (same.0 ∙ ap (λ (r : Resolution). r.question) at)
@@ -46,84 +53,110 @@ begun-set (x ∷ xs) (suc i) f g within at same zero = refl
 begun-set (x ∷ xs) (suc i) f g within at same (suc k) = begun-set xs i f g (omega arith) at same k
 
 -- one more leaves those before it
-pub begun-push : (xs : List Resolution) (r : Resolution) (k : ℕ) → k < length xs → option_map begun_of (slice_get (xs ++ r ∷ []) k) ≡ option_map begun_of (slice_get xs k)
+pub begun-push : (xs : List Resolution) (r : Resolution) (k : ℕ) → k < length xs
+    → option_map begun_of (slice_get (xs ++ r ∷ []) k) ≡ option_map begun_of (slice_get xs k)
 begun-push [] r k within = let none : ⊥ = omega (arith, within) in absurd none
 begun-push (x ∷ xs) r zero within = refl
 begun-push (x ∷ xs) r (suc k) within = begun-push xs r k (omega arith)
 
+-- and stands last
 pub begun-last : (xs : List Resolution) (r : Resolution) → option_map begun_of (slice_get (xs ++ r ∷ []) (length xs)) ≡ Some (begun_of r)
 begun-last [] r = refl
 begun-last (x ∷ xs) r = begun-last xs r
 
 -- an address that may be asked serves the zone of its walk
-asked-serves : (roots : List IpAddr) (greatest t0 : ℕ) (log : Log) (question : Question) (s : State) (ip : IpAddr) (q : Query) → MayAskIn ip s → asked_of s ≡ Some q
-    → StateHolds roots greatest t0 log question s → IsServerFor (given_of roots) log (greatest + 1) ip q
-asked-serves roots greatest t0 log question (Under w) ip q may is h = by w.lookup.send may h.lookup.send
+asked-serves : (terms : Terms) (greatest moment t0 : ℕ) (log : Log) (question : Question) (s : State) (ip : IpAddr) (q : Query) → MayAskIn ip s
+    → asked_of s ≡ Some q → StateHolds terms greatest moment t0 log question s → IsServerFor (given_of terms) log (greatest + 1) ip q
+asked-serves terms greatest moment t0 log question (Under w) ip q may is h = by w.lookup.send refl
   where
     same : w.lookup.query ≡ q
     same = cc
 
-    by : (s : Send) → lookup.MayAsk ip s → SendHolds roots greatest t0 log w.zone w.lookup.query s → IsServerFor (given_of roots) log (greatest + 1) ip q
-    by send.Ready m x = absurd m
-    by (send.Chosen chosen) m x = record { zone = w.zone; above = subst (λ (p : Query). IsTrue (is_above w.zone (walk p))) same h.lookup.above; serves = subst (λ (a : IpAddr). Serves (given_of roots) log (greatest + 1) a w.zone) m x }
-    by (send.Opening to order polls) m x = absurd m
-    by (send.Connected to conn) m x = record { zone = w.zone; above = subst (λ (p : Query). IsTrue (is_above w.zone (walk p))) same h.lookup.above; serves = subst (λ (a : IpAddr). Serves (given_of roots) log (greatest + 1) a w.zone) m x }
-    by (send.Asking to order since polls) m x = absurd m
-    by (send.Told entry message) m x = absurd m
-    by (send.Failed entry error) m x = absurd m
-asked-serves roots greatest t0 log question (Done reply) ip q may is h = absurd may
-asked-serves roots greatest t0 log question Ended ip q may is h = absurd may
+    served : (to : IpAddr) → to ≡ ip → Serves (given_of terms) log (greatest + 1) to w.zone → IsServerFor (given_of terms) log (greatest + 1) ip q
+    served to e x = record {
+      zone = w.zone;
+      above = subst (λ (p : Query). IsTrue (is_above w.zone (walk p))) same h.lookup.above;
+      serves = subst (λ (a : IpAddr). Serves (given_of terms) log (greatest + 1) a w.zone) e x;
+    }
+
+    by : (s : Send) → w.lookup.send ≡ s → IsServerFor (given_of terms) log (greatest + 1) ip q
+    by send.Ready e = absurd (rw e at may)
+    by (send.Chosen to) e = served to (rw e at may) (rw e at h.lookup.send)
+    by (send.Opening to order polls) e = absurd (rw e at may)
+    by (send.Connected to conn) e = served to (rw e at may) (rw e at h.lookup.send)
+    by (send.Asking to order since polls) e = absurd (rw e at may)
+    by (send.Told to entry message) e = absurd (rw e at may)
+    by (send.Failed to entry error) e = absurd (rw e at may)
+asked-serves terms greatest moment t0 log question (Done reply) ip q may is h = absurd may
+asked-serves terms greatest moment t0 log question Ended ip q may is h = absurd may
 
 -- where a connection is wanted its server serves the zone of its walk
-wanted-serves : (roots : List IpAddr) (greatest t0 : ℕ) (log : Log) (question : Question) (s : State) (ip : IpAddr) → state_want s ≡ need.Send (want.Connect ip)
-    → StateHolds roots greatest t0 log question s → IsServer (given_of roots) log (greatest + 1) ip
-wanted-serves roots greatest t0 log question (Under w) ip e h = by w.lookup.send e h.lookup.send
+wanted-serves : (terms : Terms) (greatest moment t0 : ℕ) (log : Log) (question : Question) (s : State) (ip : IpAddr)
+    → state_want s ≡ need.Send (want.Connect ip) → StateHolds terms greatest moment t0 log question s → IsServer (given_of terms) log (greatest + 1) ip
+wanted-serves terms greatest moment t0 log question (Under w) ip wants h = by w.lookup.send refl
   where
-    by : (s : Send) → need.Send (lookup.send_want s) ≡ need.Send (want.Connect ip) → SendHolds roots greatest t0 log w.zone w.lookup.query s → IsServer (given_of roots) log (greatest + 1) ip
-    by send.Ready e x = cc
-    by (send.Chosen chosen) e x = let same : chosen ≡ ip = cc in record { zone = w.zone; serves = subst (λ (a : IpAddr). Serves (given_of roots) log (greatest + 1) a w.zone) same x }
-    by (send.Opening to order polls) e x = cc
-    by (send.Connected to conn) e x = cc
-    by (send.Asking to order since polls) e x = cc
-    by (send.Told entry message) e x = cc
-    by (send.Failed entry error) e x = cc
-wanted-serves roots greatest t0 log question (Done reply) ip e h = cc
-wanted-serves roots greatest t0 log question Ended ip e h = cc
+    by : (s : Send) → w.lookup.send ≡ s → IsServer (given_of terms) log (greatest + 1) ip
+    by send.Ready e = let is = rw e at wants in cc
+    by (send.Chosen to) e =
+        let is = rw e at wants in
+        let same : to ≡ ip = cc in
+        record { zone = w.zone; serves = subst (λ (a : IpAddr). Serves (given_of terms) log (greatest + 1) a w.zone) same (rw e at h.lookup.send) }
+    by (send.Opening to order polls) e = let is = rw e at wants in cc
+    by (send.Connected to conn) e = let is = rw e at wants in cc
+    by (send.Asking to order since polls) e = let is = rw e at wants in cc
+    by (send.Told to entry message) e = let is = rw e at wants in cc
+    by (send.Failed to entry error) e = let is = rw e at wants in cc
+wanted-serves terms greatest moment t0 log question (Done reply) ip wants h = cc
+wanted-serves terms greatest moment t0 log question Ended ip wants h = cc
 
 -- so it is with the resolution at a place
-pub asks-server : (roots : List IpAddr) (greatest moment : ℕ) (log : Log) (xs : List Resolution) (r : ℕ) (ip : IpAddr) (q : Query) → MayAskOf ip (slice_get xs r) → asked_in (slice_get xs r) ≡ Some q
-    → All (ResolutionHolds roots greatest moment log) xs → IsServerFor (given_of roots) log (greatest + 1) ip q
-asks-server roots greatest moment log [] r ip q may is all = absurd may
-asks-server roots greatest moment log (x ∷ xs) zero ip q may is all = asked-serves roots greatest x.begun log x.question x.state ip q may is (all zero x (omega arith)).state
-asks-server roots greatest moment log (x ∷ xs) (suc r) ip q may is all = asks-server roots greatest moment log xs r ip q may is (λ i d within. all (suc i) d (omega (arith, within)))
+pub asks-server : (terms : Terms) (greatest moment : ℕ) (log : Log) (xs : List Resolution) (r : ℕ) (ip : IpAddr) (q : Query) → MayAskOf ip (slice_get xs r)
+    → asked_in (slice_get xs r) ≡ Some q → All (ResolutionHolds terms greatest moment log) xs → IsServerFor (given_of terms) log (greatest + 1) ip q
+asks-server terms greatest moment log [] r ip q may is all = absurd may
+asks-server terms greatest moment log (x ∷ xs) zero ip q may is all =
+    asked-serves terms greatest moment x.begun log x.question x.state ip q may is (all zero x (omega arith)).state
+asks-server terms greatest moment log (x ∷ xs) (suc r) ip q may is all =
+    asks-server terms greatest moment log xs r ip q may is (λ i d within. all (suc i) d (omega (arith, within)))
 
-pub opens-server : (roots : List IpAddr) (greatest moment : ℕ) (log : Log) (xs : List Resolution) (r : ℕ) (ip : IpAddr) → need_in (slice_get xs r) ≡ need.Send (want.Connect ip)
-    → All (ResolutionHolds roots greatest moment log) xs → IsServer (given_of roots) log (greatest + 1) ip
-opens-server roots greatest moment log [] r ip e all = cc
-opens-server roots greatest moment log (x ∷ xs) zero ip e all = wanted-serves roots greatest x.begun log x.question x.state ip e (all zero x (omega arith)).state
-opens-server roots greatest moment log (x ∷ xs) (suc r) ip e all = opens-server roots greatest moment log xs r ip e (λ i d within. all (suc i) d (omega (arith, within)))
-
-pub max-below : (m n k : ℕ) → m < k → n < k → max m n < k
-max-below m n k a b = grind (arith)
+-- also where it wants a connection
+pub opens-server : (terms : Terms) (greatest moment : ℕ) (log : Log) (xs : List Resolution) (r : ℕ) (ip : IpAddr)
+    → need_in (slice_get xs r) ≡ need.Send (want.Connect ip) → All (ResolutionHolds terms greatest moment log) xs
+    → IsServer (given_of terms) log (greatest + 1) ip
+opens-server terms greatest moment log [] r ip e all = cc
+opens-server terms greatest moment log (x ∷ xs) zero ip e all =
+    wanted-serves terms greatest moment x.begun log x.question x.state ip e (all zero x (omega arith)).state
+opens-server terms greatest moment log (x ∷ xs) (suc r) ip e all =
+    opens-server terms greatest moment log xs r ip e (λ i d within. all (suc i) d (omega (arith, within)))
 
 -- a reply that holds is one that a step gives
-pub given-some : (roots : List IpAddr) (log : Log) (reply : Option Reply) (here : Option Begun) (b : Begun) → here ≡ Some b → IfSome reply (ReplyHolds roots log b.moment b.question) → IfSome reply (ReplyGiven roots log here)
-given-some roots log None here b is h = tt
-given-some roots log (Some reply) here b is h = subst (λ (o : Option Begun). ReplyGiven roots log o reply) (sym is) h
+pub given-some : (terms : Terms) (log : Log) (reply : Option Reply) (here : Option Begun) (b : Begun) → here ≡ Some b
+    → IfSome reply (ReplyHolds terms machine_timer log b.moment b.question) → IfSome reply (ReplyGiven terms log here)
+given-some terms log None here b is h = tt
+given-some terms log (Some reply) here b is h = subst (λ (o : Option Begun). ReplyGiven terms log o reply) (sym is) h
+
+-- roots and a patience
+abbrev pub terms_with : ℕ → List IpAddr → Terms
+terms_with patience roots = record { roots = roots; patience = patience }
 
 -- what a step gives holds by the machine before it too, where the two agree
-pub gives-before : (old mid : RecursorCore) (log : Log) (r : ℕ) (s : Step) → SameCore old mid → StepGives mid log r s → StepGives old log r s
-gives-before old mid log r (step.Order number order) same h =
-    subst (λ (roots : List IpAddr). GoesToServer (given_of roots) log (old.greatest + 1) order) same.roots (subst (λ (g : ℕ). GoesToServer (given_of mid.roots) log (g + 1) order) same.greatest h)
-gives-before old mid log r (step.Waiting number) same h = tt
-gives-before old mid log r (step.Done reply) same h =
-    subst (λ (roots : List IpAddr). ReplyGiven roots log (begun_at old r) reply) same.roots (subst (λ (o : Option Begun). ReplyGiven mid.roots log o reply) (same.begun r) h)
-gives-before old mid log r step.Ended same h = tt
+pub gives-before : (patience : ℕ) (old mid : RecursorCore) (log : Log) (r : ℕ) (s : Step) → SameCore old mid
+    → StepGives patience mid log r s → StepGives patience old log r s
+gives-before patience old mid log r (step.Order number order) same h =
+    subst (λ (roots : List IpAddr). GoesToServer (given_of (terms_with patience roots)) log (old.greatest + 1) order) same.roots
+    (subst (λ (g : ℕ). GoesToServer (given_of (terms_of patience mid)) log (g + 1) order) same.greatest h)
+gives-before patience old mid log r (step.Waiting number) same h = tt
+gives-before patience old mid log r (step.Done reply) same h =
+    subst (λ (roots : List IpAddr). ReplyGiven (terms_with patience roots) log (begun_at old r) reply) same.roots
+    (subst (λ (o : Option Begun). ReplyGiven (terms_of patience mid) log o reply) (same.begun r) h)
+gives-before patience old mid log r step.Ended same h = tt
 
-pub progress-before : (old mid : RecursorCore) (log : Log) (r : ℕ) (p : Progress) → SameCore old mid → Gives mid log r p → Gives old log r p
-progress-before old mid log r progress.Again same h = tt
-progress-before old mid log r (progress.Step s) same h = gives-before old mid log r s same h
+-- so with a step inside the machine
+pub progress-before : (patience : ℕ) (old mid : RecursorCore) (log : Log) (r : ℕ) (p : Progress) → SameCore old mid
+    → Gives patience mid log r p → Gives patience old log r p
+progress-before patience old mid log r progress.Again same h = tt
+progress-before patience old mid log r (progress.Step s) same h = gives-before patience old mid log r s same h
 
+-- two steps
 pub same-trans : (a b c : RecursorCore) → SameCore a b → SameCore b c → SameCore a c
 same-trans a b c x y = record {
   roots = y.roots ∙ x.roots;
@@ -134,18 +167,28 @@ same-trans a b c x y = record {
 
 -- new numbers and connections leave the questions
 pub same-set : (a b : RecursorCore) → IsSetAs a b → SameCore a b
-same-set a b h = record { roots = h.1; greatest = h.2; moment = h.3; begun = λ k. ap (λ (rs : Vec Resolution). option_map begun_of (slice_get rs.items k)) h.0 }
-
--- what is derived, by its parts
-pub derived-is : (core : RecursorCore) (log : Log) (roots : List IpAddr) (greatest moment : ℕ) (rs : List Resolution) → core.roots ≡ roots → core.greatest ≡ greatest → core.moment ≡ moment → core.resolutions.items ≡ rs
-    → greatest < log.next → All (ResolutionHolds roots greatest moment log) rs → Derived core log
-derived-is core log roots greatest moment rs a b c e bound all = record {
-  bound = subst (λ (g : ℕ). g < log.next) (sym b) bound;
-  resolutions = subst (λ (r : List IpAddr). All (ResolutionHolds r core.greatest core.moment log) core.resolutions.items) (sym a)
-      (subst (λ (g : ℕ). All (ResolutionHolds roots g core.moment log) core.resolutions.items) (sym b)
-      (subst (λ (m : ℕ). All (ResolutionHolds roots greatest m log) core.resolutions.items) (sym c)
-      (subst (All (ResolutionHolds roots greatest moment log)) (sym e) all)));
+same-set a b h = record {
+  roots = h.1;
+  greatest = h.2;
+  moment = h.3;
+  begun = λ k. ap (λ (rs : Vec Resolution). option_map begun_of (slice_get rs.items k)) h.0;
 }
 
-pub derived-set : (a b : RecursorCore) (log : Log) → IsSetAs a b → Derived a log → Derived b log
-derived-set a b log h d = derived-is b log a.roots a.greatest a.moment a.resolutions.items h.1 h.2 h.3 (ap (λ (rs : Vec Resolution). rs.items) h.0) d.bound d.resolutions
+-- what is derived, by its parts
+pub derived-is : (patience : ℕ) (core : RecursorCore) (log : Log) (roots : List IpAddr) (greatest moment : ℕ) (rs : List Resolution) → core.roots ≡ roots
+    → core.greatest ≡ greatest → core.moment ≡ moment → core.resolutions.items ≡ rs → greatest < log.next → 0 < length roots
+    → All (ResolutionHolds (terms_with patience roots) greatest moment log) rs → Derived patience core log
+derived-is patience core log roots greatest moment rs a b c e bound some all = record {
+  bound = subst (λ (g : ℕ). g < log.next) (sym b) bound;
+  some = subst (λ (r : List IpAddr). 0 < length r) (sym a) some;
+  resolutions = subst (λ (r : List IpAddr). All (ResolutionHolds (terms_with patience r) core.greatest core.moment log) core.resolutions.items) (sym a)
+      (subst (λ (g : ℕ). All (ResolutionHolds (terms_with patience roots) g core.moment log) core.resolutions.items) (sym b)
+      (subst (λ (m : ℕ). All (ResolutionHolds (terms_with patience roots) greatest m log) core.resolutions.items) (sym c)
+      (subst (All (ResolutionHolds (terms_with patience roots) greatest moment log)) (sym e) all)));
+}
+
+-- new numbers and connections leave what is derived
+pub derived-set : (patience : ℕ) (a b : RecursorCore) (log : Log) → IsSetAs a b → Derived patience a log → Derived patience b log
+derived-set patience a b log h d =
+    derived-is patience b log a.roots a.greatest a.moment a.resolutions.items h.1 h.2 h.3 (ap (λ (rs : Vec Resolution). rs.items) h.0)
+    d.bound d.some d.resolutions

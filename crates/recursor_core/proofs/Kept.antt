@@ -1,17 +1,24 @@
 -- What was derived from a log is derived from a longer one, and after later entries.
-use Rattle.std.proofs.Common.{◌≡◌, ◌≤◌, ◌<◌, ◌+◌, ℕ, List, All, Result, Ok, Err, Option, Some, None, arith}
+use Rattle.std.proofs.Common.{◌≤◌, ◌+◌, ℕ, List, All, Result, Ok, Err, refl, arith}
 use Rattle.std.proofs.lemmas.List.Elements.{All-weaker}
 use Rattle.std.specs.declared.net.ip_addr.IpAddr.{IpAddr}
 use Rattle.dns_core.specs.Name.{DomainName}
 use Rattle.dns_core.specs.Log.{Log, Extends}
 use Rattle.dns_core.specs.declared.message.Query.{Query}
 use Rattle.dns_core.specs.declared.message.Message.{Message}
+use Rattle.dns_core.specs.declared.net_error.NetError.{NetError}
+use Rattle.dns_core.specs.declared.net_error.ForwardNsData.{ForwardNsData}
 use Rattle.dns_core.specs.declared.request.Question.{Question}
 use Rattle.std.specs.Prelude.{Bool}
-use Rattle.resolution.specs.Serving.{Serves}
-use Rattle.resolution.proofs.Keeping.{Serves-extend, Serves-later, Heard-extend, Base-extend, Answer-extend}
-use Rattle.dns_core.specs.declared.net_error.ForwardNsData.{ForwardNsData}
-use Rattle.recursor_core.specs.Causes.{IsDenied, IsReferred, HasNoServer, ErrorHolds}
+use Rattle.resolution.specs.Names.{question as question_for}
+use Rattle.resolution.specs.Answering.{Base}
+use Rattle.resolution.specs.Lookups.{End, Answered}
+use Rattle.resolution.specs.Ending.{EndSends, Finished}
+use Rattle.resolution.specs.declared.verdict.Verdict.{Verdict}
+use Rattle.resolution.proofs.Keeping.{Logged-extend, Base-extend, Answer-extend}
+use Rattle.resolution.proofs.FailuresKept.{Finished-extend, NoCut-extend, Walked-extend, Glueless-extend}
+use Rattle.recursor_core.specs.Plain.{IsPlainlyTold}
+use Rattle.recursor_core.specs.Causes.{WalksTo, IsDenied, IsReferred, HasFailed, HasNoAddress, HasTimedOut, HasNoServer, ErrorHolds}
 use Rattle.recursor_core.specs.Causes.IsDenied.{told as denial_told, made as denial_made, told_on_the_way, made_on_the_way}
 use Rattle.recursor_core.specs.Causes.IsReferred.{referred}
 use Rattle.recursor_core.specs.declared.error.AuthorityData.{AuthorityData}
@@ -19,94 +26,134 @@ use Rattle.recursor_core.specs.declared.error.WalkCause.{WalkCause}
 use Rattle.recursor_core.specs.declared.error.WalkCause.TheVariants as why
 use Rattle.recursor_core.specs.declared.error.RecursorError.{RecursorError}
 use Rattle.recursor_core.specs.declared.error.RecursorError.TheVariants as error
-use Rattle.recursor_core.specs.Replies.{given_of, IsToldAnswer, OutcomeHolds, ReplyHolds}
-use Rattle.recursor_core.specs.Derived.{AreServers, IsHeard, SendHolds, LookupHolds, WayHolds, WalkHolds, StateHolds, ResolutionHolds, Derived}
-use Rattle.recursor_core.specs.declared.lookup.Send.{Send}
-use Rattle.recursor_core.specs.declared.lookup.Send.TheVariants as send
-use Rattle.recursor_core.specs.declared.lookup.Lookup.{Lookup}
+use Rattle.recursor_core.specs.Replies.{Terms, given_of, IsToldAnswer, OutcomeHolds, ReplyHolds}
+use Rattle.recursor_core.specs.Tried.{IsTimed, machine_timer}
+use Rattle.recursor_core.specs.Derived.{Passed, WayHolds, StateHolds, ResolutionHolds, terms_of, Derived}
 use Rattle.recursor_core.specs.declared.reply.Reply.{Reply}
 use Rattle.recursor_core.specs.declared.walk.Walk.{Walk}
 use Rattle.recursor_core.specs.declared.resolving.State.{State}
 use Rattle.recursor_core.specs.declared.resolving.State.TheVariants.{Under, Done, Ended}
 use Rattle.recursor_core.specs.declared.resolving.Resolution.{Resolution}
 use Rattle.recursor_core.specs.declared.machine.RecursorCore.{RecursorCore}
+use Rattle.recursor_core.proofs.KeptLookups.{lookup-kept, pool-kept, began-kept}
 
-module _ (roots : List IpAddr) (log longer : Log) (x : Extends log longer) where
-  pub serves-kept : (n m : ℕ) (ip : IpAddr) (zone : DomainName) → n ≤ m → Serves (given_of roots) log n ip zone → Serves (given_of roots) longer m ip zone
-  serves-kept n m ip zone le s = Serves-later (given_of roots) longer le (Serves-extend (given_of roots) 1 log longer x s)
+-- a log has what it has
+pub same-log : (log : Log) → Extends log log
+same-log log = record { later = omega arith; kept = λ n h. refl }
 
-  pub servers-kept : (n m : ℕ) (zone : DomainName) (ips : List IpAddr) → n ≤ m → AreServers roots log n zone ips → AreServers roots longer m zone ips
-  servers-kept n m zone ips le = All-weaker (λ ip. Serves (given_of roots) log n ip zone) (λ ip. Serves (given_of roots) longer m ip zone) (λ ip. serves-kept n m ip zone le) ips
+module _ (terms : Terms) (log longer : Log) (x : Extends log longer) where
+  -- what is told plainly in the longer log was so in the shorter
+  plainly-before : IsPlainlyTold longer → IsPlainlyTold log
+  plainly-before plain i e h = plain i e (Logged-extend log longer x i e h)
 
-  pub heard-kept : (g g' t0 : ℕ) (zone : DomainName) (q : Query) (entry : ℕ) (message : Message) → g ≤ g' → IsHeard roots g t0 log zone q entry message → IsHeard roots g' t0 longer zone q entry message
-  heard-kept g g' t0 zone q entry message le h = record {
-    moment = h.moment;
-    early = let e = h.early in omega arith;
-    heard = Heard-extend (given_of roots) 1 log longer x h.heard;
-    late = h.late;
-    asked = h.asked;
+  -- the moments of a lookup are known by the longer log too
+  timed-kept : (t0 : ℕ) (q : Query) (ips : List IpAddr) (g moments : List ℕ) (ends : List (End IpAddr)) (start now : ℕ)
+      → EndSends (given_of terms) log q ips g ends moments → IsTimed log t0 q g ends moments start now → IsTimed longer t0 q g ends moments start now
+  timed-kept t0 q ips g moments ends start now s t = record {
+    some = t.some;
+    began = began-kept terms log longer x t0 q g ends start t.began;
+    answered = t.answered;
   }
 
-  pub send-kept : (g g' t0 : ℕ) (zone : DomainName) (q : Query) (s : Send) → g ≤ g' → SendHolds roots g t0 log zone q s → SendHolds roots g' t0 longer zone q s
-  send-kept g g' t0 zone q send.Ready le h = tt
-  send-kept g g' t0 zone q (send.Chosen ip) le h = serves-kept (g + 1) (g' + 1) ip zone (omega arith) h
-  send-kept g g' t0 zone q (send.Opening ip order polls) le h = serves-kept (g + 1) (g' + 1) ip zone (omega arith) h
-  send-kept g g' t0 zone q (send.Connected ip conn) le h = serves-kept (g + 1) (g' + 1) ip zone (omega arith) h
-  send-kept g g' t0 zone q (send.Asking ip order since polls) le h = (let e = h.0 in omega arith, serves-kept (since + 1) (since + 1) ip zone (omega arith) h.1)
-  send-kept g g' t0 zone q (send.Told entry message) le h = heard-kept g g' t0 zone q entry message le h
-  send-kept g g' t0 zone q (send.Failed entry error) le h = tt
+  -- a lookup that ended has ended by the longer log
+  finished-kept : (t0 : ℕ) (q : Query) (zone : DomainName) (g : List ℕ) (result : Answered)
+      → Finished (given_of terms) (machine_timer log t0) log t0 q zone g result
+      → Finished (given_of terms) (machine_timer longer t0) longer t0 q zone g result
+  finished-kept t0 q zone g result f =
+      Finished-extend (given_of terms) terms.patience (omega arith) log longer x (machine_timer log t0) (machine_timer longer t0) (timed-kept t0) (λ e. e) f
 
-  pub lookup-kept : (g g' t0 : ℕ) (zone : DomainName) (l : Lookup) → g ≤ g' → LookupHolds roots g t0 log zone l → LookupHolds roots g' t0 longer zone l
-  lookup-kept g g' t0 zone l le h = record {
+  -- a walk down to a zone
+  walks-kept : (q : Query) (zone : DomainName) → WalksTo (given_of terms) log q zone → WalksTo (given_of terms) longer q zone
+  walks-kept q zone w plain = Walked-extend (given_of terms) terms.patience (omega arith) log longer x q zone (w (plainly-before plain))
+
+  -- the candidates that were passed
+  passed-kept : (zone name : DomainName) (n : ℕ) → Passed terms log zone name n → Passed terms longer zone name n
+  passed-kept zone name n p plain k below above =
+      NoCut-extend (given_of terms) terms.patience (omega arith) log longer x (p (plainly-before plain) k below above)
+
+  -- the way of a walk
+  pub way-kept : (g g' : ℕ) (q : Query) (w : Walk) → g ≤ g' → WayHolds terms g log q w → WayHolds terms g' longer q w
+  way-kept g g' q w le h = record {
+    name = h.name;
     above = h.above;
-    servers = servers-kept (g + 1) (g' + 1) zone l.servers.items (omega arith) h.servers;
-    send = send-kept g g' t0 zone l.query l.send le h.send;
+    pool = pool-kept terms log longer x (g + 1) (g' + 1) w.zone w.servers (omega arith) h.pool;
+    stage = h.stage;
+    passed = passed-kept w.zone w.name _ h.passed;
   }
 
-  pub way-kept : (g g' : ℕ) (q : Query) (w : Walk) → g ≤ g' → WayHolds roots g log q w → WayHolds roots g' longer q w
-  way-kept g g' q w le h = record { name = h.name; above = h.above; servers = servers-kept (g + 1) (g' + 1) w.zone w.servers (omega arith) h.servers; stage = h.stage }
+  -- what counts of one entry
+  abbrev based : {t0 : ℕ} {q : Query} {i : ℕ} {z : DomainName} {v : Verdict} → Base (given_of terms) log t0 q i z v → Base (given_of terms) longer t0 q i z v
+  based b = Base-extend (given_of terms) terms.patience log longer x b
 
-  pub told-kept : (t0 : ℕ) (q : Query) (dnssec : Bool) (g : List ℕ) (r : Message) → IsToldAnswer (given_of roots) log t0 q dnssec g r → IsToldAnswer (given_of roots) longer t0 q dnssec g r
+  -- an answer that was told
+  told-kept : (t0 : ℕ) (q : Query) (dnssec : Bool) (g : List ℕ) (r : Message)
+      → IsToldAnswer (given_of terms) log t0 q dnssec g r → IsToldAnswer (given_of terms) longer t0 q dnssec g r
   told-kept t0 q dnssec g r a = record {
     entry = a.entry;
     zone = a.zone;
     kept = a.kept;
     only = a.only;
-    base = Base-extend (given_of roots) 1 log longer x a.base;
+    base = based a.base;
+    walked = walks-kept q a.zone a.walked;
     current = a.current;
     same = a.same;
-    answer = λ done. Answer-extend (given_of roots) 1 log longer x (a.answer done);
+    answer = λ done. Answer-extend (given_of terms) terms.patience log longer x (a.answer done);
   }
 
-  denied-kept : (t0 : ℕ) (q : Query) (g : List ℕ) (d : AuthorityData) → IsDenied (given_of roots) log t0 q g d → IsDenied (given_of roots) longer t0 q g d
-  denied-kept t0 q _ _ (denial_told b n) = denial_told (Base-extend (given_of roots) 1 log longer x b) n
-  denied-kept t0 q _ _ (denial_made b) = denial_made (Base-extend (given_of roots) 1 log longer x b)
-  denied-kept t0 q _ _ (told_on_the_way s c b e) = told_on_the_way s c (Base-extend (given_of roots) 1 log longer x b) e
-  denied-kept t0 q _ _ (made_on_the_way s c b) = made_on_the_way s c (Base-extend (given_of roots) 1 log longer x b)
+  -- a denial
+  denied-kept : (t0 : ℕ) (q : Query) (g : List ℕ) (d : AuthorityData) → IsDenied (given_of terms) log t0 q g d → IsDenied (given_of terms) longer t0 q g d
+  denied-kept t0 q _ _ (denial_told {z = z} b w n) = denial_told (based b) (walks-kept q z w) n
+  denied-kept t0 q _ _ (denial_made {z = z} b w) = denial_made (based b) (walks-kept q z w)
+  denied-kept t0 q _ _ (told_on_the_way {z = z} {c = c} s on b w e) = told_on_the_way s on (based b) (walks-kept (question_for c 2) z w) e
+  denied-kept t0 q _ _ (made_on_the_way {z = z} {c = c} s on b w) = made_on_the_way s on (based b) (walks-kept (question_for c 2) z w)
 
-  referred-kept : (t0 : ℕ) (q : Query) (g : List ℕ) (servers : List ForwardNsData) → IsReferred (given_of roots) log t0 q g servers → IsReferred (given_of roots) longer t0 q g servers
-  referred-kept t0 q _ servers (referred b n) = referred (Base-extend (given_of roots) 1 log longer x b) n
+  -- a referral
+  referred-kept : (t0 : ℕ) (q : Query) (g : List ℕ) (servers : List ForwardNsData)
+      → IsReferred (given_of terms) log t0 q g servers → IsReferred (given_of terms) longer t0 q g servers
+  referred-kept t0 q _ servers (referred {z = z} b w n) = referred (based b) (walks-kept q z w) n
 
-  server-kept : (t0 : ℕ) (q : Query) (cause : WalkCause) → HasNoServer (given_of roots) log t0 q cause → HasNoServer (given_of roots) longer t0 q cause
-  server-kept t0 q why.NoAddress h = record {
+  -- a failed lookup
+  failed-kept : (t0 : ℕ) (q : Query) (g : List ℕ) (e : NetError)
+      → HasFailed (given_of terms) (machine_timer log t0) log t0 q g e → HasFailed (given_of terms) (machine_timer longer t0) longer t0 q g e
+  failed-kept t0 q g e h = record {
+    zone = h.zone;
+    ended = finished-kept t0 q h.zone g (Err e) h.ended;
+    walked = Walked-extend (given_of terms) terms.patience (omega arith) log longer x q h.zone h.walked;
+  }
+
+  -- a zone without an address
+  no-address-kept : (t0 : ℕ) (q : Query) → HasNoAddress (given_of terms) log t0 q → HasNoAddress (given_of terms) longer t0 q
+  no-address-kept t0 q h = record {
     candidate = h.candidate;
     told = h.told;
     on_the_way = h.on_the_way;
-    glueless = record { i = h.glueless.i; z = h.glueless.z; base = Base-extend (given_of roots) 1 log longer x h.glueless.base; delegates = h.glueless.delegates; none = h.glueless.none };
+    glueless = Glueless-extend (given_of terms) terms.patience (omega arith) log longer x h.glueless;
   }
-  server-kept t0 q why.Timeout h = tt
+
+  -- servers that stayed silent
+  timed-out-kept : (t0 : ℕ) (q : Query)
+      → HasTimedOut (given_of terms) (machine_timer log t0) log t0 q → HasTimedOut (given_of terms) (machine_timer longer t0) longer t0 q
+  timed-out-kept t0 q h = record { candidate = h.candidate; on_the_way = h.on_the_way; g = h.g; failed = failed-kept t0 _ h.g _ h.failed }
+
+  -- why no server was found
+  server-kept : (t0 : ℕ) (q : Query) (cause : WalkCause)
+      → HasNoServer (given_of terms) (machine_timer log t0) log t0 q cause → HasNoServer (given_of terms) (machine_timer longer t0) longer t0 q cause
+  server-kept t0 q why.NoAddress h = no-address-kept t0 q h
+  server-kept t0 q why.Timeout h = λ plain. timed-out-kept t0 q (h (plainly-before plain))
   server-kept t0 q why.DepthLimit h = h
   server-kept t0 q why.Budget h = h
   server-kept t0 q why.ZoneEntries h = h
   server-kept t0 q why.Collision h = h
 
-  error-kept : (t0 : ℕ) (q : Query) (g : List ℕ) (e : RecursorError) → ErrorHolds (given_of roots) log t0 q g e → ErrorHolds (given_of roots) longer t0 q g e
+  -- an error and its cause
+  error-kept : (t0 : ℕ) (q : Query) (g : List ℕ) (e : RecursorError)
+      → ErrorHolds (given_of terms) (machine_timer log t0) log t0 q g e → ErrorHolds (given_of terms) (machine_timer longer t0) longer t0 q g e
   error-kept t0 q g (error.Message kind) h = h
   error-kept t0 q g (error.Negative d) h = denied-kept t0 q g d h
   error-kept t0 q g (error.ForwardNS servers) h = referred-kept t0 q g servers h
-  error-kept t0 q g (error.Net e) h = tt
-  error-kept t0 q g (error.NoNameServer zone cause) h = (h.0, server-kept t0 q cause h.1)
-  error-kept t0 q g error.NoMemory h = tt
+  error-kept t0 q g (error.Net e) h = λ plain. let before = h (plainly-before plain) in (before.0, failed-kept t0 q g e before.1)
+  error-kept t0 q g (error.NoNameServer zone cause) h = (h.0, h.1, server-kept t0 q cause h.2)
+  error-kept t0 q g error.NoMemory h = h
   error-kept t0 q g (error.MaxRecordLimitExceeded count kind) h = h
   error-kept t0 q g (error.Msg text) h = h
   error-kept t0 q g (error.Io kind) h = h
@@ -114,29 +161,51 @@ module _ (roots : List IpAddr) (log longer : Log) (x : Extends log longer) where
   error-kept t0 q g (error.RecursionLimitExceeded count) h = h
   error-kept t0 q g error.QueryBudgetExceeded h = h
 
-  outcome-kept : (t0 : ℕ) (question : Question) (g : List ℕ) (o : Result Message RecursorError) → OutcomeHolds (given_of roots) log t0 question g o → OutcomeHolds (given_of roots) longer t0 question g o
+  -- what is answered
+  outcome-kept : (t0 : ℕ) (question : Question) (g : List ℕ) (o : Result Message RecursorError)
+      → OutcomeHolds (given_of terms) (machine_timer log t0) log t0 question g o
+      → OutcomeHolds (given_of terms) (machine_timer longer t0) longer t0 question g o
   outcome-kept t0 question g (Ok m) h = told-kept t0 question.query question.dnssec_ok g m h
   outcome-kept t0 question g (Err e) h = error-kept t0 question.query g e h
 
-  pub reply-kept : (t0 : ℕ) (question : Question) (reply : Reply) → ReplyHolds roots log t0 question reply → ReplyHolds roots longer t0 question reply
+  -- a reply
+  pub reply-kept : (t0 : ℕ) (question : Question) (reply : Reply)
+      → ReplyHolds terms machine_timer log t0 question reply → ReplyHolds terms machine_timer longer t0 question reply
   reply-kept t0 question reply h = outcome-kept t0 question reply.grounds reply.outcome h
 
-  pub state-kept : (g g' t0 : ℕ) (question : Question) (s : State) → g ≤ g' → StateHolds roots g t0 log question s → StateHolds roots g' t0 longer question s
-  state-kept g g' t0 question (Under w) le h = record { way = way-kept g g' question.query w le h.way; lookup = lookup-kept g g' t0 w.zone w.lookup le h.lookup }
-  state-kept g g' t0 question (Done reply) le h = reply-kept t0 question reply h
-  state-kept g g' t0 question Ended le h = tt
+  -- where a resolution stands
+  state-kept : (g g' m m' t0 : ℕ) (question : Question) (s : State) → g ≤ g' → m ≤ m'
+      → StateHolds terms g m t0 log question s → StateHolds terms g' m' t0 longer question s
+  state-kept g g' m m' t0 question (Under w) le later h = record {
+    way = way-kept g g' question.query w le h.way;
+    lookup = lookup-kept terms log longer x g g' m m' t0 w.zone w.lookup le later h.lookup;
+  }
+  state-kept g g' m m' t0 question (Done reply) le later h = reply-kept t0 question reply h
+  state-kept g g' m m' t0 question Ended le later h = tt
 
-  pub resolution-kept : (g g' m m' : ℕ) (r : Resolution) → g ≤ g' → m ≤ m' → ResolutionHolds roots g m log r → ResolutionHolds roots g' m' longer r
-  resolution-kept g g' m m' r le later h = record { begun = let b = h.begun in omega arith; state = state-kept g g' r.begun r.question r.state le h.state }
+  -- a resolution
+  pub resolution-kept : (g g' m m' : ℕ) (r : Resolution) → g ≤ g' → m ≤ m' → ResolutionHolds terms g m log r → ResolutionHolds terms g' m' longer r
+  resolution-kept g g' m m' r le later h = record {
+    begun = let b = h.begun in omega arith;
+    state = state-kept g g' m m' r.begun r.question r.state le later h.state;
+  }
 
-  pub resolutions-kept : (g g' m m' : ℕ) (rs : List Resolution) → g ≤ g' → m ≤ m' → All (ResolutionHolds roots g m log) rs → All (ResolutionHolds roots g' m' longer) rs
-  resolutions-kept g g' m m' rs le later = All-weaker (ResolutionHolds roots g m log) (ResolutionHolds roots g' m' longer) (λ r. resolution-kept g g' m m' r le later) rs
+  -- all of them
+  pub resolutions-kept : (g g' m m' : ℕ) (rs : List Resolution) → g ≤ g' → m ≤ m'
+      → All (ResolutionHolds terms g m log) rs → All (ResolutionHolds terms g' m' longer) rs
+  resolutions-kept g g' m m' rs le later =
+      All-weaker (ResolutionHolds terms g m log) (ResolutionHolds terms g' m' longer) (λ r. resolution-kept g g' m m' r le later) rs
 
-pub ReplyHolds-extends : (roots : List IpAddr) (log longer : Log) (t0 : ℕ) (question : Question) (reply : Reply) → Extends log longer → ReplyHolds roots log t0 question reply → ReplyHolds roots longer t0 question reply
-ReplyHolds-extends roots log longer t0 question reply x h = reply-kept roots log longer x t0 question reply h
+-- a reply holds by a longer log
+pub ReplyHolds-extends : (terms : Terms) (log longer : Log) (t0 : ℕ) (question : Question) (reply : Reply) → Extends log longer
+    → ReplyHolds terms machine_timer log t0 question reply → ReplyHolds terms machine_timer longer t0 question reply
+ReplyHolds-extends terms log longer t0 question reply x h = reply-kept terms log longer x t0 question reply h
 
-pub Derived-extends : (core : RecursorCore) (log longer : Log) → Extends log longer → Derived core log → Derived core longer
-Derived-extends core log longer x d = record {
+-- what the machine keeps is derived from a longer log
+pub Derived-extends : (patience : ℕ) (core : RecursorCore) (log longer : Log) → Extends log longer → Derived patience core log → Derived patience core longer
+Derived-extends patience core log longer x d = record {
   bound = let b = d.bound in let l = x.later in omega arith;
-  resolutions = resolutions-kept core.roots log longer x core.greatest core.greatest core.moment core.moment core.resolutions.items (omega arith) (omega arith) d.resolutions;
+  some = d.some;
+  resolutions = resolutions-kept (terms_of patience core) log longer x core.greatest core.greatest core.moment core.moment core.resolutions.items
+      (omega arith) (omega arith) d.resolutions;
 }

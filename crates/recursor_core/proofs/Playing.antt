@@ -1,5 +1,5 @@
 -- The questions of a run, as their turns are played.
-use Rattle.std.proofs.Common.{◌≡◌, ◌≢◌, ◌≤◌, ◌<◌, ◌+◌, ◌-◌, ◌++◌, ◌∙◌, ◌⊎◌, ⊎_elim, inl, inr, ℕ, zero, suc, List, [], ◌∷◌, length, Option, Some, None, Err, refl, sym, ap, subst, arith, slice_get, if◌then◌else◌, eq-eqb, All}
+use Rattle.std.proofs.Common.{◌≡◌, ◌≢◌, ◌≤◌, ◌<◌, ◌+◌, ◌-◌, ◌++◌, ◌∙◌, ◌⊎◌, ⊎_elim, inl, inr, ℕ, zero, suc, max, List, [], ◌∷◌, length, get_or, Bool, true, false, MatchBool, Option, Some, None, Err, refl, sym, ap, subst, arith, slice_get, if◌then◌else◌, eq-eqb, All}
 use Rattle.std.proofs.Math.ListN.{set}
 use Rattle.std.proofs.lemmas.Bool.{ne_eqb}
 use Rattle.std.proofs.lemmas.Option.{same_Some, slice_get_within, get_or_from_slice_get}
@@ -10,11 +10,13 @@ use Rattle.dns_core.specs.declared.log.LogEntry.{LogEntry}
 use Rattle.dns_core.specs.declared.request.Question.{Question}
 use Rattle.dns_core.specs.declared.request.Turn.{Turn}
 use Rattle.dns_core.specs.declared.provider.ConnectionProvider.{Ghosts}
-use Rattle.recursor_core.specs.Replies.{ReplyHolds}
+use Rattle.recursor_core.specs.Replies.{Terms, Timer, ReplyHolds}
+use Rattle.recursor_core.specs.Tried.{machine_timer}
 use Rattle.recursor_core.specs.Carrying.{TellsThat, Grown}
+use Rattle.recursor_core.specs.Derived.{terms_of}
 use Rattle.recursor_core.specs.Machine.{Begun, begun_at}
-use Rattle.recursor_core.specs.Standing.{Moves, ReplyTold, first_moment, last_moment, begin_moment, PlayHolds, PlaysHold, RepliesHold}
-use Rattle.recursor_core.specs.Turns.{BeginsIf, BeginsAt, IsRefused, ReplyOf}
+use Rattle.recursor_core.specs.Standing.{Moves, ReplyTold, IsTimely, first_moment, last_moment, begin_moment, run_moments, run_timer, PlayHolds, PlaysHold, RepliesHold}
+use Rattle.recursor_core.specs.Turns.{Begins, BeginsIf, BeginsAt, IsRefused, ReplyOf}
 use Rattle.recursor_core.specs.declared.carrier.Carrier.{Carrier}
 use Rattle.recursor_core.specs.declared.error.RecursorError.TheVariants as error
 use Rattle.recursor_core.specs.declared.machine.RecursorCore.{RecursorCore}
@@ -23,172 +25,250 @@ use Rattle.recursor_core.specs.declared.turns.Played.{Played}
 use Rattle.recursor_core.specs.declared.turns.Played.TheVariants as played
 use Rattle.recursor_core.proofs.Earlier.{ReplyHolds-earlier}
 use Rattle.recursor_core.proofs.Standing.{ReplyHolds-grown, Grown-refl}
+use Rattle.recursor_core.proofs.Timed.{reply-timed}
 
+-- two numbers are equal, or not
 same_or_not : (k n : ℕ) → (k ≡ n) ⊎ (k ≢ n)
 same_or_not zero zero = inl refl
 same_or_not zero (suc n) = inr (λ e. omega arith)
 same_or_not (suc k) zero = inr (λ e. omega arith)
 same_or_not (suc k) (suc n) = ⊎_elim (λ e. inl (ap suc e)) (λ ne. inr (λ e. ne (omega arith))) (same_or_not k n)
 
+-- what is set at a place stands there
 slice_get-set_same : {X : Type 0} (xs : List X) (i : ℕ) (x : X) → i < length xs → slice_get (set xs i x) i ≡ Some x
 slice_get-set_same [] i x h = absurd (omega arith)
 slice_get-set_same (y ∷ xs) zero x h = refl
 slice_get-set_same (y ∷ xs) (suc i) x h = slice_get-set_same xs i x (omega arith)
 
-slice_get-set_other : {X : Type 0} (xs : List X) (i k : ℕ) (x : X) → k ≢ i → slice_get (set xs i x) k ≡ slice_get xs k
+-- and the other places stay
+pub slice_get-set_other : {X : Type 0} (xs : List X) (i k : ℕ) (x : X) → k ≢ i → slice_get (set xs i x) k ≡ slice_get xs k
 slice_get-set_other [] i k x h = refl
 slice_get-set_other (y ∷ xs) zero zero x h = absurd (h refl)
 slice_get-set_other (y ∷ xs) zero (suc k) x h = refl
 slice_get-set_other (y ∷ xs) (suc i) zero x h = refl
 slice_get-set_other (y ∷ xs) (suc i) (suc k) x h = slice_get-set_other xs i k x (λ e. h (ap suc e))
 
+-- what stands at a place
+pub get_here : {X : Type 0} (xs : List X) (i : ℕ) (x : X) → i < length xs → x ≡ get_or xs i x → slice_get xs i ≡ Some x
+get_here [] i x h e = absurd (omega arith)
+get_here (y ∷ ys) zero x h e = ap Some (sym e)
+get_here (y ∷ ys) (suc i) x h e = get_here ys i x (omega arith) e
+
 -- the first turn of a question is this one, or one of those after it
 first_here : (t : Turn) (rest : List Turn) (q : ℕ) → t.question ≡ q + 1 → first_moment (t ∷ rest) q ≡ Some t.moment
 first_here t rest q e = ap (λ b. if b then Some t.moment else first_moment rest q) (eq-eqb t.question (q + 1) e)
 
+-- the first turn of another question is one of those after it
 first_other : (t : Turn) (rest : List Turn) (q : ℕ) → t.question ≢ q + 1 → first_moment (t ∷ rest) q ≡ first_moment rest q
 first_other t rest q ne = ap (λ b. if b then Some t.moment else first_moment rest q) (ne_eqb t.question (q + 1) ne)
 
+-- the moment at which a question begins, by that of its first turn
 abbrev moment_of : (start : ℕ) (turns : List Turn) → Option ℕ → ℕ
-moment_of start turns found = elim found [ Some moment ↦ moment | None ↦ last_moment start turns ]
+moment_of start turns found = max start (elim found [ Some moment ↦ moment | None ↦ last_moment start turns ])
 
--- when the question of the next turn begins, and one of no turn
-begins_now : (start : ℕ) (turns rest : List Turn) (t : Turn) (q : ℕ) → t.question ≡ q + 1 → first_moment turns q ≡ first_moment (t ∷ rest) q → begin_moment start turns q ≡ t.moment
+-- when the question of the next turn begins
+begins_now : (start : ℕ) (turns rest : List Turn) (t : Turn) (q : ℕ) → t.question ≡ q + 1 → first_moment turns q ≡ first_moment (t ∷ rest) q
+    → begin_moment start turns q ≡ max start t.moment
 begins_now start turns rest t q e h = ap (moment_of start turns) (h ∙ first_here t rest q e)
 
-begins_last : (start : ℕ) (turns : List Turn) (q : ℕ) → first_moment turns q ≡ None → begin_moment start turns q ≡ last_moment start turns
+-- and one of no turn
+begins_last : (start : ℕ) (turns : List Turn) (q : ℕ) → first_moment turns q ≡ None → begin_moment start turns q ≡ max start (last_moment start turns)
 begins_last start turns q h = ap (moment_of start turns) h
 
-memory_holds : (roots : List IpAddr) (log : Log) (moment : ℕ) (question : Question) (reply : Reply) → reply.outcome ≡ Err error.NoMemory → ReplyHolds roots log moment question reply
-memory_holds roots log moment question reply h = rw h tt
+-- a maximum is no less than the first
+larger : (a b : ℕ) → a ≤ max a b
+larger a b = omega arith
 
-refused_holds : (roots : List IpAddr) (log : Log) (moment : ℕ) (question : Question) (reply : Reply) → IsRefused question reply → ReplyHolds roots log moment question reply
-refused_holds roots log moment question reply = ⊎_elim (memory_holds roots log moment question reply) (λ h. rw h.0 (refl, h.1))
+-- no question begins before the run
+begins_in_run : (start : ℕ) (turns : List Turn) (q : ℕ) → start ≤ begin_moment start turns q
+begins_in_run start turns q = larger start _
+
+-- want of memory may always be answered, with no grounds
+memory_holds : (terms : Terms) (timer : Timer) (log : Log) (moment : ℕ) (question : Question) (reply : Reply) → reply.outcome ≡ Err error.NoMemory
+    → reply.grounds ≡ [] → ReplyHolds terms timer log moment question reply
+memory_holds terms timer log moment question reply h none = rw h none
+
+-- a question is refused for its cause
+refused_holds : (terms : Terms) (timer : Timer) (log : Log) (moment : ℕ) (question : Question) (reply : Reply) → IsRefused question reply
+    → ReplyHolds terms timer log moment question reply
+refused_holds terms timer log moment question reply r = ⊎_elim (λ h. memory_holds terms timer log moment question reply h r.0) (λ h. rw h.0 (refl, h.1, r.0)) r.1
+
+-- a question that waits begins at its place
+pub begins_waiting : (questions : List Question) (plays : List Played) (q now : ℕ) (core : RecursorCore) (question : Question) (new : Played)
+    → slice_get questions q ≡ Some question → slice_get plays q ≡ Some played.Waiting → Begins question now core new
+    → BeginsAt questions q now core (slice_get plays q) (slice_get (set plays q new) q)
+begins_waiting questions plays q now core question new asks waits b =
+    rw (asks, waits, slice_get-set_same plays q new (slice_get_within plays q played.Waiting waits)) b
+
+-- one that does not wait stays as it is
+pub begins_else : (question : Option Question) (now : ℕ) (core : RecursorCore) (old : Option Played) → (old ≡ Some played.Waiting → ⊥)
+    → BeginsIf question now core old old
+begins_else None now core old ne = refl
+begins_else (Some x) now core None ne = refl
+begins_else (Some x) now core (Some played.Waiting) ne = absurd (ne refl)
+begins_else (Some x) now core (Some (played.Begun r)) ne = refl
+begins_else (Some x) now core (Some (played.Answered a)) ne = refl
+
+-- where there was a turn, less is left
+pub work_then : (busy : Bool) (new mid old : ℕ) → MatchBool busy (mid < old) (mid ≤ old) → new < mid → new < old
+work_then true new mid old h less = omega arith
+work_then false new mid old h less = omega arith
+
+-- where there was none, what is left is no more
+pub work_else : (busy : Bool) (new mid old : ℕ) → MatchBool busy (mid < old) (mid ≤ old) → new ≤ mid → MatchBool busy (new < old) (new ≤ old)
+work_else true new mid old h le = omega arith
+work_else false new mid old h le = omega arith
 
 -- a question that goes on as it was
-play_on : (core new : RecursorCore) (told later : Option (List LogEntry)) (start : ℕ) (turns rest left : List Turn) (q : ℕ) (question : Question) (p : Played)
-    → new.roots ≡ core.roots → ((k : ℕ) (b : Begun) → begun_at core k ≡ Some b → begun_at new k ≡ Some b) → Grown told later
+play_on : (patience now : ℕ) (core new : RecursorCore) (told later : Option (List LogEntry)) (start : ℕ) (turns rest left : List Turn) (q : ℕ)
+    (question : Question) (p : Played)
+    → new.roots ≡ core.roots → ((k : ℕ) (b : Begun) → begun_at core k ≡ Some b → begun_at new k ≡ Some b) → Grown now told later
     → (p ≡ played.Waiting → first_moment rest q ≡ first_moment left q)
-    → PlayHolds core told start turns rest q question p → PlayHolds new later start turns left q question p
-play_on core new told later start turns rest left q question played.Waiting roots begun grown same h = h ∙ same refl
-play_on core new told later start turns rest left q question (played.Begun r) roots begun grown same h = record { begun = h.begun; is = begun r h.begun h.is; question = h.question; late = h.late }
-play_on core new told later start turns rest left q question (played.Answered reply) roots begun grown same h =
-    subst (λ (ips : List IpAddr). TellsThat later (λ log. ReplyHolds ips log (begin_moment start turns q) question reply)) (sym roots)
-    (ReplyHolds-grown core.roots (begin_moment start turns q) question reply told later grown h)
+    → PlayHolds patience core told start turns rest q question p → PlayHolds patience new later start turns left q question p
+play_on patience now core new told later start turns rest left q question played.Waiting roots begun grown same h = h ∙ same refl
+play_on patience now core new told later start turns rest left q question (played.Begun r) roots begun grown same h =
+    record { begun = h.begun; is = begun r h.begun h.is; question = h.question; late = h.late }
+play_on patience now core new told later start turns rest left q question (played.Answered reply) roots begun grown same h =
+    subst (λ (ips : List IpAddr). TellsThat later (λ log. ReplyHolds (record { roots = ips; patience = patience }) machine_timer log
+    (begin_moment start turns q) question reply)) (sym roots)
+    (ReplyHolds-grown now (terms_of patience core) (begin_moment start turns q) question reply told later grown h)
 
 -- a question at the place where one begins
-begin_here : (core new : RecursorCore) (told : Option (List LogEntry)) (start : ℕ) (turns rest left : List Turn) (q now : ℕ) (question : Question) (old : Option Played) (p : Played)
+begin_here : (patience : ℕ) (core new : RecursorCore) (told : Option (List LogEntry)) (start : ℕ) (turns rest left : List Turn) (q now : ℕ)
+    (question : Question) (old : Option Played) (p : Played)
     → new.roots ≡ core.roots → ((k : ℕ) (b : Begun) → begun_at core k ≡ Some b → begun_at new k ≡ Some b)
     → (first_moment turns q ≡ first_moment rest q → begin_moment start turns q ≤ now)
-    → BeginsIf (Some question) now new old (Some p) → ((was : Played) → old ≡ Some was → PlayHolds core told start turns rest q question was)
-    → PlayHolds new told start turns left q question p
-begin_here core new told start turns rest left q now question None p roots begun due begins h = cc
-begin_here core new told start turns rest left q now question (Some played.Waiting) played.Waiting roots begun due begins h = absurd begins
-begin_here core new told start turns rest left q now question (Some played.Waiting) (played.Begun r) roots begun due begins h =
+    → BeginsIf (Some question) now new old (Some p) → ((was : Played) → old ≡ Some was → PlayHolds patience core told start turns rest q question was)
+    → PlayHolds patience new told start turns left q question p
+begin_here patience core new told start turns rest left q now question None p roots begun due begins h = cc
+begin_here patience core new told start turns rest left q now question (Some played.Waiting) played.Waiting roots begun due begins h = absurd begins
+begin_here patience core new told start turns rest left q now question (Some played.Waiting) (played.Begun r) roots begun due begins h =
     record { begun = record { question = question; moment = now }; is = begins; question = refl; late = due (h played.Waiting refl) }
-begin_here core new told start turns rest left q now question (Some played.Waiting) (played.Answered reply) roots begun due begins h =
-    λ es t. refused_holds new.roots (log_of es) (begin_moment start turns q) question reply begins
-begin_here core new told start turns rest left q now question (Some (played.Begun r)) p roots begun due begins h =
-    subst (λ (x : Played). PlayHolds new told start turns left q question x) (sym (same_Some _ _ begins))
-    (play_on core new told told start turns rest left q question (played.Begun r) roots begun (Grown-refl told) (λ e. cc) (h (played.Begun r) refl))
-begin_here core new told start turns rest left q now question (Some (played.Answered reply)) p roots begun due begins h =
-    subst (λ (x : Played). PlayHolds new told start turns left q question x) (sym (same_Some _ _ begins))
-    (play_on core new told told start turns rest left q question (played.Answered reply) roots begun (Grown-refl told) (λ e. cc) (h (played.Answered reply) refl))
+begin_here patience core new told start turns rest left q now question (Some played.Waiting) (played.Answered reply) roots begun due begins h =
+    λ es t. refused_holds (terms_of patience new) machine_timer (log_of es) (begin_moment start turns q) question reply begins
+begin_here patience core new told start turns rest left q now question (Some (played.Begun r)) p roots begun due begins h =
+    subst (λ (x : Played). PlayHolds patience new told start turns left q question x) (sym (same_Some _ _ begins))
+    (play_on patience now core new told told start turns rest left q question (played.Begun r) roots begun (Grown-refl now told) (λ e. cc) (h (played.Begun r) refl))
+begin_here patience core new told start turns rest left q now question (Some (played.Answered reply)) p roots begun due begins h =
+    subst (λ (x : Played). PlayHolds patience new told start turns left q question x) (sym (same_Some _ _ begins))
+    (play_on patience now core new told told start turns rest left q question (played.Answered reply) roots begun (Grown-refl now told) (λ e. cc)
+    (h (played.Answered reply) refl))
 
 -- Where a question waits at the place it begins, if its moment has come; the others go on.
-begins_hold : (core new : RecursorCore) (told : Option (List LogEntry)) (start : ℕ) (turns rest left : List Turn) (questions : List Question) (old plays : List Played) (q now : ℕ)
+begins_hold : (patience : ℕ) (core new : RecursorCore) (told : Option (List LogEntry)) (start : ℕ) (turns rest left : List Turn) (questions : List Question)
+    (old plays : List Played) (q now : ℕ)
     → new.roots ≡ core.roots → ((k : ℕ) (b : Begun) → begun_at core k ≡ Some b → begun_at new k ≡ Some b)
     → ((k : ℕ) → k ≢ q → slice_get plays k ≡ slice_get old k)
     → BeginsAt questions q now new (slice_get old q) (slice_get plays q)
     → ((k : ℕ) → k ≢ q → first_moment rest k ≡ first_moment left k)
     → (first_moment turns q ≡ first_moment rest q → begin_moment start turns q ≤ now)
-    → PlaysHold core told start turns rest questions old → PlaysHold new told start turns left questions plays
-begins_hold core new told start turns rest left questions old plays q now roots begun others begins after due h k question p asks plays_p = ⊎_elim
+    → PlaysHold patience core told start turns rest questions old → PlaysHold patience new told start turns left questions plays
+begins_hold patience core new told start turns rest left questions old plays q now roots begun others begins after due h k question p asks plays_p = ⊎_elim
     (λ (same : k ≡ q).
     let asks_q : slice_get questions q ≡ Some question = subst (λ i. slice_get questions i ≡ Some question) same asks in
     let plays_q : slice_get plays q ≡ Some p = subst (λ i. slice_get plays i ≡ Some p) same plays_p in
     let at_q : BeginsIf (Some question) now new (slice_get old q) (Some p) = rw (asks_q, plays_q) at begins in
-    subst (λ i. PlayHolds new told start turns left i question p) (sym same)
-    (begin_here core new told start turns rest left q now question (slice_get old q) p roots begun due at_q (λ was e. h q question was asks_q e)))
-    (λ ne. play_on core new told told start turns rest left k question p roots begun (Grown-refl told) (λ e. after k ne) (h k question p asks (sym (others k ne) ∙ plays_p)))
+    subst (λ i. PlayHolds patience new told start turns left i question p) (sym same)
+    (begin_here patience core new told start turns rest left q now question (slice_get old q) p roots begun due at_q (λ was e. h q question was asks_q e)))
+    (λ ne. play_on patience now core new told told start turns rest left k question p roots begun (Grown-refl now told) (λ e. after k ne)
+    (h k question p asks (sym (others k ne) ∙ plays_p)))
     (same_or_not k q)
 
-module _ {P C F E : Type 0} (p : Ghosts P C F E) (core new : RecursorCore) (c later : Carrier P C F E p) (moves : Moves p core new c later) where
+module _ {P C F E : Type 0} (p : Ghosts P C F E) (patience now : ℕ) (core new : RecursorCore) (c later : Carrier P C F E p)
+    (moves : Moves p now core new c later) where
   -- the questions go on while the machine and the provider do
   pub plays_moved : (start : ℕ) (turns rest : List Turn) (questions : List Question) (plays : List Played)
-      → PlaysHold core (p.log c.provider) start turns rest questions plays → PlaysHold new (p.log later.provider) start turns rest questions plays
+      → PlaysHold patience core (p.log c.provider) start turns rest questions plays → PlaysHold patience new (p.log later.provider) start turns rest questions plays
   plays_moved start turns rest questions plays h q question play asks at =
-      play_on core new (p.log c.provider) (p.log later.provider) start turns rest rest q question play moves.roots moves.begun moves.grown (λ e. refl) (h q question play asks at)
+      play_on patience now core new (p.log c.provider) (p.log later.provider) start turns rest rest q question play moves.roots moves.begun moves.grown
+      (λ e. refl) (h q question play asks at)
 
   -- one has its reply
   pub plays_answered : (start : ℕ) (turns rest : List Turn) (questions : List Question) (plays : List Played) (q r : ℕ) (reply : Reply)
-      → slice_get plays q ≡ Some (played.Begun r) → ReplyTold core.roots (p.log later.provider) (begun_at core r) reply
-      → PlaysHold core (p.log c.provider) start turns rest questions plays → PlaysHold new (p.log later.provider) start turns rest questions (set plays q (played.Answered reply))
+      → slice_get plays q ≡ Some (played.Begun r) → ReplyTold (terms_of patience core) (p.log later.provider) (begun_at core r) reply
+      → PlaysHold patience core (p.log c.provider) start turns rest questions plays
+      → PlaysHold patience new (p.log later.provider) start turns rest questions (set plays q (played.Answered reply))
   plays_answered start turns rest questions plays q r reply at told h k question play asks play_k = ⊎_elim
       (λ (same : k ≡ q).
       let told_now = p.log later.provider in
       let asks_q : slice_get questions q ≡ Some question = subst (λ i. slice_get questions i ≡ Some question) same asks in
-      let is : play ≡ played.Answered reply = same_Some _ _ (sym play_k ∙ (ap (slice_get (set plays q (played.Answered reply))) same ∙ slice_get-set_same plays q (played.Answered reply) (slice_get_within plays q _ at))) in
+      let is : play ≡ played.Answered reply = same_Some _ _ (sym play_k ∙
+      (ap (slice_get (set plays q (played.Answered reply))) same ∙ slice_get-set_same plays q (played.Answered reply) (slice_get_within plays q _ at))) in
       let f = h q question (played.Begun r) asks_q at in
       let b = f.begun in
-      let holds : TellsThat told_now (λ log. ReplyHolds core.roots log b.moment b.question reply) = rw f.is at told in
-      let given : PlayHolds new told_now start turns rest q question (played.Answered reply) = λ es t.
-      ReplyHolds-earlier new.roots (log_of es) (begin_moment start turns q) b.moment question reply f.late
-      (subst (λ (ips : List IpAddr). ReplyHolds ips (log_of es) b.moment question reply) (sym moves.roots)
-      (subst (λ (x : Question). ReplyHolds core.roots (log_of es) b.moment x reply) f.question (holds es t))) in
-      subst (λ i. PlayHolds new told_now start turns rest i question play) (sym same)
-      (subst (λ (x : Played). PlayHolds new told_now start turns rest q question x) (sym is) given))
+      let holds : TellsThat told_now (λ log. ReplyHolds (terms_of patience core) machine_timer log b.moment b.question reply) = rw f.is at told in
+      let given : PlayHolds patience new told_now start turns rest q question (played.Answered reply) = λ es t.
+      ReplyHolds-earlier (terms_of patience new) (log_of es) (begin_moment start turns q) b.moment question reply f.late
+      (subst (λ (ips : List IpAddr). ReplyHolds (record { roots = ips; patience = patience }) machine_timer (log_of es) b.moment question reply) (sym moves.roots)
+      (subst (λ (x : Question). ReplyHolds (terms_of patience core) machine_timer (log_of es) b.moment x reply) f.question (holds es t))) in
+      subst (λ i. PlayHolds patience new told_now start turns rest i question play) (sym same)
+      (subst (λ (x : Played). PlayHolds patience new told_now start turns rest q question x) (sym is) given))
       (λ ne. plays_moved start turns rest questions plays h k question play asks (sym (slice_get-set_other plays q k (played.Answered reply) ne) ∙ play_k))
       (same_or_not k q)
 
-reply_of_play : (core : RecursorCore) (told : Option (List LogEntry)) (start : ℕ) (turns rest : List Turn) (q : ℕ) (question : Question) (found : Option Played) (reply : Reply) (es : List LogEntry)
-    → told ≡ Some es → ReplyOf found reply → ((p : Played) → found ≡ Some p → PlayHolds core told start turns rest q question p)
-    → ReplyHolds core.roots (log_of es) (begin_moment start turns q) question reply
-reply_of_play core told start turns rest q question None reply es t of h = memory_holds core.roots (log_of es) (begin_moment start turns q) question reply of
-reply_of_play core told start turns rest q question (Some played.Waiting) reply es t of h = memory_holds core.roots (log_of es) (begin_moment start turns q) question reply of
-reply_of_play core told start turns rest q question (Some (played.Begun r)) reply es t of h = memory_holds core.roots (log_of es) (begin_moment start turns q) question reply of
-reply_of_play core told start turns rest q question (Some (played.Answered a)) reply es t of h =
-    subst (λ (x : Reply). ReplyHolds core.roots (log_of es) (begin_moment start turns q) question x) (sym of) (h (played.Answered a) refl es t)
+-- the reply that a question is given at last
+reply_of_play : (patience : ℕ) (core : RecursorCore) (told : Option (List LogEntry)) (start : ℕ) (turns rest : List Turn) (q : ℕ) (question : Question)
+    (found : Option Played) (reply : Reply) (es : List LogEntry)
+    → told ≡ Some es → IsTimely start (run_moments start turns) (log_of es) → ReplyOf found reply
+    → ((p : Played) → found ≡ Some p → PlayHolds patience core told start turns rest q question p)
+    → ReplyHolds (terms_of patience core) (run_timer start turns) (log_of es) (begin_moment start turns q) question reply
+reply_of_play patience core told start turns rest q question None reply es t timely of h =
+    memory_holds (terms_of patience core) (run_timer start turns) (log_of es) (begin_moment start turns q) question reply of.0 of.1
+reply_of_play patience core told start turns rest q question (Some played.Waiting) reply es t timely of h =
+    memory_holds (terms_of patience core) (run_timer start turns) (log_of es) (begin_moment start turns q) question reply of.0 of.1
+reply_of_play patience core told start turns rest q question (Some (played.Begun r)) reply es t timely of h =
+    memory_holds (terms_of patience core) (run_timer start turns) (log_of es) (begin_moment start turns q) question reply of.0 of.1
+reply_of_play patience core told start turns rest q question (Some (played.Answered a)) reply es t timely of h =
+    subst (λ (x : Reply). ReplyHolds (terms_of patience core) (run_timer start turns) (log_of es) (begin_moment start turns q) question x) (sym of)
+    (reply-timed (terms_of patience core) (log_of es) start turns (begin_moment start turns q) question a timely (begins_in_run start turns q)
+    (h (played.Answered a) refl es t))
 
 -- the replies that are given hold
-pub replies_hold : (core : RecursorCore) (told : Option (List LogEntry)) (start : ℕ) (turns rest : List Turn) (questions : List Question) (plays : List Played) (replies : List Reply)
-    → PlaysHold core told start turns rest questions plays
+pub replies_hold : (patience : ℕ) (core : RecursorCore) (told : Option (List LogEntry)) (start : ℕ) (turns rest : List Turn) (questions : List Question)
+    (plays : List Played) (replies : List Reply)
+    → TellsThat told (IsTimely start (run_moments start turns))
+    → PlaysHold patience core told start turns rest questions plays
     → ((q : ℕ) (reply : Reply) → slice_get replies q ≡ Some reply → ReplyOf (slice_get plays q) reply)
-    → TellsThat told (λ log. RepliesHold core.roots log start turns questions replies)
-replies_hold core told start turns rest questions plays replies h of es t q question reply asks at =
-    reply_of_play core told start turns rest q question (slice_get plays q) reply es t (of q reply at) (λ p e. h q question p asks e)
+    → TellsThat told (λ log. RepliesHold (terms_of patience core) log start turns questions replies)
+replies_hold patience core told start turns rest questions plays replies timely h of es t q question reply asks at =
+    reply_of_play patience core told start turns rest q question (slice_get plays q) reply es t (timely es t) (of q reply at) (λ p e. h q question p asks e)
 
 -- before the first turn each question waits
-pub plays_wait : (core : RecursorCore) (told : Option (List LogEntry)) (start : ℕ) (turns : List Turn) (questions : List Question) (plays : List Played)
-    → All (λ p. p ≡ played.Waiting) plays → PlaysHold core told start turns turns questions plays
-plays_wait core told start turns questions plays waits q question p asks at =
+pub plays_wait : (patience : ℕ) (core : RecursorCore) (told : Option (List LogEntry)) (start : ℕ) (turns : List Turn) (questions : List Question)
+    (plays : List Played)
+    → All (λ p. p ≡ played.Waiting) plays → PlaysHold patience core told start turns turns questions plays
+plays_wait patience core told start turns questions plays waits q question p asks at =
     let read = get_or_from_slice_get plays q p p at in
     let is : p ≡ played.Waiting = sym read ∙ All-get_or (λ x. x ≡ played.Waiting) plays q p (slice_get_within plays q p at) waits in
-    subst (λ (x : Played). PlayHolds core told start turns turns q question x) (sym is) refl
+    subst (λ (x : Played). PlayHolds patience core told start turns turns q question x) (sym is) refl
 
 -- a turn that names no question changes none
-pub plays_skip : (core : RecursorCore) (told : Option (List LogEntry)) (start : ℕ) (turns rest : List Turn) (t : Turn) (questions : List Question) (plays : List Played) → t.question ≡ 0
-    → PlaysHold core told start turns (t ∷ rest) questions plays → PlaysHold core told start turns rest questions plays
-plays_skip core told start turns rest t questions plays none h q question p asks at =
-    play_on core core told told start turns (t ∷ rest) rest q question p refl (λ k b e. e) (Grown-refl told) (λ e. first_other t rest q (λ named. omega arith)) (h q question p asks at)
+pub plays_skip : (patience : ℕ) (core : RecursorCore) (told : Option (List LogEntry)) (start : ℕ) (turns rest : List Turn) (t : Turn)
+    (questions : List Question) (plays : List Played) → t.question ≡ 0
+    → PlaysHold patience core told start turns (t ∷ rest) questions plays → PlaysHold patience core told start turns rest questions plays
+plays_skip patience core told start turns rest t questions plays none h q question p asks at =
+    play_on patience 0 core core told told start turns (t ∷ rest) rest q question p refl (λ k b e. e) (Grown-refl 0 told)
+    (λ e. first_other t rest q (λ named. omega arith)) (h q question p asks at)
 
 -- at its turn a question begins, if it waits
-pub plays_turn : (core new : RecursorCore) (told : Option (List LogEntry)) (start : ℕ) (turns rest : List Turn) (t : Turn) (questions : List Question) (old plays : List Played) (q now : ℕ)
-    → t.question ≡ q + 1 → t.moment ≤ now → new.roots ≡ core.roots → ((k : ℕ) (b : Begun) → begun_at core k ≡ Some b → begun_at new k ≡ Some b)
+pub plays_turn : (patience : ℕ) (core new : RecursorCore) (told : Option (List LogEntry)) (start : ℕ) (turns rest : List Turn) (t : Turn)
+    (questions : List Question) (old plays : List Played) (q now : ℕ)
+    → t.question ≡ q + 1 → start ≤ now → t.moment ≤ now → new.roots ≡ core.roots → ((k : ℕ) (b : Begun) → begun_at core k ≡ Some b → begun_at new k ≡ Some b)
     → ((k : ℕ) → k ≢ q → slice_get plays k ≡ slice_get old k) → BeginsAt questions q now new (slice_get old q) (slice_get plays q)
-    → PlaysHold core told start turns (t ∷ rest) questions old → PlaysHold new told start turns rest questions plays
-plays_turn core new told start turns rest t questions old plays q now names due roots begun others begins h =
-    begins_hold core new told start turns (t ∷ rest) rest questions old plays q now roots begun others begins
-    (λ k ne. first_other t rest k (λ named. ne (omega arith))) (λ e. let is = begins_now start turns rest t q names e in omega (arith, is, due)) h
+    → PlaysHold patience core told start turns (t ∷ rest) questions old → PlaysHold patience new told start turns rest questions plays
+plays_turn patience core new told start turns rest t questions old plays q now names after due roots begun others begins h =
+    begins_hold patience core new told start turns (t ∷ rest) rest questions old plays q now roots begun others begins
+    (λ k ne. first_other t rest k (λ named. ne (omega arith))) (λ e. let is = begins_now start turns rest t q names e in omega (arith, is, after, due)) h
 
 -- after the turns a question begins that waits still
-pub plays_end : (core new : RecursorCore) (told : Option (List LogEntry)) (start : ℕ) (turns : List Turn) (questions : List Question) (old plays : List Played) (q now : ℕ)
-    → last_moment start turns ≤ now → new.roots ≡ core.roots → ((k : ℕ) (b : Begun) → begun_at core k ≡ Some b → begun_at new k ≡ Some b)
+pub plays_end : (patience : ℕ) (core new : RecursorCore) (told : Option (List LogEntry)) (start : ℕ) (turns : List Turn) (questions : List Question)
+    (old plays : List Played) (q now : ℕ)
+    → start ≤ now → last_moment start turns ≤ now → new.roots ≡ core.roots → ((k : ℕ) (b : Begun) → begun_at core k ≡ Some b → begun_at new k ≡ Some b)
     → ((k : ℕ) → k ≢ q → slice_get plays k ≡ slice_get old k) → BeginsAt questions q now new (slice_get old q) (slice_get plays q)
-    → PlaysHold core told start turns [] questions old → PlaysHold new told start turns [] questions plays
-plays_end core new told start turns questions old plays q now due roots begun others begins h =
-    begins_hold core new told start turns [] [] questions old plays q now roots begun others begins
-    (λ k ne. refl) (λ e. let is = begins_last start turns q e in omega (arith, is, due)) h
+    → PlaysHold patience core told start turns [] questions old → PlaysHold patience new told start turns [] questions plays
+plays_end patience core new told start turns questions old plays q now after due roots begun others begins h =
+    begins_hold patience core new told start turns [] [] questions old plays q now roots begun others begins
+    (λ k ne. refl) (λ e. let is = begins_last start turns q e in omega (arith, is, after, due)) h
 
 -- the last turn is at the last moment
 pub last_is : (start : ℕ) (turns : List Turn) (t : Turn) → Some t ≡ slice_get turns (length turns - 1) → t.moment ≡ last_moment start turns

@@ -1,5 +1,5 @@
 -- A question that is answered is under way no more.
-use Rattle.std.proofs.Common.{◌≡◌, ◌<◌, ℕ, zero, suc, List, [], ◌∷◌, length, get_or, Some, arith, sym, ap, slice_get, sum_by}
+use Rattle.std.proofs.Common.{◌≡◌, ◌<◌, ℕ, zero, suc, List, [], ◌∷◌, length, get_or, Some, arith, ap, slice_get}
 use Rattle.std.proofs.Math.ListN.{set}
 use Rattle.std.proofs.lemmas.List.Sums.{sum_by-set}
 use Rattle.recursor_core.specs.Turns.{open_play, open_plays}
@@ -7,17 +7,21 @@ use Rattle.recursor_core.specs.declared.reply.Reply.{Reply}
 use Rattle.recursor_core.specs.declared.turns.Played.{Played}
 use Rattle.recursor_core.specs.declared.turns.Played.TheVariants as played
 
+-- what a list has at a place is read there
 found : (xs : List Played) (q : ℕ) (p d : Played) → slice_get xs q ≡ Some p → get_or xs q d ≡ p
 found [] q p d h = cc
 found (x ∷ xs) zero p d h = cc
 found (x ∷ xs) (suc q) p d h = found xs q p d h
 
+-- a place that has something is in the list
 within : (xs : List Played) (q : ℕ) (p : Played) → slice_get xs q ≡ Some p → q < length xs
 within [] q p h = cc
 within (x ∷ xs) zero p h = omega arith
 within (x ∷ xs) (suc q) p h = let inner = within xs q p h in omega arith
 
-pub answered_falls : (xs : List Played) (q r : ℕ) (reply : Reply) → slice_get xs q ≡ Some (played.Begun r) → open_plays (set xs q (played.Answered reply)) < open_plays xs
+-- where a question that is under way is answered, one fewer is under way
+pub answered_falls : (xs : List Played) (q r : ℕ) (reply : Reply) → slice_get xs q ≡ Some (played.Begun r)
+    → open_plays (set xs q (played.Answered reply)) < open_plays xs
 answered_falls xs q r reply h =
     let was = found xs q (played.Begun r) (played.Begun r) h in
     let moved = sum_by-set open_play xs q (played.Answered reply) (played.Begun r) (within xs q _ h) in

@@ -1,5 +1,6 @@
 -- Ranks of resolutions, and of a list of them in which one is changed.
-use Rattle.std.proofs.Common.{◌≡◌, ◌≢◌, ◌≤◌, ◌<◌, ◌+◌, ◌*◌, ℕ, zero, suc, List, [], ◌∷◌, length, get_or, Option, Some, None, refl, arith, sym, ap, slice_get, sum_by, ◌⊎◌, inl, inr}
+use Rattle.std.proofs.Common.{◌≡◌, ◌≢◌, ◌≤◌, ◌<◌, ◌+◌, ◌*◌, ℕ, zero, suc, List, [], ◌∷◌, length, get_or, Some, None, refl, arith, sym, ap}
+use Rattle.std.specs.Prelude.{slice_get, sum_by}
 use Rattle.std.proofs.Math.ListN.{set}
 use Rattle.std.proofs.Math.Nat.{mul-le-mul_left}
 use Rattle.std.proofs.lemmas.List.Sums.{sum_by-set}
@@ -8,27 +9,28 @@ use Rattle.std.specs.declared.net.ip_addr.IpAddr.{IpAddr}
 use Rattle.recursor_core.specs.Lookup.{polls_left}
 use Rattle.recursor_core.specs.declared.lookup.Send.{Send}
 use Rattle.recursor_core.specs.declared.lookup.Send.TheVariants as send
-use Rattle.recursor_core.specs.declared.order.After.{After}
-use Rattle.recursor_core.specs.declared.order.After.TheVariants as after
-use Rattle.recursor_core.specs.Resolving.{rank, steps, state_polls, order_of, want_of}
+use Rattle.recursor_core.specs.Resolving.{rank, steps, state_polls, order_of}
 use Rattle.recursor_core.specs.declared.resolving.State.{State}
 use Rattle.recursor_core.specs.declared.resolving.State.TheVariants.{Under, Done, Ended}
 use Rattle.recursor_core.specs.declared.resolving.Resolution.{Resolution}
 use Rattle.recursor_core.specs.declared.resolving.Need.TheVariants as need
 use Rattle.recursor_core.specs.Machine.{need_in, MayAskOf}
 
+-- one step less outweighs all polls
 fewer : (p s t a b : ℕ) → s < t → a ≤ p → (p + 1) * s + a < (p + 1) * t + b
 fewer p s t a b h l = let next : s + 1 ≤ t = omega arith in let m = mul-le-mul_left (p + 1) next in omega (arith, m)
 
+-- no more polls are left than patience allows
 send_polls : (p : ℕ) (s : Send) → polls_left p s ≤ p
 send_polls p send.Ready = omega arith
 send_polls p (send.Chosen ip) = omega arith
 send_polls p (send.Opening ip order polls) = omega arith
 send_polls p (send.Connected ip conn) = omega arith
 send_polls p (send.Asking ip order since polls) = omega arith
-send_polls p (send.Told entry message) = omega arith
-send_polls p (send.Failed entry error) = omega arith
+send_polls p (send.Told ip entry message) = omega arith
+send_polls p (send.Failed ip entry error) = omega arith
 
+-- so it is with a state
 polls_within : (p : ℕ) (s : State) → state_polls p s ≤ p
 polls_within p (Under w) = send_polls p w.lookup.send
 polls_within p (Done reply) = omega arith
@@ -45,18 +47,21 @@ need_within (x ∷ xs) zero h = omega arith
 need_within (x ∷ xs) (suc i) h = omega (arith, need_within xs i h)
 
 -- one of a list falls, and so does the sum
-pub sum_falls : (p : ℕ) (xs : List Resolution) (i : ℕ) (f g : Resolution) → i < length xs → f ≡ get_or xs i f → rank p g < rank p f → sum_by (rank p) (set xs i g) < sum_by (rank p) xs
+pub sum_falls : (p : ℕ) (xs : List Resolution) (i : ℕ) (f g : Resolution) → i < length xs → f ≡ get_or xs i f → rank p g < rank p f
+    → sum_by (rank p) (set xs i g) < sum_by (rank p) xs
 sum_falls p xs i f g within is h = let moved = rw (sym (ap (rank p) is)) at (sum_by-set (rank p) xs i g f within) in omega (arith, moved, h)
 
 -- the one at a place that was read
 pub read_at : (xs : List Resolution) (i : ℕ) (f : Resolution) → i < length xs → f ≡ get_or xs i f → slice_get xs i ≡ Some f
 read_at xs i f within is = slice_get_read xs (length xs) i f refl within is
 
+-- where an address may be asked there is a resolution
 pub may_ask_within : (ip : IpAddr) (xs : List Resolution) (i : ℕ) → MayAskOf ip (slice_get xs i) → i < length xs
 may_ask_within ip [] i h = absurd h
 may_ask_within ip (x ∷ xs) zero h = omega arith
 may_ask_within ip (x ∷ xs) (suc i) h = omega (arith, may_ask_within ip xs i h)
 
+-- where an order is waited for there is a resolution
 pub order_within : (xs : List Resolution) (i : ℕ) → order_of (need_in (slice_get xs i)) ≢ None → i < length xs
 order_within [] i h = absurd (h refl)
 order_within (x ∷ xs) zero h = omega arith
@@ -66,12 +71,11 @@ order_within (x ∷ xs) (suc i) h = omega (arith, order_within xs i h)
 pub lifted : (p a s t x y : ℕ) → (p + 1) * s + x < (p + 1) * t + y → (p + 1) * (a + s) + x < (p + 1) * (a + t) + y
 lifted p a s t x y h = omega arith
 
-pub sum_keeps : (p : ℕ) (xs : List Resolution) (i : ℕ) (f g : Resolution) → i < length xs → f ≡ get_or xs i f → rank p g ≤ rank p f → sum_by (rank p) (set xs i g) ≤ sum_by (rank p) xs
-sum_keeps p xs i f g within is h = let moved = rw (sym (ap (rank p) is)) at (sum_by-set (rank p) xs i g f within) in omega (arith, moved, h)
+-- nor that it does not grow
+pub lifted_most : (p a s t x y : ℕ) → (p + 1) * s + x ≤ (p + 1) * t + y → (p + 1) * (a + s) + x ≤ (p + 1) * (a + t) + y
+lifted_most p a s t x y h = omega arith
 
--- an outcome was late or not
-pub late_or_not : (a : After) → (a ≡ after.Late) ⊎ (a ≢ after.Late)
-late_or_not after.Kept = inr (λ e. cc)
-late_or_not after.Ended = inr (λ e. cc)
-late_or_not after.GiveUp = inr (λ e. cc)
-late_or_not after.Late = inl refl
+-- one of a list doesn't grow, nor does the sum
+pub sum_keeps : (p : ℕ) (xs : List Resolution) (i : ℕ) (f g : Resolution) → i < length xs → f ≡ get_or xs i f → rank p g ≤ rank p f
+    → sum_by (rank p) (set xs i g) ≤ sum_by (rank p) xs
+sum_keeps p xs i f g within is h = let moved = rw (sym (ap (rank p) is)) at (sum_by-set (rank p) xs i g f within) in omega (arith, moved, h)

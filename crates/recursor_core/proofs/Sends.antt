@@ -1,49 +1,394 @@
--- What a lookup holds after an outcome.
-use Rattle.std.proofs.Common.{◌≡◌, ◌≤◌, ◌<◌, ◌+◌, ℕ, max, List, All, IsTrue, refl, sym, subst, arith}
+-- What a lookup holds after the outcome of a send.
+use Rattle.std.proofs.Common.{◌≡◌, ◌≤◌, ◌<◌, ◌+◌, ℕ, Bool, true, false, List, [], ◌∷◌, ◌++◌, reverse, Option, Some, None, Ok, Err, IsTrue, Vec, Global, inl, inr, refl, sym, ap, subst, arith, ◌∙◌}
+use Rattle.std.specs.Prelude.{◌==◌, ◌&&◌, nat_le, nat_lt, Contains}
+use Rattle.std.specs.List.{list_all}
+use Rattle.std.specs.Cmp.{nat_eq_equiv}
+use Rattle.std.specs.List.Sorted.{IsPermutation}
+use Rattle.std.proofs.lemmas.Bool.{leb-true, lt-ltb}
+use Rattle.std.proofs.lemmas.List.Elements.{Contains-append_left, Contains-append_cases}
+use Rattle.std.proofs.lemmas.List.Sorted.{IsPermutation-reverse, IsPermutation-sym, All-permutation, Contains-permutation}
 use Rattle.std.specs.declared.net.ip_addr.IpAddr.{IpAddr}
-use Rattle.dns_core.specs.Name.{DomainName}
+use Rattle.dns_core.specs.Name.{DomainName, same_names}
+use Rattle.dns_core.specs.NameLaws.{same_names_equiv}
 use Rattle.dns_core.specs.Log.{Log, Extends}
 use Rattle.dns_core.specs.declared.message.Query.{Query}
 use Rattle.dns_core.specs.declared.message.Message.{Message}
-use Rattle.dns_core.specs.declared.log.ToldOutcome.TheVariants as told
-use Rattle.resolution.specs.Names.{is_above, walk}
-use Rattle.resolution.specs.Telling.{Tells}
+use Rattle.dns_core.specs.declared.connection.Protocol.{Protocol}
+use Rattle.dns_core.specs.declared.net_error.NetError.{NetError}
+use Rattle.dns_core.specs.declared.net_error.NetError.TheVariants as net
+use Rattle.dns_core.specs.declared.log.LogEntry.TheVariants as line
+use Rattle.dns_core.specs.declared.log.ToldOutcome.TheVariants as said
+use Rattle.resolution.specs.Names.{is_above, walk, same_query}
+use Rattle.resolution.specs.Given.{Given}
+use Rattle.resolution.specs.Telling.{Logged, moment_of, Tells}
 use Rattle.resolution.specs.Serving.{Serves}
 use Rattle.resolution.specs.Serving.Heard.{heard}
-use Rattle.recursor_core.specs.Replies.{given_of}
-use Rattle.recursor_core.specs.Lookup.{AsksOf, SendAsks}
-use Rattle.recursor_core.specs.Derived.{IsHeard, SendHolds, LookupHolds}
+use Rattle.resolution.specs.Lookups.{Answered}
+use Rattle.resolution.specs.Ending.{is_begun, EndsSend}
+use Rattle.resolution.specs.Ending.EndsSend.{open_refused, ask_refused, open_failed, ask_failed, answered, given_up}
+use Rattle.resolution.specs.Ending.EndSends.{no_send}
+use Rattle.resolution.specs.Timing.{is_send}
+use Rattle.resolution.proofs.Members.{Has-from_Contains}
+use Rattle.resolution.proofs.Caseless.{both}
+use Rattle.resolution.proofs.PlainServed.{same_ip-itself}
+use Rattle.recursor_core.specs.Order.{entry_for, IsSent, OutcomeIs, IsFor, IsLost}
+use Rattle.recursor_core.specs.Replies.{Terms, given_of}
+use Rattle.recursor_core.specs.Lookup.{present, IsSentBy, MayAsk, send_want, IsOf}
+use Rattle.recursor_core.specs.Tried.{BeganBy, Tried, Came}
+use Rattle.recursor_core.specs.Derived.{ArePool, IsHeard, SendHolds, LookupHolds, servers_of}
+use Rattle.recursor_core.specs.declared.order.Sent.{Sent}
+use Rattle.recursor_core.specs.declared.order.Outcome.TheVariants as outcome
 use Rattle.recursor_core.specs.declared.lookup.Send.{Send}
 use Rattle.recursor_core.specs.declared.lookup.Send.TheVariants as send
+use Rattle.recursor_core.specs.declared.lookup.Want.TheVariants as want
 use Rattle.recursor_core.specs.declared.lookup.Lookup.{Lookup}
-use Rattle.recursor_core.proofs.Kept.{serves-kept, servers-kept, lookup-kept}
+use Rattle.recursor_core.proofs.KeptLookups.{serves-kept, servers-kept, listed-kept, tried-kept, list_all-weaker, below-greater}
 
-pub below-max-left : (m n : ℕ) → m ≤ max m n
-below-max-left m n = grind (arith)
+-- ---- what was sent
 
-pub below-max-right : (m n : ℕ) → n ≤ max m n
-below-max-right m n = grind (arith)
+-- a question is the same as itself
+pub same_query-refl : (q : Query) → IsTrue (same_query q q)
+same_query-refl q =
+    both (same_names q.name q.name && q.query_type.code == q.query_type.code) (q.query_class.code == q.query_class.code)
+    (both (same_names q.name q.name) (q.query_type.code == q.query_type.code) (same_names_equiv.refl q.name) (nat_eq_equiv.refl q.query_type.code))
+    (nat_eq_equiv.refl q.query_class.code)
 
--- the server that was asked tells, by what was told before it was asked
-heard-of : (roots : List IpAddr) (greatest t0 now : ℕ) (log longer : Log) (zone : DomainName) (q : Query) (s : Send) (entry of : ℕ) (ip : IpAddr) (message : Message)
-    → SendAsks of ip s → SendHolds roots greatest t0 log zone q s → IsTrue (is_above zone (walk q)) → Extends log longer
-    → message.query ≡ q → Tells longer entry q (told.Message message) of ip now → t0 ≤ now → IsHeard roots (max greatest entry) t0 longer zone q entry message
-heard-of roots greatest t0 now log longer zone q send.Ready entry of ip message a h above x same t late = absurd a
-heard-of roots greatest t0 now log longer zone q (send.Chosen chosen) entry of ip message a h above x same t late = absurd a
-heard-of roots greatest t0 now log longer zone q (send.Opening to order polls) entry of ip message a h above x same t late = absurd a
-heard-of roots greatest t0 now log longer zone q (send.Connected to conn) entry of ip message a h above x same t late = absurd a
-heard-of roots greatest t0 now log longer zone q (send.Asking to order since polls) entry of ip message a h above x same t late = record {
-  moment = now;
-  early = below-max-right greatest entry;
-  heard = heard t (subst (λ (to : IpAddr). Serves (given_of roots) longer of to zone) a.0 (serves-kept roots log longer x (since + 1) of to zone (let lt = a.1 in omega arith) h.1)) above;
-  late = late;
-  asked = same;
+-- it is the same as one that equals it
+same_for : (asked q : Query) → asked ≡ q → IsTrue (same_query asked q)
+same_for asked q e = subst (λ (p : Query). IsTrue (same_query asked p)) e (same_query-refl asked)
+
+-- with this question, where it is one
+abbrev for_query : Sent → Option Query → Sent
+for_query s o = record s { query = o }
+
+-- what was sent, refused or not, is a send of the question to its server
+is_send-entry : (q : Query) (s : Sent) (protocol : Protocol) (refusal : Option NetError) → IsFor s.query q
+    → IsTrue (is_send q s.ip (entry_for s protocol refusal))
+is_send-entry q s protocol refusal is = by s.query is
+  where
+    by : (o : Option Query) → IsFor o q → IsTrue (is_send q s.ip (entry_for (for_query s o) protocol refusal))
+    by None h = same_ip-itself s.ip
+    by (Some asked) h = both _ (same_query asked q) (same_ip-itself s.ip) (same_for asked q h)
+
+-- what was sent and not refused is begun
+is_begun-entry : (q : Query) (s : Sent) (protocol : Protocol) → IsFor s.query q → IsTrue (is_begun q s.ip (entry_for s protocol None))
+is_begun-entry q s protocol is = by s.query is
+  where
+    by : (o : Option Query) → IsFor o q → IsTrue (is_begun q s.ip (entry_for (for_query s o) protocol None))
+    by None h = same_ip-itself s.ip
+    by (Some asked) h = both _ (same_query asked q) (same_ip-itself s.ip) (same_for asked q h)
+
+-- its entry carries its moment
+moment-entry : (s : Sent) (protocol : Protocol) (refusal : Option NetError) → moment_of (entry_for s protocol refusal) ≡ Some s.moment
+moment-entry s protocol refusal = by s.query
+  where
+    by : (o : Option Query) → moment_of (entry_for (for_query s o) protocol refusal) ≡ Some s.moment
+    by None = refl
+    by (Some asked) = refl
+
+-- a question's entry says what was asked
+asked-entry : (log : Log) (q : Query) (s : Sent) (protocol : Protocol) (refusal : Option NetError) → s.query ≡ Some q
+    → Logged log s.of (entry_for s protocol refusal) → Logged log s.of (line.Asked s.ip protocol q s.moment refusal)
+asked-entry log q s protocol refusal e h = subst (λ (o : Option Query). Logged log s.of (entry_for (for_query s o) protocol refusal)) e h
+
+-- ---- what came of it
+
+-- what was refused ended its send
+refused-ends : (given : Given) (log : Log) (q : Query) (s : Sent) (protocol : Protocol) (error : NetError) → IsFor s.query q
+    → Logged log s.of (entry_for s protocol (Some error)) → EndsSend given log q s.of (record { server = s.ip; outcome = Err error }) s.moment
+refused-ends given log q s protocol error is h = by s.query is h
+  where
+    by : (o : Option Query) → IsFor o q → Logged log s.of (entry_for (for_query s o) protocol (Some error))
+        → EndsSend given log q s.of (record { server = s.ip; outcome = Err error }) s.moment
+    by None i k = open_refused k
+    by (Some asked) i k = ask_refused k (same_for asked q i)
+
+-- what was told an error ended its send
+failed-ends : (given : Given) (log : Log) (now entry : ℕ) (q : Query) (s : Sent) (protocol : Protocol) (error : NetError) → IsFor s.query q
+    → Logged log entry (line.Told s.of now (said.Error error)) → Logged log s.of (entry_for s protocol None)
+    → EndsSend given log q entry (record { server = s.ip; outcome = Err error }) now
+failed-ends given log now entry q s protocol error is told h = by s.query is h
+  where
+    by : (o : Option Query) → IsFor o q → Logged log s.of (entry_for (for_query s o) protocol None)
+        → EndsSend given log q entry (record { server = s.ip; outcome = Err error }) now
+    by None i k = open_failed told k
+    by (Some asked) i k = ask_failed told k (same_for asked q i)
+
+-- what failed is lost, refused or not
+pub lost-failed : (given : Given) (log : Log) (now entry : ℕ) (s : Sent) (refused : Bool) (error : NetError)
+    → OutcomeIs log now (outcome.Failed entry s refused error) → IsLost given log now entry s error
+lost-failed given log now entry s true error h = record {
+  refusal = Some error;
+  sent = h.sent;
+  before = let at = h.at in omega arith;
+  ends = λ q is.
+      subst (λ (n : ℕ). EndsSend given log q n (record { server = s.ip; outcome = Err error }) now) h.at
+      (subst (λ (m : ℕ). EndsSend given log q s.of (record { server = s.ip; outcome = Err error }) m) h.then
+      (refused-ends given log q s h.sent.protocol error is h.sent.logged));
 }
-heard-of roots greatest t0 now log longer zone q (send.Told e m) entry of ip message a h above x same t late = absurd a
-heard-of roots greatest t0 now log longer zone q (send.Failed e error) entry of ip message a h above x same t late = absurd a
+lost-failed given log now entry s false error h = record {
+  refusal = None;
+  sent = h.sent;
+  before = let b = h.before in omega arith;
+  ends = λ q is. failed-ends given log now entry q s h.sent.protocol error is h.logged h.sent.logged;
+}
 
-pub told-send : (roots : List IpAddr) (greatest t0 now : ℕ) (log longer : Log) (zone : DomainName) (l : Lookup) (entry of : ℕ) (ip : IpAddr) (message : Message)
-    → LookupHolds roots greatest t0 log zone l → Extends log longer → Tells longer entry message.query (told.Message message) of ip now → t0 ≤ now → AsksOf of ip message.query l
-    → IsHeard roots (max greatest entry) t0 longer zone l.query entry message
-told-send roots greatest t0 now log longer zone l entry of ip message h x t late a =
-    heard-of roots greatest t0 now log longer zone l.query l.send entry of ip message a.1 h.send h.above x a.0 (subst (λ (q : Query). Tells longer entry q (told.Message message) of ip now) a.0 t) late
+-- what was given up, after as many polls as patience allows, is lost to a timeout
+pub lost-gave_up : (given : Given) (log : Log) (now entry : ℕ) (s : Sent) (polls : ℕ) → given.patience ≤ polls
+    → OutcomeIs log now (outcome.GaveUp entry s polls) → IsLost given log now entry s net.Timeout
+lost-gave_up given log now entry s polls enough h = record {
+  refusal = None;
+  sent = h.0.sent;
+  before = let b = h.0.before in omega arith;
+  ends = λ q is. given_up h.0.logged h.0.sent.logged (is_begun-entry q s h.0.sent.protocol is) (let w = h.1 in omega arith);
+}
+
+-- ---- the lookup
+
+-- what was sent so began a send
+began-sent : (log : Log) (t0 : ℕ) (q : Query) (s : Sent) (refusal : Option NetError) (entry : ℕ) → IsSent log s refusal → IsFor s.query q
+    → s.of ≤ entry → t0 ≤ s.moment → BeganBy log t0 q s.ip entry s.moment
+began-sent log t0 q s refusal entry sent is before late = record {
+  n = s.of;
+  e = entry_for s sent.protocol refusal;
+  begun = sent.logged;
+  is = is_send-entry q s sent.protocol refusal is;
+  at = moment-entry s sent.protocol refusal;
+  early = before;
+  since = late;
+}
+
+-- an entry later than all so far is later than each
+above-greatest : (greatest entry : ℕ) → greatest < entry → (ns : List ℕ) → IsTrue (list_all (λ n. nat_le n greatest) ns)
+    → IsTrue (list_all (λ n. nat_lt n entry) ns)
+above-greatest greatest entry lt ns h =
+    list_all-weaker (λ n. nat_le n greatest) (λ n. nat_lt n entry) (λ n k. lt-ltb n entry (let b = leb-true n greatest k in omega arith)) ns h
+
+-- it was sent to the present server
+present-sent : (sent : Sent) (q : Query) (s : Send) → IsSentBy sent q s → present s ≡ sent.ip ∷ []
+present-sent sent q send.Ready h = absurd h
+present-sent sent q (send.Chosen ip) h = absurd h
+present-sent sent q (send.Opening ip order polls) h = ap (λ (i : IpAddr). i ∷ []) (sym h.0)
+present-sent sent q (send.Connected ip conn) h = absurd h
+present-sent sent q (send.Asking ip order since polls) h = ap (λ (i : IpAddr). i ∷ []) (sym h.0)
+present-sent sent q (send.Told ip entry message) h = absurd h
+present-sent sent q (send.Failed ip entry error) h = absurd h
+
+-- it was sent for the question
+for-sent : (sent : Sent) (q : Query) (s : Send) → IsSentBy sent q s → IsFor sent.query q
+for-sent sent q send.Ready h = absurd h
+for-sent sent q (send.Chosen ip) h = absurd h
+for-sent sent q (send.Opening ip order polls) h = subst (λ (o : Option Query). IsFor o q) (sym h.1) tt
+for-sent sent q (send.Connected ip conn) h = absurd h
+for-sent sent q (send.Asking ip order since polls) h = subst (λ (o : Option Query). IsFor o q) (sym h.1) refl
+for-sent sent q (send.Told ip entry message) h = absurd h
+for-sent sent q (send.Failed ip entry error) h = absurd h
+
+-- An outcome comes now, by a later entry of a longer log.
+module _ (terms : Terms) (greatest moment begun now : ℕ) (log longer : Log) (zone : DomainName) where
+  -- what was sent between the two moments, and ended, came to its outcome
+  came-sent : (q : Query) (pool : List IpAddr) (g : List ℕ) (timed_out : Bool) (s : Sent) (refusal : Option NetError) (entry : ℕ) (result : Answered)
+      → greatest < entry → moment ≤ now → begun ≤ s.moment → s.moment ≤ now → IsSent longer s refusal → IsFor s.query q → s.of ≤ entry
+      → EndsSend (given_of terms) longer q entry (record { server = s.ip; outcome = result }) now
+      → (tried : Tried terms greatest moment begun log q pool g timed_out) → Came terms entry now begun longer q g tried.moments s.ip entry result
+  came-sent q pool g timed_out s refusal entry result lt le late early sent is before ends tried = record {
+    at = now;
+    start = s.moment;
+    ends = ends;
+    began = began-sent longer begun q s refusal entry sent is before late;
+    after = early;
+    later = below-greater moment now le tried.moments tried.till;
+    till = omega arith;
+    early = omega arith;
+    above = above-greatest greatest entry lt g tried.early;
+  }
+
+  -- It is heard for the question by the server that was asked, as served the zone before it was asked, and ends the send.
+  abbrev EndsHeard : Query → Sent → ℕ → Message → Type 0
+  EndsHeard q sent entry message =
+      IsHeard terms entry begun longer zone q entry message × EndsSend (given_of terms) longer q entry (record { server = sent.ip; outcome = Ok message }) now
+
+  -- what is told is heard so
+  told-heard : (q : Query) (g moments : List ℕ) (s : Send) (sent : Sent) (entry : ℕ) (message : Message)
+      → begun ≤ now → IsTrue (is_above zone (walk q)) → Extends log longer → SendHolds terms greatest moment begun log zone q g moments s → IsSentBy sent q s
+      → OutcomeIs longer now (outcome.Told entry sent message) → EndsHeard q sent entry message
+  told-heard q g moments send.Ready sent entry message late above x h by o = absurd by
+  told-heard q g moments (send.Chosen ip) sent entry message late above x h by o = absurd by
+  told-heard q g moments (send.Opening ip order polls) sent entry message late above x h by o = let a = by.1 in let b = o.1 in cc
+  told-heard q g moments (send.Connected ip conn) sent entry message late above x h by o = absurd by
+  told-heard q g moments (send.Told ip e m) sent entry message late above x h by o = absurd by
+  told-heard q g moments (send.Failed ip e error) sent entry message late above x h by o = absurd by
+  told-heard q g moments (send.Asking ip order since polls) sent entry message late above x h by o =
+      let closes = o.0 in
+      let asked = asked-entry longer q sent closes.sent.protocol None by.1 closes.sent.logged in
+      let tells : Tells longer entry q (said.Message message) sent.of sent.ip now = record {
+        protocol = closes.sent.protocol;
+        asked = q;
+        asked_at = sent.moment;
+        told = closes.logged;
+        question = asked;
+        before = closes.before;
+        same = same_query-refl q;
+      } in
+      let served = serves-kept terms log longer x (since + 1) sent.of ip zone (let lt = by.2 in omega arith) h.1 in (
+        record {
+          moment = now;
+          early = omega arith;
+          heard = heard tells (subst (λ (to : IpAddr). Serves (given_of terms) longer sent.of to zone) (sym by.0) served) above;
+          late = late;
+          asked = let a : sent.query ≡ Some message.query = o.1 in let b : sent.query ≡ Some q = by.1 in cc;
+        },
+        answered closes.logged asked (same_query-refl q),
+      )
+
+  -- A lookup whose send has come to something, by a later entry, holds by it.
+  lookup-came : (l : Lookup) (sent : Sent) (entry : ℕ) (s : Send) → greatest < entry → moment ≤ now
+      → (h : LookupHolds terms greatest moment begun log zone l) → Extends log longer → IsSentBy sent l.query l.send → present s ≡ sent.ip ∷ []
+      → SendHolds terms entry now begun longer zone l.query l.ends h.tried.moments s → LookupHolds terms entry now begun longer zone (record l { send = s })
+  lookup-came l sent entry s lt le h x by is holds =
+      let same : present l.send ≡ present s = present-sent sent l.query l.send by ∙ sym is in
+      record {
+        above = h.above;
+        servers = servers-kept terms log longer x (greatest + 1) (entry + 1) zone l.servers.items (omega arith) h.servers;
+        pool = h.pool;
+        listed = listed-kept terms log longer x zone h.pool h.listed;
+        some = h.some;
+        tried = tried-kept terms log longer x greatest entry moment now begun l.query h.pool l.ends l.timed_out (omega arith) le h.tried;
+        only = subst (λ (ps : List IpAddr). (ip : IpAddr) → Contains (l.servers.items ++ ps) ip → Contains h.pool ip) same h.only;
+        whole = subst (λ (ps : List IpAddr). (ip : IpAddr) → Contains h.pool ip → Contains (l.servers.items ++ ps ++ servers_of h.tried.ends) ip) same h.whole;
+        send = holds;
+      }
+
+  -- A lookup that was told a message holds by it.
+  pub lookup-told : (l : Lookup) (sent : Sent) (entry : ℕ) (message : Message) → greatest < entry → moment ≤ now
+      → LookupHolds terms greatest moment begun log zone l → Extends log longer → IsOf sent begun now l → OutcomeIs longer now (outcome.Told entry sent message)
+      → LookupHolds terms entry now begun longer zone (record l { send = send.Told sent.ip entry message })
+  lookup-told l sent entry message lt le h x of o =
+      let late = of.late in
+      let early = of.early in
+      let before = o.0.before in
+      let is = for-sent sent l.query l.send of.sends in
+      let t = told-heard l.query l.ends h.tried.moments l.send sent entry message (omega arith) h.above x h.send of.sends o in
+      let came = came-sent l.query h.pool l.ends l.timed_out sent None entry (Ok message) lt le late early o.0.sent is (omega arith) t.1 h.tried in
+      lookup-came l sent entry (send.Told sent.ip entry message) lt le h x of.sends refl (t.0, came)
+
+  -- A lookup whose send was lost holds by that.
+  pub lookup-lost : (l : Lookup) (sent : Sent) (entry : ℕ) (error : NetError) → greatest < entry → moment ≤ now
+      → LookupHolds terms greatest moment begun log zone l → Extends log longer → IsOf sent begun now l → IsLost (given_of terms) longer now entry sent error
+      → LookupHolds terms entry now begun longer zone (record l { send = send.Failed sent.ip entry error })
+  lookup-lost l sent entry error lt le h x of o =
+      let is = for-sent sent l.query l.send of.sends in
+      let ends = o.ends l.query is in
+      let came = came-sent l.query h.pool l.ends l.timed_out sent o.refusal entry (Err error) lt le of.late of.early o.sent is o.before ends h.tried in
+      lookup-came l sent entry (send.Failed sent.ip entry error) lt le h x of.sends refl came
+
+-- ---- how a lookup begins and goes on
+
+-- the server whose connection is wanted is chosen
+chosen-wanted : (s : Send) (ip : IpAddr) → send_want s ≡ want.Connect ip → s ≡ send.Chosen ip
+chosen-wanted send.Ready ip e = cc
+chosen-wanted (send.Chosen to) ip e = cc
+chosen-wanted (send.Opening to order polls) ip e = cc
+chosen-wanted (send.Connected to conn) ip e = cc
+chosen-wanted (send.Asking to order since polls) ip e = cc
+chosen-wanted (send.Told to entry message) ip e = cc
+chosen-wanted (send.Failed to entry error) ip e = cc
+
+-- what may be asked is present
+present-asked : (s : Send) (ip : IpAddr) → MayAsk ip s → present s ≡ ip ∷ []
+present-asked send.Ready ip h = absurd h
+present-asked (send.Chosen to) ip h = ap (λ (i : IpAddr). i ∷ []) h
+present-asked (send.Opening to order polls) ip h = absurd h
+present-asked (send.Connected to conn) ip h = ap (λ (i : IpAddr). i ∷ []) h
+present-asked (send.Asking to order since polls) ip h = absurd h
+present-asked (send.Told to entry message) ip h = absurd h
+present-asked (send.Failed to entry error) ip h = absurd h
+
+module _ (terms : Terms) (greatest moment t0 : ℕ) (log : Log) (zone : DomainName) where
+  -- A lookup whose send goes on, at the same server, holds as before.
+  pub lookup-goes_on : (l : Lookup) (s : Send) → LookupHolds terms greatest moment t0 log zone l → present s ≡ present l.send
+      → ((ms : List ℕ) → SendHolds terms greatest moment t0 log zone l.query l.ends ms l.send → SendHolds terms greatest moment t0 log zone l.query l.ends ms s)
+      → LookupHolds terms greatest moment t0 log zone (record l { send = s })
+  lookup-goes_on l s h same holds = record {
+    above = h.above;
+    servers = h.servers;
+    pool = h.pool;
+    listed = h.listed;
+    some = h.some;
+    tried = h.tried;
+    only = subst (λ (ps : List IpAddr). (ip : IpAddr) → Contains (l.servers.items ++ ps) ip → Contains h.pool ip) (sym same) h.only;
+    whole =
+        subst (λ (ps : List IpAddr). (ip : IpAddr) → Contains h.pool ip → Contains (l.servers.items ++ ps ++ servers_of h.tried.ends) ip)
+        (sym same) h.whole;
+    send = holds h.tried.moments h.send;
+  }
+
+  -- what was chosen may be opened
+  pub lookup-opens : (l : Lookup) (ip : IpAddr) (order : ℕ) → send_want l.send ≡ want.Connect ip
+      → LookupHolds terms greatest moment t0 log zone l → LookupHolds terms greatest moment t0 log zone (record l { send = send.Opening ip order 0 })
+  lookup-opens l ip order wanted h =
+      let is = chosen-wanted l.send ip wanted in
+      lookup-goes_on l (send.Opening ip order 0) h (ap present (sym is))
+      (λ ms k. subst (λ (s : Send). SendHolds terms greatest moment t0 log zone l.query l.ends ms s) is k)
+
+  -- what was opened is connected
+  pub lookup-connects : (l : Lookup) (ip : IpAddr) (order polls : ℕ) → l.send ≡ send.Opening ip order polls
+      → LookupHolds terms greatest moment t0 log zone l → LookupHolds terms greatest moment t0 log zone (record l { send = send.Connected ip order })
+  lookup-connects l ip order polls is h =
+      lookup-goes_on l (send.Connected ip order) h (ap present (sym is))
+      (λ ms k. subst (λ (s : Send). SendHolds terms greatest moment t0 log zone l.query l.ends ms s) is k)
+
+  -- what may be asked serves the zone
+  serves-asked : (q : Query) (g moments : List ℕ) (s : Send) (ip : IpAddr) → MayAsk ip s
+      → SendHolds terms greatest moment t0 log zone q g moments s → Serves (given_of terms) log (greatest + 1) ip zone
+  serves-asked q g moments send.Ready ip a h = absurd a
+  serves-asked q g moments (send.Chosen to) ip a h = subst (λ (i : IpAddr). Serves (given_of terms) log (greatest + 1) i zone) a h
+  serves-asked q g moments (send.Opening to order polls) ip a h = absurd a
+  serves-asked q g moments (send.Connected to conn) ip a h = subst (λ (i : IpAddr). Serves (given_of terms) log (greatest + 1) i zone) a h
+  serves-asked q g moments (send.Asking to order since polls) ip a h = absurd a
+  serves-asked q g moments (send.Told to entry message) ip a h = absurd a
+  serves-asked q g moments (send.Failed to entry error) ip a h = absurd a
+
+  -- it is asked, by what was put so far
+  pub lookup-asks : (l : Lookup) (ip : IpAddr) (order : ℕ) → MayAsk ip l.send
+      → LookupHolds terms greatest moment t0 log zone l → LookupHolds terms greatest moment t0 log zone (record l { send = send.Asking ip order greatest 0 })
+  lookup-asks l ip order may h =
+      lookup-goes_on l (send.Asking ip order greatest 0) h (sym (present-asked l.send ip may))
+      (λ ms k. (omega arith, serves-asked l.query l.ends ms l.send ip may k))
+
+  -- a new lookup has its pool before it
+  pub lookup-new : (q : Query) (ips : List IpAddr) (left : Vec IpAddr Global) → IsTrue (is_above zone (walk q)) → ArePool terms log (greatest + 1) zone ips
+      → left.items ≡ reverse ips
+      → LookupHolds terms greatest moment t0 log zone (record { query = q; servers = left; send = send.Ready; ends = []; timed_out = false })
+  lookup-new q ips left above pool same =
+      let there : IsPermutation ips left.items = subst (λ (xs : List IpAddr). IsPermutation ips xs) (sym same) (IsPermutation-reverse ips) in
+      let back = IsPermutation-sym ips left.items there in
+      record {
+        above = above;
+        servers = All-permutation (λ ip. Serves (given_of terms) log (greatest + 1) ip zone) ips left.items there pool.serve;
+        pool = ips;
+        listed = pool.listed;
+        some = pool.some;
+        tried = record {
+          ends = [];
+          moments = [];
+          start = 0;
+          logged = no_send;
+          rises = tt;
+          early = refl;
+          passing = refl;
+          timeouts = refl;
+          began = tt;
+          past = omega arith;
+          since = refl;
+          till = refl;
+          rising = λ now e. refl;
+        };
+        only = λ ip k. elim (Contains-append_cases left.items [] ip k) [
+          | inl c ↦ Contains-permutation left.items ips ip back c
+          | inr c ↦ absurd (Has-from_Contains [] ip c)
+        ];
+        whole = λ ip k.
+            Contains-append_left (left.items ++ []) [] ip (Contains-append_left left.items [] ip (Contains-permutation ips left.items ip there k));
+        send = tt;
+      }

@@ -1,69 +1,95 @@
 -- What is under way while the log grows.
-use Rattle.std.proofs.Common.{Bool, true, false, cond, ◌≡◌, ◌<◌, ◌+◌, ◌-◌, ◌^◌, ℕ, List, [], ◌∷◌, ◌++◌, length, Option, Some, None, refl, sym, ◌∙◌, subst, arith, min, IsTrue}
+use Rattle.std.proofs.Common.{Bool, true, false, cond, ◌≡◌, ◌≤◌, ◌<◌, ◌+◌, ◌-◌, ◌^◌, ℕ, List, [], ◌∷◌, ◌++◌, length, Option, Some, None, refl, sym, ◌∙◌, ap, subst, arith, min}
 use Rattle.std.specs.BTreeMap.{BTreeMap}
 use Rattle.std.proofs.lemmas.Option.{same_Some}
-use Rattle.dns_core.specs.Log.{log_of, added, Numbered}
-use Rattle.dns_core.specs.Connection.{Peer}
+use Rattle.std.specs.Prelude.{not, unwrap_or, Result, Ok, Err, IfOk, IfSome, is_ok}
+use Rattle.dns_core.specs.Log.{Log, Extends, log_of, added, Numbered}
+use Rattle.dns_core.specs.declared.connection.Protocol.{Protocol}
 use Rattle.dns_core.specs.declared.log.LogEntry.{LogEntry}
-use Rattle.dns_core.specs.declared.log.LogEntry.TheVariants.{Asked, Told}
-use Rattle.dns_core.specs.declared.log.ToldOutcome.TheVariants as told_outcome
-use Rattle.dns_core.specs.declared.message.Query.{Query}
+use Rattle.dns_core.specs.declared.log.LogEntry.TheVariants as line
+use Rattle.dns_core.specs.declared.log.ToldOutcome.TheVariants as said
 use Rattle.dns_core.specs.declared.message.Message.{Message}
-use Rattle.dns_core.specs.declared.provider.ConnectionProvider.{Ghosts}
-use Rattle.dns_core.specs.NameLaws.{same_names_equiv}
-use Rattle.std.specs.Cmp.{nat_eq_equiv}
-use Rattle.std.specs.Prelude.{◌==◌, ◌&&◌, unwrap_or, Result, Ok, Err, IfOk}
 use Rattle.dns_core.specs.declared.net_error.NetError.{NetError}
-use Rattle.dns_core.specs.Name.{same_names}
-use Rattle.resolution.specs.Names.{same_query}
-use Rattle.resolution.specs.Telling.{Tells}
+use Rattle.dns_core.specs.declared.provider.ConnectionProvider.{Ghosts}
+use Rattle.resolution.specs.Ending.{waits}
+use Rattle.resolution.specs.Telling.{Logged}
 use Rattle.resolution.proofs.Keeping.{Logged-extend}
-use Rattle.resolution.proofs.Caseless.{both}
-use Rattle.recursor_core.specs.Order.{Fits}
+use Rattle.resolution.proofs.FailuresKept.{waits-extend}
+use Rattle.recursor_core.specs.Order.{entry_for, IsSent, Closes, Fits}
+use Rattle.recursor_core.specs.Carrying.{TellsThat, Counted, IsWaitedFor, SlotHolds, SlotsHold, slot_at, CarrierHolds}
+use Rattle.recursor_core.specs.declared.order.Sent.{Sent}
 use Rattle.recursor_core.specs.declared.order.Outcome.{Outcome}
 use Rattle.recursor_core.specs.declared.order.Outcome.TheVariants as outcome
-use Rattle.recursor_core.specs.Carrying.{TellsThat, Counted, Grown, IsAskedBy, SlotHolds, SlotsHold, slot_at, CarrierHolds}
 use Rattle.recursor_core.specs.declared.carrier.Carrier.{Carrier}
-use Rattle.recursor_core.specs.declared.slot.Asking.{Asking}
 use Rattle.recursor_core.specs.declared.slot.Slot.{Slot}
 use Rattle.recursor_core.specs.declared.slot.Slot.TheVariants as slot
-use Rattle.recursor_core.proofs.Growing.{Longer-from_added, Grown-added, Counted-added, Logged-newest, Extends-added, numbered_is}
+use Rattle.recursor_core.proofs.Growing.{Longer-from_added, Counted-added, Logged-newest, Extends-added, numbered_is, waits-grown, waits-newest}
 
-pub same_query-refl : (q : Query) → IsTrue (same_query q q)
-same_query-refl q =
-    both (same_names q.name q.name && q.query_type.code == q.query_type.code) (q.query_class.code == q.query_class.code)
-    (both (same_names q.name q.name) (q.query_type.code == q.query_type.code) (same_names_equiv.refl q.name) (nat_eq_equiv.refl q.query_type.code))
-    (nat_eq_equiv.refl q.query_class.code)
+-- what was sent stays sent
+pub IsSent-extend : (old new : Log) → Extends old new → (s : Sent) (refusal : Option NetError) → IsSent old s refusal → IsSent new s refusal
+IsSent-extend old new x s refusal h = record { protocol = h.protocol; logged = Logged-extend old new x _ _ h.logged }
 
--- what was asked stays asked
-pub IsAskedBy-grown : {P C F E : Type 0} (p : Ghosts P C F E) (a b : Asking P C F E p) (old new : Option (List LogEntry))
-    → Grown old new → p.asked b.exchange ≡ p.asked a.exchange → p.question b.exchange ≡ p.question a.exchange → b.ip ≡ a.ip → b.of ≡ a.of
-    → TellsThat old (IsAskedBy p a) → TellsThat new (IsAskedBy p b)
-IsAskedBy-grown p a b old new grown same question ip of asked es told =
-    let g = grown es told in
-    let h = asked g.before g.was in
-    record {
-      protocol = h.protocol;
-      moment = h.moment;
-      numbered = same ∙ h.numbered ∙ sym of;
-      asked = rw (of, ip, question) (Logged-extend _ _ g.extends _ _ h.asked);
-    }
+-- what was under way when an entry was appended is so after it
+pub IsWaitedFor-added : (e : LogEntry) (number : ℕ) (s : Sent) (polls : ℕ) (old new : Option (List LogEntry))
+    → new ≡ added e old → TellsThat old (IsWaitedFor number s polls) → TellsThat new (IsWaitedFor number s polls)
+IsWaitedFor-added e number s polls old new grew waited es told =
+    let l = Longer-from_added e old es (sym grew ∙ told) in
+    let h = waited l.before l.was in
+    let x = Extends-added l.before e in
+    subst (λ (es : List LogEntry). IsWaitedFor number s polls (log_of es)) (sym l.is) (record {
+      numbered = h.numbered;
+      sent = IsSent-extend _ _ x s None h.sent;
+      waited = omega (arith, h.waited, waits-grown (log_of l.before) (log_of (l.before ++ e ∷ [])) s.of x);
+    })
 
-pub SlotsHold-grown : {P C F E : Type 0} (p : Ghosts P C F E) (old new : Option (List LogEntry)) (slots : BTreeMap ℕ (Slot P C F E p))
-    → Grown old new → SlotsHold p old slots → SlotsHold p new slots
-SlotsHold-grown {P} {C} {F} {E} p old new slots grown h n s at = held s (h n s at)
+-- a poll of it found nothing
+pub IsWaitedFor-polled : (number : ℕ) (s : Sent) (polls more : ℕ) (old new : Option (List LogEntry))
+    → new ≡ added (line.Waited number) old → more ≤ polls + 1 → TellsThat old (IsWaitedFor number s polls) → TellsThat new (IsWaitedFor number s more)
+IsWaitedFor-polled number s polls more old new grew once waited es told =
+    let l = Longer-from_added (line.Waited number) old es (sym grew ∙ told) in
+    let h = waited l.before l.was in
+    let entries = l.before ++ line.Waited s.of ∷ [] in
+    let now : IsWaitedFor number s more (log_of entries) = record {
+      numbered = h.numbered;
+      sent = IsSent-extend _ _ (Extends-added l.before (line.Waited s.of)) s None h.sent;
+      waited = omega (arith, once, h.waited, waits-newest l.before s.of);
+    } in
+    let same : es ≡ entries = l.is ∙ ap (λ (k : ℕ). l.before ++ line.Waited k ∷ []) h.numbered in
+    subst (λ (es : List LogEntry). IsWaitedFor number s more (log_of es)) (sym same) now
+
+-- what was just sent
+pub IsWaitedFor-newest : (number : ℕ) (s : Sent) (protocol : Protocol) (entries : ℕ) (old new : Option (List LogEntry))
+    → new ≡ added (entry_for s protocol None) old → Numbered number old → Counted old entries → s.of ≡ entries + 1 → TellsThat new (IsWaitedFor number s 0)
+IsWaitedFor-newest number s protocol entries old new grew numbered counted of es told =
+    let e = entry_for s protocol None in
+    let l = Longer-from_added e old es (sym grew ∙ told) in
+    let n : number ≡ length l.before + 1 = numbered_is _ _ l.before numbered l.was in
+    let count : length l.before ≡ entries = counted l.before l.was in
+    let at : s.of ≡ length l.before + 1 = omega (arith, of, count) in
+    subst (λ (es : List LogEntry). IsWaitedFor number s 0 (log_of es)) (sym l.is) (record {
+      numbered = n ∙ sym at;
+      sent = record { protocol = protocol; logged = subst (λ (k : ℕ). Logged (log_of (l.before ++ e ∷ [])) k e) (sym at) (Logged-newest l.before e) };
+      waited = omega arith;
+    })
+
+-- the slots hold after an entry was appended
+pub SlotsHold-added : {P C F E : Type 0} (p : Ghosts P C F E) (e : LogEntry) (old new : Option (List LogEntry)) (slots : BTreeMap ℕ (Slot P C F E p))
+    → new ≡ added e old → SlotsHold p old slots → SlotsHold p new slots
+SlotsHold-added {P} {C} {F} {E} p e old new slots grew h n s at = held s (h n s at)
   where
     held : (s : Slot P C F E p) → SlotHolds p old s → SlotHolds p new s
-    held (slot.Opening o) k = k
-    held (slot.Asking a) k = IsAskedBy-grown p a a old new grown refl refl refl refl k
+    held (slot.Opening o) k = (k.0, IsWaitedFor-added e (p.opened o.future) o.sent o.polls old new grew k.1)
+    held (slot.Asking a) k = (k.0, IsWaitedFor-added e (p.asked a.exchange) a.sent a.polls old new grew k.1)
     held slot.Over k = k
 
 -- a slot in another's place
-pub SlotsHold-put : {P C F E : Type 0} (p : Ghosts P C F E) (told : Option (List LogEntry)) (old new : BTreeMap ℕ (Slot P C F E p)) (b : ℕ → Bool) (s : Slot P C F E p)
+pub SlotsHold-put : {P C F E : Type 0} (p : Ghosts P C F E) (told : Option (List LogEntry)) (old new : BTreeMap ℕ (Slot P C F E p)) (b : ℕ → Bool)
+    (s : Slot P C F E p)
     → ((n : ℕ) → slot_at new n ≡ cond (b n) (Some s) (slot_at old n)) → SlotHolds p told s → SlotsHold p told old → SlotsHold p told new
 SlotsHold-put {P} {C} {F} {E} p told old new b s put holds h n t at = by_place (b n) (slot_at old n) (h n) (sym (put n) ∙ at)
   where
-    by_place : (c : Bool) (was : Option (Slot P C F E p)) → ((u : Slot P C F E p) → was ≡ Some u → SlotHolds p told u) → cond c (Some s) was ≡ Some t → SlotHolds p told t
+    by_place : (c : Bool) (was : Option (Slot P C F E p))
+        → ((u : Slot P C F E p) → was ≡ Some u → SlotHolds p told u) → cond c (Some s) was ≡ Some t → SlotHolds p told t
     by_place true was k is = subst (SlotHolds p told) (same_Some s t is) holds
     by_place false was k is = k t is
 
@@ -82,12 +108,13 @@ pub holds_added : {P C F E : Type 0} (p : Ghosts P C F E) (c new : Carrier P C F
     → CarrierHolds p c → CarrierHolds p new
 holds_added p c new e grew counts slots h = record {
   counted = Counted-added e _ _ _ _ grew counts h.counted;
-  slots = rw slots (SlotsHold-grown p _ _ c.slots (Grown-added e _ _ grew) h.slots);
+  slots = rw slots (SlotsHold-added p e _ _ c.slots grew h.slots);
 }
 
 -- one whose call failed, and left an entry but for want of memory
 pub holds_unless : {P C F E : Type 0} (b : Bool) (p : Ghosts P C F E) (c new : Carrier P C F E p) (e : LogEntry)
-    → p.log new.provider ≡ cond b (p.log c.provider) (added e (p.log c.provider)) → new.entries ≡ cond b c.entries (min (c.entries + 1) (2 ^ 64 - 1)) → new.slots ≡ c.slots
+    → p.log new.provider ≡ cond b (p.log c.provider) (added e (p.log c.provider))
+    → new.entries ≡ cond b c.entries (min (c.entries + 1) (2 ^ 64 - 1)) → new.slots ≡ c.slots
     → CarrierHolds p c → CarrierHolds p new
 holds_unless true p c new e grew counts slots h = record {
   counted = rw (grew, counts) h.counted;
@@ -104,53 +131,89 @@ holds_put p c new b s put provider entries holds h = record {
   slots = rw provider (SlotsHold-put p _ c.slots new.slots b s put holds h.slots);
 }
 
--- what was just asked over a connection
-pub IsAskedBy-newest : {P C F E : Type 0} (p : Ghosts P C F E) (a : Asking P C F E p) (peer : Peer) (q : Query) (now entries : ℕ) (old new : Option (List LogEntry))
-    → new ≡ added (Asked peer.ip peer.protocol q now None) old → Numbered (p.asked a.exchange) old → Counted old entries
-    → peer.ip ≡ a.ip → p.question a.exchange ≡ q → a.of ≡ entries + 1 → TellsThat new (IsAskedBy p a)
-IsAskedBy-newest p a peer q now entries old new grew number counted ip question of es told =
-    let e = Asked peer.ip peer.protocol q now None in
-    let l = Longer-from_added e old es (sym grew ∙ told) in
-    let n : p.asked a.exchange ≡ length l.before + 1 = numbered_is _ _ l.before number l.was in
+-- What is under way, with so many polls, stops by the entry, which names its number.
+pub record Stops (s : Sent) (polls entry : ℕ) (e : ℕ → LogEntry) (log : Log) : Type 0 where
+  pub closes : Closes log s entry (e s.of)
+  pub within : entry < log.next
+  pub waited : polls ≤ waits log s.of entry
+
+-- the entry was just appended
+pub Stops-newest : (e : ℕ → LogEntry) (number : ℕ) (s : Sent) (polls entries entry : ℕ) (old new : Option (List LogEntry))
+    → new ≡ added (e number) old → Counted old entries → entry ≡ entries + 1 → TellsThat old (IsWaitedFor number s polls)
+    → TellsThat new (Stops s polls entry e)
+Stops-newest e number s polls entries entry old new grew counted is waited es told =
+    let l = Longer-from_added (e number) old es (sym grew ∙ told) in
+    let h = waited l.before l.was in
     let count : length l.before ≡ entries = counted l.before l.was in
-    let at : a.of ≡ length l.before + 1 = omega arith in
-    record {
-      protocol = peer.protocol;
-      moment = now;
-      numbered = n ∙ sym at;
-      asked = rw (l.is, at, ← ip, question) (Logged-newest l.before e);
-    }
+    let at : entry ≡ length l.before + 1 = omega (arith, is, count) in
+    let newer = log_of (l.before ++ e number ∷ []) in
+    let x = Extends-added l.before (e number) in
+    let end = Logged-newest l.before (e number) in
+    let same = waits-extend (log_of l.before) newer x s.of (length l.before + 1) (omega arith) in
+    let stops : Stops s polls (length l.before + 1) e newer = record {
+      closes = record {
+        sent = IsSent-extend _ _ x s None h.sent;
+        logged = subst (λ (k : ℕ). Logged newer (length l.before + 1) (e k)) h.numbered end;
+        before = h.sent.logged.below;
+      };
+      within = end.below;
+      waited = omega (arith, same, h.waited);
+    } in
+    subst (λ (es : List LogEntry). Stops s polls entry e (log_of es)) (sym l.is) (subst (λ (n : ℕ). Stops s polls n e newer) (sym at) stops)
 
 -- a message that was just told
-pub Fits-told : {P C F E : Type 0} (p : Ghosts P C F E) (a : Asking P C F E p) (m : Message) (now entries entry : ℕ) (old new : Option (List LogEntry))
-    → new ≡ added (Told (p.asked a.exchange) now (told_outcome.Message m)) old → Counted old entries → entry ≡ entries + 1
-    → m.query ≡ p.question a.exchange → TellsThat old (IsAskedBy p a) → TellsThat new (λ log. Fits log now (outcome.Told entry a.of a.ip m))
-Fits-told p a m now entries entry old new grew counted number query asked es told =
-    let e = Told (p.asked a.exchange) now (told_outcome.Message m) in
+pub Fits-told : (number : ℕ) (s : Sent) (polls : ℕ) (m : Message) (now entries entry : ℕ) (old new : Option (List LogEntry))
+    → new ≡ added (line.Told number now (said.Message m)) old → Counted old entries → entry ≡ entries + 1 → s.query ≡ Some m.query
+    → TellsThat old (IsWaitedFor number s polls) → TellsThat new (λ log. Fits log now (outcome.Told entry s m))
+Fits-told number s polls m now entries entry old new grew counted is query waited es told =
+    let h = Stops-newest (λ k. line.Told k now (said.Message m)) number s polls entries entry old new grew counted is waited es told in
+    record { within = h.within; is = (h.closes, query) }
+
+-- the count after a call that failed, not for want of memory
+one_more : (entries n : ℕ) → n ≡ min (entries + 1) (2 ^ 64 - 1) → entries + 2 < 2 ^ 64 → n ≡ entries + 1
+one_more entries n counts room = omega arith
+
+-- a poll that just failed
+pub Fits-failed : {X : Type 0} (r : Result Outcome X) (memory : Bool) (number : ℕ) (s : Sent) (polls now entries n : ℕ) (error : NetError)
+    (old new : Option (List LogEntry))
+    → is_ok r ≡ not memory → IfOk r (λ o. o ≡ outcome.Failed n s false error) → n ≡ cond memory entries (min (entries + 1) (2 ^ 64 - 1))
+    → new ≡ cond memory old (added (line.Told number now (said.Error error)) old) → entries + 2 < 2 ^ 64 → Counted old entries
+    → TellsThat old (IsWaitedFor number s polls) → IfOk r (λ o. TellsThat new (λ log. Fits log now o))
+Fits-failed (Err x) memory number s polls now entries n error old new ok is counts grew room counted waited = tt
+Fits-failed (Ok o) true number s polls now entries n error old new ok is counts grew room counted waited = cc
+Fits-failed (Ok o) false number s polls now entries n error old new ok is counts grew room counted waited =
+    subst (λ (o : Outcome). TellsThat new (λ log. Fits log now o)) (sym is) (λ es told.
+    let is = one_more entries n counts room in
+    let stops = Stops-newest (λ k. line.Told k now (said.Error error)) number s polls entries n old new grew counted is waited es told in
+    record { within = stops.within; is = stops.closes })
+
+-- a call that was just refused
+pub Fits-refused : {X : Type 0} (r : Result Outcome X) (memory : Bool) (s : Sent) (protocol : Protocol) (now entries : ℕ) (error : NetError)
+    (old new : Option (List LogEntry))
+    → is_ok r ≡ not memory → IfOk r (λ o. o ≡ outcome.Failed s.of s true error) → s.of ≡ cond memory entries (min (entries + 1) (2 ^ 64 - 1)) → s.moment ≡ now
+    → new ≡ cond memory old (added (entry_for s protocol (Some error)) old) → entries + 2 < 2 ^ 64 → Counted old entries
+    → IfOk r (λ o. TellsThat new (λ log. Fits log now o))
+Fits-refused (Err x) memory s protocol now entries error old new ok is counts at grew room counted = tt
+Fits-refused (Ok o) true s protocol now entries error old new ok is counts at grew room counted = cc
+Fits-refused (Ok o) false s protocol now entries error old new ok is counts at grew room counted =
+    subst (λ (o : Outcome). TellsThat new (λ log. Fits log now o)) (sym is) (λ es told.
+    let e = entry_for s protocol (Some error) in
     let l = Longer-from_added e old es (sym grew ∙ told) in
     let count : length l.before ≡ entries = counted l.before l.was in
-    let at : entry ≡ length l.before + 1 = omega arith in
-    let was = asked l.before l.was in
-    let below = was.asked.below in
-    let x = Extends-added l.before e in
-    let newest = Logged-newest l.before e in
-    let tells : Tells (log_of (l.before ++ e ∷ [])) (length l.before + 1) m.query (told_outcome.Message m) a.of a.ip now = record {
-      protocol = was.protocol;
-      asked = p.question a.exchange;
-      asked_at = was.moment;
-      told = rw (← was.numbered) newest;
-      question = Logged-extend _ _ x _ _ was.asked;
-      before = below;
-      same = rw query (same_query-refl (p.question a.exchange));
-    } in
-    rw (l.is, at) (record { within = newest.below; is = tells })
+    let of : s.of ≡ length l.before + 1 = omega (arith, count, one_more entries s.of counts room) in
+    let logged : Logged (log_of es) s.of e =
+    subst (λ (es : List LogEntry). Logged (log_of es) s.of e) (sym l.is)
+    (subst (λ (k : ℕ). Logged (log_of (l.before ++ e ∷ [])) k e) (sym of) (Logged-newest l.before e)) in
+    record { within = logged.below; is = record { sent = record { protocol = protocol; logged = logged }; at = refl; then = at } })
 
--- a call that just failed
-pub Fits-failed : {X : Type 0} (r : Result Outcome X) (now n : ℕ) (told : Option (List LogEntry)) (refused : Bool) (e : NetError)
-    → IfOk r (λ o. o ≡ outcome.Failed n refused e) → Counted told n → IfOk r (λ o. TellsThat told (λ log. Fits log now o))
-Fits-failed (Ok o) now n told refused e is counted = subst (λ (x : Outcome). TellsThat told (λ log. Fits log now x)) (sym is) (λ es t. record { within = omega (arith, counted es t); is = tt })
-Fits-failed (Err x) now n told refused e is counted = tt
-
-pub counts_below : (b : Bool) (n m : ℕ) → m ≡ cond b n (min (n + 1) (2 ^ 64 - 1)) → n + 2 < 2 ^ 64 → m + 1 < 2 ^ 64
-counts_below true n m counts below = omega arith
-counts_below false n m counts below = omega arith
+-- what was just given up
+pub Fits-gave_up : (r : Option Outcome) (number : ℕ) (s : Sent) (polls now entries n : ℕ) (old new : Option (List LogEntry))
+    → IfSome r (λ o. (o ≡ outcome.GaveUp n s polls) × (entries + 5 < 2 ^ 64)) → n ≡ min (entries + 1) (2 ^ 64 - 1) → new ≡ added (line.GaveUp number now) old
+    → (entries + 1 < 2 ^ 64 → Counted old entries) → TellsThat old (IsWaitedFor number s polls) → IfSome r (λ o. TellsThat new (λ log. Fits log now o))
+Fits-gave_up None number s polls now entries n old new some counts grew counted waited = tt
+Fits-gave_up (Some o) number s polls now entries n old new some counts grew counted waited =
+    let room = some.1 in
+    subst (λ (o : Outcome). TellsThat new (λ log. Fits log now o)) (sym some.0) (λ es told.
+    let is = one_more entries n counts (omega (arith, room)) in
+    let stops = Stops-newest (λ k. line.GaveUp k now) number s polls entries n old new grew (counted (omega (arith, room))) is waited es told in
+    record { within = stops.within; is = (stops.closes, stops.waited) })

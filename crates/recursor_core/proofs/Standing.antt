@@ -1,19 +1,21 @@
 -- What holds of the machine and its provider goes on holding at each step of the two.
-use Rattle.std.proofs.Common.{◌≡◌, ◌≤◌, ◌<◌, ◌+◌, ◌∙◌, ℕ, List, length, Option, Some, None, Result, Ok, Err, OnOk, IfOk, refl, sym, subst, arith}
+use Rattle.std.proofs.Common.{◌≡◌, ◌≤◌, ◌<◌, ◌+◌, ◌∙◌, ◌⊎◌, ⊎_elim, inl, inr, ℕ, zero, suc, List, length, Option, Some, None, Result, Ok, Err, OnOk, IfOk, refl, sym, subst, arith}
 use Rattle.std.specs.declared.net.ip_addr.IpAddr.{IpAddr}
 use Rattle.dns_core.specs.Log.{Log, Extends, log_of}
 use Rattle.dns_core.specs.declared.log.LogEntry.{LogEntry}
 use Rattle.dns_core.specs.declared.request.Question.{Question}
 use Rattle.dns_core.specs.declared.provider.ConnectionProvider.{Ghosts}
-use Rattle.resolution.specs.Given.{Given}
+use Rattle.resolution.specs.Given.{Given, with_patience}
+use Rattle.resolution.specs.Telling.{Logged}
 use Rattle.resolution.specs.Asking.{AsksServers}
-use Rattle.resolution.proofs.Keeping.{Serves-later}
+use Rattle.resolution.proofs.Keeping.{Serves-later, Serves-extend}
 use Rattle.recursor_core.specs.Order.{Fits, GoesToServer}
-use Rattle.recursor_core.specs.Replies.{given_of, ReplyHolds}
+use Rattle.recursor_core.specs.Replies.{Terms, given_of, ReplyHolds}
+use Rattle.recursor_core.specs.Tried.{machine_timer}
 use Rattle.recursor_core.specs.Carrying.{TellsThat, Grown, CarrierHolds}
-use Rattle.recursor_core.specs.Derived.{Derived}
+use Rattle.recursor_core.specs.Derived.{terms_of, Derived}
 use Rattle.recursor_core.specs.Machine.{Begun, begun_at, ReplyGiven, StepGives}
-use Rattle.recursor_core.specs.Standing.{Holds, Moves, ReplyTold}
+use Rattle.recursor_core.specs.Standing.{IsPast, Holds, Rests, Moves, ReplyTold}
 use Rattle.recursor_core.specs.Turns.{TurnFalls}
 use Rattle.recursor_core.specs.declared.carrier.Carrier.{Carrier}
 use Rattle.recursor_core.specs.declared.machine.RecursorCore.{RecursorCore}
@@ -28,57 +30,138 @@ use Rattle.recursor_core.specs.declared.order.Outcome.{Outcome}
 use Rattle.recursor_core.specs.declared.reply.Reply.{Reply}
 use Rattle.recursor_core.proofs.Kept.{Derived-extends, ReplyHolds-extends}
 
-Extends-refl : (log : Log) → Extends log log
+-- ---- growing logs
+
+-- a log has its own entries
+pub Extends-refl : (log : Log) → Extends log log
 Extends-refl log = record { later = omega arith; kept = λ n h. refl }
 
+-- a log that extends one that extends another extends that one
 Extends-trans : {a b c : Log} → Extends a b → Extends b c → Extends a c
 Extends-trans x y = record { later = omega (arith, x.later, y.later); kept = λ n h. y.kept n (omega (arith, h, x.later)) ∙ x.kept n h }
 
-pub Grown-refl : (told : Option (List LogEntry)) → Grown told told
-Grown-refl told es t = record { before = es; was = t; extends = Extends-refl (log_of es) }
+-- a number is below another, or not
+pub below_or_not : (i n : ℕ) → (i < n) ⊎ (n ≤ i)
+below_or_not i zero = inr (omega arith)
+below_or_not zero (suc n) = inl (omega arith)
+below_or_not (suc i) (suc n) = ⊎_elim (λ h. inl (omega arith)) (λ h. inr (omega arith)) (below_or_not i n)
 
-Grown-trans : (a b c : Option (List LogEntry)) → Grown a b → Grown b c → Grown a c
-Grown-trans a b c x y es t =
+-- an early entry of the longer log is one of the shorter
+Logged-shrink : (old new : Log) → Extends old new → (i : ℕ) (e : LogEntry) → i < old.next → Logged new i e → Logged old i e
+Logged-shrink old new x i e low h = record { below = low; is = sym (x.kept i low) ∙ h.is }
+
+-- each entry of the longer log is one of the shorter, or a new one
+pub entry_sides : (old new : Log) → Extends old new → (i : ℕ) (e : LogEntry) → Logged new i e → Logged old i e ⊎ (old.next ≤ i)
+entry_sides old new x i e h = ⊎_elim (λ low. inl (Logged-shrink old new x i e low h)) (λ high. inr high) (below_or_not i old.next)
+
+-- a log that stays as it is has grown by nothing
+pub Grown-refl : (now : ℕ) (told : Option (List LogEntry)) → Grown now told told
+Grown-refl now told es t = record {
+  before = es;
+  was = t;
+  extends = Extends-refl (log_of es);
+  at = λ i moment e high logged is. absurd (omega (arith, high, logged.below));
+}
+
+-- a log that grows twice at a moment grows at that moment
+pub Grown-trans : (now : ℕ) (a b c : Option (List LogEntry)) → Grown now a b → Grown now b c → Grown now a c
+Grown-trans now a b c x y es t =
     let two = y es t in
     let one = x two.before two.was in
-    record { before = one.before; was = one.was; extends = Extends-trans one.extends two.extends }
+    record {
+      before = one.before;
+      was = one.was;
+      extends = Extends-trans one.extends two.extends;
+      at = λ i moment e high logged is. ⊎_elim
+          (λ early. one.at i moment e high early is)
+          (λ late. two.at i moment e late logged is)
+          (entry_sides (log_of two.before) (log_of es) two.extends i e logged);
+    }
 
-Derived-grown : (core : RecursorCore) (old new : Option (List LogEntry)) → Grown old new → TellsThat old (Derived core) → TellsThat new (Derived core)
-Derived-grown core old new grown d es t = let l = grown es t in Derived-extends core (log_of l.before) (log_of es) l.extends (d l.before l.was)
+-- what no entry was later than stays so
+IsPast-later : (now later : ℕ) (told : Option (List LogEntry)) → now ≤ later → TellsThat told (IsPast now) → TellsThat told (IsPast later)
+IsPast-later now later told le h es t i moment e logged is = omega (arith, h es t i moment e logged is, le)
 
-pub ReplyHolds-grown : (roots : List IpAddr) (moment : ℕ) (question : Question) (reply : Reply) (old new : Option (List LogEntry)) → Grown old new
-    → TellsThat old (λ log. ReplyHolds roots log moment question reply) → TellsThat new (λ log. ReplyHolds roots log moment question reply)
-ReplyHolds-grown roots moment question reply old new grown h es t = let l = grown es t in ReplyHolds-extends roots (log_of l.before) (log_of es) moment question reply l.extends (h l.before l.was)
+-- no entry is later than the moment of the last ones
+IsPast-grown : (now : ℕ) (old new : Option (List LogEntry)) → Grown now old new → TellsThat old (IsPast now) → TellsThat new (IsPast now)
+IsPast-grown now old new grown h es t i moment e logged is =
+    let l = grown es t in
+    ⊎_elim (λ early. h l.before l.was i moment e early is) (λ late. omega (arith, l.at i moment e late logged is))
+    (entry_sides (log_of l.before) (log_of es) l.extends i e logged)
+
+-- what was derived is derived from a longer log
+Derived-grown : (now patience : ℕ) (core : RecursorCore) (old new : Option (List LogEntry)) → Grown now old new → TellsThat old (Derived patience core)
+    → TellsThat new (Derived patience core)
+Derived-grown now patience core old new grown d es t = let l = grown es t in Derived-extends patience core (log_of l.before) (log_of es) l.extends (d l.before l.was)
+
+-- a reply holds by a longer log
+pub ReplyHolds-grown : (now : ℕ) (terms : Terms) (moment : ℕ) (question : Question) (reply : Reply) (old new : Option (List LogEntry)) → Grown now old new
+    → TellsThat old (λ log. ReplyHolds terms machine_timer log moment question reply)
+    → TellsThat new (λ log. ReplyHolds terms machine_timer log moment question reply)
+ReplyHolds-grown now terms moment question reply old new grown h es t =
+    let l = grown es t in
+    ReplyHolds-extends terms (log_of l.before) (log_of es) moment question reply l.extends (h l.before l.was)
+
+-- ---- moments: each step leaves it as it was, or at this one
+
+-- so do two steps
+pub moments_then : (a b c now : ℕ) → (b ≡ a) ⊎ (b ≡ now) → (c ≡ b) ⊎ (c ≡ now) → (c ≡ a) ⊎ (c ≡ now)
+moments_then a b c now first second = ⊎_elim (λ same. ⊎_elim (λ was. inl (same ∙ was)) (λ at. inr (same ∙ at)) first) (λ at. inr at) second
+
+-- it is no earlier than before
+pub moment_later : (a b now : ℕ) → a ≤ now → (b ≡ a) ⊎ (b ≡ now) → a ≤ b
+moment_later a b now le = ⊎_elim (λ same. omega (arith, same)) (λ at. omega (arith, at, le))
+
+-- ---- what a step gives
 
 -- an order that goes to a server by what was told before also does by what is told later
 GoesToServer-later : (given : Given) (log : Log) (n m : ℕ) (order : Order) → n ≤ m → GoesToServer given log n order → GoesToServer given log m order
 GoesToServer-later given log n m (Open ip config) le h = record { zone = h.zone; serves = Serves-later given log le h.serves }
 GoesToServer-later given log n m (Ask conn ip protocol request) le h = record { zone = h.zone; above = h.above; serves = Serves-later given log le h.serves }
 
--- an order that the machine gives goes to a server by all that is told
-pub step_goes : (core new : RecursorCore) (told : Option (List LogEntry)) (r number : ℕ) (next : Step) (order : Order) → next ≡ step.Order number order → new.roots ≡ core.roots → TellsThat told (Derived core)
-    → ((log : Log) → Derived core log → Derived new log × StepGives core log r next) → TellsThat told (λ log. GoesToServer (given_of new.roots) log log.next order)
-step_goes core new told r number next order is roots d gives es t =
-    let given = subst (λ (s : Step). StepGives core (log_of es) r s) is (gives (log_of es) (d es t)).1 in
-    let b : core.greatest < length es + 1 = (d es t).bound in
-    subst (λ (ips : List IpAddr). GoesToServer (given_of ips) (log_of es) (length es + 1) order) (sym roots)
-    (GoesToServer-later (given_of core.roots) (log_of es) (core.greatest + 1) (length es + 1) order (omega arith) given)
+module _ (patience : ℕ) (core new : RecursorCore) (told : Option (List LogEntry)) where
+  -- an order that the machine gives goes to a server by all that is told
+  pub step_goes : (r number : ℕ) (next : Step) (order : Order) → next ≡ step.Order number order → new.roots ≡ core.roots → TellsThat told (Derived patience core)
+      → ((log : Log) → Derived patience core log → Derived patience new log × StepGives patience core log r next)
+      → TellsThat told (λ log. GoesToServer (given_of (terms_of patience new)) log log.next order)
+  step_goes r number next order is roots d gives es t =
+      let given = subst (λ (s : Step). StepGives patience core (log_of es) r s) is (gives (log_of es) (d es t)).1 in
+      let b : core.greatest < length es + 1 = (d es t).bound in
+      subst (λ (ips : List IpAddr). GoesToServer (given_of (record { roots = ips; patience = patience })) (log_of es) (length es + 1) order) (sym roots)
+      (GoesToServer-later (given_of (terms_of patience core)) (log_of es) (core.greatest + 1) (length es + 1) order (omega arith) given)
 
-reply_told : (roots : List IpAddr) (told : Option (List LogEntry)) (b : Option Begun) (reply : Reply) → TellsThat told (λ log. ReplyGiven roots log b reply) → ReplyTold roots told b reply
-reply_told roots told None reply h = tt
-reply_told roots told (Some b) reply h = h
+  -- a reply that is given to a question that has begun is told
+  reply_told : (b : Option Begun) (reply : Reply) → TellsThat told (λ log. ReplyGiven (terms_of patience core) log b reply)
+      → ReplyTold (terms_of patience core) told b reply
+  reply_told None reply h = tt
+  reply_told (Some b) reply h = h
 
--- a reply that it gives is told
-pub step_replies : (core new : RecursorCore) (told : Option (List LogEntry)) (r : ℕ) (next : Step) (reply : Reply) → next ≡ step.Done reply → TellsThat told (Derived core)
-    → ((log : Log) → Derived core log → Derived new log × StepGives core log r next) → ReplyTold core.roots told (begun_at core r) reply
-step_replies core new told r next reply is d gives =
-    reply_told core.roots told (begun_at core r) reply (λ es t. subst (λ (s : Step). StepGives core (log_of es) r s) is (gives (log_of es) (d es t)).1)
+  -- a reply that it gives is told
+  pub step_replies : (r : ℕ) (next : Step) (reply : Reply) → next ≡ step.Done reply → TellsThat told (Derived patience core)
+      → ((log : Log) → Derived patience core log → Derived patience new log × StepGives patience core log r next)
+      → ReplyTold (terms_of patience core) told (begun_at core r) reply
+  step_replies r next reply is d gives =
+      reply_told (begun_at core r) reply (λ es t. subst (λ (s : Step). StepGives patience core (log_of es) r s) is (gives (log_of es) (d es t)).1)
+
+-- who is a server does not depend on patience
+AsksServers-patience : (given : Given) (patience : ℕ) (log : Log) → AsksServers given log → AsksServers (with_patience patience given) log
+AsksServers-patience given patience log a =
+    let x = Extends-refl log in
+    record {
+      opened = λ n ip protocol moment refused at. let s = a.opened n ip protocol moment refused at in record
+          { zone = s.zone; serves = Serves-extend given patience log log x s.serves };
+      asked = λ n ip protocol q moment refused at.
+          let s = a.asked n ip protocol q moment refused at in
+          record { zone = s.zone; above = s.above; serves = Serves-extend given patience log log x s.serves };
+    }
 
 -- a reply to a question that has begun is one to the same question later
-pub ReplyTold-later : (roots : List IpAddr) (told : Option (List LogEntry)) (old new : Option Begun) (reply : Reply) → ((b : Begun) → old ≡ Some b → new ≡ Some b) → ReplyTold roots told new reply → ReplyTold roots told old reply
-ReplyTold-later roots told None new reply same h = tt
-ReplyTold-later roots told (Some b) new reply same h = subst (λ (x : Option Begun). ReplyTold roots told x reply) (same b refl) h
+pub ReplyTold-later : (terms : Terms) (told : Option (List LogEntry)) (old new : Option Begun) (reply : Reply) → ((b : Begun) → old ≡ Some b → new ≡ Some b)
+    → ReplyTold terms told new reply → ReplyTold terms told old reply
+ReplyTold-later terms told None new reply same h = tt
+ReplyTold-later terms told (Some b) new reply same h = subst (λ (x : Option Begun). ReplyTold terms told x reply) (same b refl) h
 
+-- what a step leaves less a turn leaves less
 turned_falls : (new mid old : ℕ) (t : Turned) → new < mid → mid ≤ old → TurnFalls new old t
 turned_falls new mid old turned.Again h le = omega arith
 turned_falls new mid old turned.Pending h le = omega arith
@@ -90,44 +173,78 @@ pub turn_falls : (new mid old : ℕ) (result : Result Turned NoMemory) → OnOk 
 turn_falls new mid old (Ok t) h le = turned_falls new mid old t h le
 turn_falls new mid old (Err e) h le = tt
 
+-- ---- steps
+
 module _ {P C F E : Type 0} (p : Ghosts P C F E) where
   -- a step of the machine alone
-  pub holds_derived : (core new : RecursorCore) (c : Carrier P C F E p) → new.roots ≡ core.roots → ((log : Log) → Derived core log → Derived new log) → Holds p core c → Holds p new c
-  holds_derived core new c roots derived h = record {
+  pub holds_derived : (patience : ℕ) (core new : RecursorCore) (c : Carrier P C F E p) → new.roots ≡ core.roots → core.moment ≤ new.moment
+      → ((log : Log) → Derived patience core log → Derived patience new log) → Holds p patience core c → Holds p patience new c
+  holds_derived patience core new c roots later derived h = record {
     carrier = h.carrier;
     derived = λ es t. derived (log_of es) (h.derived es t);
-    asks = subst (λ (ips : List IpAddr). TellsThat (p.log c.provider) (AsksServers (given_of ips))) (sym roots) h.asks;
+    asks = subst (λ (ips : List IpAddr). TellsThat (p.log c.provider) (AsksServers (given_of (record { roots = ips; patience = patience })))) (sym roots) h.asks;
+    past = IsPast-later core.moment new.moment (p.log c.provider) later h.past;
   }
 
   -- the machine is fed what the provider told
-  pub holds_put : (core new : RecursorCore) (c : Carrier P C F E p) (now : ℕ) (outcome : Outcome) → new.roots ≡ core.roots
-      → ((log longer : Log) → Derived core log → Extends log longer → Fits longer now outcome → core.moment ≤ now → Derived new longer)
-      → TellsThat (p.log c.provider) (λ log. Fits log now outcome) → core.moment ≤ now → Holds p core c → Holds p new c
-  holds_put core new c now outcome roots derived fits moment h = record {
+  pub holds_put : (patience : ℕ) (core new : RecursorCore) (c : Carrier P C F E p) (now : ℕ) (outcome : Outcome) → new.roots ≡ core.roots → new.moment ≡ now
+      → ((log longer : Log) → core.moment ≤ now → Derived patience core log → Extends log longer → Fits longer now outcome → Derived patience new longer)
+      → TellsThat (p.log c.provider) (λ log. Fits log now outcome) → core.moment ≡ now → Holds p patience core c → Holds p patience new c
+  holds_put patience core new c now outcome roots moment derived fits at h = record {
     carrier = h.carrier;
-    derived = λ es t. derived (log_of es) (log_of es) (h.derived es t) (Extends-refl (log_of es)) (fits es t) moment;
-    asks = subst (λ (ips : List IpAddr). TellsThat (p.log c.provider) (AsksServers (given_of ips))) (sym roots) h.asks;
+    derived = λ es t. derived (log_of es) (log_of es) (omega arith) (h.derived es t) (Extends-refl (log_of es)) (fits es t);
+    asks = subst (λ (ips : List IpAddr). TellsThat (p.log c.provider) (AsksServers (given_of (record { roots = ips; patience = patience })))) (sym roots) h.asks;
+    past = IsPast-later core.moment new.moment (p.log c.provider) (omega arith) h.past;
   }
 
-  -- a step of the provider alone
-  pub holds_grown : (core : RecursorCore) (c new : Carrier P C F E p) → CarrierHolds p new → Grown (p.log c.provider) (p.log new.provider)
-      → (TellsThat (p.log c.provider) (AsksServers (given_of core.roots)) → TellsThat (p.log new.provider) (AsksServers (given_of core.roots)))
-      → Holds p core c → Holds p core new
-  holds_grown core c new carrier grown asks h = record {
+  -- a step of the provider alone, at the moment of the machine
+  pub holds_grown : (patience : ℕ) (core : RecursorCore) (c new : Carrier P C F E p) (now : ℕ) → core.moment ≡ now → CarrierHolds p new
+      → Grown now (p.log c.provider) (p.log new.provider)
+      → (TellsThat (p.log c.provider) (AsksServers (given_of (terms_of patience core)))
+      → TellsThat (p.log new.provider) (AsksServers (given_of (terms_of patience core))))
+      → Holds p patience core c → Holds p patience core new
+  holds_grown patience core c new now at carrier grown asks h = record {
     carrier = carrier;
-    derived = Derived-grown core (p.log c.provider) (p.log new.provider) grown h.derived;
+    derived = Derived-grown now patience core (p.log c.provider) (p.log new.provider) grown h.derived;
     asks = asks h.asks;
+    past = subst (λ m. TellsThat (p.log new.provider) (IsPast m)) (sym at)
+        (IsPast-grown now (p.log c.provider) (p.log new.provider) grown (subst (λ m. TellsThat (p.log c.provider) (IsPast m)) at h.past));
   }
 
-  pub moves_trans : (a b c : RecursorCore) (x y z : Carrier P C F E p) → Moves p a b x y → Moves p b c y z → Moves p a c x z
-  moves_trans a b c x y z m n = record {
+  -- two steps are one
+  pub moves_trans : (now : ℕ) (a b c : RecursorCore) (x y z : Carrier P C F E p) → Moves p now a b x y → Moves p now b c y z → Moves p now a c x z
+  moves_trans now a b c x y z m n = record {
     roots = n.roots ∙ m.roots;
     begun = λ k begun e. n.begun k begun (m.begun k begun e);
-    grown = Grown-trans (p.log x.provider) (p.log y.provider) (p.log z.provider) m.grown n.grown;
+    grown = Grown-trans now (p.log x.provider) (p.log y.provider) (p.log z.provider) m.grown n.grown;
   }
 
-  pub moves_core : (core new : RecursorCore) (c : Carrier P C F E p) → new.roots ≡ core.roots → ((k : ℕ) → begun_at new k ≡ begun_at core k) → Moves p core new c c
-  moves_core core new c roots begun = record { roots = roots; begun = λ k b e. begun k ∙ e; grown = Grown-refl (p.log c.provider) }
+  -- a step of the machine alone that keeps the questions
+  pub moves_core : (now : ℕ) (core new : RecursorCore) (c : Carrier P C F E p) → new.roots ≡ core.roots → ((k : ℕ) → begun_at new k ≡ begun_at core k)
+      → Moves p now core new c c
+  moves_core now core new c roots begun = record { roots = roots; begun = λ k b e. begun k ∙ e; grown = Grown-refl now (p.log c.provider) }
 
-  pub moves_grown : (core : RecursorCore) (c new : Carrier P C F E p) → Grown (p.log c.provider) (p.log new.provider) → Moves p core core c new
-  moves_grown core c new grown = record { roots = refl; begun = λ k b e. e; grown = grown }
+  -- a step of the provider alone
+  pub moves_grown : (now : ℕ) (core : RecursorCore) (c new : Carrier P C F E p) → Grown now (p.log c.provider) (p.log new.provider) → Moves p now core core c new
+  moves_grown now core c new grown = record { roots = refl; begun = λ k b e. e; grown = grown }
+
+  -- a machine at rest begins a run: its questions are left
+  pub rests_holds : (patience : ℕ) (core new : RecursorCore) (c : Carrier P C F E p) → new.roots ≡ core.roots → new.moment ≡ core.moment
+      → ((log : Log) → core.greatest < log.next → 0 < length core.roots → Derived patience new log) → Rests p core c → Holds p patience new c
+  rests_holds patience core new c roots moment derived h = record {
+    carrier = h.carrier;
+    derived = λ es t. derived (log_of es) (h.bound es t) h.some;
+    asks = subst (λ (ips : List IpAddr). TellsThat (p.log c.provider) (AsksServers (given_of (record { roots = ips; patience = patience })))) (sym roots)
+        (h.asks patience);
+    past = subst (λ m. TellsThat (p.log c.provider) (IsPast m)) (sym moment) h.past;
+  }
+
+  -- and after it the machine is at rest again
+  pub holds_rests : (patience : ℕ) (core : RecursorCore) (c : Carrier P C F E p) → 0 < length core.roots → Holds p patience core c → Rests p core c
+  holds_rests patience core c some h = record {
+    some = some;
+    carrier = h.carrier;
+    bound = λ es t. (h.derived es t).bound;
+    asks = λ other es t. AsksServers-patience (given_of (terms_of patience core)) other (log_of es) (h.asks es t);
+    past = h.past;
+  }

@@ -1,54 +1,185 @@
--- How a walk goes on, and what its reply rests on.
-use Rattle.std.proofs.Common.{◌≡◌, ◌≢◌, ◌≤◌, ◌<◌, ◌+◌, ℕ, zero, suc, ◌-◌, Bool, true, false, cond, List, [], ◌∷◌, length, Option, Some, None, All, Contains, refl, sym, ◌∙◌, ap, subst, arith, inl, inr, Result, Ok, Err, IfOk, OnOk, IfNone}
-use Rattle.std.proofs.lemmas.List.Elements.{All-weaker, All-contains_itself}
-use Rattle.std.proofs.lemmas.Result.{IfOk-weaker}
-use Rattle.std.specs.Prelude.{nat_lt, ◌&&◌, ◌==◌, IsTrue, if◌then◌else◌}
-use Rattle.std.specs.Cmp.{first_so, second_so}
+-- How a walk goes on.
+use Rattle.std.proofs.Common.{◌≡◌, ◌≤◌, ◌<◌, ◌+◌, ◌-◌, ◌↔◌, ℕ, Bool, true, false, cond, List, length, Option, Some, None, Contains, refl, sym, ◌∙◌, ap, subst, arith, inl, inr, Result, Ok, Err, OnOk, IfOk, IfNone}
+use Rattle.std.proofs.lemmas.List.Elements.{All-weaker, All-contains_itself, All-filter, recursion_from_All}
+use Rattle.std.proofs.lemmas.List.FromFn.{get_or-map-range_with_len, length-map-range_with_len}
 use Rattle.std.proofs.lemmas.Bool.Decides.{nat_tests}
+use Rattle.std.specs.Prelude.{nat_lt, ◌&&◌, ◌==◌, not, IsTrue, IsSomeAnd}
+use Rattle.std.specs.Cmp.{first_so, second_so}
+use Rattle.std.specs.List.{last_or}
 use Rattle.std.specs.declared.net.ip_addr.IpAddr.{IpAddr}
 use Rattle.dns_core.specs.Name.{DomainName}
 use Rattle.dns_core.specs.Log.{Log}
-use Rattle.dns_core.specs.Stripping.{strip_of}
 use Rattle.dns_core.specs.declared.message.Query.{Query}
 use Rattle.dns_core.specs.declared.message.Message.{Message}
-use Rattle.dns_core.specs.declared.log.ToldOutcome.TheVariants as told
 use Rattle.dns_core.specs.declared.errors.NoMemory.{NoMemory}
-use Rattle.dns_core.specs.declared.request.Question.{Question}
-use Rattle.dns_core.specs.declared.net_error.NoRecords.{NoRecords}
-use Rattle.dns_core.specs.declared.net_error.ForwardNsData.{ForwardNsData}
-use Rattle.std.specs.Option.{is_none}
-use Rattle.std.proofs.lemmas.List.FromFn.{get_or-map-range_with_len, length-map-range_with_len}
+use Rattle.dns_core.specs.declared.net_error.NetError.{NetError}
+use Rattle.dns_core.specs.declared.net_error.NetError.TheVariants as net
 use Rattle.resolution.specs.Names.{root, base, candidates, is_above, is_root, walk, question}
-use Rattle.resolution.specs.Failing as failing
-use Rattle.resolution.specs.Failing.{Glueless}
-use Rattle.resolution.specs.Class.{class_of}
 use Rattle.resolution.specs.Given.{allows_all}
-use Rattle.resolution.specs.Verdict.{verdict, verdict_of_told}
 use Rattle.resolution.specs.Serving.{Serves, Delegates, is_delegation, glue, allowed}
 use Rattle.resolution.specs.Serving.Serves.{of_root, of_glue}
 use Rattle.resolution.specs.Serving.Delegates.{delegates}
-use Rattle.resolution.specs.Answering.{Answers, Base}
-use Rattle.resolution.specs.Answering.Answers.{direct}
-use Rattle.resolution.specs.declared.verdict.Verdict.TheVariants.{Pos, Neg, Made}
+use Rattle.resolution.specs.Ending.{Finished, is_timeout}
+use Rattle.resolution.specs.Ending.Listed.{of_roots, of_told}
+use Rattle.resolution.specs.Walking.{NoCut, Walked, at_any_time, is_cut}
+use Rattle.resolution.specs.Walking.NoCut.{told_otherwise, not_told}
+use Rattle.resolution.specs.declared.verdict.Verdict.TheVariants.{Pos}
 use Rattle.resolution.specs.declared.verdict.Verdict.{Verdict}
-use Rattle.resolution.proofs.Sameness.{Same-refl}
-use Rattle.recursor_core.specs.Replies.{given_of, IsToldAnswer, ReplyHolds}
-use Rattle.recursor_core.specs.Causes.{told_data, made_data, IsDenied, ErrorHolds}
-use Rattle.recursor_core.specs.Causes.IsDenied.{told as denial_told, made as denial_made, told_on_the_way, made_on_the_way}
-use Rattle.recursor_core.specs.Causes.IsReferred.{referred}
-use Rattle.recursor_core.specs.Walk.{next_stage, query_of, IsCandidate, told_negative, ends_walk}
-use Rattle.recursor_core.specs.declared.error.RecursorError.TheVariants.{Negative, ForwardNS}
-use Rattle.recursor_core.specs.Derived.{AreServers, IsHeard, Counts, LookupHolds, StageHolds, WayHolds, WalkHolds, WalkComes, last_name}
-use Rattle.recursor_core.specs.declared.error.RecursorError.{RecursorError}
+use Rattle.recursor_core.specs.Replies.{Terms, given_of}
+use Rattle.recursor_core.specs.Tried.{Concluded, machine_timer}
+use Rattle.recursor_core.specs.Causes.{WalksTo, HasNoServer}
+use Rattle.recursor_core.specs.Walk.{next_stage, query_of, IsCandidate}
+use Rattle.recursor_core.specs.Derived.{ArePool, Counts, LookupHolds, StageHolds, Passed, LeavesBehind, WayHolds, WalkHolds, last_name, reached}
+use Rattle.recursor_core.specs.declared.error.WalkCause.TheVariants as why
 use Rattle.recursor_core.specs.declared.lookup.Lookup.{Lookup}
 use Rattle.recursor_core.specs.declared.reply.Reply.{Reply}
 use Rattle.recursor_core.specs.declared.walk.Stage.{Stage}
 use Rattle.recursor_core.specs.declared.walk.Stage.TheVariants.{Candidate, Last}
 use Rattle.recursor_core.specs.declared.walk.Walk.{Walk}
-use Rattle.recursor_core.proofs.Candidates.{above-last, last-above, last-length, root-above}
+use Rattle.recursor_core.proofs.Candidates.{above-last, last-above, last-length, root-above, walked-from-passed, walked-at-candidate}
+use Rattle.recursor_core.proofs.Denials.{has-failed}
+
+-- ---- at a candidate
+
+-- the last labels of a name are among its candidates
+among : (n : DomainName) (k : ℕ) → 1 ≤ k → k ≤ length n.labels → Contains (candidates n) (last_name k n)
+among n k low high =
+    let f : ℕ → DomainName = λ (i : ℕ). last_name i n in
+    let count = length-map-range_with_len f 1 (length n.labels) in
+    (k - 1, omega (arith, count, low, high), get_or-map-range_with_len f 1 (length n.labels) (k - 1) k (last_name k n) (omega (arith, low, high)) (omega (arith, low)))
+
+-- A walk asks for a candidate, and the log shows no cut at those before it.
+record AtCandidate (terms : Terms) (log : Log) (w : Walk) : Type 0 where
+  labels : ℕ
+  stage : w.stage ≡ Candidate labels
+  low : 1 ≤ labels
+  high : labels ≤ length w.name.labels
+  beyond : length w.zone.labels ≤ labels
+  asked : w.lookup.query ≡ question (last_name labels w.name) 2
+  passed : Passed terms log w.zone w.name labels
+
+-- so does a walk whose stage is a candidate
+at-candidate : (terms : Terms) (greatest : ℕ) (log : Log) (q : Query) (w : Walk) → IsCandidate w.stage → WayHolds terms greatest log q w
+    → AtCandidate terms log w
+at-candidate terms greatest log q w here way = by w.stage refl here
+  where
+    by : (s : Stage) → w.stage ≡ s → IsCandidate s → AtCandidate terms log w
+    by (Candidate labels) is held-here =
+        let held : StageHolds q w.zone w.name w.lookup.query (Candidate labels) = subst (StageHolds q w.zone w.name w.lookup.query) is way.stage in
+        record {
+          labels = labels;
+          stage = is;
+          low = held.0;
+          high = held.1;
+          beyond = held.2;
+          asked = held.3;
+          passed = subst (λ (s : Stage). Passed terms log w.zone w.name (reached w.name s)) is way.passed;
+        }
+    by Last is x = absurd x
+
+module _ (terms : Terms) (greatest : ℕ) (log : Log) (q : Query) (w : Walk) (here : IsCandidate w.stage) (way : WayHolds terms greatest log q w) where
+  -- the candidate
+  at : AtCandidate terms log w
+  at = at-candidate terms greatest log q w here way
+
+  -- it has the last labels of the name
+  named : w.lookup.query.name ≡ last_name at.labels w.name
+  named = ap (λ (p : Query). p.name) at.asked
+
+  -- the NS records of the candidate are asked for
+  pub candidate-asked : w.lookup.query ≡ question w.lookup.query.name 2
+  candidate-asked = at.asked ∙ ap (λ (n : DomainName). question n 2) (sym named)
+
+  -- the candidate is on the way
+  pub candidate-on-the-way : Contains (candidates (walk q)) w.lookup.query.name
+  candidate-on-the-way = subst (Contains (candidates (walk q))) (sym named)
+      (subst (λ (d : DomainName). Contains (candidates d) (last_name at.labels w.name)) way.name (among w.name at.labels at.low at.high))
+
+  -- the walk went down to its zone for the candidate
+  pub candidate-walked : WalksTo (given_of terms) log (question w.lookup.query.name 2) w.zone
+  candidate-walked plain = subst (λ (n : DomainName). Walked (given_of terms) log (question n 2) w.zone) (sym named)
+      (walked-at-candidate (given_of terms) log w.zone w.name at.labels way.above at.beyond at.high (at.passed plain))
+
+  -- it has that many labels
+  long : length w.lookup.query.name.labels ≡ at.labels
+  long = ap (λ (n : DomainName). length n.labels) named ∙ last-length w.name at.labels at.high
+
+  -- where no cut is shown at the candidate, none is shown up to it
+  passed-by : LeavesBehind terms log w → Passed terms log w.zone w.name (at.labels + 1)
+  passed-by leaves plain k low short = pick (nat_lt k at.labels) refl
+    where
+      pick : (b : Bool) → nat_lt k at.labels ≡ b → NoCut (given_of terms) log (last_name k w.name)
+      pick true e = at.passed plain k low (grind (arith, nat_tests))
+      pick false e =
+          let more : at.labels ≤ k = grind (arith, nat_tests) in
+          let same : at.labels ≡ k = omega (arith, more, short) in
+          let far : length w.zone.labels < length w.lookup.query.name.labels = omega (arith, long, same, low) in
+          subst (NoCut (given_of terms) log) (named ∙ ap (λ (j : ℕ). last_name j w.name) same) (leaves plain far)
+
+  -- no cut is shown at the candidate by a verdict that is none
+  pub leaves-told : (t0 entry : ℕ) (v : Verdict) → Counts terms greatest t0 log w.zone w.lookup.query entry v → is_cut v w.lookup.query.name ≡ false
+      → LeavesBehind terms log w
+  leaves-told t0 entry v counts none plain far =
+      let now = subst (λ (p : Query). Counts terms greatest t0 log w.zone p entry v) candidate-asked counts in
+      told_otherwise now.is.heard now.counts none
+
+  -- no cut is shown at the candidate by a lookup that failed otherwise than by a timeout
+  pub leaves-failed : (t0 : ℕ) (e : NetError) → Concluded terms t0 log w.zone w.lookup.query w.lookup.ends (Err e) → is_timeout e ≡ false
+      → LeavesBehind terms log w
+  leaves-failed t0 e ended otherwise plain far =
+      let f = subst (λ (p : Query). Finished (given_of terms) (machine_timer log t0) log t0 p w.zone w.lookup.ends (Err e)) candidate-asked (ended plain) in
+      not_told (at-any-time f) otherwise
+    where
+      from-start : (o : Option ℕ) → IsSomeAnd o (λ m. t0 ≤ m) → IsSomeAnd o (λ m. 0 ≤ m)
+      from-start (Some m) h = omega arith
+      from-start None h = absurd h
+
+      at-any-time : Finished (given_of terms) (machine_timer log t0) log t0 (question w.lookup.query.name 2) w.zone w.lookup.ends (Err e)
+          → Finished (given_of terms) at_any_time log 0 (question w.lookup.query.name 2) w.zone w.lookup.ends (Err e)
+      at-any-time f = record {
+        ips = f.ips;
+        ends = f.ends;
+        moments = f.moments;
+        start = f.start;
+        now = f.now;
+        above = f.above;
+        listed = f.listed;
+        rises = f.rises;
+        logged = f.logged;
+        run = f.run;
+        since = f.since;
+        till = f.till;
+        asked = omega arith;
+        timed = tt;
+        fresh = elim (f.fresh) [ inl h ↦ inl (from-start (last_or None f.moments) h) | inr h ↦ inr h ];
+      }
+
+  -- the servers stayed silent for the candidate
+  pub timed-out : (t0 : ℕ) → Concluded terms t0 log w.zone w.lookup.query w.lookup.ends (Err net.Timeout)
+      → HasNoServer (given_of terms) (machine_timer log t0) log t0 q why.Timeout
+  timed-out t0 ended plain = record {
+    candidate = w.lookup.query.name;
+    on_the_way = candidate-on-the-way;
+    g = w.lookup.ends;
+    failed = has-failed terms t0 log w.zone w.lookup.query (question w.lookup.query.name 2) w.lookup.ends net.Timeout
+        candidate-asked ended candidate-walked plain;
+  }
+
+-- at last the walk has gone down to its zone for the question
+pub walked-at-last : (terms : Terms) (greatest : ℕ) (log : Log) (q : Query) (w : Walk) → w.stage ≡ Last → WayHolds terms greatest log q w
+    → (w.lookup.query ≡ q) × WalksTo (given_of terms) log q w.zone
+walked-at-last terms greatest log q w is way = (subst (StageHolds q w.zone w.name w.lookup.query) is way.stage, walks)
+  where
+    passed : Passed terms log w.zone w.name (length w.name.labels + 1)
+    passed = subst (λ (s : Stage). Passed terms log w.zone w.name (reached w.name s)) is way.passed
+
+    walks : WalksTo (given_of terms) log q w.zone
+    walks plain = walked-from-passed (given_of terms) log q w.zone w.name way.name way.above (λ k low high. passed plain k low (omega (arith, high)))
+
+-- ---- the next stage
 
 -- the stage after a candidate, and what is asked then
-pub next-holds : (zone name : DomainName) (q : Query) (labels : ℕ) → name ≡ walk q → is_above zone name ≡ true → length zone.labels ≤ labels
+next-holds : (zone name : DomainName) (q : Query) (labels : ℕ) → name ≡ walk q → is_above zone name ≡ true → length zone.labels ≤ labels
     → StageHolds q zone name (query_of name q (next_stage (length name.labels) labels)) (next_stage (length name.labels) labels)
     × (is_above zone (walk (query_of name q (next_stage (length name.labels) labels))) ≡ true)
 next-holds zone name q labels n above low = pick (nat_lt labels (length name.labels)) refl
@@ -61,70 +192,46 @@ next-holds zone name q labels n above low = pick (nat_lt labels (length name.lab
         ((omega arith, omega arith, omega arith, refl), above-last zone name (labels + 1) above (omega arith) (omega arith))
     pick false e = (refl, subst (λ (d : DomainName). is_above zone d ≡ true) n above)
 
-not-root : (c : DomainName) → 1 ≤ length c.labels → is_root c ≡ false
-not-root c h = by (c.fqdn) (length c.labels) h
+-- no cut is shown at the candidates before the next stage
+next-passed : (terms : Terms) (log : Log) (zone name : DomainName) (labels : ℕ) → Passed terms log zone name (labels + 1)
+    → Passed terms log zone name (reached name (next_stage (length name.labels) labels))
+next-passed terms log zone name labels passed = pick (nat_lt labels (length name.labels)) refl
   where
-    by : (f : Bool) (k : ℕ) → 1 ≤ k → (f && (k == 0)) ≡ false
-    by true k h = grind (arith, nat_tests)
-    by false k h = refl
+    pick : (b : Bool) → nat_lt labels (length name.labels) ≡ b → Passed terms log zone name (reached name (cond b (Candidate (labels + 1)) Last))
+    pick true e = passed
+    pick false e = λ plain k low short.
+        let all : length name.labels ≤ labels = grind (arith, nat_tests) in
+        passed plain k low (omega (arith, all, short))
 
--- an address beside a delegation that counts serves the delegated zone
-pub cut-serves : (roots : List IpAddr) (greatest t0 : ℕ) (log : Log) (zone c : DomainName) (asked : Query) (entry : ℕ) (kept : Message) (ip : IpAddr)
-    → Counts roots greatest t0 log zone asked entry (Pos kept) → asked ≡ question c 2 → is_delegation kept c ≡ true → 1 ≤ length c.labels
-    → Contains (glue kept c) ip → Serves (given_of roots) log (greatest + 1) ip c
-cut-serves roots greatest t0 log zone c asked entry kept ip counts is d long has =
-    let now = subst (λ (q : Query). Counts roots greatest t0 log zone q entry (Pos kept)) is counts in
-    let early = now.is.early in
-    of_glue (delegates (omega arith) now.is.heard now.counts d (not-root c long)) refl has
-
--- the verdict of a message is that for the question that was asked
-pub counts-of : (roots : List IpAddr) (greatest t0 : ℕ) (log : Log) (zone : DomainName) (q : Query) (entry : ℕ) (message : Message) (verdict : Verdict)
-    → IsHeard roots greatest t0 log zone q entry message → verdict_of_told allows_all (class_of (told.Message message) message.query) zone ≡ Some verdict
-    → Counts roots greatest t0 log zone q entry verdict
-counts-of roots greatest t0 log zone q entry message verdict h v = record {
-  message = message;
-  is = h;
-  counts = subst (λ (asked : Query). verdict_of_told allows_all (class_of (told.Message message) asked) zone ≡ Some verdict) h.asked v;
-}
-
--- what counts was told of the question, since it began
-abbrev pub base-of : (roots : List IpAddr) (greatest t0 : ℕ) (log : Log) (zone : DomainName) (q : Query) (entry : ℕ) (v : Verdict)
-    → Counts roots greatest t0 log zone q entry v → Base (given_of roots) log t0 q entry zone v
-base-of roots greatest t0 log zone q entry v h = record { told = told.Message h.message; moment = h.is.moment; heard = h.is.heard; counts = h.counts; fresh = inl h.is.late }
-
--- a response that counts is the answer, less what was not asked for
-pub told-answer : (roots : List IpAddr) (greatest t0 : ℕ) (log : Log) (zone : DomainName) (q : Query) (entry : ℕ) (kept : Message) (dnssec : Bool)
-    → Counts roots greatest t0 log zone q entry (Pos kept) → IsToldAnswer (given_of roots) log t0 q dnssec (entry ∷ []) (strip_of kept dnssec)
-told-answer roots greatest t0 log zone q entry kept dnssec h =
-    let base = base-of roots greatest t0 log zone q entry (Pos kept) h in
-    record {
-      entry = entry;
-      zone = zone;
-      kept = kept;
-      only = refl;
-      base = base;
-      current = inr h.is.late;
-      same = Same-refl (strip_of kept dnssec);
-      answer = λ done. record { answers = direct base (inr h.is.late) done (Same-refl (strip_of kept dnssec)); few = omega arith };
-    }
-
--- the walk at its next stage, where its servers serve its zone
-pub at-next : (roots : List IpAddr) (greatest t0 : ℕ) (log : Log) (q : Query) (name zone : DomainName) (servers items : List IpAddr) (labels total : ℕ) (stage : Stage) (asked : Query) (l : Lookup)
-    → name ≡ walk q → is_above zone name ≡ true → length zone.labels ≤ labels → AreServers roots log (greatest + 1) zone servers → items ≡ servers
+-- the walk at its next stage, with the servers of its zone
+at-next : (terms : Terms) (greatest moment t0 : ℕ) (log : Log) (q : Query) (name zone : DomainName) (servers items : List IpAddr)
+    (labels total : ℕ) (stage : Stage) (asked : Query) (l : Lookup)
+    → name ≡ walk q → is_above zone name ≡ true → length zone.labels ≤ labels → ArePool terms log (greatest + 1) zone servers
+    → Passed terms log zone name (labels + 1) → items ≡ servers
     → total ≡ length name.labels → stage ≡ next_stage total labels → asked ≡ query_of name q stage → l.query ≡ asked
-    → ((z : DomainName) → IsTrue (is_above z (walk asked)) → AreServers roots log (greatest + 1) z items → LookupHolds roots greatest t0 log z l)
-    → WalkHolds roots greatest t0 log q (record { name = name; zone = zone; servers = servers; stage = stage; lookup = l })
-at-next roots greatest t0 log q name zone servers items labels total stage asked l n above low serve same count next ask query made =
+    → ((z : DomainName) → IsTrue (is_above z (walk asked)) → ArePool terms log (greatest + 1) z items → LookupHolds terms greatest moment t0 log z l)
+    → WalkHolds terms greatest moment t0 log q (record { name = name; zone = zone; servers = servers; stage = stage; lookup = l })
+at-next terms greatest moment t0 log q name zone servers items labels total stage asked l n above low pool passed same count next ask query made =
     let S = next_stage (length name.labels) labels in
     let nx = next-holds zone name q labels n above low in
     let is : stage ≡ S = next ∙ ap (λ (k : ℕ). next_stage k labels) count in
-    let staged : StageHolds q zone name (query_of name q stage) stage = subst (λ (s : Stage). StageHolds q zone name (query_of name q s) s) (sym is) nx.0 in
-    let high : is_above zone (walk (query_of name q stage)) ≡ true = subst (λ (s : Stage). is_above zone (walk (query_of name q s)) ≡ true) (sym is) nx.1 in
+    let staged : StageHolds q zone name (query_of name q stage) stage =
+    subst (λ (s : Stage). StageHolds q zone name (query_of name q s) s) (sym is) nx.0 in
+    let high : is_above zone (walk (query_of name q stage)) ≡ true =
+    subst (λ (s : Stage). is_above zone (walk (query_of name q s)) ≡ true) (sym is) nx.1 in
     record {
-      way = record { name = n; above = above; servers = serve; stage = subst (λ (a : Query). StageHolds q zone name a stage) (sym (query ∙ ask)) staged };
-      lookup = made zone (subst (λ (a : Query). is_above zone (walk a) ≡ true) (sym ask) high) (subst (AreServers roots log (greatest + 1) zone) (sym same) serve);
+      way = record {
+        name = n;
+        above = above;
+        pool = pool;
+        stage = subst (λ (a : Query). StageHolds q zone name a stage) (sym (query ∙ ask)) staged;
+        passed = subst (λ (s : Stage). Passed terms log zone name (reached name s)) (sym is) (next-passed terms log zone name labels passed);
+      };
+      lookup = made zone (subst (λ (a : Query). is_above zone (walk a) ≡ true) (sym ask) high)
+          (subst (ArePool terms log (greatest + 1) zone) (sym same) pool);
     }
 
+-- a question whose name is fully qualified is walked to such a name
 walk-qualified : (q : Query) → q.name.fqdn ≡ true → (walk q).fqdn ≡ true
 walk-qualified q f = by (q.query_type.code == 43)
   where
@@ -132,131 +239,136 @@ walk-qualified q f = by (q.query_type.code == 43)
     by true = f
     by false = f
 
-roots-serve : (roots : List IpAddr) (n : ℕ) (log : Log) → AreServers roots log n root roots
-roots-serve roots n log = All-weaker (Contains roots) (λ (ip : IpAddr). Serves (given_of roots) log n ip root) (λ ip has. of_root has) roots (All-contains_itself roots)
+-- the roots are the servers of the root
+roots-pool : (terms : Terms) (n : ℕ) (log : Log) → 0 < length terms.roots → ArePool terms log n root terms.roots
+roots-pool terms n log some = record {
+  serve = All-weaker (Contains terms.roots) (λ (ip : IpAddr). Serves (given_of terms) log n ip root) (λ ip has. of_root has)
+      terms.roots (All-contains_itself terms.roots);
+  listed = of_roots;
+  some = some;
+}
 
 -- a walk that begins at the roots
-pub at-start : (roots : List IpAddr) (greatest t0 : ℕ) (log : Log) (q : Query) (name zone : DomainName) (servers items : List IpAddr) (total : ℕ) (stage : Stage) (asked : Query) (l : Lookup)
-    → q.name.fqdn ≡ true → name ≡ walk q → zone ≡ root → servers ≡ roots → items ≡ roots
+pub at-start : (terms : Terms) (greatest moment t0 : ℕ) (log : Log) (q : Query) (name zone : DomainName) (servers items : List IpAddr)
+    (total : ℕ) (stage : Stage) (asked : Query) (l : Lookup)
+    → 0 < length terms.roots → q.name.fqdn ≡ true → name ≡ walk q → zone ≡ root → servers ≡ terms.roots → items ≡ terms.roots
     → total ≡ length name.labels → stage ≡ next_stage total 0 → asked ≡ query_of name q stage → l.query ≡ asked
-    → ((z : DomainName) → IsTrue (is_above z (walk asked)) → AreServers roots log (greatest + 1) z items → LookupHolds roots greatest t0 log z l)
-    → WalkHolds roots greatest t0 log q (record { name = name; zone = zone; servers = servers; stage = stage; lookup = l })
-at-start roots greatest t0 log q name zone servers items total stage asked l f n z s i count next ask query made =
+    → ((z : DomainName) → IsTrue (is_above z (walk asked)) → ArePool terms log (greatest + 1) z items → LookupHolds terms greatest moment t0 log z l)
+    → WalkHolds terms greatest moment t0 log q (record { name = name; zone = zone; servers = servers; stage = stage; lookup = l })
+at-start terms greatest moment t0 log q name zone servers items total stage asked l some f n z s i count next ask query made =
     let qualified : name.fqdn ≡ true = subst (λ (d : DomainName). d.fqdn ≡ true) (sym n) (walk-qualified q f) in
     let above : is_above zone name ≡ true = subst (λ (d : DomainName). is_above d name ≡ true) (sym z) (root-above name qualified) in
     let low : length zone.labels ≤ 0 = subst (λ (d : DomainName). length d.labels ≤ 0) (sym z) (omega arith) in
-    let serve : AreServers roots log (greatest + 1) zone servers = subst (λ (d : DomainName). AreServers roots log (greatest + 1) d servers) (sym z) (subst (AreServers roots log (greatest + 1) root) (sym s) (roots-serve roots (greatest + 1) log)) in
-    at-next roots greatest t0 log q name zone servers items 0 total stage asked l n above low serve (i ∙ sym s) count next ask query made
+    let pool : ArePool terms log (greatest + 1) zone servers =
+    subst (λ (d : DomainName). ArePool terms log (greatest + 1) d servers) (sym z)
+    (subst (ArePool terms log (greatest + 1) root) (sym s) (roots-pool terms (greatest + 1) log some)) in
+    let passed : Passed terms log zone name (0 + 1) = λ plain k longer short. absurd (omega (arith, longer, short)) in
+    at-next terms greatest moment t0 log q name zone servers items 0 total stage asked l n above low pool passed (i ∙ sym s) count next ask query made
 
 -- a walk that goes on from a candidate
-pub goes-on : (roots : List IpAddr) (greatest t0 : ℕ) (log : Log) (q : Query) (w : Walk) (items : List IpAddr) (labels total : ℕ) (stage : Stage) (asked : Query) (l : Lookup)
-    → WayHolds roots greatest log q w → w.stage ≡ Candidate labels → items ≡ w.servers
+pub goes-on : (terms : Terms) (greatest moment t0 : ℕ) (log : Log) (q : Query) (w : Walk) (items : List IpAddr)
+    (labels total : ℕ) (stage : Stage) (asked : Query) (l : Lookup)
+    → IsCandidate w.stage → WayHolds terms greatest log q w → LeavesBehind terms log w → w.stage ≡ Candidate labels → items ≡ w.servers
     → total ≡ length w.name.labels → stage ≡ next_stage total labels → asked ≡ query_of w.name q stage → l.query ≡ asked
-    → ((z : DomainName) → IsTrue (is_above z (walk asked)) → AreServers roots log (greatest + 1) z items → LookupHolds roots greatest t0 log z l)
-    → WalkHolds roots greatest t0 log q (record { name = w.name; zone = w.zone; servers = w.servers; stage = stage; lookup = l })
-goes-on roots greatest t0 log q w items labels total stage asked l way is same count next ask query made =
+    → ((z : DomainName) → IsTrue (is_above z (walk asked)) → ArePool terms log (greatest + 1) z items → LookupHolds terms greatest moment t0 log z l)
+    → WalkHolds terms greatest moment t0 log q (record { name = w.name; zone = w.zone; servers = w.servers; stage = stage; lookup = l })
+goes-on terms greatest moment t0 log q w items labels total stage asked l here way leaves is same count next ask query made =
     let held : StageHolds q w.zone w.name w.lookup.query (Candidate labels) = subst (StageHolds q w.zone w.name w.lookup.query) is way.stage in
-    at-next roots greatest t0 log q w.name w.zone w.servers items labels total stage asked l way.name way.above held.2 way.servers same count next ask query made
+    let now = at terms greatest log q w here way in
+    let labels-are : now.labels ≡ labels = same-labels now.labels labels (sym now.stage ∙ is) in
+    let passed : Passed terms log w.zone w.name (labels + 1) =
+    subst (λ (k : ℕ). Passed terms log w.zone w.name (k + 1)) labels-are (passed-by terms greatest log q w here way leaves) in
+    at-next terms greatest moment t0 log q w.name w.zone w.servers items labels total stage asked l
+    way.name way.above held.2 way.pool passed same count next ask query made
+  where
+    same-labels : (j k : ℕ) → Candidate j ≡ Candidate k → j ≡ k
+    same-labels j k e = cc
+
+-- ---- a zone cut
+
+-- a name with a label is not the root
+not-root : (c : DomainName) → 1 ≤ length c.labels → is_root c ≡ false
+not-root c h = by (c.fqdn) (length c.labels) h
+  where
+    by : (f : Bool) (k : ℕ) → 1 ≤ k → (f && (k == 0)) ≡ false
+    by true k h = grind (arith, nat_tests)
+    by false k h = refl
+
+-- what counts of a delegation delegates
+cut-delegates : (terms : Terms) (greatest t0 : ℕ) (log : Log) (zone c : DomainName) (asked : Query) (entry : ℕ) (kept : Message)
+    → Counts terms greatest t0 log zone asked entry (Pos kept) → asked ≡ question c 2 → is_delegation kept c ≡ true → 1 ≤ length c.labels
+    → Delegates (given_of terms) log (greatest + 1) c kept
+cut-delegates terms greatest t0 log zone c asked entry kept counts is d long =
+    let now = subst (λ (q : Query). Counts terms greatest t0 log zone q entry (Pos kept)) is counts in
+    let early = now.is.early in
+    delegates (omega arith) now.is.heard now.counts d (not-root c long)
+
+-- the addresses beside a delegation are the servers of the delegated zone
+cut-pool : (terms : Terms) (greatest : ℕ) (log : Log) (c : DomainName) (kept : Message) (ips : List IpAddr)
+    → Delegates (given_of terms) log (greatest + 1) c kept → 0 < length ips → ((ip : IpAddr) → Contains ips ip ↔ Contains (glue kept c) ip)
+    → ArePool terms log (greatest + 1) c ips
+cut-pool terms greatest log c kept ips told some glued =
+    let serve = All-weaker (Contains ips) (λ (ip : IpAddr). Serves (given_of terms) log (greatest + 1) ip c) (λ ip has. of_glue told refl ((glued ip).0 has))
+    ips (All-contains_itself ips) in
+    let there = All-weaker (Contains (glue kept c)) (Contains ips) (λ ip has. (glued ip).1 has) (glue kept c) (All-contains_itself (glue kept c)) in
+    record {
+      serve = serve;
+      listed = of_told (record {
+        below = greatest + 1;
+        serve = recursion_from_All (λ (ip : IpAddr). Serves (given_of terms) log (greatest + 1) ip c) ips serve;
+        some = some;
+        k = kept;
+        told = told;
+        whole = recursion_from_All (Contains ips) (allowed allows_all (glue kept c))
+            (All-filter (λ (ip : IpAddr). not (allows_all ip)) (Contains ips) (glue kept c) there);
+      });
+      some = some;
+    }
 
 -- the way from a zone cut on
-pub cut-way : (roots : List IpAddr) (greatest t0 : ℕ) (log : Log) (q : Query) (w : Walk) (kept : Message) (entry : ℕ) (zone : DomainName) (ips : List IpAddr)
-    → IsCandidate w.stage → WayHolds roots greatest log q w → Counts roots greatest t0 log w.zone w.lookup.query entry (Pos kept)
-    → is_delegation kept w.lookup.query.name ≡ true → zone ≡ w.lookup.query.name
-    → ((ip : IpAddr) → Contains ips ip → Contains (glue kept w.lookup.query.name) ip)
-    → WayHolds roots greatest log q (record w { zone = zone; servers = ips })
-cut-way roots greatest t0 log q w kept entry zone ips at way counts d z only = by w.stage refl at
-  where
-    by : (s : Stage) → w.stage ≡ s → IsCandidate s → WayHolds roots greatest log q (record w { zone = zone; servers = ips })
-    by (Candidate labels) is tt =
-        let held : StageHolds q w.zone w.name w.lookup.query (Candidate labels) = subst (StageHolds q w.zone w.name w.lookup.query) is way.stage in
-        let asked : w.lookup.query ≡ question (last_name labels w.name) 2 = held.3 in
-        let c : w.lookup.query.name ≡ last_name labels w.name = ap (λ (p : Query). p.name) asked in
-        let there : zone ≡ last_name labels w.name = z ∙ c in
-        let high : labels ≤ length w.name.labels = held.1 in
-        let low : 1 ≤ labels = held.0 in
-        let qualified : w.name.fqdn ≡ true = second_so w.zone.fqdn w.name.fqdn (first_so (w.zone.fqdn && w.name.fqdn) _ way.above) in
-        let count = last-length w.name labels high in
-        let long : 1 ≤ length w.lookup.query.name.labels = subst (λ (x : DomainName). 1 ≤ length x.labels) (sym c) (omega (arith, count, low)) in
-        let itself : w.lookup.query ≡ question w.lookup.query.name 2 = asked ∙ ap (λ (x : DomainName). question x 2) (sym c) in
-        let serve : (ip : IpAddr) → Contains ips ip → Serves (given_of roots) log (greatest + 1) ip zone = λ ip has.
-        subst (λ (x : DomainName). Serves (given_of roots) log (greatest + 1) ip x) (sym z) (cut-serves roots greatest t0 log w.zone w.lookup.query.name w.lookup.query entry kept ip counts itself d long (only ip has)) in
-        let short : length zone.labels ≤ labels = subst (λ (x : DomainName). length x.labels ≤ labels) (sym there) (omega (arith, count)) in
-        record {
-          name = way.name;
-          above = subst (λ (x : DomainName). is_above x w.name ≡ true) (sym there) (last-above w.name labels qualified high);
-          servers = All-weaker (Contains ips) (λ (ip : IpAddr). Serves (given_of roots) log (greatest + 1) ip zone) serve ips (All-contains_itself ips);
-          stage = subst (StageHolds q zone w.name w.lookup.query) (sym is) (low, high, short, asked);
-        }
-    by Last is x = absurd x
+pub cut-way : (terms : Terms) (greatest t0 : ℕ) (log : Log) (q : Query) (w : Walk) (kept : Message) (entry : ℕ) (zone : DomainName) (ips : List IpAddr)
+    → IsCandidate w.stage → WayHolds terms greatest log q w → Counts terms greatest t0 log w.zone w.lookup.query entry (Pos kept)
+    → is_delegation kept w.lookup.query.name ≡ true → zone ≡ w.lookup.query.name → 0 < length ips
+    → ((ip : IpAddr) → Contains ips ip ↔ Contains (glue kept w.lookup.query.name) ip)
+    → WayHolds terms greatest log q (record w { zone = zone; servers = ips })
+cut-way terms greatest t0 log q w kept entry zone ips here way counts d z some glued =
+    let now = at terms greatest log q w here way in
+    let c : w.lookup.query.name ≡ last_name now.labels w.name = ap (λ (p : Query). p.name) now.asked in
+    let there : zone ≡ last_name now.labels w.name = z ∙ c in
+    let qualified : w.name.fqdn ≡ true = second_so w.zone.fqdn w.name.fqdn (first_so (w.zone.fqdn && w.name.fqdn) _ way.above) in
+    let count : length zone.labels ≡ now.labels = ap (λ (x : DomainName). length x.labels) there ∙ last-length w.name now.labels now.high in
+    let low : 1 ≤ now.labels = now.low in
+    let long : 1 ≤ length w.lookup.query.name.labels = subst (λ (x : DomainName). 1 ≤ length x.labels) z (omega (arith, count, low)) in
+    let told = cut-delegates terms greatest t0 log w.zone w.lookup.query.name w.lookup.query entry kept counts
+    (candidate-asked terms greatest log q w here way) d long in
+    record {
+      name = way.name;
+      above = subst (λ (x : DomainName). is_above x w.name ≡ true) (sym there) (last-above w.name now.labels qualified now.high);
+      pool = subst (λ (x : DomainName). ArePool terms log (greatest + 1) x ips) (sym z)
+          (cut-pool terms greatest log w.lookup.query.name kept ips told some glued);
+      stage = subst (StageHolds q zone w.name w.lookup.query) (sym now.stage) (now.low, now.high, omega (arith, count), now.asked);
+      passed = subst (λ (s : Stage). Passed terms log zone w.name (reached w.name s)) (sym now.stage)
+          (λ plain k longer short. absurd (omega (arith, count, longer, short)));
+    }
 
--- a reply with the answer
-pub replies : (roots : List IpAddr) (t0 : ℕ) (log : Log) (question : Question) (r : Result Reply NoMemory) (m : Message) (entry : ℕ)
-    → IfOk r (λ reply. reply ≡ record { outcome = Ok m; grounds = entry ∷ [] }) → IsToldAnswer (given_of roots) log t0 question.query question.dnssec_ok (entry ∷ []) m
-    → IfOk r (ReplyHolds roots log t0 question)
-replies roots t0 log question r m entry is told = IfOk-weaker r _ (ReplyHolds roots log t0 question) (λ reply e. subst (ReplyHolds roots log t0 question) (sym e) told) is
+-- a zone cut leaves nothing behind
+pub cut-leaves : (terms : Terms) (log : Log) (w : Walk) (zone : DomainName) (ips : List IpAddr) → zone ≡ w.lookup.query.name
+    → LeavesBehind terms log (record w { zone = zone; servers = ips })
+cut-leaves terms log w zone ips z plain far =
+    let same = ap (λ (x : DomainName). length x.labels) z in
+    absurd (omega (arith, same, far))
 
--- a reply with an error that has its cause
-pub denies : (roots : List IpAddr) (t0 : ℕ) (log : Log) (question : Question) (r : Result Reply NoMemory) (error : RecursorError) (g : List ℕ)
-    → IfOk r (λ reply. reply ≡ record { outcome = Err error; grounds = g }) → ErrorHolds (given_of roots) log t0 question.query g error → IfOk r (ReplyHolds roots log t0 question)
-denies roots t0 log question r error g is cause = IfOk-weaker r _ (ReplyHolds roots log t0 question) (λ reply e. subst (ReplyHolds roots log t0 question) (sym e) cause) is
-
--- one reply with an error that has its cause
-pub denied : (roots : List IpAddr) (t0 : ℕ) (log : Log) (question : Question) (reply : Reply) (error : RecursorError) (g : List ℕ)
-    → reply ≡ record { outcome = Err error; grounds = g } → ErrorHolds (given_of roots) log t0 question.query g error → ReplyHolds roots log t0 question reply
-denied roots t0 log question reply error g is cause = subst (ReplyHolds roots log t0 question) (sym is) cause
-
--- a negative that is answered at last: itself, or a referral
-pub answers-negative : (roots : List IpAddr) (t0 : ℕ) (log : Log) (q : Query) (entry : ℕ) (zone : DomainName) (n : NoRecords)
-    → Base (given_of roots) log t0 q entry zone (Neg n) → ErrorHolds (given_of roots) log t0 q (entry ∷ []) (told_negative n)
-answers-negative roots t0 log q entry zone n b = by n.ns refl
-  where
-    by : (o : Option (List ForwardNsData)) → n.ns ≡ o
-        → ErrorHolds (given_of roots) log t0 q (entry ∷ []) (elim o [ Some forward ↦ ForwardNS forward | None ↦ Negative (told_data n) ])
-    by None e = denial_told b e
-    by (Some forward) e = referred b e
-
--- a negative that ends a walk names no servers
-ends-none : (n : NoRecords) → ends_walk n ≡ true → n.ns ≡ None
-ends-none n e = by n.ns (second_so (n.response_code.code == 3) (is_none n.ns) e)
-  where
-    by : (o : Option (List ForwardNsData)) → is_none o ≡ true → o ≡ None
-    by None h = refl
-    by (Some forward) h = cc
-
-ends-verdict : (n : NoRecords) → ends_walk n ≡ true → failing.ends_walk (Neg n) ≡ true
-ends-verdict n e = e
-
--- a negative that ends a walk at a candidate
-pub answers-on-the-way : (roots : List IpAddr) (t0 : ℕ) (log : Log) (q : Query) (entry : ℕ) (zone c : DomainName) (n : NoRecords)
-    → Contains (candidates (walk q)) c → Base (given_of roots) log t0 (question c 2) entry zone (Neg n) → ends_walk n ≡ true
-    → ErrorHolds (given_of roots) log t0 q (entry ∷ []) (told_negative n)
-answers-on-the-way roots t0 log q entry zone c n has b ends =
-    let none = ends-none n ends in
-    subst (ErrorHolds (given_of roots) log t0 q (entry ∷ [])) (sym (ap (λ (o : Option (List ForwardNsData)). negative-of n o) none)) (told_on_the_way refl has b (ends-verdict n ends))
-  where
-    negative-of : NoRecords → Option (List ForwardNsData) → RecursorError
-    negative-of m o = elim o [ Some forward ↦ ForwardNS forward | None ↦ Negative (told_data m) ]
-
--- the last labels of a name are among its candidates
-among : (n : DomainName) (k : ℕ) → 1 ≤ k → k ≤ length n.labels → Contains (candidates n) (last_name k n)
-among n k low high =
-    let f : ℕ → DomainName = λ (i : ℕ). last_name i n in
-    let count = length-map-range_with_len f 1 (length n.labels) in
-    (k - 1, omega (arith, count, low, high), get_or-map-range_with_len f 1 (length n.labels) (k - 1) k (last_name k n) (omega (arith, low, high)) (omega (arith, low)))
-
--- the name of a candidate is on the way
-pub candidate-on-the-way : (q : Query) (zone name : DomainName) (asked : Query) (labels : ℕ) → name ≡ walk q → StageHolds q zone name asked (Candidate labels)
-    → Contains (candidates (walk q)) (last_name labels name) × (asked ≡ question (last_name labels name) 2)
-candidate-on-the-way q zone name asked labels n h =
-    (subst (λ (d : DomainName). Contains (candidates d) (last_name labels name)) n (among name labels h.0 h.1), h.3)
+-- ---- on the same way
 
 -- a walk whose lookup has gone on is on the same way
-pub way-looked : (roots : List IpAddr) (greatest : ℕ) (log : Log) (q : Query) (w : Walk) (l : Lookup) → l.query ≡ w.lookup.query → WayHolds roots greatest log q w → WayHolds roots greatest log q (record w { lookup = l })
-way-looked roots greatest log q w l same way = record {
+pub way-looked : (terms : Terms) (greatest : ℕ) (log : Log) (q : Query) (w : Walk) (l : Lookup) → l.query ≡ w.lookup.query → WayHolds terms greatest log q w
+    → WayHolds terms greatest log q (record w { lookup = l })
+way-looked terms greatest log q w l same way = record {
   name = way.name;
   above = way.above;
-  servers = way.servers;
+  pool = way.pool;
   stage = subst (λ (a : Query). StageHolds q w.zone w.name a w.stage) (sym same) way.stage;
+  passed = way.passed;
 }
 
 -- less is left, where a walk goes on
@@ -264,36 +376,3 @@ pub goes : (r : Result (Option Reply) NoMemory) (P : Type 0) → OnOk r P → If
 goes (Ok None) P h = h
 goes (Ok (Some reply)) P h = tt
 goes (Err e) P h = tt
-
-none-in : {X : Type 0} (xs : List X) → ((x : X) → Contains xs x → ⊥) → xs ≡ []
-none-in [] h = refl
-none-in (x ∷ xs) h = absurd (h x (0, omega arith, refl))
-
--- a delegation that counts and gives no address
-pub glueless-of : (roots : List IpAddr) (greatest t0 : ℕ) (log : Log) (zone c : DomainName) (asked : Query) (entry : ℕ) (kept : Message)
-    → Counts roots greatest t0 log zone asked entry (Pos kept) → asked ≡ question c 2 → is_delegation kept c ≡ true → ((ip : IpAddr) → Contains (glue kept c) ip → ⊥)
-    → Glueless (given_of roots) log t0 c kept
-glueless-of roots greatest t0 log zone c asked entry kept counts is d none = record {
-  i = entry;
-  z = zone;
-  base = base-of roots greatest t0 log zone (question c 2) entry (Pos kept) (subst (λ (q : Query). Counts roots greatest t0 log zone q entry (Pos kept)) is counts);
-  delegates = d;
-  none = ap (λ (ips : List IpAddr). allowed allows_all ips) (none-in (glue kept c) none);
-}
-
--- a walk that stops with a reply
-pub stops : (roots : List IpAddr) (greatest t0 : ℕ) (log : Log) (question : Question) (w : Walk) (r : Result (Option Reply) NoMemory) (reply : Reply)
-    → IfOk r (λ x. x ≡ Some reply) → ReplyHolds roots log t0 question reply → IfOk r (WalkComes roots greatest t0 log question w)
-stops roots greatest t0 log question w r reply is h = IfOk-weaker r _ (WalkComes roots greatest t0 log question w) (λ x e. subst (WalkComes roots greatest t0 log question w) (sym e) h) is
-
--- the candidate that is asked for, at a candidate
-pub candidate-asked : (roots : List IpAddr) (greatest : ℕ) (log : Log) (q : Query) (w : Walk) → IsCandidate w.stage → WayHolds roots greatest log q w
-    → Contains (candidates (walk q)) w.lookup.query.name × (w.lookup.query ≡ question w.lookup.query.name 2)
-candidate-asked roots greatest log q w here way = by w.stage refl here
-  where
-    by : (s : Stage) → w.stage ≡ s → IsCandidate s → Contains (candidates (walk q)) w.lookup.query.name × (w.lookup.query ≡ question w.lookup.query.name 2)
-    by (Candidate labels) is tt =
-        let at = candidate-on-the-way q w.zone w.name w.lookup.query labels way.name (subst (StageHolds q w.zone w.name w.lookup.query) is way.stage) in
-        let named : w.lookup.query.name ≡ last_name labels w.name = ap (λ (p : Query). p.name) at.1 in
-        (subst (Contains (candidates (walk q))) (sym named) at.0, at.1 ∙ ap (λ (n : DomainName). question n 2) (sym named))
-    by Last is x = absurd x

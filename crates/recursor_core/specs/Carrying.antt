@@ -1,18 +1,18 @@
 -- What is under way for orders over a provider, and how its log grows meanwhile.
-use Rattle.std.specs.Prelude.{◌≡◌, ◌<◌, ◌+◌, ◌^◌, ℕ, List, length, Option, Some, None}
+use Rattle.std.specs.Prelude.{◌≡◌, ◌≤◌, ◌<◌, ◌+◌, ◌^◌, ℕ, List, length, Option, Some, None}
 use Rattle.std.specs.BTreeMap as tree
 use Rattle.std.specs.BTreeMap.{BTreeMap}
 use Rattle.std.specs.Ordering.{nat_cmp}
 use Rattle.dns_core.specs.Log.{Log, Extends, log_of}
 use Rattle.dns_core.specs.declared.log.LogEntry.{LogEntry}
-use Rattle.dns_core.specs.declared.log.LogEntry.TheVariants.{Asked}
-use Rattle.dns_core.specs.declared.connection.Protocol.{Protocol}
 use Rattle.dns_core.specs.declared.provider.ConnectionProvider.{Ghosts}
-use Rattle.resolution.specs.Telling.{Logged}
+use Rattle.resolution.specs.Telling.{Logged, moment_of}
+use Rattle.resolution.specs.Ending.{waits}
+use Rattle.recursor_core.specs.Order.{IsSent}
+use Rattle.recursor_core.specs.declared.order.Sent.{Sent}
 use Rattle.recursor_core.specs.declared.carrier.Carrier.{Carrier}
 use Rattle.recursor_core.specs.declared.slot.Slot.{Slot}
 use Rattle.recursor_core.specs.declared.slot.Slot.TheVariants as slot
-use Rattle.recursor_core.specs.declared.slot.Asking.{Asking}
 
 -- this holds of the log, where it is told
 abbrev pub TellsThat : Option (List LogEntry) → (Log → Type 0) → Type 0
@@ -22,25 +22,25 @@ TellsThat told Q = (es : List LogEntry) → told ≡ Some es → Q (log_of es)
 abbrev pub Counted : Option (List LogEntry) → ℕ → Type 0
 Counted told n = (es : List LogEntry) → told ≡ Some es → length es ≡ n
 
--- the log was told before, and has grown
-pub record LongerThan (old : Option (List LogEntry)) (es : List LogEntry) : Type 0 where
+-- The log was told before, and has grown by entries of the moment.
+pub record LongerThan (now : ℕ) (old : Option (List LogEntry)) (es : List LogEntry) : Type 0 where
   pub before : List LogEntry
   pub was : old ≡ Some before
   pub extends : Extends (log_of before) (log_of es)
+  pub at : (i moment : ℕ) (e : LogEntry) → (log_of before).next ≤ i → Logged (log_of es) i e → moment_of e ≡ Some moment → moment ≡ now
 
-abbrev pub Grown : Option (List LogEntry) → Option (List LogEntry) → Type 0
-Grown old new = (es : List LogEntry) → new ≡ Some es → LongerThan old es
+abbrev pub Grown : ℕ → Option (List LogEntry) → Option (List LogEntry) → Type 0
+Grown now old new = (es : List LogEntry) → new ≡ Some es → LongerThan now old es
 
--- The entry of its number asked what it asks, of its address.
-pub record IsAskedBy {P C F E : Type 0} (p : Ghosts P C F E) (a : Asking P C F E p) (log : Log) : Type 0 where
-  pub protocol : Protocol
-  pub moment : ℕ
-  pub numbered : p.asked a.exchange ≡ a.of
-  pub asked : Logged log a.of (Asked a.ip protocol (p.question a.exchange) moment None)
+-- What is under way, by this number, was sent so, and so many polls of it found nothing.
+pub record IsWaitedFor (number : ℕ) (s : Sent) (polls : ℕ) (log : Log) : Type 0 where
+  pub numbered : number ≡ s.of
+  pub sent : IsSent log s None
+  pub waited : polls ≤ waits log s.of log.next
 
 abbrev pub SlotHolds : {P C F E : Type 0} (p : Ghosts P C F E) → Option (List LogEntry) → Slot P C F E p → Type 0
-SlotHolds p told (slot.Opening o) = Unit {0}
-SlotHolds p told (slot.Asking a) = TellsThat told (IsAskedBy p a)
+SlotHolds p told (slot.Opening o) = (o.sent.query ≡ None) × TellsThat told (IsWaitedFor (p.opened o.future) o.sent o.polls)
+SlotHolds p told (slot.Asking a) = (a.sent.query ≡ Some (p.question a.exchange)) × TellsThat told (IsWaitedFor (p.asked a.exchange) a.sent a.polls)
 SlotHolds p told slot.Over = Unit {0}
 
 -- what is under way for the order of a number

@@ -1,5 +1,5 @@
 -- What the machine keeps, as derived from a log.
-use Rattle.std.specs.Prelude.{◌≡◌, ℕ, ◌+◌, ◌≤◌, ◌<◌, true, List, [], ◌∷◌, length, IsTrue, Option, Some, None, IfOk, All, slice_get}
+use Rattle.std.specs.Prelude.{◌≡◌, ℕ, ◌+◌, ◌≤◌, ◌<◌, List, ◌++◌, length, map, IsTrue, Option, Some, None, Ok, Err, All, Contains}
 use Rattle.std.specs.declared.net.ip_addr.IpAddr.{IpAddr}
 use Rattle.dns_core.specs.Name.{DomainName, last_labels}
 use Rattle.dns_core.specs.Log.{Log}
@@ -8,11 +8,18 @@ use Rattle.dns_core.specs.declared.message.Message.{Message}
 use Rattle.dns_core.specs.declared.request.Question.{Question}
 use Rattle.dns_core.specs.declared.log.ToldOutcome.TheVariants as told
 use Rattle.resolution.specs.Names.{is_above, walk, question as question_for}
-use Rattle.resolution.specs.Given.{Given, Bounds, allows_all}
+use Rattle.resolution.specs.Class.{class_of_message}
 use Rattle.resolution.specs.Verdict.{verdict}
 use Rattle.resolution.specs.Serving.{Serves, Heard}
+use Rattle.resolution.specs.Lookups.{End, answer_of}
+use Rattle.resolution.specs.Ending.{Listed}
+use Rattle.resolution.specs.Walking.{NoCut}
 use Rattle.resolution.specs.declared.verdict.Verdict.{Verdict}
-use Rattle.recursor_core.specs.Replies.{given_of, ReplyHolds}
+use Rattle.recursor_core.specs.Plain.{IsPlainlyTold}
+use Rattle.recursor_core.specs.Causes.{is_lookup_error}
+use Rattle.recursor_core.specs.Replies.{Terms, given_of, ReplyHolds}
+use Rattle.recursor_core.specs.Tried.{Tried, Came, Concluded, machine_timer}
+use Rattle.recursor_core.specs.Lookup.{present}
 use Rattle.recursor_core.specs.declared.lookup.Send.{Send}
 use Rattle.recursor_core.specs.declared.lookup.Send.TheVariants as send
 use Rattle.recursor_core.specs.declared.lookup.Lookup.{Lookup}
@@ -27,43 +34,72 @@ use Rattle.recursor_core.specs.declared.resolving.State.TheVariants.{Under, Done
 use Rattle.recursor_core.specs.declared.resolving.Resolution.{Resolution}
 use Rattle.recursor_core.specs.declared.machine.RecursorCore.{RecursorCore}
 
+-- ---- lookups
+
 -- each of these serves the zone, by what was told below n
-abbrev pub AreServers : List IpAddr → Log → ℕ → DomainName → List IpAddr → Type 0
-AreServers roots log n zone ips = All (λ ip. Serves (given_of roots) log n ip zone) ips
+abbrev pub AreServers : Terms → Log → ℕ → DomainName → List IpAddr → Type 0
+AreServers terms log n zone ips = All (λ ip. Serves (given_of terms) log n ip zone) ips
+
+-- These are the servers of a zone by the roots or by a delegation, all of them; each serves it by what was told below n.
+pub record ArePool (terms : Terms) (log : Log) (n : ℕ) (zone : DomainName) (ips : List IpAddr) : Type 0 where
+  pub serve : AreServers terms log n zone ips
+  pub listed : Listed (given_of terms) log zone ips
+  pub some : 0 < length ips
 
 -- Entry i, no later than the greatest, tells the message for the question, by a server of the zone, at or after t0.
-pub record IsHeard (roots : List IpAddr) (greatest t0 : ℕ) (log : Log) (zone : DomainName) (q : Query) (entry : ℕ) (message : Message) : Type 0 where
+pub record IsHeard (terms : Terms) (greatest t0 : ℕ) (log : Log) (zone : DomainName) (q : Query) (entry : ℕ) (message : Message) : Type 0 where
   pub moment : ℕ
   pub early : entry ≤ greatest
-  pub heard : Heard (given_of roots) log entry q (told.Message message) moment zone
+  pub heard : Heard (given_of terms) log entry q (told.Message message) moment zone
   pub late : t0 ≤ moment
   pub asked : message.query ≡ q
 
 -- That message counts so.
-pub record Counts (roots : List IpAddr) (greatest t0 : ℕ) (log : Log) (zone : DomainName) (q : Query) (entry : ℕ) (v : Verdict) : Type 0 where
+pub record Counts (terms : Terms) (greatest t0 : ℕ) (log : Log) (zone : DomainName) (q : Query) (entry : ℕ) (v : Verdict) : Type 0 where
   pub message : Message
-  pub is : IsHeard roots greatest t0 log zone q entry message
-  pub counts : verdict (given_of roots) (told.Message message) q zone ≡ Some v
+  pub is : IsHeard terms greatest t0 log zone q entry message
+  pub counts : verdict (given_of terms) (told.Message message) q zone ≡ Some v
 
--- A server that is asked serves the zone, by what was put before; what was told was told by such a one.
-abbrev pub SendHolds : List IpAddr → ℕ → ℕ → Log → DomainName → Query → Send → Type 0
-SendHolds roots greatest t0 log zone q send.Ready = Unit {0}
-SendHolds roots greatest t0 log zone q (send.Chosen ip) = Serves (given_of roots) log (greatest + 1) ip zone
-SendHolds roots greatest t0 log zone q (send.Opening ip order polls) = Serves (given_of roots) log (greatest + 1) ip zone
-SendHolds roots greatest t0 log zone q (send.Connected ip conn) = Serves (given_of roots) log (greatest + 1) ip zone
-SendHolds roots greatest t0 log zone q (send.Asking ip order since polls) = (since ≤ greatest) × Serves (given_of roots) log (since + 1) ip zone
-SendHolds roots greatest t0 log zone q (send.Told entry message) = IsHeard roots greatest t0 log zone q entry message
-SendHolds roots greatest t0 log zone q (send.Failed entry error) = Unit {0}
+-- A server that is asked serves the zone, by what was put before; what came was told by such a one, and ended its send after those of g, which ended at the moments.
+abbrev pub SendHolds : Terms → ℕ → ℕ → ℕ → Log → DomainName → Query → List ℕ → List ℕ → Send → Type 0
+SendHolds terms greatest moment t0 log zone q g moments send.Ready = Unit {0}
+SendHolds terms greatest moment t0 log zone q g moments (send.Chosen ip) = Serves (given_of terms) log (greatest + 1) ip zone
+SendHolds terms greatest moment t0 log zone q g moments (send.Opening ip order polls) = Serves (given_of terms) log (greatest + 1) ip zone
+SendHolds terms greatest moment t0 log zone q g moments (send.Connected ip conn) = Serves (given_of terms) log (greatest + 1) ip zone
+SendHolds terms greatest moment t0 log zone q g moments (send.Asking ip order sent_after polls) = (sent_after ≤ greatest) × Serves (given_of terms) log (sent_after + 1) ip zone
+SendHolds terms greatest moment t0 log zone q g moments (send.Told ip entry message) =
+    IsHeard terms greatest t0 log zone q entry message × Came terms greatest moment t0 log q g moments ip entry (Ok message)
+SendHolds terms greatest moment t0 log zone q g moments (send.Failed ip entry error) = Came terms greatest moment t0 log q g moments ip entry (Err error)
 
--- The zone is at or above the name of the question, and all servers of the lookup serve it.
-pub record LookupHolds (roots : List IpAddr) (greatest t0 : ℕ) (log : Log) (zone : DomainName) (l : Lookup) : Type 0 where
+-- those to whom a send ended
+abbrev pub servers_of : List (End IpAddr) → List IpAddr
+servers_of ends = map (λ end. end.server) ends
+
+-- The zone is at or above the name of the question. Of all its servers each was tried, is asked now, or is left.
+pub record LookupHolds (terms : Terms) (greatest moment t0 : ℕ) (log : Log) (zone : DomainName) (l : Lookup) : Type 0 where
   pub above : IsTrue (is_above zone (walk l.query))
-  pub servers : AreServers roots log (greatest + 1) zone l.servers.items
-  pub send : SendHolds roots greatest t0 log zone l.query l.send
+  pub servers : AreServers terms log (greatest + 1) zone l.servers.items
+  pub pool : List IpAddr
+  pub listed : Listed (given_of terms) log zone pool
+  pub some : 0 < length pool
+  pub tried : Tried terms greatest moment t0 log l.query pool l.ends l.timed_out
+  pub only : (ip : IpAddr) → Contains (l.servers.items ++ present l.send) ip → Contains pool ip
+  pub whole : (ip : IpAddr) → Contains pool ip → Contains (l.servers.items ++ present l.send ++ servers_of tried.ends) ip
+  pub send : SendHolds terms greatest moment t0 log zone l.query l.ends tried.moments l.send
 
-abbrev pub FoundHolds : List IpAddr → ℕ → ℕ → Log → DomainName → Query → Found → Type 0
-FoundHolds roots greatest t0 log zone q (found.Message entry message) = IsHeard roots greatest t0 log zone q entry message
-FoundHolds roots greatest t0 log zone q (found.Error error) = Unit {0}
+-- A message was told by a server of the zone, or none had more than the error; by these entries.
+abbrev pub FoundHolds : Terms → ℕ → ℕ → Log → DomainName → Query → List ℕ → Found → Type 0
+FoundHolds terms greatest t0 log zone q g (found.Message entry message) =
+    IsHeard terms greatest t0 log zone q entry message × Concluded terms t0 log zone q g (answer_of (class_of_message message q))
+FoundHolds terms greatest t0 log zone q g (found.Error error) =
+    (IsPlainlyTold log → IsTrue (is_lookup_error error)) × Concluded terms t0 log zone q g (Err error)
+
+-- it goes on, or has found this
+abbrev pub LookupComes : Terms → ℕ → ℕ → ℕ → Log → DomainName → Lookup → Option Found → Type 0
+LookupComes terms greatest moment t0 log zone l None = LookupHolds terms greatest moment t0 log zone l
+LookupComes terms greatest moment t0 log zone l (Some f) = FoundHolds terms greatest t0 log zone l.query l.ends f
+
+-- ---- walks
 
 -- the last labels of a name
 abbrev pub last_name : ℕ → DomainName → DomainName
@@ -74,32 +110,53 @@ abbrev pub StageHolds : Query → DomainName → DomainName → Query → Stage 
 StageHolds q zone name asked (Candidate labels) = (1 ≤ labels) × (labels ≤ length name.labels) × (length zone.labels ≤ labels) × (asked ≡ question_for (last_name labels name) 2)
 StageHolds q zone name asked Last = asked ≡ q
 
+-- how many labels the candidates have of which the log shows no cut yet, or a cut that was taken: fewer
+abbrev pub reached : DomainName → Stage → ℕ
+reached name (Candidate labels) = labels
+reached name Last = length name.labels + 1
+
+-- The log shows no cut below the zone at a candidate of fewer labels than n, where no server was to be asked again.
+abbrev pub Passed : Terms → Log → DomainName → DomainName → ℕ → Type 0
+Passed terms log zone name n = IsPlainlyTold log → (k : ℕ) → length zone.labels < k → k < n → NoCut (given_of terms) log (last_name k name)
+
 -- A walk is to the name of the question, and has come to a zone at or above it with its servers.
-pub record WayHolds (roots : List IpAddr) (greatest : ℕ) (log : Log) (q : Query) (w : Walk) : Type 0 where
+pub record WayHolds (terms : Terms) (greatest : ℕ) (log : Log) (q : Query) (w : Walk) : Type 0 where
   pub name : w.name ≡ walk q
   pub above : IsTrue (is_above w.zone w.name)
-  pub servers : AreServers roots log (greatest + 1) w.zone w.servers
+  pub pool : ArePool terms log (greatest + 1) w.zone w.servers
   pub stage : StageHolds q w.zone w.name w.lookup.query w.stage
+  pub passed : Passed terms log w.zone w.name (reached w.name w.stage)
 
-pub record WalkHolds (roots : List IpAddr) (greatest t0 : ℕ) (log : Log) (q : Query) (w : Walk) : Type 0 where
-  pub way : WayHolds roots greatest log q w
-  pub lookup : LookupHolds roots greatest t0 log w.zone w.lookup
+-- The log shows no cut at the present candidate, or it is the zone.
+abbrev pub LeavesBehind : Terms → Log → Walk → Type 0
+LeavesBehind terms log w = IsPlainlyTold log → length w.zone.labels < length w.lookup.query.name.labels → NoCut (given_of terms) log w.lookup.query.name
+
+pub record WalkHolds (terms : Terms) (greatest moment t0 : ℕ) (log : Log) (q : Query) (w : Walk) : Type 0 where
+  pub way : WayHolds terms greatest log q w
+  pub lookup : LookupHolds terms greatest moment t0 log w.zone w.lookup
 
 -- it goes on, or has its reply
-abbrev pub WalkComes : List IpAddr → ℕ → ℕ → Log → Question → Walk → Option Reply → Type 0
-WalkComes roots greatest t0 log question w None = WalkHolds roots greatest t0 log question.query w
-WalkComes roots greatest t0 log question w (Some reply) = ReplyHolds roots log t0 question reply
+abbrev pub WalkComes : Terms → ℕ → ℕ → ℕ → Log → Question → Walk → Option Reply → Type 0
+WalkComes terms greatest moment t0 log question w None = WalkHolds terms greatest moment t0 log question.query w
+WalkComes terms greatest moment t0 log question w (Some reply) = ReplyHolds terms machine_timer log t0 question reply
 
-abbrev pub StateHolds : List IpAddr → ℕ → ℕ → Log → Question → State → Type 0
-StateHolds roots greatest t0 log question (Under w) = WalkHolds roots greatest t0 log question.query w
-StateHolds roots greatest t0 log question (Done reply) = ReplyHolds roots log t0 question reply
-StateHolds roots greatest t0 log question Ended = Unit {0}
+-- ---- the machine
 
-pub record ResolutionHolds (roots : List IpAddr) (greatest moment : ℕ) (log : Log) (r : Resolution) : Type 0 where
+abbrev pub StateHolds : Terms → ℕ → ℕ → ℕ → Log → Question → State → Type 0
+StateHolds terms greatest moment t0 log question (Under w) = WalkHolds terms greatest moment t0 log question.query w
+StateHolds terms greatest moment t0 log question (Done reply) = ReplyHolds terms machine_timer log t0 question reply
+StateHolds terms greatest moment t0 log question Ended = Unit {0}
+
+pub record ResolutionHolds (terms : Terms) (greatest moment : ℕ) (log : Log) (r : Resolution) : Type 0 where
   pub begun : r.begun ≤ moment
-  pub state : StateHolds roots greatest r.begun log r.question r.state
+  pub state : StateHolds terms greatest moment r.begun log r.question r.state
 
--- All that the machine keeps is derived from the log.
-pub record Derived (core : RecursorCore) (log : Log) : Type 0 where
+-- its roots, with this patience
+abbrev pub terms_of : ℕ → RecursorCore → Terms
+terms_of patience core = record { roots = core.roots; patience = patience }
+
+-- All that the machine keeps is derived from the log, in which orders were given up at this many polls or more.
+pub record Derived (patience : ℕ) (core : RecursorCore) (log : Log) : Type 0 where
   pub bound : core.greatest < log.next
-  pub resolutions : All (ResolutionHolds core.roots core.greatest core.moment log) core.resolutions.items
+  pub some : 0 < length core.roots
+  pub resolutions : All (ResolutionHolds (terms_of patience core) core.greatest core.moment log) core.resolutions.items

@@ -2,8 +2,10 @@ pub mod Order
 pub mod Lookup
 pub mod Walk
 pub mod Resolving
+pub mod Plain
 pub mod Causes
 pub mod Replies
+pub mod Tried
 pub mod Derived
 pub mod Machine
 pub mod Turns

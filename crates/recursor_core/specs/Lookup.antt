@@ -1,7 +1,8 @@
 -- Where a lookup stands, and how much of it is left.
-use Rattle.std.specs.Prelude.{◌≡◌, ℕ, ◌+◌, ◌-◌, ◌*◌, ◌<◌, vec_len, Option, Some, None}
+use Rattle.std.specs.Prelude.{◌≡◌, ℕ, ◌+◌, ◌-◌, ◌*◌, ◌<◌, ◌≤◌, List, [], ◌∷◌, vec_len, Option, Some, None}
 use Rattle.std.specs.declared.net.ip_addr.IpAddr.{IpAddr}
 use Rattle.dns_core.specs.declared.message.Query.{Query}
+use Rattle.recursor_core.specs.declared.order.Sent.{Sent}
 use Rattle.recursor_core.specs.declared.lookup.Send.{Send}
 use Rattle.recursor_core.specs.declared.lookup.Send.TheVariants as send
 use Rattle.recursor_core.specs.declared.lookup.Want.{Want}
@@ -14,8 +15,8 @@ send_want (send.Chosen ip) = Connect ip
 send_want (send.Opening ip order polls) = Wait order
 send_want (send.Connected ip conn) = Ask ip conn
 send_want (send.Asking ip order since polls) = Wait order
-send_want (send.Told entry message) = Hear
-send_want (send.Failed entry error) = Hear
+send_want (send.Told ip entry message) = Hear
+send_want (send.Failed ip entry error) = Hear
 
 -- the address that is asked now
 abbrev pub asked_address : Send → Option IpAddr
@@ -24,8 +25,8 @@ asked_address (send.Chosen ip) = None
 asked_address (send.Opening ip order polls) = None
 asked_address (send.Connected ip conn) = None
 asked_address (send.Asking ip order since polls) = Some ip
-asked_address (send.Told entry message) = None
-asked_address (send.Failed entry error) = None
+asked_address (send.Told ip entry message) = None
+asked_address (send.Failed ip entry error) = None
 
 -- an order of it is open
 abbrev pub IsWaiting : Send → Type 0
@@ -34,8 +35,8 @@ IsWaiting (send.Chosen ip) = ⊥
 IsWaiting (send.Opening ip order polls) = Unit {0}
 IsWaiting (send.Connected ip conn) = ⊥
 IsWaiting (send.Asking ip order since polls) = Unit {0}
-IsWaiting (send.Told entry message) = ⊥
-IsWaiting (send.Failed entry error) = ⊥
+IsWaiting (send.Told ip entry message) = ⊥
+IsWaiting (send.Failed ip entry error) = ⊥
 
 -- a question may be asked of the address: it is chosen, or the connection to it is there
 abbrev pub MayAsk : IpAddr → Send → Type 0
@@ -44,27 +45,40 @@ MayAsk ip (send.Chosen chosen) = chosen ≡ ip
 MayAsk ip (send.Opening to order polls) = ⊥
 MayAsk ip (send.Connected to conn) = to ≡ ip
 MayAsk ip (send.Asking to order since polls) = ⊥
-MayAsk ip (send.Told entry message) = ⊥
-MayAsk ip (send.Failed entry error) = ⊥
+MayAsk ip (send.Told to entry message) = ⊥
+MayAsk ip (send.Failed to entry error) = ⊥
 
--- a question is asked of the address by entry `of`, which is later than what was put before
-abbrev pub SendAsks : ℕ → IpAddr → Send → Type 0
-SendAsks of ip send.Ready = ⊥
-SendAsks of ip (send.Chosen chosen) = ⊥
-SendAsks of ip (send.Opening to order polls) = ⊥
-SendAsks of ip (send.Connected to conn) = ⊥
-SendAsks of ip (send.Asking to order since polls) = (to ≡ ip) × (since < of)
-SendAsks of ip (send.Told entry message) = ⊥
-SendAsks of ip (send.Failed entry error) = ⊥
+-- the server of the present send
+abbrev pub present : Send → List IpAddr
+present send.Ready = []
+present (send.Chosen ip) = ip ∷ []
+present (send.Opening ip order polls) = ip ∷ []
+present (send.Connected ip conn) = ip ∷ []
+present (send.Asking ip order since polls) = ip ∷ []
+present (send.Told ip entry message) = ip ∷ []
+present (send.Failed ip entry error) = ip ∷ []
 
-abbrev pub AsksOf : ℕ → IpAddr → Query → Lookup → Type 0
-AsksOf of ip query l = (query ≡ l.query) × SendAsks of ip l.send
+-- It was sent to the server of the present send: a connection is opened to it, or it is asked the question, later than what was put before.
+abbrev pub IsSentBy : Sent → Query → Send → Type 0
+IsSentBy sent q send.Ready = ⊥
+IsSentBy sent q (send.Chosen ip) = ⊥
+IsSentBy sent q (send.Opening ip order polls) = (sent.ip ≡ ip) × (sent.query ≡ None)
+IsSentBy sent q (send.Connected ip conn) = ⊥
+IsSentBy sent q (send.Asking ip order since polls) = (sent.ip ≡ ip) × (sent.query ≡ Some q) × (since < sent.of)
+IsSentBy sent q (send.Told ip entry message) = ⊥
+IsSentBy sent q (send.Failed ip entry error) = ⊥
+
+-- It was sent for the open order of the lookup, between the two moments.
+pub record IsOf (sent : Sent) (begun now : ℕ) (l : Lookup) : Type 0 where
+  pub sends : IsSentBy sent l.query l.send
+  pub late : begun ≤ sent.moment
+  pub early : sent.moment ≤ now
 
 -- how many steps a send has before it
 abbrev pub send_steps : Send → ℕ
 send_steps send.Ready = 0
-send_steps (send.Told entry message) = 1
-send_steps (send.Failed entry error) = 1
+send_steps (send.Told ip entry message) = 1
+send_steps (send.Failed ip entry error) = 1
 send_steps (send.Asking ip order since polls) = 2
 send_steps (send.Connected ip conn) = 3
 send_steps (send.Opening ip order polls) = 4
@@ -81,8 +95,8 @@ polls_left patience (send.Chosen ip) = 0
 polls_left patience (send.Opening ip order polls) = patience - polls
 polls_left patience (send.Connected ip conn) = 0
 polls_left patience (send.Asking ip order since polls) = patience - polls
-polls_left patience (send.Told entry message) = 0
-polls_left patience (send.Failed entry error) = 0
+polls_left patience (send.Told ip entry message) = 0
+polls_left patience (send.Failed ip entry error) = 0
 
 -- steps, each of which may be as many polls as patience allows
 abbrev pub rank : ℕ → Lookup → ℕ

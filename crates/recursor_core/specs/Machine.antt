@@ -1,12 +1,14 @@
 -- The machine as a whole.
-use Rattle.std.specs.Prelude.{◌≡◌, ◌≤◌, ◌<◌, ◌+◌, ℕ, List, Option, Some, None, Result, Ok, Err, slice_get, sum_by, ◌⊎◌}
+use Rattle.std.specs.Prelude.{◌≡◌, ◌≤◌, ◌<◌, ◌+◌, ℕ, Option, Some, None, Result, Ok, Err, slice_get, sum_by, ◌⊎◌}
 use Rattle.std.specs.Option.{option_map}
 use Rattle.std.specs.declared.net.ip_addr.IpAddr.{IpAddr}
 use Rattle.dns_core.specs.Log.{Log}
 use Rattle.dns_core.specs.declared.message.Query.{Query}
 use Rattle.dns_core.specs.declared.request.Question.{Question}
 use Rattle.recursor_core.specs.Order.{GoesToServer}
-use Rattle.recursor_core.specs.Replies.{given_of, ReplyHolds}
+use Rattle.recursor_core.specs.Replies.{Terms, given_of, ReplyHolds}
+use Rattle.recursor_core.specs.Tried.{machine_timer}
+use Rattle.recursor_core.specs.Derived.{terms_of}
 use Rattle.recursor_core.specs.declared.reply.Reply.{Reply}
 use Rattle.dns_core.specs.declared.errors.NoMemory.{NoMemory}
 use Rattle.recursor_core.specs.Resolving as one
@@ -101,20 +103,20 @@ GoesOn old new (Ok progress.Again) = (p : ℕ) → rank p new < rank p old
 GoesOn old new (Ok (progress.Step s)) = StepFalls old new s
 GoesOn old new (Err e) = (p : ℕ) → rank p new ≤ rank p old
 
-abbrev pub ReplyGiven : List IpAddr → Log → Option Begun → Reply → Type 0
-ReplyGiven roots log None reply = Unit {0}
-ReplyGiven roots log (Some b) reply = ReplyHolds roots log b.moment b.question reply
+abbrev pub ReplyGiven : Terms → Log → Option Begun → Reply → Type 0
+ReplyGiven terms log None reply = Unit {0}
+ReplyGiven terms log (Some b) reply = ReplyHolds terms machine_timer log b.moment b.question reply
 
 -- what a step gives is derived: an order goes to a server by what was put before, and a reply holds
-abbrev pub StepGives : RecursorCore → Log → ℕ → Step → Type 0
-StepGives core log r (step.Order number order) = GoesToServer (given_of core.roots) log (core.greatest + 1) order
-StepGives core log r (step.Waiting number) = Unit {0}
-StepGives core log r (step.Done reply) = ReplyGiven core.roots log (begun_at core r) reply
-StepGives core log r step.Ended = Unit {0}
+abbrev pub StepGives : ℕ → RecursorCore → Log → ℕ → Step → Type 0
+StepGives patience core log r (step.Order number order) = GoesToServer (given_of (terms_of patience core)) log (core.greatest + 1) order
+StepGives patience core log r (step.Waiting number) = Unit {0}
+StepGives patience core log r (step.Done reply) = ReplyGiven (terms_of patience core) log (begun_at core r) reply
+StepGives patience core log r step.Ended = Unit {0}
 
-abbrev pub Gives : RecursorCore → Log → ℕ → Progress → Type 0
-Gives core log r progress.Again = Unit {0}
-Gives core log r (progress.Step s) = StepGives core log r s
+abbrev pub Gives : ℕ → RecursorCore → Log → ℕ → Progress → Type 0
+Gives patience core log r progress.Again = Unit {0}
+Gives patience core log r (progress.Step s) = StepGives patience core log r s
 
 -- what a new machine is refused for
 abbrev pub IsNewError : RecursorError → Type 0

@@ -1,33 +1,79 @@
 -- Orders and their outcomes, by a log.
-use Rattle.std.specs.Prelude.{ℕ, ◌<◌}
+use Rattle.std.specs.Prelude.{◌≡◌, ℕ, ◌<◌, ◌≤◌, true, false, Option, Some, None, Err}
 use Rattle.dns_core.specs.Log.{Log}
-use Rattle.dns_core.specs.declared.log.ToldOutcome.TheVariants as told
+use Rattle.dns_core.specs.declared.message.Query.{Query}
+use Rattle.dns_core.specs.declared.connection.Protocol.{Protocol}
+use Rattle.dns_core.specs.declared.net_error.NetError.{NetError}
+use Rattle.dns_core.specs.declared.log.LogEntry.{LogEntry}
+use Rattle.dns_core.specs.declared.log.LogEntry.TheVariants as line
+use Rattle.dns_core.specs.declared.log.ToldOutcome.TheVariants as said
 use Rattle.resolution.specs.Given.{Given}
-use Rattle.resolution.specs.Telling.{Tells}
+use Rattle.resolution.specs.Telling.{Logged}
 use Rattle.resolution.specs.Asking.{IsServer, IsServerFor}
+use Rattle.resolution.specs.Ending.{waits, EndsSend}
 use Rattle.recursor_core.specs.declared.order.Order.{Order}
 use Rattle.recursor_core.specs.declared.order.Order.TheVariants.{Open, Ask}
+use Rattle.recursor_core.specs.declared.order.Sent.{Sent}
 use Rattle.recursor_core.specs.declared.order.Outcome.{Outcome}
-use Rattle.recursor_core.specs.declared.order.Outcome.TheVariants.{Pending, Connected, Told, Failed}
+use Rattle.recursor_core.specs.declared.order.Outcome.TheVariants.{Pending, Connected, Told, Failed, GaveUp}
 
 -- the number of the log entry that says the outcome
 abbrev pub entry_of : Outcome → ℕ
 entry_of (Pending entry) = entry
 entry_of (Connected entry) = entry
-entry_of (Told entry of ip message) = entry
-entry_of (Failed entry refused error) = entry
+entry_of (Told entry sent message) = entry
+entry_of (Failed entry sent refused error) = entry
+entry_of (GaveUp entry sent polls) = entry
 
--- A message that came was told so, at the moment, for the question that it names.
+-- the entry of what was sent: an opening, or a question
+abbrev pub entry_for : Sent → Protocol → Option NetError → LogEntry
+entry_for s protocol refusal = elim s.query [
+  | None ↦ line.Opened s.ip protocol s.moment refusal
+  | Some q ↦ line.Asked s.ip protocol q s.moment refusal
+]
+
+-- It was sent by its entry, or refused.
+pub record IsSent (log : Log) (s : Sent) (refusal : Option NetError) : Type 0 where
+  pub protocol : Protocol
+  pub logged : Logged log s.of (entry_for s protocol refusal)
+
+-- The entry closes what was sent.
+pub record Closes (log : Log) (s : Sent) (entry : ℕ) (e : LogEntry) : Type 0 where
+  pub sent : IsSent log s None
+  pub logged : Logged log entry e
+  pub before : s.of < entry
+
+-- It was refused, at the moment, by its own entry.
+pub record WasRefused (log : Log) (now : ℕ) (s : Sent) (entry : ℕ) (error : NetError) : Type 0 where
+  pub sent : IsSent log s (Some error)
+  pub at : s.of ≡ entry
+  pub then : s.moment ≡ now
+
+-- What came of an order is what the entry of its number says, at the moment.
 abbrev pub OutcomeIs : Log → ℕ → Outcome → Type 0
 OutcomeIs log now (Pending entry) = Unit {0}
 OutcomeIs log now (Connected entry) = Unit {0}
-OutcomeIs log now (Told entry of ip message) = Tells log entry message.query (told.Message message) of ip now
-OutcomeIs log now (Failed entry refused error) = Unit {0}
+OutcomeIs log now (Told entry s message) = Closes log s entry (line.Told s.of now (said.Message message)) × (s.query ≡ Some message.query)
+OutcomeIs log now (Failed entry s true error) = WasRefused log now s entry error
+OutcomeIs log now (Failed entry s false error) = Closes log s entry (line.Told s.of now (said.Error error))
+OutcomeIs log now (GaveUp entry s polls) = Closes log s entry (line.GaveUp s.of now) × (polls ≤ waits log s.of entry)
 
--- The log has the outcome of a poll at the moment.
+-- The log has the outcome of an order, at the moment.
 pub record Fits (log : Log) (now : ℕ) (outcome : Outcome) : Type 0 where
   pub within : entry_of outcome < log.next
   pub is : OutcomeIs log now outcome
+
+-- It is an opening, or asks the question.
+abbrev pub IsFor : Option Query → Query → Type 0
+IsFor None q = Unit {0}
+IsFor (Some asked) q = asked ≡ q
+
+-- What was sent came to nothing but the error, by the entry, at the moment.
+pub record IsLost (given : Given) (log : Log) (now entry : ℕ) (s : Sent) (error : NetError) : Type 0 where
+  pub refusal : Option NetError
+  pub sent : IsSent log s refusal
+  pub before : s.of ≤ entry
+  pub ends : (q : Query) → IsFor s.query q → EndsSend given log q entry (record { server = s.ip; outcome = Err error }) now
 
 -- An order goes to a server by what was told below n; a question to one of a zone at or above its name.
 abbrev pub GoesToServer : Given → Log → ℕ → Order → Type 0

@@ -11,20 +11,26 @@ use Rattle.resolution.specs.Same.{Same}
 use Rattle.resolution.specs.Given.{Given, Bounds, allows_all}
 use Rattle.resolution.specs.Following.{follow}
 use Rattle.resolution.specs.Answering.{Base, IsCurrent, Answer}
+use Rattle.resolution.specs.Ending.{Known}
 use Rattle.resolution.specs.declared.verdict.Verdict.TheVariants.{Pos}
 use Rattle.resolution.specs.declared.following.Follow.TheVariants.{Done}
 use Rattle.recursor_core.specs.declared.error.RecursorError.{RecursorError}
 use Rattle.recursor_core.specs.declared.reply.Reply.{Reply}
-use Rattle.recursor_core.specs.Causes.{ErrorHolds}
+use Rattle.recursor_core.specs.Causes.{WalksTo, ErrorHolds}
 
 -- the bounds of lives where none are set: from nothing to a day
 abbrev pub standard_bounds : Bounds
 standard_bounds = record { least = 0; most = 86400 }
 
--- these roots, filters that deny nothing, and the standard bounds and limits
-abbrev pub given_of : List IpAddr → Given
-given_of roots = record {
-  roots = roots;
+-- the roots, and at how many polls an order is given up
+pub record Terms : Type 0 where
+  pub roots : List IpAddr
+  pub patience : ℕ
+
+-- these roots and this patience, filters that deny nothing, and the standard bounds and limits
+abbrev pub given_of : Terms → Given
+given_of terms = record {
+  roots = terms.roots;
   server_denied = allows_all;
   answer_denied = allows_all;
   positive_bounds = λ _. standard_bounds;
@@ -33,24 +39,30 @@ given_of roots = record {
   strict = true;
   ns_recursion_limit = 24;
   recursion_limit = 24;
-  patience = 1;
+  patience = terms.patience;
 }
 
--- The message is what counts of one entry, less the DNSSEC records that were not asked for. Where its aliases lead no further, it is the answer.
+-- The message is what counts of one entry, less the DNSSEC records that were not asked for, and the walk went down to the zone of its server.
+-- Where its aliases lead no further, it is the answer.
 pub record IsToldAnswer (given : Given) (log : Log) (t0 : ℕ) (q : Query) (dnssec : Bool) (g : List ℕ) (r : Message) : Type 0 where
   pub entry : ℕ
   pub zone : DomainName
   pub kept : Message
   pub only : g ≡ entry ∷ []
   pub base : Base given log t0 q entry zone (Pos kept)
+  pub walked : WalksTo given log q zone
   pub current : IsCurrent t0 base.moment kept
   pub same : Same r (strip_of kept dnssec)
   pub answer : follow kept q ≡ Done → Answer given log t0 q dnssec g r
 
 -- A message that is answered has it so, and an error has its cause.
-abbrev pub OutcomeHolds : Given → Log → ℕ → Question → List ℕ → Result Message RecursorError → Type 0
-OutcomeHolds given log t0 question g (Ok m) = IsToldAnswer given log t0 question.query question.dnssec_ok g m
-OutcomeHolds given log t0 question g (Err e) = ErrorHolds given log t0 question.query g e
+abbrev pub OutcomeHolds : Given → Known → Log → ℕ → Question → List ℕ → Result Message RecursorError → Type 0
+OutcomeHolds given known log t0 question g (Ok m) = IsToldAnswer given log t0 question.query question.dnssec_ok g m
+OutcomeHolds given known log t0 question g (Err e) = ErrorHolds given known log t0 question.query g e
 
-abbrev pub ReplyHolds : List IpAddr → Log → ℕ → Question → Reply → Type 0
-ReplyHolds roots log t0 question reply = OutcomeHolds (given_of roots) log t0 question reply.grounds reply.outcome
+-- what is known of the moments of a finished lookup, by a log and the moment of the question
+abbrev pub Timer : Type 1
+Timer = Log → ℕ → Known
+
+abbrev pub ReplyHolds : Terms → Timer → Log → ℕ → Question → Reply → Type 0
+ReplyHolds terms timer log t0 question reply = OutcomeHolds (given_of terms) (timer log t0) log t0 question reply.grounds reply.outcome

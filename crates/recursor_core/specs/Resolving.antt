@@ -6,7 +6,6 @@ use Rattle.recursor_core.specs.Lookup as lookup
 use Rattle.recursor_core.specs.Walk as walk
 use Rattle.recursor_core.specs.declared.reply.Reply.{Reply}
 use Rattle.recursor_core.specs.declared.walk.Walk.{Walk}
-use Rattle.recursor_core.specs.declared.lookup.Want.{Want}
 use Rattle.recursor_core.specs.declared.lookup.Want.TheVariants as want
 use Rattle.recursor_core.specs.declared.resolving.Need.{Need}
 use Rattle.recursor_core.specs.declared.resolving.Need.TheVariants as need

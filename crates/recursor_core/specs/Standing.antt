@@ -1,15 +1,18 @@
 -- A recursor, as contracts see it, and what holds of its machine and its provider between two calls.
-use Rattle.std.specs.Prelude.{◌≡◌, ◌≤◌, ℕ, List, [], ◌∷◌, ◌+◌, ◌==◌, if◌then◌else◌, Option, Some, None, slice_get}
+use Rattle.std.specs.Prelude.{◌≡◌, ◌≤◌, ◌<◌, ℕ, false, max, List, [], ◌∷◌, ◌+◌, ◌==◌, map, length, Contains, if◌then◌else◌, Option, Some, None, slice_get}
 use Rattle.std.specs.declared.net.ip_addr.IpAddr.{IpAddr}
 use Rattle.dns_core.specs.Log.{Log}
 use Rattle.dns_core.specs.declared.log.LogEntry.{LogEntry}
 use Rattle.dns_core.specs.declared.request.Question.{Question}
 use Rattle.dns_core.specs.declared.request.Turn.{Turn}
 use Rattle.dns_core.specs.declared.provider.ConnectionProvider.{Ghosts}
+use Rattle.resolution.specs.Telling.{Logged, moment_of}
 use Rattle.resolution.specs.Asking.{AsksServers}
-use Rattle.recursor_core.specs.Replies.{given_of, ReplyHolds}
+use Rattle.resolution.specs.Timing.{known_to_drive}
+use Rattle.recursor_core.specs.Replies.{Terms, Timer, given_of, ReplyHolds}
+use Rattle.recursor_core.specs.Tried.{machine_timer}
 use Rattle.recursor_core.specs.Carrying.{TellsThat, Grown, CarrierHolds}
-use Rattle.recursor_core.specs.Derived.{Derived}
+use Rattle.recursor_core.specs.Derived.{terms_of, Derived}
 use Rattle.recursor_core.specs.Machine.{Begun, begun_at}
 use Rattle.recursor_core.specs.declared.carrier.Carrier.{Carrier}
 use Rattle.recursor_core.specs.declared.machine.RecursorCore.{RecursorCore}
@@ -25,28 +28,45 @@ pub record Standing (P : Type 0) : Type 0 where
   pub roots : List IpAddr
   pub moment : ℕ
 
--- What the machine keeps is derived from the provider's log, and only servers were asked.
-pub record Holds {P C F E : Type 0} (p : Ghosts P C F E) (core : RecursorCore) (c : Carrier P C F E p) : Type 0 where
-  pub carrier : CarrierHolds p c
-  pub derived : TellsThat (p.log c.provider) (Derived core)
-  pub asks : TellsThat (p.log c.provider) (AsksServers (given_of core.roots))
+-- no entry carries a later moment
+abbrev pub IsPast : ℕ → Log → Type 0
+IsPast now log = (i moment : ℕ) (e : LogEntry) → Logged log i e → moment_of e ≡ Some moment → moment ≤ now
 
--- The roots and the questions are as before, and the log has only grown.
-pub record Moves {P C F E : Type 0} (p : Ghosts P C F E) (core new_core : RecursorCore) (c new : Carrier P C F E p) : Type 0 where
+-- each moment from `start` on is one of these
+abbrev pub IsTimely : ℕ → List ℕ → Log → Type 0
+IsTimely start moments log = (i moment : ℕ) (e : LogEntry) → Logged log i e → moment_of e ≡ Some moment → start ≤ moment → Contains moments moment
+
+-- What the machine keeps is derived from the provider's log, and only servers were asked, none later than its moment.
+pub record Holds {P C F E : Type 0} (p : Ghosts P C F E) (patience : ℕ) (core : RecursorCore) (c : Carrier P C F E p) : Type 0 where
+  pub carrier : CarrierHolds p c
+  pub derived : TellsThat (p.log c.provider) (Derived patience core)
+  pub asks : TellsThat (p.log c.provider) (AsksServers (given_of (terms_of patience core)))
+  pub past : TellsThat (p.log c.provider) (IsPast core.moment)
+
+-- So it is between two runs, whatever their patience, once the questions of the last run are left.
+pub record Rests {P C F E : Type 0} (p : Ghosts P C F E) (core : RecursorCore) (c : Carrier P C F E p) : Type 0 where
+  pub some : 0 < length core.roots
+  pub carrier : CarrierHolds p c
+  pub bound : TellsThat (p.log c.provider) (λ log. core.greatest < log.next)
+  pub asks : (patience : ℕ) → TellsThat (p.log c.provider) (AsksServers (given_of (terms_of patience core)))
+  pub past : TellsThat (p.log c.provider) (IsPast core.moment)
+
+-- The roots and the questions are as before, and the log has only grown, by entries of the moment.
+pub record Moves {P C F E : Type 0} (p : Ghosts P C F E) (now : ℕ) (core new_core : RecursorCore) (c new : Carrier P C F E p) : Type 0 where
   pub roots : new_core.roots ≡ core.roots
   pub begun : (k : ℕ) (b : Begun) → begun_at core k ≡ Some b → begun_at new_core k ≡ Some b
-  pub grown : Grown (p.log c.provider) (p.log new.provider)
+  pub grown : Grown now (p.log c.provider) (p.log new.provider)
 
 -- a reply holds by the log, where it is told
-abbrev pub ReplyTold : List IpAddr → Option (List LogEntry) → Option Begun → Reply → Type 0
-ReplyTold roots told None reply = Unit {0}
-ReplyTold roots told (Some b) reply = TellsThat told (λ log. ReplyHolds roots log b.moment b.question reply)
+abbrev pub ReplyTold : Terms → Option (List LogEntry) → Option Begun → Reply → Type 0
+ReplyTold terms told None reply = Unit {0}
+ReplyTold terms told (Some b) reply = TellsThat told (λ log. ReplyHolds terms machine_timer log b.moment b.question reply)
 
-abbrev pub TurnedTold : List IpAddr → Option (List LogEntry) → Option Begun → Turned → Type 0
-TurnedTold roots told b turned.Again = Unit {0}
-TurnedTold roots told b turned.Pending = Unit {0}
-TurnedTold roots told b (turned.Done reply) = ReplyTold roots told b reply
-TurnedTold roots told b turned.Ended = Unit {0}
+abbrev pub TurnedTold : Terms → Option (List LogEntry) → Option Begun → Turned → Type 0
+TurnedTold terms told b turned.Again = Unit {0}
+TurnedTold terms told b turned.Pending = Unit {0}
+TurnedTold terms told b (turned.Done reply) = ReplyTold terms told b reply
+TurnedTold terms told b turned.Ended = Unit {0}
 
 -- the moment of the first turn of the question at a place
 abbrev pub first_moment : List Turn → ℕ → Option ℕ
@@ -58,9 +78,17 @@ abbrev pub last_moment : ℕ → List Turn → ℕ
 last_moment start [] = start
 last_moment start (t ∷ ts) = last_moment t.moment ts
 
--- the moment at which the question at a place begins: that of its first turn, or the one after the turns
+-- the moment at which the question at a place begins: that of its first turn, or the one after the turns, but none before the greatest so far
 abbrev pub begin_moment : ℕ → List Turn → ℕ → ℕ
-begin_moment start turns q = elim (first_moment turns q) [ Some moment ↦ moment | None ↦ last_moment start turns ]
+begin_moment start turns q = max start (elim (first_moment turns q) [ Some moment ↦ moment | None ↦ last_moment start turns ])
+
+-- the moments of a run: those of its turns, and the greatest before it
+abbrev pub run_moments : ℕ → List Turn → List ℕ
+run_moments start turns = start ∷ map (λ t. t.moment) turns
+
+-- what is known of the moments of a lookup in a run: it was answered in a turn, and began with a send no earlier than its question
+abbrev pub run_timer : ℕ → List Turn → Timer
+run_timer start turns log t0 = known_to_drive (run_moments start turns) false false log t0
 
 -- The resolution at a place is of the question, which began no earlier than the moment.
 pub record IsBegunFrom (core : RecursorCore) (r : ℕ) (q : Question) (moment : ℕ) : Type 0 where
@@ -70,17 +98,18 @@ pub record IsBegunFrom (core : RecursorCore) (r : ℕ) (q : Question) (moment : 
   pub late : moment ≤ begun.moment
 
 -- A question that waits is named by no turn so far; one under way has begun at or after its moment; the reply of one that is answered holds.
-abbrev pub PlayHolds : RecursorCore → Option (List LogEntry) → ℕ → List Turn → List Turn → ℕ → Question → Played → Type 0
-PlayHolds core told start turns rest q question played.Waiting = first_moment turns q ≡ first_moment rest q
-PlayHolds core told start turns rest q question (played.Begun r) = IsBegunFrom core r question (begin_moment start turns q)
-PlayHolds core told start turns rest q question (played.Answered reply) = TellsThat told (λ log. ReplyHolds core.roots log (begin_moment start turns q) question reply)
+abbrev pub PlayHolds : ℕ → RecursorCore → Option (List LogEntry) → ℕ → List Turn → List Turn → ℕ → Question → Played → Type 0
+PlayHolds patience core told start turns rest q question played.Waiting = first_moment turns q ≡ first_moment rest q
+PlayHolds patience core told start turns rest q question (played.Begun r) = IsBegunFrom core r question (begin_moment start turns q)
+PlayHolds patience core told start turns rest q question (played.Answered reply) =
+    TellsThat told (λ log. ReplyHolds (terms_of patience core) machine_timer log (begin_moment start turns q) question reply)
 
 -- so it is with each question, where `rest` are the turns that are not played yet
-abbrev pub PlaysHold : RecursorCore → Option (List LogEntry) → ℕ → List Turn → List Turn → List Question → List Played → Type 0
-PlaysHold core told start turns rest questions plays = (q : ℕ) (question : Question) (p : Played)
-    → slice_get questions q ≡ Some question → slice_get plays q ≡ Some p → PlayHolds core told start turns rest q question p
+abbrev pub PlaysHold : ℕ → RecursorCore → Option (List LogEntry) → ℕ → List Turn → List Turn → List Question → List Played → Type 0
+PlaysHold patience core told start turns rest questions plays = (q : ℕ) (question : Question) (p : Played)
+    → slice_get questions q ≡ Some question → slice_get plays q ≡ Some p → PlayHolds patience core told start turns rest q question p
 
 -- each reply holds, for the question at its place
-abbrev pub RepliesHold : List IpAddr → Log → ℕ → List Turn → List Question → List Reply → Type 0
-RepliesHold roots log start turns questions replies = (q : ℕ) (question : Question) (reply : Reply)
-    → slice_get questions q ≡ Some question → slice_get replies q ≡ Some reply → ReplyHolds roots log (begin_moment start turns q) question reply
+abbrev pub RepliesHold : Terms → Log → ℕ → List Turn → List Question → List Reply → Type 0
+RepliesHold terms log start turns questions replies = (q : ℕ) (question : Question) (reply : Reply)
+    → slice_get questions q ≡ Some question → slice_get replies q ≡ Some reply → ReplyHolds terms (run_timer start turns) log (begin_moment start turns q) question reply

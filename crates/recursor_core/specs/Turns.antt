@@ -1,5 +1,5 @@
 -- How much is left of the questions of a run.
-use Rattle.std.specs.Prelude.{◌≡◌, ◌≤◌, ◌<◌, ◌+◌, ℕ, List, Option, Some, None, Err, slice_get, sum_by, ◌⊎◌, false}
+use Rattle.std.specs.Prelude.{◌≡◌, ◌≤◌, ◌<◌, ◌+◌, ℕ, List, [], Option, Some, None, Err, slice_get, sum_by, ◌⊎◌, false}
 use Rattle.dns_core.specs.declared.request.Question.{Question}
 use Rattle.recursor_core.specs.Machine as machine
 use Rattle.recursor_core.specs.Machine.{rank}
@@ -43,7 +43,7 @@ IsUnderWay plays q (Some r) = slice_get plays q ≡ Some (played.Begun r)
 -- The reply refuses the question, whose name is not fully qualified; or memory is wanting.
 abbrev pub IsRefused : Question → Reply → Type 0
 IsRefused question reply =
-    (reply.outcome ≡ Err error.NoMemory) ⊎ ((reply.outcome ≡ Err (error.Message kind.NotQualified)) × (question.query.name.fqdn ≡ false))
+    (reply.grounds ≡ []) × ((reply.outcome ≡ Err error.NoMemory) ⊎ ((reply.outcome ≡ Err (error.Message kind.NotQualified)) × (question.query.name.fqdn ≡ false)))
 
 -- A question as it begins: under way, or refused.
 abbrev pub Begins : Question → ℕ → RecursorCore → Played → Type 0
@@ -54,7 +54,7 @@ Begins question now core (played.Answered reply) = IsRefused question reply
 -- the reply of a question, or want of memory where it has none
 abbrev pub ReplyOf : Option Played → Reply → Type 0
 ReplyOf (Some (played.Answered reply)) given = given ≡ reply
-ReplyOf _ given = given.outcome ≡ Err error.NoMemory
+ReplyOf _ given = (given.outcome ≡ Err error.NoMemory) × (given.grounds ≡ [])
 
 abbrev pub BeginsIf : Option Question → ℕ → RecursorCore → Option Played → Option Played → Type 0
 BeginsIf (Some question) now core (Some played.Waiting) (Some new) = Begins question now core new

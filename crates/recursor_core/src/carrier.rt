@@ -1,17 +1,19 @@
 //! Carries orders over a provider, and counts the entries of its log.
-ghost use Rattle.std.specs.Prelude.{◌≡◌, ◌<◌, ◌+◌, ◌-◌, ◌^◌, ◌&&◌, ◌↔◌, ℕ, not, unwrap_or, IsTrue, List, [], Some, IfOk, IfSome, min, is_ok, is_some, if◌then◌else◌};
+ghost use Rattle.std.specs.Prelude.{◌≡◌, ◌<◌, ◌+◌, ◌-◌, ◌^◌, ◌&&◌, ◌↔◌, ℕ, false, true, not, unwrap_or, IsTrue, List, [], Some, IfOk, IfSome, min, is_ok, is_some, if◌then◌else◌};
 ghost use Rattle.std.specs.Ordering.{nat_cmp, is_eq};
 ghost use Rattle.dns_core.specs.declared.log.LogEntry.{LogEntry};
 ghost use Rattle.dns_core.specs.NetError.{is_memory};
 ghost use Rattle.resolution.specs.Given.{Given};
 ghost use Rattle.resolution.specs.Asking.{IsServer, IsServerFor, AsksServers};
 ghost use Rattle.recursor_core.specs.Order.{Fits, GoesToServer};
-ghost use Rattle.recursor_core.specs.Carrying.{TellsThat, Grown, IsAskedBy, slot_at, CarrierHolds};
+ghost use Rattle.recursor_core.specs.Carrying.{TellsThat, Grown, SlotHolds, slot_at, CarrierHolds};
+ghost use Rattle.recursor_core.specs.declared.slot.Slot.TheVariants as slot;
 
-use crate::order::{Order, Outcome};
+use crate::order::{Order, Outcome, Sent};
 use crate::slot::{Asking, Connection, Opening, Slot};
 use dns_core::{
     ConnectOptions, ConnectionConfig, ConnectionProvider, DnsRequest, NetError, NoMemory, Poll,
+    Query,
 };
 use std::alloc::Global;
 use std::collections::BTreeMap;
@@ -109,9 +111,9 @@ impl<P: ConnectionProvider> Carrier<P> {
         }
     }
 
-    /// A call failed: its outcome, or want of memory, which leaves no entry.
-    fn failed(&mut self, refused: bool, error: NetError) -> Result<Outcome, NoMemory>
-        ensures ok { IfOk result (λ outcome. outcome ≡ Outcome.Failed self.new.entries refused error) }
+    /// A poll failed: its outcome, or want of memory, which leaves no entry.
+    fn failed(&mut self, sent: Sent, error: NetError) -> Result<Outcome, NoMemory>
+        ensures ok { IfOk result (λ outcome. outcome ≡ Outcome.Failed self.new.entries sent false error) }
         ensures memory { is_ok result ≡ not (is_memory error) }
         ensures counts { self.new.entries ≡ (if is_memory error then self.old.entries else min (self.old.entries + 1) (2 ^ 64 - 1)) }
         ensures same { (self.new.provider ≡ self.old.provider) × (self.new.slots ≡ self.old.slots) }
@@ -122,9 +124,55 @@ impl<P: ConnectionProvider> Carrier<P> {
         let entry = self.count();
         Ok(Outcome::Failed {
             entry,
-            refused,
+            sent,
+            refused: false,
             error,
         })
+    }
+
+    /// A call was refused, by an entry of its own: its outcome, or want of memory, which leaves none.
+    fn refused(
+        &mut self,
+        ip: IpAddr,
+        query: Option<Query>,
+        error: NetError,
+        now: u64,
+    ) -> Result<Outcome, NoMemory>
+        ensures ok { IfOk result (λ outcome. outcome ≡ Outcome.Failed self.new.entries (record { of = self.new.entries; ip = ip; moment = now; query = query }) true error) }
+        ensures memory { is_ok result ≡ not (is_memory error) }
+        ensures counts { self.new.entries ≡ (if is_memory error then self.old.entries else min (self.old.entries + 1) (2 ^ 64 - 1)) }
+        ensures same { (self.new.provider ≡ self.old.provider) × (self.new.slots ≡ self.old.slots) }
+    {
+        if error.is_memory() {
+            return Err(NoMemory);
+        }
+        let entry = self.count();
+        let sent = Sent {
+            of: entry,
+            ip,
+            moment: now,
+            query,
+        };
+        Ok(Outcome::Failed {
+            entry,
+            sent,
+            refused: true,
+            error,
+        })
+    }
+
+    /// The outcome of a give-up, where it has a number.
+    fn gave_up(&mut self, sent: Sent, polls: u32) -> Option<Outcome>
+        ensures some { IfSome result (λ outcome. (outcome ≡ Outcome.GaveUp self.new.entries sent polls) × (self.old.entries + 5 < 2 ^ 64)) }
+        ensures counts { self.new.entries ≡ min (self.old.entries + 1) (2 ^ 64 - 1) }
+        ensures same { (self.new.provider ≡ self.old.provider) × (self.new.slots ≡ self.old.slots) }
+    {
+        let has_numbers = self.has_numbers();
+        let entry = self.count();
+        if !has_numbers {
+            return None;
+        }
+        Some(Outcome::GaveUp { entry, sent, polls })
     }
 
     fn connected(&mut self, number: u64, connection: Connection<P>) -> Result<Outcome, NoMemory>
@@ -145,26 +193,42 @@ impl<P: ConnectionProvider> Carrier<P> {
     ) -> Result<Outcome, NoMemory>
         requires holds { CarrierHolds P.ConnectionProvider self.old }
         requires room { self.old.entries + 2 < 2 ^ 64 }
+        requires opened { SlotHolds P.ConnectionProvider (P.log self.old.provider) (slot.Opening opening) }
         ensures vouches { (es : List LogEntry) → P.vouches self.new.provider es → P.vouches self.old.provider es }
         ensures holds { CarrierHolds P.ConnectionProvider self.new }
-        ensures grown { Grown (P.log self.old.provider) (P.log self.new.provider) }
+        ensures grown { Grown now (P.log self.old.provider) (P.log self.new.provider) }
         ensures fits { IfOk result (λ outcome. TellsThat (P.log self.new.provider) (λ log. Fits log now outcome)) }
         ensures asks { (given : Given) → TellsThat (P.log self.old.provider) (AsksServers given) → TellsThat (P.log self.new.provider) (AsksServers given) }
     {
-        let Opening { mut future, ip } = opening;
+        let Opening {
+            mut future,
+            sent,
+            polls,
+        } = opening;
         match self.provider.poll_connection(&mut future, now) {
             Poll::Pending => {
                 let entry = self.count();
-                self.keep(number, Slot::Opening(Opening { future, ip }));
+                let polls = polls.saturating_add(1);
+                let opening = Opening {
+                    future,
+                    sent,
+                    polls,
+                };
+                self.keep(number, Slot::Opening(opening));
                 Ok(Outcome::Pending { entry })
             }
-            Poll::Ready(Ok(conn)) => self.connected(number, Connection { conn, ip }),
+            Poll::Ready(Ok(conn)) => self.connected(number, Connection { conn, ip: sent.ip }),
             Poll::Ready(Err(error)) => {
                 if error.is_memory() {
-                    self.keep(number, Slot::Opening(Opening { future, ip }));
+                    let opening = Opening {
+                        future,
+                        sent,
+                        polls,
+                    };
+                    self.keep(number, Slot::Opening(opening));
                     return Err(NoMemory);
                 }
-                self.failed(false, error)
+                self.failed(sent, error)
             }
         }
     }
@@ -172,39 +236,49 @@ impl<P: ConnectionProvider> Carrier<P> {
     fn poll_asking(&mut self, number: u64, asking: Asking<P>, now: u64) -> Result<Outcome, NoMemory>
         requires holds { CarrierHolds P.ConnectionProvider self.old }
         requires room { self.old.entries + 2 < 2 ^ 64 }
-        requires asked { TellsThat (P.log self.old.provider) (IsAskedBy P.ConnectionProvider asking) }
+        requires asked { SlotHolds P.ConnectionProvider (P.log self.old.provider) (slot.Asking asking) }
         ensures vouches { (es : List LogEntry) → P.vouches self.new.provider es → P.vouches self.old.provider es }
         ensures holds { CarrierHolds P.ConnectionProvider self.new }
-        ensures grown { Grown (P.log self.old.provider) (P.log self.new.provider) }
+        ensures grown { Grown now (P.log self.old.provider) (P.log self.new.provider) }
         ensures fits { IfOk result (λ outcome. TellsThat (P.log self.new.provider) (λ log. Fits log now outcome)) }
         ensures asks { (given : Given) → TellsThat (P.log self.old.provider) (AsksServers given) → TellsThat (P.log self.new.provider) (AsksServers given) }
     {
         let Asking {
             mut exchange,
-            ip,
-            of,
+            sent,
+            polls,
         } = asking;
         match self.provider.poll_exchange(&mut exchange, now) {
             Poll::Pending => {
                 let entry = self.count();
-                self.keep(number, Slot::Asking(Asking { exchange, ip, of }));
+                let polls = polls.saturating_add(1);
+                let asking = Asking {
+                    exchange,
+                    sent,
+                    polls,
+                };
+                self.keep(number, Slot::Asking(asking));
                 Ok(Outcome::Pending { entry })
             }
             Poll::Ready(Ok(message)) => {
                 let entry = self.count();
                 Ok(Outcome::Told {
                     entry,
-                    of,
-                    ip,
+                    sent,
                     message,
                 })
             }
             Poll::Ready(Err(error)) => {
                 if error.is_memory() {
-                    self.keep(number, Slot::Asking(Asking { exchange, ip, of }));
+                    let asking = Asking {
+                        exchange,
+                        sent,
+                        polls,
+                    };
+                    self.keep(number, Slot::Asking(asking));
                     return Err(NoMemory);
                 }
-                self.failed(false, error)
+                self.failed(sent, error)
             }
         }
     }
@@ -220,17 +294,28 @@ impl<P: ConnectionProvider> Carrier<P> {
         requires room { self.old.entries + 3 < 2 ^ 64 }
         ensures vouches { (es : List LogEntry) → P.vouches self.new.provider es → P.vouches self.old.provider es }
         ensures holds { CarrierHolds P.ConnectionProvider self.new }
-        ensures grown { Grown (P.log self.old.provider) (P.log self.new.provider) }
+        ensures grown { Grown now (P.log self.old.provider) (P.log self.new.provider) }
         ensures fits { IfOk result (λ outcome. TellsThat (P.log self.new.provider) (λ log. Fits log now outcome)) }
         ensures asks { (given : Given) → TellsThat (P.log self.old.provider) (λ log. IsServer given log log.next ip)
             → TellsThat (P.log self.old.provider) (AsksServers given) → TellsThat (P.log self.new.provider) (AsksServers given) }
     {
         match self.provider.new_connection(ip, config, &self.options, now) {
             Ok(future) => {
-                let _entry = self.count();
-                self.poll_opening(number, Opening { future, ip }, now)
+                let of = self.count();
+                let sent = Sent {
+                    of,
+                    ip,
+                    moment: now,
+                    query: None,
+                };
+                let opening = Opening {
+                    future,
+                    sent,
+                    polls: 0,
+                };
+                self.poll_opening(number, opening, now)
             }
-            Err(error) => self.failed(true, error),
+            Err(error) => self.refused(ip, None, error, now),
         }
     }
 
@@ -238,25 +323,38 @@ impl<P: ConnectionProvider> Carrier<P> {
         &mut self,
         number: u64,
         connection: Connection<P>,
-        request: &DnsRequest,
+        request: DnsRequest,
         now: u64,
     ) -> Result<Outcome, NoMemory>
         requires holds { CarrierHolds P.ConnectionProvider self.old }
         requires room { self.old.entries + 3 < 2 ^ 64 }
         ensures vouches { (es : List LogEntry) → P.vouches self.new.provider es → P.vouches self.old.provider es }
         ensures holds { CarrierHolds P.ConnectionProvider self.new }
-        ensures grown { Grown (P.log self.old.provider) (P.log self.new.provider) }
+        ensures grown { Grown now (P.log self.old.provider) (P.log self.new.provider) }
         ensures fits { IfOk result (λ outcome. TellsThat (P.log self.new.provider) (λ log. Fits log now outcome)) }
-        ensures asks { (given : Given) → TellsThat (P.log self.old.provider) (λ log. IsServerFor given log log.next connection.ip request.now.query)
+        ensures asks { (given : Given) → TellsThat (P.log self.old.provider) (λ log. IsServerFor given log log.next connection.ip request.query)
             → TellsThat (P.log self.old.provider) (AsksServers given) → TellsThat (P.log self.new.provider) (AsksServers given) }
     {
         let Connection { conn, ip } = connection;
-        match self.provider.send(conn, request, now) {
+        let sending = self.provider.send(conn, &request, now);
+        let query = Some(request.query);
+        match sending {
             Ok(exchange) => {
                 let of = self.count();
-                self.poll_asking(number, Asking { exchange, ip, of }, now)
+                let sent = Sent {
+                    of,
+                    ip,
+                    moment: now,
+                    query,
+                };
+                let asking = Asking {
+                    exchange,
+                    sent,
+                    polls: 0,
+                };
+                self.poll_asking(number, asking, now)
             }
-            Err(error) => self.failed(true, error),
+            Err(error) => self.refused(ip, query, error, now),
         }
     }
 
@@ -279,7 +377,7 @@ impl<P: ConnectionProvider> Carrier<P> {
         requires holds { CarrierHolds P.ConnectionProvider self.old }
         ensures vouches { (es : List LogEntry) → P.vouches self.new.provider es → P.vouches self.old.provider es }
         ensures holds { CarrierHolds P.ConnectionProvider self.new }
-        ensures grown { Grown (P.log self.old.provider) (P.log self.new.provider) }
+        ensures grown { Grown now (P.log self.old.provider) (P.log self.new.provider) }
         ensures fits { IfOk result (λ outcome. TellsThat (P.log self.new.provider) (λ log. Fits log now outcome)) }
         ensures asks { (given : Given) → TellsThat (P.log self.old.provider) (λ log. GoesToServer given log log.next order)
             → TellsThat (P.log self.old.provider) (AsksServers given) → TellsThat (P.log self.new.provider) (AsksServers given) }
@@ -296,7 +394,7 @@ impl<P: ConnectionProvider> Carrier<P> {
                 request,
                 ..
             } => match self.connection(conn, ip) {
-                Some(connection) => self.ask(number, connection, &request, now),
+                Some(connection) => self.ask(number, connection, request, now),
                 None => Err(NoMemory),
             },
         }
@@ -307,7 +405,7 @@ impl<P: ConnectionProvider> Carrier<P> {
         requires holds { CarrierHolds P.ConnectionProvider self.old }
         ensures vouches { (es : List LogEntry) → P.vouches self.new.provider es → P.vouches self.old.provider es }
         ensures holds { CarrierHolds P.ConnectionProvider self.new }
-        ensures grown { Grown (P.log self.old.provider) (P.log self.new.provider) }
+        ensures grown { Grown now (P.log self.old.provider) (P.log self.new.provider) }
         ensures fits { IfOk result (λ outcome. TellsThat (P.log self.new.provider) (λ log. Fits log now outcome)) }
         ensures asks { (given : Given) → TellsThat (P.log self.old.provider) (AsksServers given) → TellsThat (P.log self.new.provider) (AsksServers given) }
     {
@@ -322,29 +420,34 @@ impl<P: ConnectionProvider> Carrier<P> {
     }
 
     /// Gives up an order that is under way.
-    pub fn give_up(&mut self, number: u64, now: u64)
+    pub fn give_up(&mut self, number: u64, now: u64) -> Option<Outcome>
         requires holds { CarrierHolds P.ConnectionProvider self.old }
         ensures vouches { (es : List LogEntry) → P.vouches self.new.provider es → P.vouches self.old.provider es }
         ensures holds { CarrierHolds P.ConnectionProvider self.new }
-        ensures grown { Grown (P.log self.old.provider) (P.log self.new.provider) }
+        ensures grown { Grown now (P.log self.old.provider) (P.log self.new.provider) }
+        ensures fits { IfSome result (λ outcome. TellsThat (P.log self.new.provider) (λ log. Fits log now outcome)) }
         ensures asks { (given : Given) → TellsThat (P.log self.old.provider) (AsksServers given) → TellsThat (P.log self.new.provider) (AsksServers given) }
     {
         match self.take(number) {
             Slot::Opening(opening) => {
-                let Opening { future, ip: _ } = opening;
+                let Opening {
+                    future,
+                    sent,
+                    polls,
+                } = opening;
                 self.provider.give_up_connection(future, now);
-                let _entry = self.count();
+                self.gave_up(sent, polls)
             }
             Slot::Asking(asking) => {
                 let Asking {
                     exchange,
-                    ip: _,
-                    of: _,
+                    sent,
+                    polls,
                 } = asking;
                 self.provider.give_up(exchange, now);
-                let _entry = self.count();
+                self.gave_up(sent, polls)
             }
-            Slot::Over => {}
+            Slot::Over => None,
         }
     }
 }

@@ -1,14 +1,14 @@
 //! Answers questions over a provider, whatever it tells.
-ghost use Rattle.std.specs.Prelude.{◌≡◌, ◌≤◌, ◌<◌, ℕ, List, [], ◌∷◌, Option, Some, All, ◌≢◌, length, IfOk, MatchBool, slice_get, vec_len};
+ghost use Rattle.std.specs.Prelude.{◌≡◌, ◌≤◌, ◌<◌, ◌⊎◌, ℕ, List, [], ◌∷◌, Option, Some, All, Contains, ◌≢◌, length, IfOk, MatchBool, slice_get, vec_len};
 ghost use Rattle.dns_core.specs.Log.{Log};
 ghost use Rattle.dns_core.specs.declared.log.LogEntry.{LogEntry};
 ghost use Rattle.dns_core.specs.declared.request.Turn.{Turn};
 ghost use Rattle.resolution.specs.Asking.{AsksServers};
 ghost use Rattle.recursor_core.specs.Replies.{given_of};
-ghost use Rattle.recursor_core.specs.Carrying.{TellsThat};
-ghost use Rattle.recursor_core.specs.Derived.{Derived};
+ghost use Rattle.recursor_core.specs.Carrying.{TellsThat, Grown};
+ghost use Rattle.recursor_core.specs.Derived.{terms_of, Derived};
 ghost use Rattle.recursor_core.specs.Machine.{Begun, begun_at};
-ghost use Rattle.recursor_core.specs.Standing.{Holds, PlaysHold, RepliesHold, last_moment};
+ghost use Rattle.recursor_core.specs.Standing.{Holds, IsTimely, PlaysHold, RepliesHold, last_moment};
 ghost use Rattle.recursor_core.specs.Turns.{work, BeginsAt, ReplyOf};
 ghost use Rattle.recursor_core.specs.declared.reply.Reply.{Reply};
 ghost use Rattle.dns_core.specs.declared.request.Question.{Question};
@@ -32,9 +32,9 @@ fn begin_one(
     now: u64,
 )
     requires { core.old.moment ≤ now }
-    ensures derived { (log : Log) → Derived core.old log → Derived core.new log }
+    ensures derived { (patience : ℕ) (log : Log) → Derived patience core.old log → Derived patience core.new log }
     ensures roots { core.new.roots ≡ core.old.roots }
-    ensures moment { core.new.moment ≤ now }
+    ensures moment { (core.new.moment ≡ core.old.moment) ⊎ (core.new.moment ≡ now) }
     ensures begun { (k : ℕ) (b : Begun) → begun_at core.old k ≡ Some b → begun_at core.new k ≡ Some b }
     ensures count { vec_len plays.new ≡ vec_len plays.old }
     ensures others { (k : ℕ) → k ≢ q → slice_get plays.new.items k ≡ slice_get plays.old.items k }
@@ -56,13 +56,13 @@ fn begin_all(
     now: u64,
 )
     requires { core.old.moment ≤ now }
-    ensures derived { (log : Log) → Derived core.old log → Derived core.new log }
+    ensures derived { (patience : ℕ) (log : Log) → Derived patience core.old log → Derived patience core.new log }
     ensures roots { core.new.roots ≡ core.old.roots }
-    ensures moment { core.new.moment ≤ now }
+    ensures moment { (core.new.moment ≡ core.old.moment) ⊎ (core.new.moment ≡ now) }
     ensures begun { (k : ℕ) (b : Begun) → begun_at core.old k ≡ Some b → begun_at core.new k ≡ Some b }
     ensures count { vec_len plays.new ≡ vec_len plays.old }
-    ensures plays { (told : Option (List LogEntry)) (start : ℕ) (turns : List Turn) → last_moment start turns ≤ now
-        → PlaysHold core.old told start turns [] questions.now plays.old.items → PlaysHold core.new told start turns [] questions.now plays.new.items }
+    ensures plays { (patience : ℕ) (told : Option (List LogEntry)) (start : ℕ) (turns : List Turn) → start ≤ now → last_moment start turns ≤ now
+        → PlaysHold patience core.old told start turns [] questions.now plays.old.items → PlaysHold patience core.new told start turns [] questions.now plays.new.items }
 {
     for q in 0..questions.len() {
         begin_one(alloc, core, questions, plays, q, now);
@@ -80,12 +80,15 @@ fn play_turn<P: ConnectionProvider>(
     turn: &Turn,
     patience: u32,
 )
-    requires { Holds P.ConnectionProvider core.old carrier.old }
+    requires { Holds P.ConnectionProvider patience core.old carrier.old }
     ensures vouches { (es : List LogEntry) → P.vouches carrier.new.provider es → P.vouches carrier.old.provider es }
-    ensures holds { Holds P.ConnectionProvider core.new carrier.new }
+    ensures holds { Holds P.ConnectionProvider patience core.new carrier.new }
     ensures roots { core.new.roots ≡ core.old.roots }
-    ensures plays { (start : ℕ) (turns rest : List Turn) → PlaysHold core.old (P.log carrier.old.provider) start turns (turn.now ∷ rest) questions.now plays.old.items
-        → PlaysHold core.new (P.log carrier.new.provider) start turns rest questions.now plays.new.items }
+    ensures moment { core.old.moment ≤ core.new.moment }
+    ensures timely { (start : ℕ) (moments : List ℕ) → Contains moments core.old.moment → Contains moments turn.now.moment → TellsThat (P.log carrier.old.provider) (IsTimely start moments)
+        → Contains moments core.new.moment × TellsThat (P.log carrier.new.provider) (IsTimely start moments) }
+    ensures plays { (start : ℕ) (turns rest : List Turn) → start ≤ core.old.moment → PlaysHold patience core.old (P.log carrier.old.provider) start turns (turn.now ∷ rest) questions.now plays.old.items
+        → PlaysHold patience core.new (P.log carrier.new.provider) start turns rest questions.now plays.new.items }
     ensures count { vec_len plays.new ≡ vec_len plays.old }
 {
     if turn.question == 0 {
@@ -107,12 +110,15 @@ fn play_turns<P: ConnectionProvider>(
     turns: &[Turn],
     patience: u32,
 )
-    requires { Holds P.ConnectionProvider core.old carrier.old }
+    requires { Holds P.ConnectionProvider patience core.old carrier.old }
     ensures vouches { (es : List LogEntry) → P.vouches carrier.new.provider es → P.vouches carrier.old.provider es }
-    ensures holds { Holds P.ConnectionProvider core.new carrier.new }
+    ensures holds { Holds P.ConnectionProvider patience core.new carrier.new }
     ensures roots { core.new.roots ≡ core.old.roots }
-    ensures plays { (start : ℕ) → PlaysHold core.old (P.log carrier.old.provider) start turns.now turns.now questions.now plays.old.items
-        → PlaysHold core.new (P.log carrier.new.provider) start turns.now [] questions.now plays.new.items }
+    ensures moment { core.old.moment ≤ core.new.moment }
+    ensures timely { (start : ℕ) (moments : List ℕ) → Contains moments core.old.moment → All (λ t. Contains moments t.moment) turns.now → TellsThat (P.log carrier.old.provider) (IsTimely start moments)
+        → Contains moments core.new.moment × TellsThat (P.log carrier.new.provider) (IsTimely start moments) }
+    ensures plays { (start : ℕ) → start ≤ core.old.moment → PlaysHold patience core.old (P.log carrier.old.provider) start turns.now turns.now questions.now plays.old.items
+        → PlaysHold patience core.new (P.log carrier.new.provider) start turns.now [] questions.now plays.new.items }
     ensures count { vec_len plays.new ≡ vec_len plays.old }
 {
     for turn in turns {
@@ -128,14 +134,15 @@ fn round<P: ConnectionProvider>(
     plays: &mut Vec<Played>,
     tick: Tick,
 ) -> bool
-    requires holds { Holds P.ConnectionProvider core.old carrier.old }
+    requires holds { Holds P.ConnectionProvider tick.patience core.old carrier.old }
     requires moment { core.old.moment ≤ tick.now }
     ensures vouches { (es : List LogEntry) → P.vouches carrier.new.provider es → P.vouches carrier.old.provider es }
-    ensures holds { Holds P.ConnectionProvider core.new carrier.new }
+    ensures holds { Holds P.ConnectionProvider tick.patience core.new carrier.new }
     ensures roots { core.new.roots ≡ core.old.roots }
-    ensures moment { core.new.moment ≤ tick.now }
-    ensures plays { (start : ℕ) (turns rest : List Turn) (questions : List Question) → PlaysHold core.old (P.log carrier.old.provider) start turns rest questions plays.old.items
-        → PlaysHold core.new (P.log carrier.new.provider) start turns rest questions plays.new.items }
+    ensures moment { (core.new.moment ≡ core.old.moment) ⊎ (core.new.moment ≡ tick.now) }
+    ensures grown { Grown tick.now (P.log carrier.old.provider) (P.log carrier.new.provider) }
+    ensures plays { (start : ℕ) (turns rest : List Turn) (questions : List Question) → PlaysHold tick.patience core.old (P.log carrier.old.provider) start turns rest questions plays.old.items
+        → PlaysHold tick.patience core.new (P.log carrier.new.provider) start turns rest questions plays.new.items }
     ensures falls { MatchBool result (work tick.patience core.new plays.new.items < work tick.patience core.old plays.old.items) (work tick.patience core.new plays.new.items ≤ work tick.patience core.old plays.old.items) }
     ensures count { vec_len plays.new ≡ vec_len plays.old }
 {
@@ -156,14 +163,15 @@ fn finish<P: ConnectionProvider>(
     plays: &mut Vec<Played>,
     tick: Tick,
 )
-    requires holds { Holds P.ConnectionProvider core.old carrier.old }
+    requires holds { Holds P.ConnectionProvider tick.patience core.old carrier.old }
     requires moment { core.old.moment ≤ tick.now }
     ensures vouches { (es : List LogEntry) → P.vouches carrier.new.provider es → P.vouches carrier.old.provider es }
-    ensures holds { Holds P.ConnectionProvider core.new carrier.new }
+    ensures holds { Holds P.ConnectionProvider tick.patience core.new carrier.new }
     ensures roots { core.new.roots ≡ core.old.roots }
-    ensures moment { core.new.moment ≤ tick.now }
-    ensures plays { (start : ℕ) (turns rest : List Turn) (questions : List Question) → PlaysHold core.old (P.log carrier.old.provider) start turns rest questions plays.old.items
-        → PlaysHold core.new (P.log carrier.new.provider) start turns rest questions plays.new.items }
+    ensures moment { (core.new.moment ≡ core.old.moment) ⊎ (core.new.moment ≡ tick.now) }
+    ensures grown { Grown tick.now (P.log carrier.old.provider) (P.log carrier.new.provider) }
+    ensures plays { (start : ℕ) (turns rest : List Turn) (questions : List Question) → PlaysHold tick.patience core.old (P.log carrier.old.provider) start turns rest questions plays.old.items
+        → PlaysHold tick.patience core.new (P.log carrier.new.provider) start turns rest questions plays.new.items }
     ensures count { vec_len plays.new ≡ vec_len plays.old }
 {
     'rounds: loop {
@@ -215,12 +223,13 @@ fn answer<P: ConnectionProvider>(
     turns: &[Turn],
     patience: u32,
 ) -> Result<Vec<Reply>, NoMemory>
-    requires { Holds P.ConnectionProvider core.old carrier.old }
+    requires { Holds P.ConnectionProvider patience core.old carrier.old }
     ensures vouches { (es : List LogEntry) → P.vouches carrier.new.provider es → P.vouches carrier.old.provider es }
-    ensures holds { Holds P.ConnectionProvider core.new carrier.new }
+    ensures holds { Holds P.ConnectionProvider patience core.new carrier.new }
     ensures roots { core.new.roots ≡ core.old.roots }
     ensures answered { IfOk result (λ replies. vec_len replies ≡ length questions.now) }
-    ensures replies { IfOk result (λ replies. TellsThat (P.log carrier.new.provider) (λ log. RepliesHold core.old.roots log core.old.moment turns.now questions.now replies.items)) }
+    ensures replies { IfOk result (λ replies. TellsThat (P.log carrier.new.provider) (λ log.
+        RepliesHold (terms_of patience core.old) log core.old.moment turns.now questions.now replies.items)) }
 {
     let mut plays = waiting(alloc, questions)?;
     let last = last_moment(core.moment(), turns);
@@ -246,13 +255,14 @@ pub fn drive<P: ConnectionProvider>(
 
     // Only servers were asked: by what was told before, each address that was opened serves a zone, and
     // each one that was asked serves a zone at or above the name of the question.
-    ensures asks { TellsThat (P.log recursor.new.provider) (AsksServers (given_of recursor.old.roots)) }
+    ensures asks { TellsThat (P.log recursor.new.provider) (AsksServers (given_of (record { roots = recursor.old.roots; patience = patience }))) }
 
     // Each message that is answered is what counts of a response that a server of a zone at or above the
-    // name told since the question began. Each error has its cause: a name that is not fully qualified,
-    // a denial or a referral that such a server told, a delegation without addresses. What a failed
-    // lookup rests on is not said.
-    ensures replies { IfOk result (λ replies. TellsThat (P.log recursor.new.provider) (λ log. RepliesHold recursor.old.roots log recursor.old.moment turns.now questions.now replies.items)) }
+    // name told since the question began; the walk went down to this zone. Each error has its cause: a
+    // name that is not fully qualified, a denial or a referral that such a server told, a delegation
+    // without addresses, or servers of such a zone of which none answered.
+    ensures replies { IfOk result (λ replies. TellsThat (P.log recursor.new.provider) (λ log.
+        RepliesHold (record { roots = recursor.old.roots; patience = patience }) log recursor.old.moment turns.now questions.now replies.items)) }
 
     // The roots stay.
     ensures roots { recursor.new.roots ≡ recursor.old.roots }
@@ -262,5 +272,6 @@ pub fn drive<P: ConnectionProvider>(
 {
     let core = &mut recursor.core;
     let carrier = &mut recursor.carrier;
+    core.clear();
     answer(alloc, core, carrier, questions, turns, patience)
 }

@@ -1,15 +1,18 @@
 //! One question put to the servers of a zone, one after the other, each once.
-ghost use Rattle.std.specs.Prelude.{◌≡◌, ◌≢◌, ◌≤◌, ◌<◌, ◌*◌, ◌+◌, ◌^◌, ℕ, List, max, IfOk, IfSome, IfNone, OnOk, IsTrue};
-ghost use Rattle.std.specs.declared.net.ip_addr.IpAddr.{IpAddr};
+ghost use Rattle.std.specs.Prelude.{◌≡◌, ◌≢◌, ◌≤◌, ◌<◌, ◌*◌, ◌+◌, ◌^◌, ℕ, ◌||◌, true, false, List, IfOk, IfSome, IfNone, OnOk, IsTrue, Ok, Err};
 ghost use Rattle.dns_core.specs.Name.{DomainName};
 ghost use Rattle.dns_core.specs.Log.{Log, Extends};
 ghost use Rattle.dns_core.specs.declared.message.Query.{Query};
 ghost use Rattle.resolution.specs.Names.{is_above, walk};
-ghost use Rattle.recursor_core.specs.Order.{entry_of, OutcomeIs, Fits};
-ghost use Rattle.recursor_core.specs.Lookup.{send_want, send_steps, steps, polls_left, rank, IsWaiting, MayAsk, AsksOf, asked_address};
-ghost use Rattle.recursor_core.specs.Derived.{AreServers, SendHolds, LookupHolds, FoundHolds};
+ghost use Rattle.resolution.specs.Lookups.{is_passing_error};
+ghost use Rattle.resolution.specs.Ending.{is_timeout};
+ghost use Rattle.recursor_core.specs.Tried.{last_error};
+ghost use Rattle.recursor_core.specs.Order.{entry_of, OutcomeIs, IsLost, Fits};
+ghost use Rattle.recursor_core.specs.Replies.{Terms, given_of};
+ghost use Rattle.recursor_core.specs.Lookup.{send_want, send_steps, steps, polls_left, rank, IsWaiting, MayAsk, IsSentBy, IsOf, present, asked_address};
+ghost use Rattle.recursor_core.specs.Derived.{ArePool, SendHolds, LookupHolds, LookupComes};
 
-use crate::order::{After, Outcome};
+use crate::order::{After, Outcome, Sent, Tick};
 use dns_core::{Message, NetError, NoMemory, Numbers, Query};
 use std::alloc::Global;
 use std::mem;
@@ -39,10 +42,12 @@ pub enum Send {
         polls: u32,
     },
     Told {
+        ip: IpAddr,
         entry: u64,
         message: Message,
     },
     Failed {
+        ip: IpAddr,
         entry: u64,
         error: NetError,
     },
@@ -78,7 +83,9 @@ pub enum Found {
 }
 
 /// Whether a send that ends so leaves the question to the next server.
-fn is_retryable(error: &NetError) -> bool {
+fn is_retryable(error: &NetError) -> bool
+    ensures { result ≡ is_passing_error error.now }
+{
     matches!(
         error,
         NetError::Busy | NetError::Io(_) | NetError::NoConnections | NetError::Timeout
@@ -127,9 +134,10 @@ impl Send {
     /// Counts a poll that found nothing, and answers how many there were.
     fn count_poll(&mut self) -> u32
         requires { IsWaiting self.old }
-        ensures same { IsWaiting self.new × (send_steps self.new ≡ send_steps self.old) }
-        ensures holds { (roots : List IpAddr) (greatest t0 : ℕ) (log : Log) (zone : DomainName) (q : Query)
-            → SendHolds roots greatest t0 log zone q self.old → SendHolds roots greatest t0 log zone q self.new }
+        ensures same { IsWaiting self.new × (send_steps self.new ≡ send_steps self.old) × (present self.new ≡ present self.old) }
+        ensures holds { (terms : Terms) (greatest moment t0 : ℕ) (log : Log) (zone : DomainName) (q : Query) (g moments : List ℕ)
+            → SendHolds terms greatest moment t0 log zone q g moments self.old → SendHolds terms greatest moment t0 log zone q g moments self.new }
+        ensures keeps { (patience : ℕ) → polls_left patience self.new ≤ polls_left patience self.old }
         ensures falls { (patience : ℕ) → patience < 2 ^ 32 → result < patience → polls_left patience self.new < polls_left patience self.old }
     {
         match self {
@@ -150,9 +158,9 @@ impl Lookup {
     /// A lookup of a question at these servers, the first of them to be asked first.
     pub fn new(alloc: Global, query: Query, servers: &[IpAddr]) -> Result<Lookup, NoMemory>
         ensures steps { IfOk result (λ l. steps l ≤ 6 * 2 ^ 64) }
-        ensures holds { (roots : List IpAddr) (greatest t0 : ℕ) (log : Log) (zone : DomainName)
-            → IsTrue (is_above zone (walk query)) → AreServers roots log (greatest + 1) zone servers.now
-            → IfOk result (LookupHolds roots greatest t0 log zone) }
+        ensures holds { (terms : Terms) (greatest moment t0 : ℕ) (log : Log) (zone : DomainName)
+            → IsTrue (is_above zone (walk query)) → ArePool terms log (greatest + 1) zone servers.now
+            → IfOk result (LookupHolds terms greatest moment t0 log zone) }
         ensures query { IfOk result (λ l. l.query ≡ query) }
     {
         let mut left = Vec::from_slice(alloc, servers)?;
@@ -171,9 +179,8 @@ impl Lookup {
         requires { send_want self.old.send ≡ Want.Choose }
         ensures falls { IfNone result (steps self.new < steps self.old) }
         ensures keeps { steps self.new ≤ steps self.old }
-        ensures holds { (roots : List IpAddr) (greatest t0 : ℕ) (log : Log) (zone : DomainName)
-            → LookupHolds roots greatest t0 log zone self.old
-            → LookupHolds roots greatest t0 log zone self.new × IfSome result (FoundHolds roots greatest t0 log zone self.old.query) }
+        ensures holds { (terms : Terms) (greatest moment t0 : ℕ) (log : Log) (zone : DomainName)
+            → LookupHolds terms greatest moment t0 log zone self.old → LookupComes terms greatest moment t0 log zone self.new result }
         ensures query { self.new.query ≡ self.old.query }
     {
         match self.servers.pop() {
@@ -185,7 +192,9 @@ impl Lookup {
         }
     }
 
-    fn last_error(&self) -> NetError {
+    fn last_error(&self) -> NetError
+        ensures { result ≡ last_error self.now.timed_out }
+    {
         if self.timed_out {
             NetError::Timeout
         } else {
@@ -197,8 +206,8 @@ impl Lookup {
     pub fn opens(&mut self, ip: IpAddr, order: u64)
         ensures falls { (was : IpAddr) → send_want self.old.send ≡ Want.Connect was → steps self.new < steps self.old }
         ensures waits { send_want self.new.send ≡ Want.Wait order }
-        ensures holds { (roots : List IpAddr) (greatest t0 : ℕ) (log : Log) (zone : DomainName) → send_want self.old.send ≡ Want.Connect ip
-            → LookupHolds roots greatest t0 log zone self.old → LookupHolds roots greatest t0 log zone self.new }
+        ensures holds { (terms : Terms) (greatest moment t0 : ℕ) (log : Log) (zone : DomainName) → send_want self.old.send ≡ Want.Connect ip
+            → LookupHolds terms greatest moment t0 log zone self.old → LookupHolds terms greatest moment t0 log zone self.new }
         ensures query { self.new.query ≡ self.old.query }
     {
         self.send = Send::Opening {
@@ -212,8 +221,8 @@ impl Lookup {
     pub fn asks(&mut self, ip: IpAddr, order: u64, since: u64)
         ensures falls { MayAsk ip self.old.send → steps self.new < steps self.old }
         ensures waits { send_want self.new.send ≡ Want.Wait order }
-        ensures holds { (roots : List IpAddr) (t0 : ℕ) (log : Log) (zone : DomainName) → MayAsk ip self.old.send
-            → LookupHolds roots since t0 log zone self.old → LookupHolds roots since t0 log zone self.new }
+        ensures holds { (terms : Terms) (moment t0 : ℕ) (log : Log) (zone : DomainName) → MayAsk ip self.old.send
+            → LookupHolds terms since moment t0 log zone self.old → LookupHolds terms since moment t0 log zone self.new }
         ensures query { self.new.query ≡ self.old.query }
     {
         self.send = Send::Asking {
@@ -224,32 +233,34 @@ impl Lookup {
         };
     }
 
-    /// Takes the outcome of the order that it waits for.
-    pub fn take(&mut self, outcome: Outcome, patience: u32) -> After
+    /// Takes the outcome of the order that it waits for; `begun` is the moment of the question.
+    pub fn take(&mut self, outcome: Outcome, begun: u64, tick: Tick) -> After
         requires { IsWaiting self.old.send }
-        ensures falls { result ≢ After.Late → rank patience self.new < rank patience self.old }
+        ensures falls { result ≢ After.Late → result ≢ After.GiveUp → rank tick.patience self.new < rank tick.patience self.old }
+        ensures keeps { rank tick.patience self.new ≤ rank tick.patience self.old }
         ensures late { result ≡ After.Late → self.new ≡ self.old }
-        ensures holds { (roots : List IpAddr) (greatest t0 now : ℕ) (log longer : Log) (zone : DomainName)
-            → LookupHolds roots greatest t0 log zone self.old → Extends log longer → Fits longer now outcome → t0 ≤ now
-            → LookupHolds roots (max greatest (entry_of outcome)) t0 longer zone self.new }
+        ensures holds { (terms : Terms) (greatest moment : ℕ) (log longer : Log) (zone : DomainName)
+            → terms.patience ≤ tick.patience → greatest < entry_of outcome → moment ≤ tick.now
+            → LookupHolds terms greatest moment begun log zone self.old → Extends log longer → Fits longer tick.now outcome
+            → LookupHolds terms (entry_of outcome) tick.now begun longer zone self.new }
         ensures query { self.new.query ≡ self.old.query }
     {
         match outcome {
-            Outcome::Pending { entry } => self.wait(entry, patience),
+            Outcome::Pending { .. } => self.wait(tick.patience),
             Outcome::Connected { .. } => self.connect(),
             Outcome::Told {
                 entry,
-                of,
-                ip,
+                sent,
                 message,
-            } => self.tell(entry, of, ip, message),
+            } => self.tell(entry, &sent, message, begun, tick.now),
             Outcome::Failed {
                 entry,
+                sent,
                 refused: _,
                 error,
-            } => {
-                self.send = Send::Failed { entry, error };
-                After::Ended
+            } => self.lose(entry, &sent, error, begun, tick.now),
+            Outcome::GaveUp { entry, sent, polls } => {
+                self.give_up(entry, &sent, polls, begun, tick)
             }
         }
     }
@@ -259,8 +270,8 @@ impl Lookup {
         requires { IsWaiting self.old.send }
         ensures falls { (patience : ℕ) → result ≢ After.Late → rank patience self.new < rank patience self.old }
         ensures late { result ≡ After.Late → self.new ≡ self.old }
-        ensures holds { (roots : List IpAddr) (greatest t0 : ℕ) (log : Log) (zone : DomainName)
-            → LookupHolds roots greatest t0 log zone self.old → LookupHolds roots greatest t0 log zone self.new }
+        ensures holds { (terms : Terms) (greatest moment t0 : ℕ) (log : Log) (zone : DomainName)
+            → LookupHolds terms greatest moment t0 log zone self.old → LookupHolds terms greatest moment t0 log zone self.new }
         ensures query { self.new.query ≡ self.old.query }
     {
         let Send::Opening { ip, order, .. } = &self.send else {
@@ -273,54 +284,105 @@ impl Lookup {
         After::Ended
     }
 
-    /// Whether the question is asked of this address, by an entry after what was put before.
-    fn asks_of(&self, of: u64, ip: IpAddr, query: &Query) -> bool
-        ensures { IsTrue result → AsksOf of ip query.now self.now }
+    /// Whether this was sent for its open order: to its server, and where it asks with its question and
+    /// later than what was put before.
+    fn sends(&self, sent: &Sent) -> bool
+        ensures { IsTrue result → IsSentBy sent.now self.now.query self.now.send }
     {
-        match &self.send {
-            Send::Asking {
-                ip: asked,
-                since,
-                ..
-            } => { *since < of && *asked == ip && is_identical(&self.query, query) }
+        match (&self.send, &sent.query) {
+            (Send::Opening { ip, .. }, None) => sent.ip == *ip,
+            (Send::Asking { ip, since, .. }, Some(query)) => {
+                *since < sent.of && sent.ip == *ip && is_identical(query, &self.query)
+            }
             _ => false,
         }
     }
 
+    /// Whether it was also sent between the two moments.
+    fn sends_between(&self, sent: &Sent, begun: u64, now: u64) -> bool
+        ensures { IsTrue result → IsOf sent.now begun now self.now }
+    {
+        begun <= sent.moment && sent.moment <= now && self.sends(sent)
+    }
+
     /// A message was told. One that answers another question, or comes from another server, is late.
-    fn tell(&mut self, entry: u64, of: u64, ip: IpAddr, message: Message) -> After
+    fn tell(&mut self, entry: u64, sent: &Sent, message: Message, begun: u64, now: u64) -> After
         requires { IsWaiting self.old.send }
         ensures falls { (patience : ℕ) → result ≢ After.Late → rank patience self.new < rank patience self.old }
         ensures late { result ≡ After.Late → self.new ≡ self.old }
-        ensures holds { (roots : List IpAddr) (greatest t0 now : ℕ) (log longer : Log) (zone : DomainName)
-            → LookupHolds roots greatest t0 log zone self.old → Extends log longer → OutcomeIs longer now (Outcome.Told entry of ip message) → t0 ≤ now
-            → LookupHolds roots (max greatest entry) t0 longer zone self.new }
+        ensures open { result ≢ After.GiveUp }
+        ensures holds { (terms : Terms) (greatest moment : ℕ) (log longer : Log) (zone : DomainName)
+            → greatest < entry → moment ≤ now
+            → LookupHolds terms greatest moment begun log zone self.old → Extends log longer → OutcomeIs longer now (Outcome.Told entry sent.now message)
+            → LookupHolds terms entry now begun longer zone self.new }
         ensures query { self.new.query ≡ self.old.query }
     {
-        if !self.asks_of(of, ip, &message.query) {
+        if !self.sends_between(sent, begun, now) {
             return After::Late;
         }
-        self.send = Send::Told { entry, message };
+        self.send = Send::Told {
+            ip: sent.ip,
+            entry,
+            message,
+        };
         After::Ended
     }
 
-    /// One poll more found nothing. At the last one that patience allows the order is given up,
-    /// under the next number of the log, which counts as a timeout.
-    fn wait(&mut self, entry: u64, patience: u32) -> After
+    /// What was sent came to nothing but an error.
+    fn lose(&mut self, entry: u64, sent: &Sent, error: NetError, begun: u64, now: u64) -> After
         requires { IsWaiting self.old.send }
-        ensures falls { rank patience self.new < rank patience self.old }
+        ensures falls { (patience : ℕ) → result ≢ After.Late → rank patience self.new < rank patience self.old }
+        ensures late { result ≡ After.Late → self.new ≡ self.old }
+        ensures open { result ≢ After.GiveUp }
+        ensures holds { (terms : Terms) (greatest moment : ℕ) (log longer : Log) (zone : DomainName)
+            → greatest < entry → moment ≤ now
+            → LookupHolds terms greatest moment begun log zone self.old → Extends log longer → IsLost (given_of terms) longer now entry sent.now error
+            → LookupHolds terms entry now begun longer zone self.new }
+        ensures query { self.new.query ≡ self.old.query }
+    {
+        if !self.sends_between(sent, begun, now) {
+            return After::Late;
+        }
+        self.send = Send::Failed {
+            ip: sent.ip,
+            entry,
+            error,
+        };
+        After::Ended
+    }
+
+    /// The order was given up after so many polls, which counts as a timeout. With fewer than patience
+    /// allows it is late.
+    fn give_up(&mut self, entry: u64, sent: &Sent, polls: u32, begun: u64, tick: Tick) -> After
+        requires { IsWaiting self.old.send }
+        ensures falls { (patience : ℕ) → result ≢ After.Late → rank patience self.new < rank patience self.old }
+        ensures late { result ≡ After.Late → self.new ≡ self.old }
+        ensures open { result ≢ After.GiveUp }
+        ensures holds { (terms : Terms) (greatest moment : ℕ) (log longer : Log) (zone : DomainName)
+            → terms.patience ≤ tick.patience → greatest < entry → moment ≤ tick.now
+            → LookupHolds terms greatest moment begun log zone self.old → Extends log longer → OutcomeIs longer tick.now (Outcome.GaveUp entry sent.now polls)
+            → LookupHolds terms entry tick.now begun longer zone self.new }
+        ensures query { self.new.query ≡ self.old.query }
+    {
+        if polls < tick.patience {
+            return After::Late;
+        }
+        self.lose(entry, sent, NetError::Timeout, begun, tick.now)
+    }
+
+    /// One poll more found nothing. At the last one that patience allows the order is to be given up.
+    fn wait(&mut self, patience: u32) -> After
+        requires { IsWaiting self.old.send }
+        ensures falls { result ≢ After.GiveUp → rank patience self.new < rank patience self.old }
+        ensures keeps { rank patience self.new ≤ rank patience self.old }
         ensures open { result ≢ After.Late }
-        ensures holds { (roots : List IpAddr) (greatest t0 : ℕ) (log : Log) (zone : DomainName)
-            → LookupHolds roots greatest t0 log zone self.old → LookupHolds roots greatest t0 log zone self.new }
+        ensures holds { (terms : Terms) (greatest moment t0 : ℕ) (log : Log) (zone : DomainName)
+            → LookupHolds terms greatest moment t0 log zone self.old → LookupHolds terms greatest moment t0 log zone self.new }
         ensures query { self.new.query ≡ self.old.query }
     {
         if self.send.count_poll() < patience {
             return After::Kept;
         }
-        self.send = Send::Failed {
-            entry: entry.saturating_add(1),
-            error: NetError::Timeout,
-        };
         After::GiveUp
     }
 
@@ -329,17 +391,24 @@ impl Lookup {
     pub fn hear(&mut self) -> Result<Option<Found>, NoMemory>
         requires { send_want self.old.send ≡ Want.Hear }
         ensures falls { OnOk result (steps self.new < steps self.old) }
-        ensures holds { (roots : List IpAddr) (greatest t0 : ℕ) (log : Log) (zone : DomainName)
-            → LookupHolds roots greatest t0 log zone self.old
-            → LookupHolds roots greatest t0 log zone self.new × IfOk result (λ found. IfSome found (FoundHolds roots greatest t0 log zone self.old.query)) }
+        ensures holds { (terms : Terms) (greatest moment t0 : ℕ) (log : Log) (zone : DomainName)
+            → LookupHolds terms greatest moment t0 log zone self.old → IfOk result (LookupComes terms greatest moment t0 log zone self.new) }
         ensures query { self.new.query ≡ self.old.query }
     {
         match mem::replace(&mut self.send, Send::Ready) {
-            Send::Told { entry, message } => {
+            Send::Told {
+                ip: _,
+                entry,
+                message,
+            } => {
                 self.ends.push(entry)?;
                 Ok(Some(Found::Message { entry, message }))
             }
-            Send::Failed { entry, error } => {
+            Send::Failed {
+                ip: _,
+                entry,
+                error,
+            } => {
                 self.ends.push(entry)?;
                 Ok(self.heard_error(error))
             }
@@ -347,10 +416,12 @@ impl Lookup {
         }
     }
 
+    /// An error that leaves the question to the next server is none that the lookup found.
     fn heard_error(&mut self, error: NetError) -> Option<Found>
         ensures steps { steps self.new ≡ steps self.old }
-        ensures same { (self.new.query ≡ self.old.query) × (self.new.servers ≡ self.old.servers) × (self.new.send ≡ self.old.send) }
-        ensures error { IfSome result (λ found. found ≡ Found.Error error) }
+        ensures same { (self.new.query ≡ self.old.query) × (self.new.servers ≡ self.old.servers) × (self.new.send ≡ self.old.send) × (self.new.ends ≡ self.old.ends) }
+        ensures error { IfSome result (λ found. (found ≡ Found.Error error) × (is_passing_error error ≡ false)) }
+        ensures next { IfNone result ((is_passing_error error ≡ true) × (self.new.timed_out ≡ (self.old.timed_out || is_timeout error))) }
     {
         if !is_retryable(&error) {
             return Some(Found::Error(error));

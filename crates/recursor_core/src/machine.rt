@@ -1,8 +1,8 @@
 //! The machine: it gives orders and is fed their outcomes, and knows neither a provider nor a log.
-ghost use Rattle.std.specs.Prelude.{◌≡◌, ◌≢◌, ◌≤◌, ◌<◌, ◌+◌, ◌↔◌, ℕ, [], true, false, max, length, None, Some, Ok, Err, IfOk, IfSome, IfNone, IfErr, IsSome};
+ghost use Rattle.std.specs.Prelude.{◌≡◌, ◌≢◌, ◌≤◌, ◌<◌, ◌+◌, ◌⊎◌, ◌↔◌, ℕ, [], true, false, max, length, None, Some, Ok, Err, IfOk, IfSome, IfNone, IfErr, IsSome};
 ghost use Rattle.dns_core.specs.Log.{Log, Extends};
 ghost use Rattle.recursor_core.specs.Order.{entry_of, Fits};
-ghost use Rattle.recursor_core.specs.Derived.{Derived};
+ghost use Rattle.recursor_core.specs.Derived.{terms_of, Derived};
 ghost use Rattle.recursor_core.specs.Machine.{need_at, order_at, asked_at, begun_at, MayAskAt, rank, GoesOn, Steps, Gives, StepGives, IsAwaited, IsNewError, IsBeginError, SameCore, IsSetAs, IsBegunAt};
 
 use crate::error::{MessageKind, RecursorError};
@@ -93,6 +93,23 @@ impl RecursorCore {
         self.moment
     }
 
+    /// The moment that has come.
+    pub fn reach(&mut self, now: u64)
+        ensures moment { self.new.moment ≡ max self.old.moment now }
+        ensures derived { (patience : ℕ) (log : Log) → Derived patience self.old log → Derived patience self.new log }
+        ensures same { (self.new.roots ≡ self.old.roots) × (self.new.greatest ≡ self.old.greatest) × (self.new.resolutions ≡ self.old.resolutions) }
+    {
+        self.moment = self.moment.max(now);
+    }
+
+    /// Leaves all questions.
+    pub fn clear(&mut self)
+        ensures derived { (patience : ℕ) (log : Log) → self.old.greatest < log.next → 0 < length self.old.roots → Derived patience self.new log }
+        ensures same { (self.new.roots ≡ self.old.roots) × (self.new.greatest ≡ self.old.greatest) × (self.new.moment ≡ self.old.moment) }
+    {
+        self.resolutions.clear();
+    }
+
     /// Begins a question, and answers its place among the resolutions.
     pub fn begin(
         &mut self,
@@ -102,9 +119,9 @@ impl RecursorCore {
     ) -> Result<usize, RecursorError>
         ensures not_qualified { (result ≡ Err (RecursorError.Message MessageKind.NotQualified)) ↔ (question.query.name.fqdn ≡ false) }
         ensures only { IfErr result IsBeginError }
-        ensures derived { (log : Log) → self.old.moment ≤ now → Derived self.old log → Derived self.new log }
+        ensures derived { (patience : ℕ) (log : Log) → self.old.moment ≤ now → Derived patience self.old log → Derived patience self.new log }
         ensures roots { self.new.roots ≡ self.old.roots }
-        ensures moment { self.old.moment ≤ now → self.new.moment ≤ now }
+        ensures moment { self.old.moment ≤ now → (self.new.moment ≡ self.old.moment) ⊎ (self.new.moment ≡ now) }
         ensures others { (k : ℕ) → k < length self.old.resolutions.items → begun_at self.new k ≡ begun_at self.old k }
         ensures begun { IfOk result (λ r. (r ≡ length self.old.resolutions.items) × IsBegunAt self.new r question now) }
         ensures count { length self.old.resolutions.items ≤ length self.new.resolutions.items }
@@ -123,8 +140,8 @@ impl RecursorCore {
 
     fn begin_walk(&mut self, alloc: Global, question: Question, now: u64) -> Result<usize, NoMemory>
         requires { question.query.name.fqdn ≡ true }
-        ensures derived { (log : Log) → self.old.moment ≤ now → Derived self.old log
-            → IfOk result (λ r. Derived (record self.new { moment = now }) log) }
+        ensures derived { (patience : ℕ) (log : Log) → self.old.moment ≤ now → Derived patience self.old log
+            → IfOk result (λ r. Derived patience (record self.new { moment = now }) log) }
         ensures same { (self.new.roots ≡ self.old.roots) × (self.new.moment ≡ self.old.moment) × (self.new.greatest ≡ self.old.greatest) }
         ensures others { (k : ℕ) → k < length self.old.resolutions.items → begun_at self.new k ≡ begun_at self.old k }
         ensures begun { IfOk result (λ r. (r ≡ length self.old.resolutions.items) × IsBegunAt self.new r question now) }
@@ -149,7 +166,7 @@ impl RecursorCore {
     fn choose(&mut self, alloc: Global, r: usize) -> Result<(), NoMemory>
         requires { need_at self.old r ≡ Need.Send Want.Choose }
         ensures falls { (p : ℕ) → rank p self.new < rank p self.old }
-        ensures derived { (log : Log) → Derived self.old log → Derived self.new log }
+        ensures derived { (patience : ℕ) (log : Log) → Derived patience self.old log → Derived patience self.new log }
         ensures same { SameCore self.old self.new }
     {
         let resolution = &mut self.resolutions[r];
@@ -159,7 +176,7 @@ impl RecursorCore {
     fn hear(&mut self, alloc: Global, r: usize) -> Result<(), NoMemory>
         requires { need_at self.old r ≡ Need.Send Want.Hear }
         ensures falls { (p : ℕ) → rank p self.new < rank p self.old }
-        ensures derived { (log : Log) → Derived self.old log → Derived self.new log }
+        ensures derived { (patience : ℕ) (log : Log) → Derived patience self.old log → Derived patience self.new log }
         ensures same { SameCore self.old self.new }
     {
         let resolution = &mut self.resolutions[r];
@@ -169,7 +186,7 @@ impl RecursorCore {
     fn opens(&mut self, r: usize, ip: IpAddr, order: u64)
         requires { need_at self.old r ≡ Need.Send (Want.Connect ip) }
         ensures falls { (p : ℕ) → rank p self.new < rank p self.old }
-        ensures derived { (log : Log) → Derived self.old log → Derived self.new log }
+        ensures derived { (patience : ℕ) (log : Log) → Derived patience self.old log → Derived patience self.new log }
         ensures same { SameCore self.old self.new }
     {
         let resolution = &mut self.resolutions[r];
@@ -179,7 +196,7 @@ impl RecursorCore {
     fn asks(&mut self, r: usize, ip: IpAddr, order: u64)
         requires { MayAskAt self.old r ip }
         ensures falls { (p : ℕ) → rank p self.new < rank p self.old }
-        ensures derived { (log : Log) → Derived self.old log → Derived self.new log }
+        ensures derived { (patience : ℕ) (log : Log) → Derived patience self.old log → Derived patience self.new log }
         ensures same { SameCore self.old self.new }
     {
         let since = self.greatest;
@@ -191,7 +208,7 @@ impl RecursorCore {
         requires { need_at self.old r ≡ Need.Reply }
         ensures falls { (p : ℕ) → rank p self.new < rank p self.old }
         ensures some { IsSome result }
-        ensures derived { (log : Log) → Derived self.old log → Derived self.new log × IfSome result (λ reply. StepGives self.old log r (Step.Done reply)) }
+        ensures derived { (patience : ℕ) (log : Log) → Derived patience self.old log → Derived patience self.new log × IfSome result (λ reply. StepGives patience self.old log r (Step.Done reply)) }
         ensures same { SameCore self.old self.new }
     {
         let resolution = &mut self.resolutions[r];
@@ -242,7 +259,7 @@ impl RecursorCore {
     fn open(&mut self, r: usize, ip: IpAddr) -> Result<Progress, NoMemory>
         requires { need_at self.old r ≡ Need.Send (Want.Connect ip) }
         ensures goes { GoesOn self.old self.new result }
-        ensures gives { (log : Log) → Derived self.old log → Derived self.new log × IfOk result (Gives self.old log r) }
+        ensures gives { (patience : ℕ) (log : Log) → Derived patience self.old log → Derived patience self.new log × IfOk result (Gives patience self.old log r) }
         ensures same { SameCore self.old self.new }
     {
         let number = self.take_number()?;
@@ -257,7 +274,7 @@ impl RecursorCore {
     fn ask(&mut self, alloc: Global, r: usize, ip: IpAddr, conn: u64) -> Result<Progress, NoMemory>
         requires { MayAskAt self.old r ip }
         ensures goes { GoesOn self.old self.new result }
-        ensures gives { (log : Log) → Derived self.old log → Derived self.new log × IfOk result (Gives self.old log r) }
+        ensures gives { (patience : ℕ) (log : Log) → Derived patience self.old log → Derived patience self.new log × IfOk result (Gives patience self.old log r) }
         ensures same { SameCore self.old self.new }
     {
         let request = self.request(alloc, r)?;
@@ -278,7 +295,7 @@ impl RecursorCore {
     fn connect(&mut self, alloc: Global, r: usize, ip: IpAddr) -> Result<Progress, NoMemory>
         requires { need_at self.old r ≡ Need.Send (Want.Connect ip) }
         ensures goes { GoesOn self.old self.new result }
-        ensures gives { (log : Log) → Derived self.old log → Derived self.new log × IfOk result (Gives self.old log r) }
+        ensures gives { (patience : ℕ) (log : Log) → Derived patience self.old log → Derived patience self.new log × IfOk result (Gives patience self.old log r) }
         ensures same { SameCore self.old self.new }
     {
         match self.connection(ip) {
@@ -297,7 +314,7 @@ impl RecursorCore {
     ) -> Result<Progress, NoMemory>
         requires { need_at self.old r ≡ Need.Send (Want.Ask ip conn) }
         ensures goes { GoesOn self.old self.new result }
-        ensures gives { (log : Log) → Derived self.old log → Derived self.new log × IfOk result (Gives self.old log r) }
+        ensures gives { (patience : ℕ) (log : Log) → Derived patience self.old log → Derived patience self.new log × IfOk result (Gives patience self.old log r) }
         ensures same { SameCore self.old self.new }
     {
         self.keep_connection(ip, conn)?;
@@ -307,7 +324,7 @@ impl RecursorCore {
     fn reply(&mut self, r: usize) -> Progress
         requires { need_at self.old r ≡ Need.Reply }
         ensures goes { GoesOn self.old self.new (Ok result) }
-        ensures gives { (log : Log) → Derived self.old log → Derived self.new log × Gives self.old log r result }
+        ensures gives { (patience : ℕ) (log : Log) → Derived patience self.old log → Derived patience self.new log × Gives patience self.old log r result }
         ensures same { SameCore self.old self.new }
     {
         match self.take_reply(r) {
@@ -320,7 +337,7 @@ impl RecursorCore {
     fn send(&mut self, alloc: Global, r: usize, want: Want) -> Result<Progress, NoMemory>
         requires { need_at self.old r ≡ Need.Send want }
         ensures goes { GoesOn self.old self.new result }
-        ensures gives { (log : Log) → Derived self.old log → Derived self.new log × IfOk result (Gives self.old log r) }
+        ensures gives { (patience : ℕ) (log : Log) → Derived patience self.old log → Derived patience self.new log × IfOk result (Gives patience self.old log r) }
         ensures same { SameCore self.old self.new }
     {
         match want {
@@ -340,7 +357,7 @@ impl RecursorCore {
 
     fn step(&mut self, alloc: Global, r: usize) -> Result<Progress, NoMemory>
         ensures goes { GoesOn self.old self.new result }
-        ensures gives { (log : Log) → Derived self.old log → Derived self.new log × IfOk result (Gives self.old log r) }
+        ensures gives { (patience : ℕ) (log : Log) → Derived patience self.old log → Derived patience self.new log × IfOk result (Gives patience self.old log r) }
         ensures same { SameCore self.old self.new }
     {
         match self.need(r) {
@@ -353,7 +370,7 @@ impl RecursorCore {
     /// What a resolution has next: an order, one that it waits for, its reply once, or nothing more.
     pub fn next(&mut self, alloc: Global, r: usize) -> Result<Step, NoMemory>
         ensures steps { Steps self.old self.new result }
-        ensures gives { (log : Log) → Derived self.old log → Derived self.new log × IfOk result (StepGives self.old log r) }
+        ensures gives { (patience : ℕ) (log : Log) → Derived patience self.old log → Derived patience self.new log × IfOk result (StepGives patience self.old log r) }
         ensures same { SameCore self.old self.new }
     {
         'steps: loop {
@@ -377,16 +394,17 @@ impl RecursorCore {
         None
     }
 
-    fn take(&mut self, r: usize, outcome: Outcome, patience: u32) -> After
+    fn take(&mut self, r: usize, outcome: Outcome, tick: Tick) -> After
         requires { order_at self.old r ≢ None }
-        ensures falls { result ≢ After.Late → rank patience self.new < rank patience self.old }
-        ensures keeps { rank patience self.new ≤ rank patience self.old }
-        ensures derived { (now : ℕ) (log longer : Log) → Derived self.old log → Extends log longer → Fits longer now outcome → self.old.moment ≤ now
-            → Derived (record self.new { greatest = max self.old.greatest (entry_of outcome); moment = now }) longer }
+        ensures falls { result ≢ After.Late → result ≢ After.GiveUp → rank tick.patience self.new < rank tick.patience self.old }
+        ensures keeps { rank tick.patience self.new ≤ rank tick.patience self.old }
+        ensures derived { (patience : ℕ) (log longer : Log) → patience ≤ tick.patience → self.old.greatest < entry_of outcome → self.old.moment ≤ tick.now
+            → Derived patience self.old log → Extends log longer → Fits longer tick.now outcome
+            → Derived patience (record self.new { greatest = entry_of outcome; moment = tick.now }) longer }
         ensures same { SameCore self.old self.new }
     {
         let resolution = &mut self.resolutions[r];
-        resolution.take(outcome, patience)
+        resolution.take(outcome, tick)
     }
 
     /// The address that the resolution at a place asks.
@@ -410,25 +428,29 @@ impl RecursorCore {
     }
 
     /// Takes the outcome of an order. One that nobody waits for is late, and changes nothing; so is one
-    /// that does not fit the order.
+    /// that does not fit the order, or whose number is not greater than all before. An order that is to
+    /// be given up goes on until the outcome of the give-up is put.
     pub fn put(&mut self, number: u64, outcome: Outcome, tick: Tick) -> After
-        ensures falls { result ≢ After.Late → rank tick.patience self.new < rank tick.patience self.old }
+        ensures falls { result ≢ After.Late → result ≢ After.GiveUp → rank tick.patience self.new < rank tick.patience self.old }
         ensures keeps { rank tick.patience self.new ≤ rank tick.patience self.old }
         ensures late { (IsAwaited self.old number → ⊥) → result ≡ After.Late }
-        ensures derived { (log longer : Log) → Derived self.old log → Extends log longer → Fits longer tick.now outcome → self.old.moment ≤ tick.now
-            → Derived self.new longer }
+        ensures derived { (patience : ℕ) (log longer : Log) → patience ≤ tick.patience → self.old.moment ≤ tick.now
+            → Derived patience self.old log → Extends log longer → Fits longer tick.now outcome → Derived patience self.new longer }
         ensures roots { self.new.roots ≡ self.old.roots }
-        ensures moment { self.old.moment ≤ tick.now → self.new.moment ≤ tick.now }
+        ensures moment { self.old.moment ≡ tick.now → self.new.moment ≡ tick.now }
         ensures begun { (k : ℕ) → begun_at self.new k ≡ begun_at self.old k }
     {
+        let entry = outcome.entry();
+        if entry <= self.greatest {
+            return After::Late;
+        }
         let Some(r) = self.waiter(number) else {
             return After::Late;
         };
-        let entry = outcome.entry();
         let asked = self.asked_address(r);
-        let after = self.take(r, outcome, tick.patience);
+        let after = self.take(r, outcome, tick);
         self.forget_given_up(after, asked);
-        self.greatest = self.greatest.max(entry);
+        self.greatest = entry;
         self.moment = self.moment.max(tick.now);
         after
     }
@@ -436,7 +458,7 @@ impl RecursorCore {
     /// Ends a resolution without a reply, and answers the order that it waited for.
     pub fn cancel(&mut self, r: usize) -> Option<u64>
         ensures keeps { (p : ℕ) → rank p self.new ≤ rank p self.old }
-        ensures derived { (log : Log) → Derived self.old log → Derived self.new log }
+        ensures derived { (patience : ℕ) (log : Log) → Derived patience self.old log → Derived patience self.new log }
         ensures same { SameCore self.old self.new }
     {
         if r >= self.resolutions.len() {

@@ -3,7 +3,7 @@
 ghost use Rattle.std.specs.Prelude.{◌≡◌};
 ghost use Rattle.recursor_core.specs.Order.{entry_of};
 
-use dns_core::{ConnectionConfig, DnsRequest, Message, NetError, Protocol};
+use dns_core::{ConnectionConfig, DnsRequest, Message, NetError, Protocol, Query};
 use std::net::IpAddr;
 
 /// The moment of a step, in microseconds, and how many polls an order may be pending.
@@ -28,8 +28,18 @@ pub enum Order {
     },
 }
 
-/// What came of it, with the number of the log entry that says so. `of` is the number of the entry
-/// that asked, and `ip` the address that was asked; `refused` tells a call that failed at once.
+/// What was sent to an address: the number of the log entry that says so, the moment, and the question,
+/// where it was one. Without one a connection was to be opened.
+#[derive(Drop, Debug)]
+pub struct Sent {
+    pub of: u64,
+    pub ip: IpAddr,
+    pub moment: u64,
+    pub query: Option<Query>,
+}
+
+/// What came of it, with the number of the log entry that says so. `refused` tells a call that failed
+/// at once, and `polls` how many found nothing before a give-up.
 #[derive(Drop, Debug)]
 pub enum Outcome {
     Pending {
@@ -40,14 +50,19 @@ pub enum Outcome {
     },
     Told {
         entry: u64,
-        of: u64,
-        ip: IpAddr,
+        sent: Sent,
         message: Message,
     },
     Failed {
         entry: u64,
+        sent: Sent,
         refused: bool,
         error: NetError,
+    },
+    GaveUp {
+        entry: u64,
+        sent: Sent,
+        polls: u32,
     },
 }
 
@@ -60,11 +75,12 @@ impl Outcome {
             Outcome::Connected { entry } => *entry,
             Outcome::Told { entry, .. } => *entry,
             Outcome::Failed { entry, .. } => *entry,
+            Outcome::GaveUp { entry, .. } => *entry,
         }
     }
 }
 
-/// What an outcome did: the order goes on, has ended, is to be given up, or was not open.
+/// What an outcome did: the order goes on, has ended, is to be given up, or was not open or is another.
 #[derive(Clone, Copy, Debug, PartialEq, Eq)]
 pub enum After {
     Kept,

@@ -2,7 +2,7 @@
 ghost use Rattle.std.specs.Prelude.{◌≡◌, ◌↔◌, List, [], Some, Err, IfOk, IfErr};
 ghost use Rattle.dns_core.specs.declared.log.LogEntry.{LogEntry};
 ghost use Rattle.recursor_core.specs.Machine.{IsNewError};
-ghost use Rattle.recursor_core.specs.Standing.{Standing, Holds};
+ghost use Rattle.recursor_core.specs.Standing.{Standing, Rests};
 
 use crate::carrier::Carrier;
 use crate::error::{MessageKind, RecursorError};
@@ -26,7 +26,7 @@ impl<P: ConnectionProvider> Model for Recursor<P> {
 
     ghost view = { λ a. record { provider = a.carrier.provider; roots = a.core.roots; moment = a.core.moment } };
 
-    ghost invariant = { λ a. Holds P.ConnectionProvider a.core a.carrier };
+    ghost invariant = { λ a. Rests P.ConnectionProvider a.core a.carrier };
 }
 
 fn connect_options(alloc: Global, options: &RecursorOptions) -> Result<ConnectOptions, NoMemory> {

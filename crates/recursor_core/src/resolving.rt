@@ -1,14 +1,15 @@
 //! One question under way, answered, or ended.
-ghost use Rattle.std.specs.Prelude.{◌≡◌, ◌≢◌, ◌≤◌, ◌<◌, ℕ, List, true, max, Some, None, IfOk, IfSome, IsSome};
+ghost use Rattle.std.specs.Prelude.{◌≡◌, ◌≢◌, ◌≤◌, ◌<◌, ℕ, true, length, Some, None, IfOk, IfSome, IsSome};
 ghost use Rattle.std.specs.declared.net.ip_addr.IpAddr.{IpAddr};
 ghost use Rattle.dns_core.specs.Log.{Log, Extends};
 ghost use Rattle.recursor_core.specs.Order.{entry_of, Fits};
-ghost use Rattle.recursor_core.specs.Replies.{ReplyHolds};
+ghost use Rattle.recursor_core.specs.Replies.{Terms, ReplyHolds};
+ghost use Rattle.recursor_core.specs.Tried.{machine_timer};
 ghost use Rattle.recursor_core.specs.Derived.{ResolutionHolds};
 ghost use Rattle.recursor_core.specs.Resolving.{want_of, waits_for, steps, rank, MayAskNow, IsAfter, SameBegun, asked_of, address_of};
 
 use crate::lookup::Want;
-use crate::order::{After, Outcome};
+use crate::order::{After, Outcome, Tick};
 use crate::reply::Reply;
 use crate::walk::Walk;
 use dns_core::{Ips, NoMemory, Query, Question, TryClone};
@@ -58,7 +59,7 @@ impl Resolution {
         now: u64,
     ) -> Result<Resolution, NoMemory>
         requires { question.query.name.fqdn ≡ true }
-        ensures holds { (greatest : ℕ) (log : Log) → IfOk result (ResolutionHolds roots.now greatest now log) }
+        ensures holds { (patience greatest : ℕ) (log : Log) → 0 < length roots.now → IfOk result (ResolutionHolds (record { roots = roots.now; patience = patience }) greatest now log) }
         ensures begun { IfOk result (λ r. (r.question ≡ question) × (r.begun ≡ now)) }
     {
         let walk = Walk::new(alloc, &question, roots)?;
@@ -114,8 +115,8 @@ impl Resolution {
         requires { want_of self.old ≡ Need.Send Want.Choose }
         ensures falls { steps self.new < steps self.old }
         ensures begun { SameBegun self.old self.new }
-        ensures holds { (roots : List IpAddr) (greatest moment : ℕ) (log : Log)
-            → ResolutionHolds roots greatest moment log self.old → ResolutionHolds roots greatest moment log self.new }
+        ensures holds { (terms : Terms) (greatest moment : ℕ) (log : Log)
+            → ResolutionHolds terms greatest moment log self.old → ResolutionHolds terms greatest moment log self.new }
     {
         if let State::Under(walk) = mem::replace(&mut self.state, State::Ended) {
             let mut walk = walk;
@@ -130,8 +131,8 @@ impl Resolution {
         requires { want_of self.old ≡ Need.Send Want.Hear }
         ensures falls { steps self.new < steps self.old }
         ensures begun { SameBegun self.old self.new }
-        ensures holds { (roots : List IpAddr) (greatest moment : ℕ) (log : Log)
-            → ResolutionHolds roots greatest moment log self.old → ResolutionHolds roots greatest moment log self.new }
+        ensures holds { (terms : Terms) (greatest moment : ℕ) (log : Log)
+            → ResolutionHolds terms greatest moment log self.old → ResolutionHolds terms greatest moment log self.new }
     {
         if let State::Under(walk) = mem::replace(&mut self.state, State::Ended) {
             let mut walk = walk;
@@ -145,8 +146,8 @@ impl Resolution {
     pub fn opens(&mut self, ip: IpAddr, order: u64)
         ensures falls { (was : IpAddr) → want_of self.old ≡ Need.Send (Want.Connect was) → steps self.new < steps self.old }
         ensures begun { SameBegun self.old self.new }
-        ensures holds { (roots : List IpAddr) (greatest moment : ℕ) (log : Log) → want_of self.old ≡ Need.Send (Want.Connect ip)
-            → ResolutionHolds roots greatest moment log self.old → ResolutionHolds roots greatest moment log self.new }
+        ensures holds { (terms : Terms) (greatest moment : ℕ) (log : Log) → want_of self.old ≡ Need.Send (Want.Connect ip)
+            → ResolutionHolds terms greatest moment log self.old → ResolutionHolds terms greatest moment log self.new }
     {
         if let State::Under(walk) = &mut self.state {
             walk.lookup.opens(ip, order);
@@ -157,8 +158,8 @@ impl Resolution {
     pub fn asks(&mut self, ip: IpAddr, order: u64, since: u64)
         ensures falls { MayAskNow ip self.old → steps self.new < steps self.old }
         ensures begun { SameBegun self.old self.new }
-        ensures holds { (roots : List IpAddr) (moment : ℕ) (log : Log) → MayAskNow ip self.old
-            → ResolutionHolds roots since moment log self.old → ResolutionHolds roots since moment log self.new }
+        ensures holds { (terms : Terms) (moment : ℕ) (log : Log) → MayAskNow ip self.old
+            → ResolutionHolds terms since moment log self.old → ResolutionHolds terms since moment log self.new }
     {
         if let State::Under(walk) = &mut self.state {
             walk.lookup.asks(ip, order, since);
@@ -166,17 +167,20 @@ impl Resolution {
     }
 
     /// Takes the outcome of the order that it waits for.
-    pub fn take(&mut self, outcome: Outcome, patience: u32) -> After
+    pub fn take(&mut self, outcome: Outcome, tick: Tick) -> After
         requires { waits_for self.old ≢ None }
-        ensures falls { result ≢ After.Late → rank patience self.new < rank patience self.old }
+        ensures falls { result ≢ After.Late → result ≢ After.GiveUp → rank tick.patience self.new < rank tick.patience self.old }
+        ensures keeps { rank tick.patience self.new ≤ rank tick.patience self.old }
         ensures late { result ≡ After.Late → self.new ≡ self.old }
         ensures begun { SameBegun self.old self.new }
-        ensures holds { (roots : List IpAddr) (greatest moment now : ℕ) (log longer : Log)
-            → ResolutionHolds roots greatest moment log self.old → Extends log longer → Fits longer now outcome → moment ≤ now
-            → ResolutionHolds roots (max greatest (entry_of outcome)) now longer self.new }
+        ensures holds { (terms : Terms) (greatest moment : ℕ) (log longer : Log)
+            → terms.patience ≤ tick.patience → greatest < entry_of outcome → moment ≤ tick.now
+            → ResolutionHolds terms greatest moment log self.old → Extends log longer → Fits longer tick.now outcome
+            → ResolutionHolds terms (entry_of outcome) tick.now longer self.new }
     {
+        let begun = self.begun;
         match &mut self.state {
-            State::Under(walk) => walk.lookup.take(outcome, patience),
+            State::Under(walk) => walk.lookup.take(outcome, begun, tick),
             _ => unreachable!(),
         }
     }
@@ -187,9 +191,9 @@ impl Resolution {
         ensures falls { steps self.new < steps self.old }
         ensures some { IsSome result }
         ensures begun { SameBegun self.old self.new }
-        ensures holds { (roots : List IpAddr) (greatest moment : ℕ) (log : Log)
-            → ResolutionHolds roots greatest moment log self.old
-            → ResolutionHolds roots greatest moment log self.new × IfSome result (ReplyHolds roots log self.old.begun self.old.question) }
+        ensures holds { (terms : Terms) (greatest moment : ℕ) (log : Log)
+            → ResolutionHolds terms greatest moment log self.old
+            → ResolutionHolds terms greatest moment log self.new × IfSome result (ReplyHolds terms machine_timer log self.old.begun self.old.question) }
     {
         match mem::replace(&mut self.state, State::Ended) {
             State::Done(reply) => Some(reply),
@@ -201,8 +205,8 @@ impl Resolution {
     pub fn end(&mut self)
         ensures nothing { want_of self.new ≡ Need.Nothing }
         ensures begun { SameBegun self.old self.new }
-        ensures holds { (roots : List IpAddr) (greatest moment : ℕ) (log : Log)
-            → ResolutionHolds roots greatest moment log self.old → ResolutionHolds roots greatest moment log self.new }
+        ensures holds { (terms : Terms) (greatest moment : ℕ) (log : Log)
+            → ResolutionHolds terms greatest moment log self.old → ResolutionHolds terms greatest moment log self.new }
     {
         self.state = State::Ended;
     }

@@ -2,24 +2,26 @@
 ghost use Rattle.std.specs.Prelude.{◌≡◌, IsTrue};
 ghost use Rattle.dns_core.specs.Connection.{Peer};
 
+use crate::order::Sent;
 use dns_core::ConnectionProvider;
 use std::net::IpAddr;
 
-/// A connection to an address that is being opened.
+/// A connection that is being opened, and how many polls of it found nothing.
 #[derive(Drop)]
 pub struct Opening<P: ConnectionProvider> {
     pub future: P::FutureConn,
-    pub ip: IpAddr,
+    pub sent: Sent,
+    pub polls: u32,
     ghost awaited: { IsTrue (P.opens future) },
-    ghost peer: { (P.opening future).ip ≡ ip },
+    ghost peer: { (P.opening future).ip ≡ sent.ip },
 }
 
-/// A question that was asked of an address, by the entry of this number.
+/// A question that was asked, and how many polls of it found nothing.
 #[derive(Drop)]
 pub struct Asking<P: ConnectionProvider> {
     pub exchange: P::Exchange,
-    pub ip: IpAddr,
-    pub of: u64,
+    pub sent: Sent,
+    pub polls: u32,
     ghost awaited: { IsTrue (P.waits exchange) },
 }
 

@@ -1,5 +1,5 @@
 //! Turns of questions: the machine's orders are carried out until nothing new is found.
-ghost use Rattle.std.specs.Prelude.{◌≡◌, ◌≢◌, ◌≤◌, ◌<◌, ℕ, List, [], Option, Some, Err, IfOk, IfSome, IfNone, OnOk, MatchBool, slice_get, slice_set, vec_len};
+ghost use Rattle.std.specs.Prelude.{◌≡◌, ◌≢◌, ◌≤◌, ◌<◌, ◌⊎◌, ℕ, List, [], Option, Some, Err, IfOk, IfSome, IfNone, OnOk, MatchBool, slice_get, slice_set, vec_len};
 ghost use Rattle.dns_core.specs.Log.{Log};
 ghost use Rattle.dns_core.specs.declared.log.LogEntry.{LogEntry};
 ghost use Rattle.dns_core.specs.declared.request.Question.{Question};
@@ -7,7 +7,7 @@ ghost use Rattle.dns_core.specs.declared.request.Turn.{Turn};
 ghost use Rattle.recursor_core.specs.Order.{Fits, GoesToServer};
 ghost use Rattle.recursor_core.specs.Replies.{given_of};
 ghost use Rattle.recursor_core.specs.Carrying.{TellsThat};
-ghost use Rattle.recursor_core.specs.Derived.{Derived};
+ghost use Rattle.recursor_core.specs.Derived.{terms_of, Derived};
 ghost use Rattle.recursor_core.specs.Machine.{rank, Begun, begun_at};
 ghost use Rattle.recursor_core.specs.Standing.{Holds, Moves, ReplyTold, TurnedTold, PlaysHold};
 ghost use Rattle.recursor_core.specs.Turns.{TurnFalls, work, open_plays, IsBegunAt, IsUnderWay, Begins, ReplyOf};
@@ -48,6 +48,34 @@ pub fn no_memory(alloc: Global) -> Reply
     }
 }
 
+/// Gives up an order, and feeds the machine that.
+fn give_up_order<P: ConnectionProvider>(
+    core: &mut RecursorCore,
+    carrier: &mut Carrier<P>,
+    number: u64,
+    tick: Tick,
+) -> Result<Turned, NoMemory>
+    requires holds { Holds P.ConnectionProvider tick.patience core.old carrier.old }
+    requires moment { core.old.moment ≡ tick.now }
+    ensures vouches { (es : List LogEntry) → P.vouches carrier.new.provider es → P.vouches carrier.old.provider es }
+    ensures holds { Holds P.ConnectionProvider tick.patience core.new carrier.new }
+    ensures moves { Moves P.ConnectionProvider tick.now core.old core.new carrier.old carrier.new }
+    ensures moment { core.new.moment ≡ tick.now }
+    ensures falls { OnOk result (rank tick.patience core.new < rank tick.patience core.old) }
+    ensures keeps { rank tick.patience core.new ≤ rank tick.patience core.old }
+    ensures told { (b : Option Begun) → IfOk result (TurnedTold (terms_of tick.patience core.old) (P.log carrier.new.provider) b) }
+{
+    let Some(outcome) = carrier.give_up(number, tick.now) else {
+        return Err(NoMemory);
+    };
+    match core.put(number, outcome, tick) {
+        After::Ended => Ok(Turned::Again),
+        After::Kept => Ok(Turned::Pending),
+        After::GiveUp => Err(NoMemory),
+        After::Late => Err(NoMemory),
+    }
+}
+
 /// Feeds an outcome to the machine; an order that it gives up is given up. A late outcome, which no
 /// order that is open has, ends the turn as want of memory does.
 fn settle<P: ConnectionProvider>(
@@ -57,24 +85,21 @@ fn settle<P: ConnectionProvider>(
     outcome: Outcome,
     tick: Tick,
 ) -> Result<Turned, NoMemory>
-    requires holds { Holds P.ConnectionProvider core.old carrier.old }
-    requires moment { core.old.moment ≤ tick.now }
+    requires holds { Holds P.ConnectionProvider tick.patience core.old carrier.old }
+    requires moment { core.old.moment ≡ tick.now }
     requires fits { TellsThat (P.log carrier.old.provider) (λ log. Fits log tick.now outcome) }
     ensures vouches { (es : List LogEntry) → P.vouches carrier.new.provider es → P.vouches carrier.old.provider es }
-    ensures holds { Holds P.ConnectionProvider core.new carrier.new }
-    ensures moves { Moves P.ConnectionProvider core.old core.new carrier.old carrier.new }
-    ensures moment { core.new.moment ≤ tick.now }
+    ensures holds { Holds P.ConnectionProvider tick.patience core.new carrier.new }
+    ensures moves { Moves P.ConnectionProvider tick.now core.old core.new carrier.old carrier.new }
+    ensures moment { core.new.moment ≡ tick.now }
     ensures falls { OnOk result (rank tick.patience core.new < rank tick.patience core.old) }
     ensures keeps { rank tick.patience core.new ≤ rank tick.patience core.old }
-    ensures told { (b : Option Begun) → IfOk result (TurnedTold core.old.roots (P.log carrier.new.provider) b) }
+    ensures told { (b : Option Begun) → IfOk result (TurnedTold (terms_of tick.patience core.old) (P.log carrier.new.provider) b) }
 {
     match core.put(number, outcome, tick) {
         After::Kept => Ok(Turned::Pending),
         After::Ended => Ok(Turned::Again),
-        After::GiveUp => {
-            carrier.give_up(number, tick.now);
-            Ok(Turned::Again)
-        }
+        After::GiveUp => give_up_order(core, carrier, number, tick),
         After::Late => Err(NoMemory),
     }
 }
@@ -87,16 +112,16 @@ fn start_order<P: ConnectionProvider>(
     order: Order,
     tick: Tick,
 ) -> Result<Turned, NoMemory>
-    requires holds { Holds P.ConnectionProvider core.old carrier.old }
-    requires moment { core.old.moment ≤ tick.now }
-    requires goes { TellsThat (P.log carrier.old.provider) (λ log. GoesToServer (given_of core.old.roots) log log.next order) }
+    requires holds { Holds P.ConnectionProvider tick.patience core.old carrier.old }
+    requires moment { core.old.moment ≡ tick.now }
+    requires goes { TellsThat (P.log carrier.old.provider) (λ log. GoesToServer (given_of (terms_of tick.patience core.old)) log log.next order) }
     ensures vouches { (es : List LogEntry) → P.vouches carrier.new.provider es → P.vouches carrier.old.provider es }
-    ensures holds { Holds P.ConnectionProvider core.new carrier.new }
-    ensures moves { Moves P.ConnectionProvider core.old core.new carrier.old carrier.new }
-    ensures moment { core.new.moment ≤ tick.now }
+    ensures holds { Holds P.ConnectionProvider tick.patience core.new carrier.new }
+    ensures moves { Moves P.ConnectionProvider tick.now core.old core.new carrier.old carrier.new }
+    ensures moment { core.new.moment ≡ tick.now }
     ensures falls { OnOk result (rank tick.patience core.new < rank tick.patience core.old) }
     ensures keeps { rank tick.patience core.new ≤ rank tick.patience core.old }
-    ensures told { (b : Option Begun) → IfOk result (TurnedTold core.old.roots (P.log carrier.new.provider) b) }
+    ensures told { (b : Option Begun) → IfOk result (TurnedTold (terms_of tick.patience core.old) (P.log carrier.new.provider) b) }
 {
     let outcome = carrier.start(number, order, tick.now)?;
     settle(core, carrier, number, outcome, tick)
@@ -109,15 +134,15 @@ fn poll_order<P: ConnectionProvider>(
     number: u64,
     tick: Tick,
 ) -> Result<Turned, NoMemory>
-    requires holds { Holds P.ConnectionProvider core.old carrier.old }
-    requires moment { core.old.moment ≤ tick.now }
+    requires holds { Holds P.ConnectionProvider tick.patience core.old carrier.old }
+    requires moment { core.old.moment ≡ tick.now }
     ensures vouches { (es : List LogEntry) → P.vouches carrier.new.provider es → P.vouches carrier.old.provider es }
-    ensures holds { Holds P.ConnectionProvider core.new carrier.new }
-    ensures moves { Moves P.ConnectionProvider core.old core.new carrier.old carrier.new }
-    ensures moment { core.new.moment ≤ tick.now }
+    ensures holds { Holds P.ConnectionProvider tick.patience core.new carrier.new }
+    ensures moves { Moves P.ConnectionProvider tick.now core.old core.new carrier.old carrier.new }
+    ensures moment { core.new.moment ≡ tick.now }
     ensures falls { OnOk result (rank tick.patience core.new < rank tick.patience core.old) }
     ensures keeps { rank tick.patience core.new ≤ rank tick.patience core.old }
-    ensures told { (b : Option Begun) → IfOk result (TurnedTold core.old.roots (P.log carrier.new.provider) b) }
+    ensures told { (b : Option Begun) → IfOk result (TurnedTold (terms_of tick.patience core.old) (P.log carrier.new.provider) b) }
 {
     let outcome = carrier.poll(number, tick.now)?;
     settle(core, carrier, number, outcome, tick)
@@ -131,13 +156,13 @@ fn step<P: ConnectionProvider>(
     r: usize,
     tick: Tick,
 ) -> Result<Turned, NoMemory>
-    requires holds { Holds P.ConnectionProvider core.old carrier.old }
-    requires moment { core.old.moment ≤ tick.now }
+    requires holds { Holds P.ConnectionProvider tick.patience core.old carrier.old }
+    requires moment { core.old.moment ≡ tick.now }
     ensures vouches { (es : List LogEntry) → P.vouches carrier.new.provider es → P.vouches carrier.old.provider es }
-    ensures holds { Holds P.ConnectionProvider core.new carrier.new }
-    ensures moves { Moves P.ConnectionProvider core.old core.new carrier.old carrier.new }
-    ensures moment { core.new.moment ≤ tick.now }
-    ensures told { IfOk result (TurnedTold core.old.roots (P.log carrier.new.provider) (begun_at core.old r)) }
+    ensures holds { Holds P.ConnectionProvider tick.patience core.new carrier.new }
+    ensures moves { Moves P.ConnectionProvider tick.now core.old core.new carrier.old carrier.new }
+    ensures moment { core.new.moment ≡ tick.now }
+    ensures told { IfOk result (TurnedTold (terms_of tick.patience core.old) (P.log carrier.new.provider) (begun_at core.old r)) }
     ensures falls { IfOk result (TurnFalls (rank tick.patience core.new) (rank tick.patience core.old)) }
     ensures keeps { rank tick.patience core.new ≤ rank tick.patience core.old }
 {
@@ -158,13 +183,13 @@ fn turn<P: ConnectionProvider>(
     r: usize,
     tick: Tick,
 ) -> Result<Turned, NoMemory>
-    requires holds { Holds P.ConnectionProvider core.old carrier.old }
-    requires moment { core.old.moment ≤ tick.now }
+    requires holds { Holds P.ConnectionProvider tick.patience core.old carrier.old }
+    requires moment { core.old.moment ≡ tick.now }
     ensures vouches { (es : List LogEntry) → P.vouches carrier.new.provider es → P.vouches carrier.old.provider es }
-    ensures holds { Holds P.ConnectionProvider core.new carrier.new }
-    ensures moves { Moves P.ConnectionProvider core.old core.new carrier.old carrier.new }
-    ensures moment { core.new.moment ≤ tick.now }
-    ensures told { IfOk result (TurnedTold core.old.roots (P.log carrier.new.provider) (begun_at core.old r)) }
+    ensures holds { Holds P.ConnectionProvider tick.patience core.new carrier.new }
+    ensures moves { Moves P.ConnectionProvider tick.now core.old core.new carrier.old carrier.new }
+    ensures moment { core.new.moment ≡ tick.now }
+    ensures told { IfOk result (TurnedTold (terms_of tick.patience core.old) (P.log carrier.new.provider) (begun_at core.old r)) }
     ensures falls { IfOk result (TurnFalls (rank tick.patience core.new) (rank tick.patience core.old)) }
     ensures keeps { rank tick.patience core.new ≤ rank tick.patience core.old }
 {
@@ -183,18 +208,18 @@ fn abandon<P: ConnectionProvider>(
     core: &mut RecursorCore,
     carrier: &mut Carrier<P>,
     r: usize,
-    now: u64,
+    tick: Tick,
 )
-    requires holds { Holds P.ConnectionProvider core.old carrier.old }
-    requires moment { core.old.moment ≤ now }
+    requires holds { Holds P.ConnectionProvider tick.patience core.old carrier.old }
+    requires moment { core.old.moment ≡ tick.now }
     ensures vouches { (es : List LogEntry) → P.vouches carrier.new.provider es → P.vouches carrier.old.provider es }
-    ensures holds { Holds P.ConnectionProvider core.new carrier.new }
-    ensures moves { Moves P.ConnectionProvider core.old core.new carrier.old carrier.new }
-    ensures moment { core.new.moment ≤ now }
+    ensures holds { Holds P.ConnectionProvider tick.patience core.new carrier.new }
+    ensures moves { Moves P.ConnectionProvider tick.now core.old core.new carrier.old carrier.new }
+    ensures moment { core.new.moment ≡ tick.now }
     ensures keeps { (p : ℕ) → rank p core.new ≤ rank p core.old }
 {
     if let Some(number) = core.cancel(r) {
-        carrier.give_up(number, now);
+        let _outcome = carrier.give_up(number, tick.now);
     }
 }
 
@@ -207,22 +232,23 @@ fn answer_of<P: ConnectionProvider>(
     r: usize,
     tick: Tick,
 ) -> Option<Reply>
-    requires holds { Holds P.ConnectionProvider core.old carrier.old }
+    requires holds { Holds P.ConnectionProvider tick.patience core.old carrier.old }
     requires moment { core.old.moment ≤ tick.now }
     ensures vouches { (es : List LogEntry) → P.vouches carrier.new.provider es → P.vouches carrier.old.provider es }
-    ensures holds { Holds P.ConnectionProvider core.new carrier.new }
-    ensures moves { Moves P.ConnectionProvider core.old core.new carrier.old carrier.new }
-    ensures moment { core.new.moment ≤ tick.now }
-    ensures told { IfSome result (ReplyTold core.old.roots (P.log carrier.new.provider) (begun_at core.old r)) }
+    ensures holds { Holds P.ConnectionProvider tick.patience core.new carrier.new }
+    ensures moves { Moves P.ConnectionProvider tick.now core.old core.new carrier.old carrier.new }
+    ensures moment { core.new.moment ≡ tick.now }
+    ensures told { IfSome result (ReplyTold (terms_of tick.patience core.old) (P.log carrier.new.provider) (begun_at core.old r)) }
     ensures falls { IfNone result (rank tick.patience core.new < rank tick.patience core.old) }
     ensures keeps { rank tick.patience core.new ≤ rank tick.patience core.old }
 {
+    core.reach(tick.now);
     match turn(alloc, core, carrier, r, tick) {
         Ok(Turned::Pending) => None,
         Ok(Turned::Done(reply)) => Some(reply),
         Ok(_) => Some(no_memory(alloc)),
         Err(_) => {
-            abandon(core, carrier, r, tick.now);
+            abandon(core, carrier, r, tick);
             Some(no_memory(alloc))
         }
     }
@@ -230,9 +256,9 @@ fn answer_of<P: ConnectionProvider>(
 
 /// A question as it begins: under way, or refused.
 pub fn begun(alloc: Global, core: &mut RecursorCore, question: &Question, now: u64) -> Played
-    ensures derived { (log : Log) → core.old.moment ≤ now → Derived core.old log → Derived core.new log }
+    ensures derived { (patience : ℕ) (log : Log) → core.old.moment ≤ now → Derived patience core.old log → Derived patience core.new log }
     ensures roots { core.new.roots ≡ core.old.roots }
-    ensures moment { core.old.moment ≤ now → core.new.moment ≤ now }
+    ensures moment { core.old.moment ≤ now → (core.new.moment ≡ core.old.moment) ⊎ (core.new.moment ≡ now) }
     ensures others { (k : ℕ) (b : Begun) → begun_at core.old k ≡ Some b → begun_at core.new k ≡ Some b }
     ensures begun { Begins question.now now core.new result }
 {
@@ -276,14 +302,14 @@ pub fn play<P: ConnectionProvider>(
     q: usize,
     tick: Tick,
 ) -> bool
-    requires holds { Holds P.ConnectionProvider core.old carrier.old }
+    requires holds { Holds P.ConnectionProvider tick.patience core.old carrier.old }
     requires moment { core.old.moment ≤ tick.now }
     ensures vouches { (es : List LogEntry) → P.vouches carrier.new.provider es → P.vouches carrier.old.provider es }
-    ensures holds { Holds P.ConnectionProvider core.new carrier.new }
-    ensures moves { Moves P.ConnectionProvider core.old core.new carrier.old carrier.new }
-    ensures moment { core.new.moment ≤ tick.now }
-    ensures plays { (start : ℕ) (turns rest : List Turn) (questions : List Question) → PlaysHold core.old (P.log carrier.old.provider) start turns rest questions plays.old.items
-        → PlaysHold core.new (P.log carrier.new.provider) start turns rest questions plays.new.items }
+    ensures holds { Holds P.ConnectionProvider tick.patience core.new carrier.new }
+    ensures moves { Moves P.ConnectionProvider tick.now core.old core.new carrier.old carrier.new }
+    ensures moment { (core.new.moment ≡ core.old.moment) ⊎ (core.new.moment ≡ tick.now) }
+    ensures plays { (start : ℕ) (turns rest : List Turn) (questions : List Question) → PlaysHold tick.patience core.old (P.log carrier.old.provider) start turns rest questions plays.old.items
+        → PlaysHold tick.patience core.new (P.log carrier.new.provider) start turns rest questions plays.new.items }
     ensures falls { MatchBool result (work tick.patience core.new plays.new.items < work tick.patience core.old plays.old.items) (work tick.patience core.new plays.new.items ≤ work tick.patience core.old plays.old.items) }
     ensures count { vec_len plays.new ≡ vec_len plays.old }
 {

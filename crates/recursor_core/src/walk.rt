@@ -1,13 +1,13 @@
 //! The way of one question: from the roots down the zone cuts to the servers of its name, and the
 //! question itself at them (RFC 1034 section 5.3.3).
-ghost use Rattle.std.specs.Prelude.{◌≡◌, ◌<◌, ◌≤◌, ◌+◌, ◌∷◌, [], ℕ, List, true, Ok, Err, Some, None, IfOk, OnOk};
-ghost use Rattle.std.specs.declared.net.ip_addr.IpAddr.{IpAddr};
+ghost use Rattle.std.specs.Prelude.{◌≡◌, ◌<◌, ◌≤◌, ◌+◌, ◌∷◌, [], ℕ, true, length, Ok, Err, Some, None, IfOk, OnOk};
 ghost use Rattle.dns_core.specs.Log.{Log};
 ghost use Rattle.resolution.specs.Names.{walk};
-ghost use Rattle.recursor_core.specs.Replies.{ReplyHolds};
+ghost use Rattle.recursor_core.specs.Replies.{Terms, ReplyHolds};
+ghost use Rattle.recursor_core.specs.Tried.{machine_timer};
 ghost use Rattle.recursor_core.specs.Lookup.{send_want};
 ghost use Rattle.recursor_core.specs.Walk.{lookups_after, next_stage, query_of, made_negative, told_negative, ends_walk, IsCandidate, steps, Goes};
-ghost use Rattle.recursor_core.specs.Derived.{Counts, FoundHolds, IsHeard, WayHolds, WalkHolds, WalkComes};
+ghost use Rattle.recursor_core.specs.Derived.{Counts, FoundHolds, WayHolds, WalkHolds, WalkComes, LeavesBehind};
 
 use crate::error::{AuthorityData, RecursorError, WalkCause};
 use crate::lookup::{Found, Lookup, Want};
@@ -148,7 +148,8 @@ impl Walk {
     /// A walk from the roots to the name of a question, which is fully qualified.
     pub fn new(alloc: Global, question: &Question, roots: &Ips) -> Result<Walk, NoMemory>
         requires { question.now.query.name.fqdn ≡ true }
-        ensures { (greatest t0 : ℕ) (log : Log) → IfOk result (WalkHolds roots.now greatest t0 log question.now.query) }
+        ensures { (patience greatest moment t0 : ℕ) (log : Log) → 0 < length roots.now
+            → IfOk result (WalkHolds (record { roots = roots.now; patience = patience }) greatest moment t0 log question.now.query) }
     {
         let name = walked_name(alloc, &question.query)?;
         let stage = stage_after(name.labels().len(), 0);
@@ -168,8 +169,8 @@ impl Walk {
     pub fn choose(&mut self, alloc: Global, question: &Question) -> Result<Option<Reply>, NoMemory>
         requires { send_want self.old.lookup.send ≡ Want.Choose }
         ensures falls { Goes self.old self.new result }
-        ensures holds { (roots : List IpAddr) (greatest t0 : ℕ) (log : Log) → WalkHolds roots greatest t0 log question.now.query self.old
-            → IfOk result (WalkComes roots greatest t0 log question.now self.new) }
+        ensures holds { (terms : Terms) (greatest moment t0 : ℕ) (log : Log) → WalkHolds terms greatest moment t0 log question.now.query self.old
+            → IfOk result (WalkComes terms greatest moment t0 log question.now self.new) }
     {
         match self.lookup.choose() {
             None => Ok(None),
@@ -181,8 +182,8 @@ impl Walk {
     pub fn hear(&mut self, alloc: Global, question: &Question) -> Result<Option<Reply>, NoMemory>
         requires { send_want self.old.lookup.send ≡ Want.Hear }
         ensures falls { Goes self.old self.new result }
-        ensures holds { (roots : List IpAddr) (greatest t0 : ℕ) (log : Log) → WalkHolds roots greatest t0 log question.now.query self.old
-            → IfOk result (WalkComes roots greatest t0 log question.now self.new) }
+        ensures holds { (terms : Terms) (greatest moment t0 : ℕ) (log : Log) → WalkHolds terms greatest moment t0 log question.now.query self.old
+            → IfOk result (WalkComes terms greatest moment t0 log question.now self.new) }
     {
         match self.lookup.hear()? {
             None => Ok(None),
@@ -197,9 +198,9 @@ impl Walk {
         found: Found,
     ) -> Result<Option<Reply>, NoMemory>
         ensures falls { Goes self.old self.new result }
-        ensures holds { (roots : List IpAddr) (greatest t0 : ℕ) (log : Log) → WayHolds roots greatest log question.now.query self.old
-            → FoundHolds roots greatest t0 log self.old.zone self.old.lookup.query found
-            → IfOk result (WalkComes roots greatest t0 log question.now self.new) }
+        ensures holds { (terms : Terms) (greatest moment t0 : ℕ) (log : Log) → WayHolds terms greatest log question.now.query self.old
+            → FoundHolds terms greatest t0 log self.old.zone self.old.lookup.query self.old.lookup.ends found
+            → IfOk result (WalkComes terms greatest moment t0 log question.now self.new) }
     {
         match self.stage {
             Stage::Candidate { .. } => self.conclude_candidate(alloc, question, found),
@@ -218,16 +219,18 @@ impl Walk {
     ) -> Result<Option<Reply>, NoMemory>
         requires { IsCandidate self.old.stage }
         ensures falls { Goes self.old self.new result }
-        ensures holds { (roots : List IpAddr) (greatest t0 : ℕ) (log : Log) → WayHolds roots greatest log question.now.query self.old
-            → FoundHolds roots greatest t0 log self.old.zone self.old.lookup.query found
-            → IfOk result (WalkComes roots greatest t0 log question.now self.new) }
+        ensures holds { (terms : Terms) (greatest moment t0 : ℕ) (log : Log) → WayHolds terms greatest log question.now.query self.old
+            → FoundHolds terms greatest t0 log self.old.zone self.old.lookup.query self.old.lookup.ends found
+            → IfOk result (WalkComes terms greatest moment t0 log question.now self.new) }
     {
         match found {
             Found::Message { entry, message } => {
                 self.hear_candidate(alloc, question, entry, message)
             }
-            Found::Error(NetError::Timeout) => self.no_server(alloc, WalkCause::Timeout),
-            Found::Error(_) => self.advance(alloc, question),
+            Found::Error(error) => match error {
+                NetError::Timeout => self.no_server(alloc, WalkCause::Timeout),
+                _ => self.advance(alloc, question),
+            },
         }
     }
 
@@ -240,9 +243,9 @@ impl Walk {
     ) -> Result<Option<Reply>, NoMemory>
         requires { IsCandidate self.old.stage }
         ensures falls { Goes self.old self.new result }
-        ensures holds { (roots : List IpAddr) (greatest t0 : ℕ) (log : Log) → WayHolds roots greatest log question.now.query self.old
-            → IsHeard roots greatest t0 log self.old.zone self.old.lookup.query entry message
-            → IfOk result (WalkComes roots greatest t0 log question.now self.new) }
+        ensures holds { (terms : Terms) (greatest moment t0 : ℕ) (log : Log) → WayHolds terms greatest log question.now.query self.old
+            → FoundHolds terms greatest t0 log self.old.zone self.old.lookup.query self.old.lookup.ends (Found.Message entry message)
+            → IfOk result (WalkComes terms greatest moment t0 log question.now self.new) }
     {
         match verdict_of(alloc, message, &self.zone)? {
             Ok(Verdict::Pos(kept)) => self.descend(alloc, question, &kept),
@@ -265,9 +268,9 @@ impl Walk {
     ) -> Result<Option<Reply>, NoMemory>
         requires { IsCandidate self.old.stage }
         ensures falls { Goes self.old self.new result }
-        ensures holds { (roots : List IpAddr) (greatest t0 : ℕ) (log : Log) → WayHolds roots greatest log question.now.query self.old
-            → Counts roots greatest t0 log self.old.zone self.old.lookup.query entry (Verdict.Neg found)
-            → IfOk result (WalkComes roots greatest t0 log question.now self.new) }
+        ensures holds { (terms : Terms) (greatest moment t0 : ℕ) (log : Log) → WayHolds terms greatest log question.now.query self.old
+            → Counts terms greatest t0 log self.old.zone self.old.lookup.query entry (Verdict.Neg found)
+            → IfOk result (WalkComes terms greatest moment t0 log question.now self.new) }
     {
         if ends_walk(&found) {
             return Ok(Some(reply_by(alloc, entry, Err(told_negative(found)))?));
@@ -284,9 +287,9 @@ impl Walk {
     ) -> Result<Option<Reply>, NoMemory>
         requires { IsCandidate self.old.stage }
         ensures falls { Goes self.old self.new result }
-        ensures holds { (roots : List IpAddr) (greatest t0 entry : ℕ) (log : Log) → WayHolds roots greatest log question.now.query self.old
-            → Counts roots greatest t0 log self.old.zone self.old.lookup.query entry (Verdict.Pos kept.now)
-            → IfOk result (WalkComes roots greatest t0 log question.now self.new) }
+        ensures holds { (terms : Terms) (greatest moment t0 entry : ℕ) (log : Log) → WayHolds terms greatest log question.now.query self.old
+            → Counts terms greatest t0 log self.old.zone self.old.lookup.query entry (Verdict.Pos kept.now)
+            → IfOk result (WalkComes terms greatest moment t0 log question.now self.new) }
     {
         if !is_delegation(kept, &self.lookup.query.name) {
             return self.advance(alloc, question);
@@ -305,8 +308,8 @@ impl Walk {
         requires { IsCandidate self.old.stage }
         ensures falls { OnOk result (steps self.new < steps self.old) }
         ensures none { IfOk result (λ reply. reply ≡ None) }
-        ensures holds { (roots : List IpAddr) (greatest t0 : ℕ) (log : Log) → WayHolds roots greatest log question.now.query self.old
-            → IfOk result (WalkComes roots greatest t0 log question.now self.new) }
+        ensures holds { (terms : Terms) (greatest moment t0 : ℕ) (log : Log) → WayHolds terms greatest log question.now.query self.old → LeavesBehind terms log self.old
+            → IfOk result (WalkComes terms greatest moment t0 log question.now self.new) }
     {
         let Stage::Candidate { labels } = self.stage else {
             unreachable!()
@@ -335,9 +338,9 @@ impl Walk {
         question: &Question,
         found: Found,
     ) -> Result<Reply, NoMemory>
-        ensures { (roots : List IpAddr) (greatest t0 : ℕ) (log : Log) → self.old.lookup.query ≡ question.now.query
-            → FoundHolds roots greatest t0 log self.old.zone self.old.lookup.query found
-            → IfOk result (ReplyHolds roots log t0 question.now) }
+        ensures { (terms : Terms) (greatest t0 : ℕ) (log : Log) → self.old.stage ≡ Stage.Last → WayHolds terms greatest log question.now.query self.old
+            → FoundHolds terms greatest t0 log self.old.zone self.old.lookup.query self.old.lookup.ends found
+            → IfOk result (ReplyHolds terms machine_timer log t0 question.now) }
     {
         match found {
             Found::Message { entry, message } => self.hear_last(alloc, question, entry, message),
@@ -352,9 +355,9 @@ impl Walk {
         entry: u64,
         message: Message,
     ) -> Result<Reply, NoMemory>
-        ensures { (roots : List IpAddr) (greatest t0 : ℕ) (log : Log) → self.old.lookup.query ≡ question.now.query
-            → IsHeard roots greatest t0 log self.old.zone self.old.lookup.query entry message
-            → IfOk result (ReplyHolds roots log t0 question.now) }
+        ensures { (terms : Terms) (greatest t0 : ℕ) (log : Log) → self.old.stage ≡ Stage.Last → WayHolds terms greatest log question.now.query self.old
+            → FoundHolds terms greatest t0 log self.old.zone self.old.lookup.query self.old.lookup.ends (Found.Message entry message)
+            → IfOk result (ReplyHolds terms machine_timer log t0 question.now) }
     {
         match verdict_of(alloc, message, &self.zone)? {
             Ok(Verdict::Pos(kept)) => reply_by(alloc, entry, Ok(strip(kept, question.dnssec_ok))),

@@ -2,3 +2,4 @@ pub mod Known
 pub mod Held
 pub mod Qualified
 pub mod Runs
+pub mod Plainly

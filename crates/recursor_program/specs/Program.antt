@@ -1,15 +1,19 @@
 -- What the program writes for what it reads.
-use Rattle.std.specs.Prelude.{◌≡◌, ◌≢◌, ◌⊎◌, ℕ, Bool, false, List, [], ◌∷◌, length, codes, Result, Ok, Err}
+use Rattle.std.specs.Prelude.{◌≡◌, ◌≢◌, ◌⊎◌, ℕ, Bool, false, not, List, [], ◌∷◌, length, codes, Result, Ok, Err}
 use Rattle.std.specs.declared.option.Option.{Option}
 use Rattle.std.specs.Io.KnownBytes.{Appends}
+use Rattle.std.specs.List.{list_all}
 use Rattle.std.specs.Str.{bytes_eq}
 use Rattle.dns_core.specs.Faults.{Rose}
 use Rattle.recursor_world.specs.declared.script.Script.{Script}
+use Rattle.recursor_world.specs.declared.script.ScriptLine.{ScriptLine}
+use Rattle.recursor_world.specs.declared.script.ScriptLine.TheVariants as line
 use Rattle.recursor_world.specs.Script.{Gives}
 use Rattle.recursor_world.specs.Upstream.{Upstream}
 use Rattle.dns_core.specs.Log.{log_of}
 use Rattle.resolution.specs.Asking.{AsksServers}
-use Rattle.recursor_core.specs.Replies.{given_of}
+use Rattle.recursor_core.specs.Plain.{IsPlainlyTold}
+use Rattle.recursor_core.specs.Replies.{Terms, given_of}
 use Rattle.recursor_core.specs.Standing.{Standing, RepliesHold}
 use Rattle.std.specs.declared.net.ip_addr.IpAddr.{IpAddr}
 use Rattle.recursor_text.specs.declared.scenario.Cause.{Cause}
@@ -42,13 +46,29 @@ script_of (upstream.Script s) = s
 abbrev pub IsNewOver : List IpAddr → Script → Standing Upstream → Type 0
 IsNewOver roots script r = (r.provider.script ≡ script) × (r.roots ≡ roots) × (r.moment ≡ 0)
 
+-- the line tells a message, and not a truncated one
+abbrev pub is_whole_line : ScriptLine → Bool
+is_whole_line (line.Reply ip protocol name query_type delay (Ok m)) = not m.truncation
+is_whole_line (line.Reply ip protocol name query_type delay (Err e)) = false
+is_whole_line (line.Connect ip protocol delay error) = false
+is_whole_line (line.Refuse ip protocol) = false
+
+abbrev pub is_whole_script : Script → Bool
+is_whole_script s = list_all is_whole_line s.lines
+
+-- the roots and the patience of a scenario
+abbrev pub terms_of : Scenario → Terms
+terms_of s = record { roots = s.roots; patience = s.patience }
+
 -- A run of a scenario: its log is one that the script gives, and each question has its reply, in order. Only servers were asked,
--- by what was told before; and a reply with a message is what counts of a response that a server of a zone at or above the name told since the question began.
+-- by what was told before. A reply with a message is what counts of a response that a server of a zone at or above the name told since the question
+-- began; the walk went down to this zone. Each error has its cause.
 pub record Ran (s : Scenario) (t : Transcript) : Type 0 where
   pub gives : Gives (script_of s.upstream) t.log
   pub answered : length t.replies ≡ length s.questions
-  pub asks : AsksServers (given_of s.roots) (log_of t.log)
-  pub replies : RepliesHold s.roots (log_of t.log) 0 s.turns s.questions t.replies
+  pub plain : IsPlainlyTold (log_of t.log)
+  pub asks : AsksServers (given_of (terms_of s)) (log_of t.log)
+  pub replies : RepliesHold (terms_of s) (log_of t.log) 0 s.turns s.questions t.replies
 
 -- the text of a run of the scenario
 abbrev pub HasRun : Scenario → List ℕ → Type 0

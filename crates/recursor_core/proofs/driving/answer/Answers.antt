@@ -1,29 +1,47 @@
-use Rattle.std.proofs.Common.{◌≡◌, ◌≤◌, ◌∙◌, List, [], arith, subst}
+use Rattle.std.proofs.Common.{◌≡◌, ◌≤◌, ◌∙◌, List, [], Contains, arith, subst, max}
 use Rattle.std.proofs.lemmas.Result.{IfOk-weaker}
 use Rattle.std.specs.declared.net.ip_addr.IpAddr.{IpAddr}
 use Rattle.recursor_core.specs.Carrying.{TellsThat}
-use Rattle.recursor_core.specs.Standing.{RepliesHold, last_moment}
-use Rattle.recursor_core.proofs.Standing.{holds_derived}
+use Rattle.recursor_core.specs.Standing.{RepliesHold, last_moment, run_moments}
+use Rattle.recursor_core.proofs.Standing.{holds_derived, moment_later}
 use Rattle.recursor_core.proofs.Playing.{plays_wait, replies_hold}
+use Rattle.recursor_core.proofs.Timed.{timely_first, run_first, run_turns, run_last, contains_max, IsTimely-grown}
 use Rattle.recursor_core.proofs.driving.answer.Goals as goal
 
 pub finish-requires-clause-holds : goal.finish-requires-clause-holds
 finish-requires-clause-holds g c =
-    holds_derived g.P.ConnectionProvider c.play_turns.new.core c.begin_all.new.core c.play_turns.new.carrier c.begin_all.ensures.roots c.begin_all.ensures.derived c.play_turns.ensures.holds
+    let core = c.play_turns.new.core in
+    let new = c.begin_all.new.core in
+    let come : core.moment ≤ c.max-now.result = omega (arith, c.max-now.ensures, c.moment-2.ensures) in
+    holds_derived g.P.ConnectionProvider c.args.patience core new c.play_turns.new.carrier c.begin_all.ensures.roots
+    (moment_later core.moment new.moment c.max-now.result come c.begin_all.ensures.moment) (c.begin_all.ensures.derived c.args.patience) c.play_turns.ensures.holds
 
 pub returns-clause-replies : goal.returns-clause-replies
 returns-clause-replies g c =
     let core = c.args.core.now in
+    let start = core.moment in
+    let patience = c.args.patience in
     let turns = c.args.turns.now in
     let questions = c.args.questions.now in
-    let last : c.last_moment-last.result ≡ last_moment core.moment turns = rw c.moment.ensures at c.last_moment-last.ensures in
-    let due : last_moment core.moment turns ≤ c.max-now.result = omega (arith, last, c.max-now.ensures) in
-    let waits = plays_wait core (g.P.ConnectionProvider.log c.args.carrier.now.provider) core.moment turns questions c.in_ok-plays.plays.items c.in_ok-plays.ensures.waits in
-    let played = c.play_turns.ensures.plays core.moment waits in
-    let begun = c.begin_all.ensures.plays (g.P.ConnectionProvider.log c.play_turns.new.carrier.provider) core.moment turns due played in
-    let plays = c.finish.ensures.plays core.moment turns [] questions begun in
+    let now = c.max-now.result in
+    let first = g.P.ConnectionProvider.log c.args.carrier.now.provider in
     let told = g.P.ConnectionProvider.log c.finish.new.carrier.provider in
+    let last : c.last_moment-last.result ≡ last_moment start turns = rw c.moment.ensures at c.last_moment-last.ensures in
+    let mid = c.play_turns.new.core.moment in
+    let due : last_moment start turns ≤ now = omega (arith, last, c.max-now.ensures) in
+    let after : start ≤ now = omega (arith, c.max-now.ensures, c.moment-2.ensures, c.play_turns.ensures.moment) in
+    let is : max (last_moment start turns) mid ≡ now = omega (arith, last, c.max-now.ensures, c.moment-2.ensures) in
+    let turned = c.play_turns.ensures.timely start (run_moments start turns) (run_first start turns) (run_turns start turns)
+    (timely_first start turns first c.requires.past) in
+    let one : Contains (run_moments start turns) now = subst (Contains (run_moments start turns)) is
+    (contains_max (run_moments start turns) (last_moment start turns) mid (run_last start turns) turned.0) in
+    let timely = IsTimely-grown now start (run_moments start turns) (g.P.ConnectionProvider.log c.play_turns.new.carrier.provider) told c.finish.ensures.grown
+    one turned.1 in
+    let waits = plays_wait patience core first start turns questions c.in_ok-plays.plays.items c.in_ok-plays.ensures.waits in
+    let played = c.play_turns.ensures.plays start (omega arith) waits in
+    let begun = c.begin_all.ensures.plays patience (g.P.ConnectionProvider.log c.play_turns.new.carrier.provider) start turns after due played in
+    let plays = c.finish.ensures.plays start turns [] questions begun in
     let roots = c.finish.ensures.roots ∙ (c.begin_all.ensures.roots ∙ c.play_turns.ensures.roots) in
     IfOk-weaker c.replies.result _ _ (λ v each.
-    subst (λ (ips : List IpAddr). TellsThat told (λ log. RepliesHold ips log core.moment turns questions v.items)) roots
-    (replies_hold c.finish.new.core told core.moment turns [] questions c.finish.new.plays.items v.items plays each)) c.replies.ensures.each
+    subst (λ (ips : List IpAddr). TellsThat told (λ log. RepliesHold (record { roots = ips; patience = patience }) log start turns questions v.items)) roots
+    (replies_hold patience c.finish.new.core told start turns [] questions c.finish.new.plays.items v.items timely plays each)) c.replies.ensures.each

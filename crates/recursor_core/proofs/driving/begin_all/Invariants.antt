@@ -1,4 +1,4 @@
-use Rattle.std.proofs.Common.{◌≡◌, ◌≤◌, ℕ, List, [], Option, Some, vec_len}
+use Rattle.std.proofs.Common.{◌≡◌, ◌≤◌, ◌⊎◌, ℕ, List, [], Option, Some, vec_len}
 use Rattle.dns_core.specs.Log.{Log}
 use Rattle.dns_core.specs.declared.log.LogEntry.{LogEntry}
 use Rattle.dns_core.specs.declared.request.Turn.{Turn}
@@ -9,11 +9,11 @@ use Rattle.recursor_core.proofs.driving.begin_all.Given as goal
 
 abbrev pub invariant-loop-q : goal.invariant-loop-q
 invariant-loop-q l = record {
-  derived : (log : Log) → Derived l.fn.core log → Derived l.core log;
+  derived : (patience : ℕ) (log : Log) → Derived patience l.fn.core log → Derived patience l.core log;
   roots : l.core.roots ≡ l.fn.core.roots;
-  moment : l.core.moment ≤ l.now;
+  moment : (l.core.moment ≡ l.fn.core.moment) ⊎ (l.core.moment ≡ l.now);
   begun : (k : ℕ) (b : Begun) → begun_at l.fn.core k ≡ Some b → begun_at l.core k ≡ Some b;
-  plays : (told : Option (List LogEntry)) (start : ℕ) (turns : List Turn) → last_moment start turns ≤ l.now
-      → PlaysHold l.fn.core told start turns [] l.questions l.fn.plays.items → PlaysHold l.core told start turns [] l.questions l.plays.items;
+  plays : (patience : ℕ) (told : Option (List LogEntry)) (start : ℕ) (turns : List Turn) → start ≤ l.now → last_moment start turns ≤ l.now
+      → PlaysHold patience l.fn.core told start turns [] l.questions l.fn.plays.items → PlaysHold patience l.core told start turns [] l.questions l.plays.items;
   count : vec_len l.plays ≡ vec_len l.fn.plays;
 }

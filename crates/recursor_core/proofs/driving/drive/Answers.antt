@@ -1,9 +1,34 @@
-use Rattle.std.proofs.Common.{IfOk, subst}
+use Rattle.std.proofs.Common.{◌<◌, ◌∙◌, ℕ, List, length, IfOk, sym, subst}
+use Rattle.std.specs.declared.net.ip_addr.IpAddr.{IpAddr}
 use Rattle.recursor_core.specs.Carrying.{TellsThat}
 use Rattle.recursor_core.specs.Standing.{Standing, RepliesHold}
+use Rattle.recursor_core.proofs.Standing.{rests_holds, holds_rests}
 use Rattle.recursor_core.proofs.driving.drive.Goals as goal
+
+pub answer-requires : goal.answer-requires
+answer-requires g c =
+    let was = c.recursor.inside in
+    rests_holds g.P.ConnectionProvider c.args.patience was.core c.clear.new.self was.carrier c.clear.ensures.same.0 c.clear.ensures.same.2
+    (c.clear.ensures.derived c.args.patience) c.recursor.invariant
+
+pub invariant_of-recursor : goal.invariant_of-recursor
+invariant_of-recursor g c =
+    let same = c.answer.ensures.roots ∙ c.clear.ensures.same.0 in
+    let some : 0 < length c.answer.new.core.roots = subst (λ (ips : List IpAddr). 0 < length ips) (sym same) c.recursor.invariant.some in
+    holds_rests g.P.ConnectionProvider c.args.patience c.answer.new.core c.answer.new.carrier some c.answer.ensures.holds
 
 pub returns-clause-replies : goal.returns-clause-replies
 returns-clause-replies g c =
     let told = g.P.ConnectionProvider.log c.answer.new.carrier.provider in
-    subst (λ (s : Standing _). IfOk c.answer.result (λ replies. TellsThat told (λ log. RepliesHold s.roots log s.moment c.args.turns.now c.args.questions.now replies.items))) c.recursor.view_is c.answer.ensures.replies
+    let patience = c.args.patience in
+    let was = c.recursor.inside.core in
+    let new = c.clear.new.self in
+    let by_roots = subst (λ (ips : List IpAddr). IfOk c.answer.result (λ replies. TellsThat told (λ log.
+    RepliesHold (record { roots = ips; patience = patience }) log new.moment c.args.turns.now c.args.questions.now replies.items))) c.clear.ensures.same.0
+    c.answer.ensures.replies in
+    let by_moment = subst (λ (m : ℕ). IfOk c.answer.result (λ replies. TellsThat told (λ log.
+    RepliesHold (record { roots = was.roots; patience = patience }) log m c.args.turns.now c.args.questions.now replies.items))) c.clear.ensures.same.2
+    by_roots in
+    subst (λ (s : Standing _). IfOk c.answer.result (λ replies. TellsThat told (λ log.
+    RepliesHold (record { roots = s.roots; patience = patience }) log s.moment c.args.turns.now c.args.questions.now replies.items))) c.recursor.view_is
+    by_moment

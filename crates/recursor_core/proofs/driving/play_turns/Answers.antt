@@ -13,19 +13,24 @@ loop-turn-preserved g c =
     let turns = c.args.turns.now in
     let told = g.P.ConnectionProvider.log c.loop-turn.carrier.provider in
     let within : n < length turns = omega (arith, c.loop-turn-test.true) in
+    let came = i.moment in
     record {
       vouches = λ es h. i.vouches es (e.vouches es h);
       holds = e.holds;
       roots = e.roots ∙ i.roots;
-      plays = λ start h. e.plays start turns (drop (n + 1) turns)
-          (subst (λ (ts : List Turn). PlaysHold c.loop-turn.core told start turns ts c.args.questions.now c.loop-turn.plays.items) (drop_more turns n _ within) (i.plays start h));
+      moment = omega (arith, came, e.moment);
+      timely = λ start moments was all told. let t = i.timely start moments was all told in e.timely start moments t.0 (all n _ within) t.1;
+      plays = λ start after h. e.plays start turns (drop (n + 1) turns) (omega (arith, after, came))
+          (subst (λ (ts : List Turn). PlaysHold c.args.patience c.loop-turn.core told start turns ts c.args.questions.now c.loop-turn.plays.items)
+          (drop_more turns n _ within) (i.plays start after h));
       count = e.count ∙ i.count;
     }
 
 pub returns-clause-plays : goal.returns-clause-plays
-returns-clause-plays g c start h =
+returns-clause-plays g c start after h =
     let n = c.loop-turn.turn-index in
     let turns = c.args.turns.now in
     let told = g.P.ConnectionProvider.log c.loop-turn.carrier.provider in
     let past : length turns ≤ n = omega (arith, c.loop-turn-test.false) in
-    subst (λ (ts : List Turn). PlaysHold c.loop-turn.core told start turns ts c.args.questions.now c.loop-turn.plays.items) (drop_of_length-le turns past) (c.loop-turn.invariant.plays start h)
+    subst (λ (ts : List Turn). PlaysHold c.args.patience c.loop-turn.core told start turns ts c.args.questions.now c.loop-turn.plays.items)
+    (drop_of_length-le turns past) (c.loop-turn.invariant.plays start after h)

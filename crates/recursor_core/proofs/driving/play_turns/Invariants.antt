@@ -1,14 +1,20 @@
-use Rattle.std.proofs.Common.{◌≡◌, ℕ, List, drop, vec_len}
+use Rattle.std.proofs.Common.{◌≡◌, ◌≤◌, ℕ, List, All, Contains, drop, vec_len}
 use Rattle.dns_core.specs.declared.log.LogEntry.{LogEntry}
-use Rattle.recursor_core.specs.Standing.{Holds, PlaysHold}
+use Rattle.recursor_core.specs.Carrying.{TellsThat}
+use Rattle.recursor_core.specs.Standing.{Holds, IsTimely, PlaysHold}
 use Rattle.recursor_core.proofs.driving.play_turns.Given as goal
 
 abbrev pub invariant-loop-turn : goal.invariant-loop-turn
 invariant-loop-turn g l = record {
   vouches : (es : List LogEntry) → g.P.ConnectionProvider.vouches l.carrier.provider es → g.P.ConnectionProvider.vouches l.fn.carrier.provider es;
-  holds : Holds g.P.ConnectionProvider l.core l.carrier;
+  holds : Holds g.P.ConnectionProvider l.patience l.core l.carrier;
   roots : l.core.roots ≡ l.fn.core.roots;
-  plays : (start : ℕ) → PlaysHold l.fn.core (g.P.ConnectionProvider.log l.fn.carrier.provider) start l.turns l.turns l.questions l.fn.plays.items
-      → PlaysHold l.core (g.P.ConnectionProvider.log l.carrier.provider) start l.turns (drop l.turn-index l.turns) l.questions l.plays.items;
+  moment : l.fn.core.moment ≤ l.core.moment;
+  timely : (start : ℕ) (moments : List ℕ) → Contains moments l.fn.core.moment → All (λ t. Contains moments t.moment) l.turns
+      → TellsThat (g.P.ConnectionProvider.log l.fn.carrier.provider) (IsTimely start moments)
+      → Contains moments l.core.moment × TellsThat (g.P.ConnectionProvider.log l.carrier.provider) (IsTimely start moments);
+  plays : (start : ℕ) → start ≤ l.fn.core.moment
+      → PlaysHold l.patience l.fn.core (g.P.ConnectionProvider.log l.fn.carrier.provider) start l.turns l.turns l.questions l.fn.plays.items
+      → PlaysHold l.patience l.core (g.P.ConnectionProvider.log l.carrier.provider) start l.turns (drop l.turn-index l.turns) l.questions l.plays.items;
   count : vec_len l.plays ≡ vec_len l.fn.plays;
 }

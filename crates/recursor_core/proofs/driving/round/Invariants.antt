@@ -1,7 +1,8 @@
-use Rattle.std.proofs.Common.{◌≡◌, ◌≤◌, ◌<◌, ℕ, List, MatchBool, vec_len}
+use Rattle.std.proofs.Common.{◌≡◌, ◌≤◌, ◌<◌, ◌⊎◌, ℕ, List, MatchBool, vec_len}
 use Rattle.dns_core.specs.declared.log.LogEntry.{LogEntry}
 use Rattle.dns_core.specs.declared.request.Question.{Question}
 use Rattle.dns_core.specs.declared.request.Turn.{Turn}
+use Rattle.recursor_core.specs.Carrying.{Grown}
 use Rattle.recursor_core.specs.Standing.{Holds, PlaysHold}
 use Rattle.recursor_core.specs.Turns.{work}
 use Rattle.recursor_core.proofs.driving.round.Given as goal
@@ -9,11 +10,14 @@ use Rattle.recursor_core.proofs.driving.round.Given as goal
 abbrev pub invariant-loop-q : goal.invariant-loop-q
 invariant-loop-q g l = record {
   vouches : (es : List LogEntry) → g.P.ConnectionProvider.vouches l.carrier.provider es → g.P.ConnectionProvider.vouches l.fn.carrier.provider es;
-  holds : Holds g.P.ConnectionProvider l.core l.carrier;
+  holds : Holds g.P.ConnectionProvider l.tick.patience l.core l.carrier;
   roots : l.core.roots ≡ l.fn.core.roots;
-  moment : l.core.moment ≤ l.tick.now;
-  plays : (start : ℕ) (turns rest : List Turn) (questions : List Question) → PlaysHold l.fn.core (g.P.ConnectionProvider.log l.fn.carrier.provider) start turns rest questions l.fn.plays.items
-      → PlaysHold l.core (g.P.ConnectionProvider.log l.carrier.provider) start turns rest questions l.plays.items;
-  falls : MatchBool l.busy (work l.tick.patience l.core l.plays.items < work l.tick.patience l.fn.core l.fn.plays.items) (work l.tick.patience l.core l.plays.items ≤ work l.tick.patience l.fn.core l.fn.plays.items);
+  moment : (l.core.moment ≡ l.fn.core.moment) ⊎ (l.core.moment ≡ l.tick.now);
+  grown : Grown l.tick.now (g.P.ConnectionProvider.log l.fn.carrier.provider) (g.P.ConnectionProvider.log l.carrier.provider);
+  plays : (start : ℕ) (turns rest : List Turn) (questions : List Question)
+      → PlaysHold l.tick.patience l.fn.core (g.P.ConnectionProvider.log l.fn.carrier.provider) start turns rest questions l.fn.plays.items
+      → PlaysHold l.tick.patience l.core (g.P.ConnectionProvider.log l.carrier.provider) start turns rest questions l.plays.items;
+  falls : MatchBool l.busy (work l.tick.patience l.core l.plays.items < work l.tick.patience l.fn.core l.fn.plays.items)
+      (work l.tick.patience l.core l.plays.items ≤ work l.tick.patience l.fn.core l.fn.plays.items);
   count : vec_len l.plays ≡ vec_len l.fn.plays;
 }

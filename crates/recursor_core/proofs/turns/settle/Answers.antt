@@ -1,35 +1,39 @@
-use Rattle.recursor_core.specs.Replies.{given_of}
-use Rattle.recursor_core.proofs.Standing.{holds_put, holds_grown, moves_core, moves_grown, moves_trans}
+use Rattle.std.proofs.Common.{List, IfOk, arith, subst}
+use Rattle.std.specs.declared.net.ip_addr.IpAddr.{IpAddr}
+use Rattle.recursor_core.specs.Standing.{TurnedTold}
+use Rattle.recursor_core.proofs.Standing.{holds_put}
 use Rattle.recursor_core.proofs.turns.settle.Goals as goal
 
 pub returns-in-Kept-clause-holds : goal.returns-in-Kept-clause-holds
 returns-in-Kept-clause-holds g c =
-    holds_put g.P.ConnectionProvider c.args.core.now c.put.new.self c.args.carrier.now c.args.tick.now c.args.outcome c.put.ensures.roots c.put.ensures.derived c.requires.fits c.requires.moment c.requires.holds
-
-pub returns-in-Kept-clause-moves : goal.returns-in-Kept-clause-moves
-returns-in-Kept-clause-moves g c = moves_core g.P.ConnectionProvider c.args.core.now c.put.new.self c.args.carrier.now c.put.ensures.roots c.put.ensures.begun
+    let patience = c.args.tick.patience in
+    holds_put g.P.ConnectionProvider patience c.args.core.now c.put.new.self c.args.carrier.now c.args.tick.now c.args.outcome c.put.ensures.roots
+    (c.put.ensures.moment c.requires.moment)
+    (λ log longer. c.put.ensures.derived patience log longer (omega arith)) c.requires.fits c.requires.moment c.requires.holds
 
 pub returns-in-Ended-clause-holds : goal.returns-in-Ended-clause-holds
 returns-in-Ended-clause-holds g c =
-    holds_put g.P.ConnectionProvider c.args.core.now c.put.new.self c.args.carrier.now c.args.tick.now c.args.outcome c.put.ensures.roots c.put.ensures.derived c.requires.fits c.requires.moment c.requires.holds
-
-pub returns-in-Ended-clause-moves : goal.returns-in-Ended-clause-moves
-returns-in-Ended-clause-moves g c = moves_core g.P.ConnectionProvider c.args.core.now c.put.new.self c.args.carrier.now c.put.ensures.roots c.put.ensures.begun
+    let patience = c.args.tick.patience in
+    holds_put g.P.ConnectionProvider patience c.args.core.now c.put.new.self c.args.carrier.now c.args.tick.now c.args.outcome c.put.ensures.roots
+    (c.put.ensures.moment c.requires.moment)
+    (λ log longer. c.put.ensures.derived patience log longer (omega arith)) c.requires.fits c.requires.moment c.requires.holds
 
 pub returns-in-Late-clause-holds : goal.returns-in-Late-clause-holds
 returns-in-Late-clause-holds g c =
-    holds_put g.P.ConnectionProvider c.args.core.now c.put.new.self c.args.carrier.now c.args.tick.now c.args.outcome c.put.ensures.roots c.put.ensures.derived c.requires.fits c.requires.moment c.requires.holds
+    let patience = c.args.tick.patience in
+    holds_put g.P.ConnectionProvider patience c.args.core.now c.put.new.self c.args.carrier.now c.args.tick.now c.args.outcome c.put.ensures.roots
+    (c.put.ensures.moment c.requires.moment)
+    (λ log longer. c.put.ensures.derived patience log longer (omega arith)) c.requires.fits c.requires.moment c.requires.holds
 
-pub returns-in-Late-clause-moves : goal.returns-in-Late-clause-moves
-returns-in-Late-clause-moves g c = moves_core g.P.ConnectionProvider c.args.core.now c.put.new.self c.args.carrier.now c.put.ensures.roots c.put.ensures.begun
+pub give_up_order-requires-clause-holds : goal.give_up_order-requires-clause-holds
+give_up_order-requires-clause-holds g c =
+    let patience = c.args.tick.patience in
+    holds_put g.P.ConnectionProvider patience c.args.core.now c.put.new.self c.args.carrier.now c.args.tick.now c.args.outcome c.put.ensures.roots
+    (c.put.ensures.moment c.requires.moment)
+    (λ log longer. c.put.ensures.derived patience log longer (omega arith)) c.requires.fits c.requires.moment c.requires.holds
 
-pub returns-in-GiveUp-clause-holds : goal.returns-in-GiveUp-clause-holds
-returns-in-GiveUp-clause-holds g c =
-    let put = holds_put g.P.ConnectionProvider c.args.core.now c.put.new.self c.args.carrier.now c.args.tick.now c.args.outcome c.put.ensures.roots c.put.ensures.derived c.requires.fits c.requires.moment c.requires.holds in
-    holds_grown g.P.ConnectionProvider c.put.new.self c.args.carrier.now c.give_up.new.self c.give_up.ensures.holds c.give_up.ensures.grown (c.give_up.ensures.asks (given_of c.put.new.self.roots)) put
-
-pub returns-in-GiveUp-clause-moves : goal.returns-in-GiveUp-clause-moves
-returns-in-GiveUp-clause-moves g c =
-    moves_trans g.P.ConnectionProvider _ _ _ _ _ _
-    (moves_core g.P.ConnectionProvider c.args.core.now c.put.new.self c.args.carrier.now c.put.ensures.roots c.put.ensures.begun)
-    (moves_grown g.P.ConnectionProvider c.put.new.self c.args.carrier.now c.give_up.new.self c.give_up.ensures.grown)
+pub returns-in-GiveUp-clause-told : goal.returns-in-GiveUp-clause-told
+returns-in-GiveUp-clause-told g c b =
+    let told = g.P.ConnectionProvider.log c.give_up_order.new.carrier.provider in
+    subst (λ (ips : List IpAddr). IfOk c.give_up_order.result (TurnedTold (record { roots = ips; patience = c.args.tick.patience }) told b))
+    c.put.ensures.roots (c.give_up_order.ensures.told b)

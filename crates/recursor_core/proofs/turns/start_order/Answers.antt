@@ -1,16 +1,25 @@
 use Rattle.recursor_core.specs.Replies.{given_of}
+use Rattle.recursor_core.specs.Derived.{terms_of}
 use Rattle.recursor_core.proofs.Standing.{holds_grown, moves_grown, moves_trans}
 use Rattle.recursor_core.proofs.turns.start_order.Goals as goal
 
 pub returns-in_err-outcome-clause-holds : goal.returns-in_err-outcome-clause-holds
 returns-in_err-outcome-clause-holds g c =
     let core = c.args.core.now in
-    holds_grown g.P.ConnectionProvider core c.args.carrier.now c.start.new.self c.start.ensures.holds c.start.ensures.grown (c.start.ensures.asks (given_of core.roots) c.requires.goes) c.requires.holds
+    let patience = c.args.tick.patience in
+    holds_grown g.P.ConnectionProvider patience core c.args.carrier.now c.start.new.self c.args.tick.now c.requires.moment c.start.ensures.holds
+    c.start.ensures.grown
+    (c.start.ensures.asks (given_of (terms_of patience core)) c.requires.goes) c.requires.holds
 
 pub settle-requires-clause-holds : goal.settle-requires-clause-holds
 settle-requires-clause-holds g c =
     let core = c.args.core.now in
-    holds_grown g.P.ConnectionProvider core c.args.carrier.now c.start.new.self c.start.ensures.holds c.start.ensures.grown (c.start.ensures.asks (given_of core.roots) c.requires.goes) c.requires.holds
+    let patience = c.args.tick.patience in
+    holds_grown g.P.ConnectionProvider patience core c.args.carrier.now c.start.new.self c.args.tick.now c.requires.moment c.start.ensures.holds
+    c.start.ensures.grown
+    (c.start.ensures.asks (given_of (terms_of patience core)) c.requires.goes) c.requires.holds
 
 pub returns-clause-moves : goal.returns-clause-moves
-returns-clause-moves g c = moves_trans g.P.ConnectionProvider _ _ _ _ _ _ (moves_grown g.P.ConnectionProvider c.args.core.now c.args.carrier.now c.start.new.self c.start.ensures.grown) c.settle.ensures.moves
+returns-clause-moves g c =
+    moves_trans g.P.ConnectionProvider c.args.tick.now _ _ _ _ _ _
+    (moves_grown g.P.ConnectionProvider c.args.tick.now c.args.core.now c.args.carrier.now c.start.new.self c.start.ensures.grown) c.settle.ensures.moves

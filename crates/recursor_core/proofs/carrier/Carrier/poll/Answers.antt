@@ -2,11 +2,17 @@ use Rattle.std.proofs.Common.{sym, ◌∙◌, ap}
 use Rattle.recursor_core.proofs.Slots.{SlotHolds-taken}
 use Rattle.recursor_core.proofs.carrier.Carrier.poll.Goals as goal
 
+pub poll_opening-requires-clause-opened : goal.poll_opening-requires-clause-opened
+poll_opening-requires-clause-opened g c =
+    let p = g.P.ConnectionProvider in
+    let held = SlotHolds-taken p (p.log c.args.self.now.provider) c.args.self.now.slots c.args.number _ c.in-Opening.ensures.was c.requires.holds.slots in
+    (held.0, λ es told. held.1 es (ap p.log (sym c.take.ensures.same.0) ∙ told))
+
 pub poll_asking-requires-clause-asked : goal.poll_asking-requires-clause-asked
-poll_asking-requires-clause-asked g c es told =
+poll_asking-requires-clause-asked g c =
     let p = g.P.ConnectionProvider in
     let held = SlotHolds-taken p (p.log c.args.self.now.provider) c.args.self.now.slots c.args.number _ c.in-Asking.ensures.was c.requires.holds.slots in
-    held es (ap p.log (sym c.take.ensures.same.0) ∙ told)
+    (held.0, λ es told. held.1 es (ap p.log (sym c.take.ensures.same.0) ∙ told))
 
 pub returns-in-Opening-clause-asks : goal.returns-in-Opening-clause-asks
 returns-in-Opening-clause-asks g c given asks =

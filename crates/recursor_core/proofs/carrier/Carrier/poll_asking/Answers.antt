@@ -1,27 +1,42 @@
-use Rattle.std.proofs.Common.{◌≡◌, ◌+◌, true, refl, sym, ◌∙◌, ap, cond, arith}
+use Rattle.std.proofs.Common.{◌≡◌, ◌+◌, ◌<◌, ◌^◌, Some, true, refl, sym, ◌∙◌, ap, cond, arith}
 use Rattle.dns_core.specs.Log.{added}
 use Rattle.dns_core.specs.declared.log.LogEntry.TheVariants.{Told}
 use Rattle.dns_core.specs.declared.log.ToldOutcome.TheVariants.{Error}
 use Rattle.recursor_core.proofs.Growing.{Grown-added, Grown-unless, AsksServers-added, AsksServers-unless}
-use Rattle.recursor_core.proofs.Slots.{holds_added, holds_unless, holds_put, IsAskedBy-grown, Fits-told}
+use Rattle.recursor_core.proofs.Slots.{holds_added, holds_unless, holds_put, IsWaitedFor-polled, Fits-told, Fits-failed}
 use Rattle.recursor_core.proofs.carrier.Carrier.poll_asking.Goals as goal
 
 pub returns-in-Pending-clause-holds : goal.returns-in-Pending-clause-holds
 returns-in-Pending-clause-holds g c =
     let p = g.P.ConnectionProvider in
+    let a = c.args.asking in
     let count = c.count-entry.ensures in
     let keep = c.keep.ensures in
     let same = c.in-Pending.ensures.same in
     let grew = ap p.log count.same.0 ∙ c.in-Pending.ensures.log in
     let counted = holds_added p c.args.self.now c.count-entry.new.self _ grew count.counts count.same.1 c.requires.holds in
-    holds_put p c.count-entry.new.self c.keep.new.self _ _ keep.slots keep.same.0 keep.same.1
-    (IsAskedBy-grown p c.args.asking _ _ _ (Grown-added _ _ _ grew) same.0 same.1 refl refl c.requires.asked) counted
+    let more = c.saturating_add-polls in
+    let polled = IsWaitedFor-polled (p.asked a.exchange) a.sent a.polls more.result _ _ grew (omega (arith, more.ensures)) c.requires.asked.1 in
+    holds_put p c.count-entry.new.self c.keep.new.self _ _ keep.slots keep.same.0 keep.same.1 (c.requires.asked.0 ∙ ap Some (sym same.1), rw same.0 polled)
+    counted
 
 pub returns-in-Pending-clause-grown : goal.returns-in-Pending-clause-grown
-returns-in-Pending-clause-grown g c = Grown-added _ _ _ (ap g.P.ConnectionProvider.log (c.keep.ensures.same.0 ∙ c.count-entry.ensures.same.0) ∙ c.in-Pending.ensures.log)
+returns-in-Pending-clause-grown g c =
+    Grown-added _ _ _ _ (ap g.P.ConnectionProvider.log (c.keep.ensures.same.0 ∙ c.count-entry.ensures.same.0) ∙ c.in-Pending.ensures.log) tt
 
 pub returns-in-Pending-clause-asks : goal.returns-in-Pending-clause-asks
-returns-in-Pending-clause-asks g c given asks = AsksServers-added given _ _ _ (ap g.P.ConnectionProvider.log (c.keep.ensures.same.0 ∙ c.count-entry.ensures.same.0) ∙ c.in-Pending.ensures.log) (λ es told. tt) asks
+returns-in-Pending-clause-asks g c given asks =
+    let same = c.keep.ensures.same.0 ∙ c.count-entry.ensures.same.0 in
+    AsksServers-added given _ _ _ (ap g.P.ConnectionProvider.log same ∙ c.in-Pending.ensures.log) (λ es told. tt) asks
+
+pub returns-in-Pending-clause-fits : goal.returns-in-Pending-clause-fits
+returns-in-Pending-clause-fits g c es told =
+    let p = g.P.ConnectionProvider in
+    let holds = returns-in-Pending-clause-holds g c in
+    let count = c.count-entry.ensures in
+    let entries = c.keep.ensures.same.1 in
+    let below : c.keep.new.self.entries + 1 < 2 ^ 64 = omega (arith, entries, count.counts, c.requires.room) in
+    record { within = omega (arith, entries, count.entry, holds.counted below es told); is = tt }
 
 pub returns-in-Ready-Ok-clause-holds : goal.returns-in-Ready-Ok-clause-holds
 returns-in-Ready-Ok-clause-holds g c =
@@ -33,17 +48,19 @@ returns-in-Ready-Ok-clause-holds g c =
 pub returns-in-Ready-Ok-clause-grown : goal.returns-in-Ready-Ok-clause-grown
 returns-in-Ready-Ok-clause-grown g c =
     let told = rw c.in-Ready-Ok.field-0-is at c.in-Ready-Ok.ensures.log in
-    Grown-added _ _ _ (ap g.P.ConnectionProvider.log c.count-entry-in-Ready-Ok.ensures.same.0 ∙ told)
+    Grown-added _ _ _ _ (ap g.P.ConnectionProvider.log c.count-entry-in-Ready-Ok.ensures.same.0 ∙ told) refl
 
 pub returns-in-Ready-Ok-clause-fits : goal.returns-in-Ready-Ok-clause-fits
 returns-in-Ready-Ok-clause-fits g c =
     let p = g.P.ConnectionProvider in
+    let a = c.args.asking in
     let told = rw c.in-Ready-Ok.field-0-is at c.in-Ready-Ok.ensures.log in
     let heard = rw c.in-Ready-Ok.field-0-is at c.in-Ready-Ok.ensures.told in
     let count = c.count-entry-in-Ready-Ok.ensures in
     let number : c.count-entry-in-Ready-Ok.result ≡ c.args.self.now.entries + 1 = omega (arith, count.entry, count.counts, c.requires.room) in
-    Fits-told p c.args.asking c.in-Ready-Ok.message c.args.now c.args.self.now.entries c.count-entry-in-Ready-Ok.result _ _ (ap p.log count.same.0 ∙ told)
-    (c.requires.holds.counted (omega (arith, c.requires.room))) number heard.0 c.requires.asked
+    Fits-told (p.asked a.exchange) a.sent a.polls c.in-Ready-Ok.message c.args.now c.args.self.now.entries c.count-entry-in-Ready-Ok.result _ _
+    (ap p.log count.same.0 ∙ told) (c.requires.holds.counted (omega (arith, c.requires.room))) number
+    (c.requires.asked.0 ∙ ap Some (sym heard.0)) c.requires.asked.1
 
 pub returns-in-Ready-Ok-clause-asks : goal.returns-in-Ready-Ok-clause-asks
 returns-in-Ready-Ok-clause-asks g c given asks =
@@ -53,16 +70,15 @@ returns-in-Ready-Ok-clause-asks g c given asks =
 pub returns-then-is_memory-clause-holds : goal.returns-then-is_memory-clause-holds
 returns-then-is_memory-clause-holds g c =
     let p = g.P.ConnectionProvider in
-    let a = c.args.asking in
     let told = rw c.in-Ready-Err.field-0-is at c.in-Ready-Err.ensures.log in
-    let e = Told (p.asked a.exchange) c.args.now (Error c.in-Ready-Err.error) in
+    let e = Told (p.asked c.args.asking.exchange) c.args.now (Error c.in-Ready-Err.error) in
     let old = p.log c.args.self.now.provider in
     let unchanged = told ∙ ap (λ b. cond b old (added e old)) (sym c.is_memory.ensures ∙ c.if-is_memory.true) in
     let same = c.in-Ready-Err.ensures.same in
     let keep = c.keep-then-is_memory.ensures in
     let polled = record c.args.self.now { provider = c.poll_exchange.new.self } in
     holds_put p polled c.keep-then-is_memory.new.self _ _ keep.slots keep.same.0 keep.same.1
-    (IsAskedBy-grown p a _ _ _ (Grown-unless _ _ _ _ told) same.0 same.1 refl refl c.requires.asked)
+    (c.requires.asked.0 ∙ ap Some (sym same.1), λ es told. rw same.0 (c.requires.asked.1 es (sym unchanged ∙ told)))
     (holds_unless true p c.args.self.now polled e unchanged refl refl c.requires.holds)
 
 pub returns-clause-holds : goal.returns-clause-holds
@@ -75,7 +91,18 @@ returns-clause-holds g c =
 pub returns-clause-grown : goal.returns-clause-grown
 returns-clause-grown g c =
     let told = rw c.in-Ready-Err.field-0-is at c.in-Ready-Err.ensures.log in
-    Grown-unless _ _ _ _ (ap g.P.ConnectionProvider.log c.failed.ensures.same.0 ∙ told)
+    Grown-unless _ _ _ _ _ (ap g.P.ConnectionProvider.log c.failed.ensures.same.0 ∙ told) refl
+
+pub returns-clause-fits : goal.returns-clause-fits
+returns-clause-fits g c =
+    let p = g.P.ConnectionProvider in
+    let a = c.args.asking in
+    let told = rw c.in-Ready-Err.field-0-is at c.in-Ready-Err.ensures.log in
+    let failed = c.failed.ensures in
+    let was = c.args.self.now in
+    Fits-failed c.failed.result _ (p.asked a.exchange) a.sent a.polls c.args.now was.entries c.failed.new.self.entries c.in-Ready-Err.error
+    (p.log was.provider) _ failed.memory failed.ok failed.counts (ap p.log failed.same.0 ∙ told) c.requires.room
+    (c.requires.holds.counted (omega (arith, c.requires.room))) c.requires.asked.1
 
 pub returns-clause-asks : goal.returns-clause-asks
 returns-clause-asks g c given asks =

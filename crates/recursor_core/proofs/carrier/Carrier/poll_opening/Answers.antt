@@ -1,21 +1,32 @@
-use Rattle.std.proofs.Common.{◌∙◌, ap}
+use Rattle.std.proofs.Common.{true, refl, sym, ◌∙◌, ap, cond, arith}
+use Rattle.dns_core.specs.Log.{added}
+use Rattle.dns_core.specs.declared.log.LogEntry.TheVariants.{Told}
+use Rattle.dns_core.specs.declared.log.ToldOutcome.TheVariants.{Error}
 use Rattle.recursor_core.proofs.Growing.{Grown-added, Grown-unless, AsksServers-added, AsksServers-unless}
-use Rattle.recursor_core.proofs.Slots.{holds_added, holds_unless, holds_put}
+use Rattle.recursor_core.proofs.Slots.{holds_added, holds_unless, holds_put, IsWaitedFor-polled, Fits-failed}
 use Rattle.recursor_core.proofs.carrier.Carrier.poll_opening.Goals as goal
 
 pub returns-in-Pending-clause-holds : goal.returns-in-Pending-clause-holds
 returns-in-Pending-clause-holds g c =
     let p = g.P.ConnectionProvider in
+    let o = c.args.opening in
     let count = c.count-entry.ensures in
     let keep = c.keep.ensures in
-    let counted = holds_added p c.args.self.now c.count-entry.new.self _ (ap p.log count.same.0 ∙ c.in-Pending.ensures.log) count.counts count.same.1 c.requires.holds in
-    holds_put p c.count-entry.new.self c.keep.new.self _ _ keep.slots keep.same.0 keep.same.1 tt counted
+    let same = c.in-Pending.ensures.same in
+    let grew = ap p.log count.same.0 ∙ c.in-Pending.ensures.log in
+    let counted = holds_added p c.args.self.now c.count-entry.new.self _ grew count.counts count.same.1 c.requires.holds in
+    let more = c.saturating_add-polls in
+    let polled = IsWaitedFor-polled (p.opened o.future) o.sent o.polls more.result _ _ grew (omega (arith, more.ensures)) c.requires.opened.1 in
+    holds_put p c.count-entry.new.self c.keep.new.self _ _ keep.slots keep.same.0 keep.same.1 (c.requires.opened.0, rw same.0 polled) counted
 
 pub returns-in-Pending-clause-grown : goal.returns-in-Pending-clause-grown
-returns-in-Pending-clause-grown g c = Grown-added _ _ _ (ap g.P.ConnectionProvider.log (c.keep.ensures.same.0 ∙ c.count-entry.ensures.same.0) ∙ c.in-Pending.ensures.log)
+returns-in-Pending-clause-grown g c =
+    Grown-added _ _ _ _ (ap g.P.ConnectionProvider.log (c.keep.ensures.same.0 ∙ c.count-entry.ensures.same.0) ∙ c.in-Pending.ensures.log) tt
 
 pub returns-in-Pending-clause-asks : goal.returns-in-Pending-clause-asks
-returns-in-Pending-clause-asks g c given asks = AsksServers-added given _ _ _ (ap g.P.ConnectionProvider.log (c.keep.ensures.same.0 ∙ c.count-entry.ensures.same.0) ∙ c.in-Pending.ensures.log) (λ es told. tt) asks
+returns-in-Pending-clause-asks g c given asks =
+    let same = c.keep.ensures.same.0 ∙ c.count-entry.ensures.same.0 in
+    AsksServers-added given _ _ _ (ap g.P.ConnectionProvider.log same ∙ c.in-Pending.ensures.log) (λ es told. tt) asks
 
 pub returns-in-Ready-Ok-clause-holds : goal.returns-in-Ready-Ok-clause-holds
 returns-in-Ready-Ok-clause-holds g c =
@@ -27,12 +38,26 @@ returns-in-Ready-Ok-clause-holds g c =
 pub returns-in-Ready-Ok-clause-grown : goal.returns-in-Ready-Ok-clause-grown
 returns-in-Ready-Ok-clause-grown g c =
     let told = rw c.in-Ready-Ok.field-0-is at c.in-Ready-Ok.ensures.log in
-    Grown-added _ _ _ (ap g.P.ConnectionProvider.log c.connected.ensures.same.0 ∙ told)
+    Grown-added _ _ _ _ (ap g.P.ConnectionProvider.log c.connected.ensures.same.0 ∙ told) refl
 
 pub returns-in-Ready-Ok-clause-asks : goal.returns-in-Ready-Ok-clause-asks
 returns-in-Ready-Ok-clause-asks g c given asks =
     let told = rw c.in-Ready-Ok.field-0-is at c.in-Ready-Ok.ensures.log in
     AsksServers-added given _ _ _ (ap g.P.ConnectionProvider.log c.connected.ensures.same.0 ∙ told) (λ es told. tt) asks
+
+pub returns-then-is_memory-clause-holds : goal.returns-then-is_memory-clause-holds
+returns-then-is_memory-clause-holds g c =
+    let p = g.P.ConnectionProvider in
+    let told = rw c.in-Ready-Err.field-0-is at c.in-Ready-Err.ensures.log in
+    let e = Told (p.opened c.args.opening.future) c.args.now (Error c.in-Ready-Err.error) in
+    let old = p.log c.args.self.now.provider in
+    let unchanged = told ∙ ap (λ b. cond b old (added e old)) (sym c.is_memory.ensures ∙ c.if-is_memory.true) in
+    let same = c.in-Ready-Err.ensures.same in
+    let keep = c.keep-then-is_memory.ensures in
+    let polled = record c.args.self.now { provider = c.poll_connection.new.self } in
+    holds_put p polled c.keep-then-is_memory.new.self _ _ keep.slots keep.same.0 keep.same.1
+    (c.requires.opened.0, λ es told. rw same.0 (c.requires.opened.1 es (sym unchanged ∙ told)))
+    (holds_unless true p c.args.self.now polled e unchanged refl refl c.requires.holds)
 
 pub returns-clause-holds : goal.returns-clause-holds
 returns-clause-holds g c =
@@ -44,7 +69,18 @@ returns-clause-holds g c =
 pub returns-clause-grown : goal.returns-clause-grown
 returns-clause-grown g c =
     let told = rw c.in-Ready-Err.field-0-is at c.in-Ready-Err.ensures.log in
-    Grown-unless _ _ _ _ (ap g.P.ConnectionProvider.log c.failed.ensures.same.0 ∙ told)
+    Grown-unless _ _ _ _ _ (ap g.P.ConnectionProvider.log c.failed.ensures.same.0 ∙ told) refl
+
+pub returns-clause-fits : goal.returns-clause-fits
+returns-clause-fits g c =
+    let p = g.P.ConnectionProvider in
+    let o = c.args.opening in
+    let told = rw c.in-Ready-Err.field-0-is at c.in-Ready-Err.ensures.log in
+    let failed = c.failed.ensures in
+    let was = c.args.self.now in
+    Fits-failed c.failed.result _ (p.opened o.future) o.sent o.polls c.args.now was.entries c.failed.new.self.entries c.in-Ready-Err.error
+    (p.log was.provider) _ failed.memory failed.ok failed.counts (ap p.log failed.same.0 ∙ told) c.requires.room
+    (c.requires.holds.counted (omega (arith, c.requires.room))) c.requires.opened.1
 
 pub returns-clause-asks : goal.returns-clause-asks
 returns-clause-asks g c given asks =

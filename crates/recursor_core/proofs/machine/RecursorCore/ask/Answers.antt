@@ -1,13 +1,12 @@
-use Rattle.std.proofs.Common.{◌≡◌, ◌∙◌, ap}
-use Rattle.std.specs.Prelude.{slice_get}
-use Rattle.std.specs.Global.{Vec}
-use Rattle.recursor_core.specs.declared.resolving.Resolution.{Resolution}
+use Rattle.recursor_core.specs.Derived.{terms_of}
 use Rattle.recursor_core.proofs.Cores.{asks-server, derived-set}
 use Rattle.recursor_core.proofs.machine.RecursorCore.ask.Goals as goal
 
 pub returns-clause-gives : goal.returns-clause-gives
-returns-clause-gives c log d =
-    let core = c.args.self.now in (
-      c.asks.ensures.derived log (derived-set core c.take_number.new.self log c.take_number.ensures d),
-      asks-server core.roots core.greatest core.moment log core.resolutions.items c.args.r c.args.ip c.in_ok-request.request.query c.requires c.in_ok-request.ensures d.resolutions,
+returns-clause-gives c patience log d =
+    let core = c.args.self.now in
+    let request = c.in_ok-request.request in
+    let rs = core.resolutions.items in (
+      c.asks.ensures.derived patience log (derived-set patience core c.take_number.new.self log c.take_number.ensures d),
+      asks-server (terms_of patience core) core.greatest core.moment log rs c.args.r c.args.ip request.query c.requires c.in_ok-request.ensures d.resolutions,
     )

@@ -1,22 +1,25 @@
-use Rattle.std.proofs.Common.{◌≡◌, ◌≤◌, ◌++◌, ◌∷◌, [], arith, refl, All, ℕ, List, Option, Some, length, ap, ◌∙◌, slice_get}
+use Rattle.std.proofs.Common.{◌≡◌, ◌++◌, ◌∷◌, [], arith, refl, ℕ, List, Option, Some, length, ap, ◌∙◌, slice_get}
 use Rattle.std.specs.Option.{option_map}
 use Rattle.dns_core.specs.declared.request.Question.{Question}
 use Rattle.recursor_core.specs.Machine.{Begun, begun_of}
 use Rattle.recursor_core.specs.declared.resolving.Resolution.{Resolution}
 use Rattle.std.proofs.lemmas.List.Elements.{All-push}
-use Rattle.recursor_core.specs.Derived.{ResolutionHolds}
-use Rattle.recursor_core.proofs.Kept.{resolutions-kept}
-use Rattle.recursor_core.proofs.Growing.{Extends-refl}
+use Rattle.recursor_core.specs.Derived.{terms_of, ResolutionHolds}
+use Rattle.recursor_core.proofs.Kept.{same-log, resolutions-kept}
 use Rattle.recursor_core.proofs.Cores.{derived-is, begun-push, begun-last}
 use Rattle.recursor_core.proofs.machine.RecursorCore.begin_walk.Goals as goal
 
 pub returns-clause-derived : goal.returns-clause-derived
-returns-clause-derived c log later d =
+returns-clause-derived c patience log later d =
     let core = c.args.self.now in
     let r = c.in_ok-resolution.resolution in
-    let P = ResolutionHolds core.roots core.greatest c.args.now log in
-    derived-is _ log core.roots core.greatest c.args.now (core.resolutions.items ++ r ∷ []) refl refl refl c.in_ok-push.ensures.items d.bound
-    (All-push P core.resolutions.items r (resolutions-kept core.roots log log (Extends-refl log) core.greatest core.greatest core.moment c.args.now core.resolutions.items (omega arith) later d.resolutions) (c.in_ok-resolution.ensures.holds core.greatest log))
+    let terms = terms_of patience core in
+    let P = ResolutionHolds terms core.greatest c.args.now log in
+    let g = core.greatest in
+    let rs = core.resolutions.items in
+    let before = resolutions-kept terms log log (same-log log) g g core.moment c.args.now rs (omega arith) later d.resolutions in
+    derived-is patience _ log core.roots g c.args.now (rs ++ r ∷ []) refl refl refl c.in_ok-push.ensures.items d.bound d.some
+    (All-push P rs r before (c.in_ok-resolution.ensures.holds patience g log d.some))
 
 pub returns-clause-others : goal.returns-clause-others
 returns-clause-others c k within =

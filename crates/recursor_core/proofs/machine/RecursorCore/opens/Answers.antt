@@ -1,9 +1,8 @@
-use Rattle.std.proofs.Common.{◌≡◌, ◌<◌, ◌∙◌, ℕ, length, arith, sym, ap, subst, refl, None, Some, All}
-use Rattle.std.proofs.lemmas.List.Elements.{All-set}
-use Rattle.recursor_core.specs.Derived.{ResolutionHolds}
-use Rattle.recursor_core.specs.Machine.{need_in, MayAskOf}
-use Rattle.recursor_core.proofs.Ranks.{rank_falls, sum_falls, read_at, need_within, may_ask_within, order_within}
-use Rattle.recursor_core.proofs.Cores.{held-at, begun-set}
+use Rattle.std.proofs.Common.{◌<◌, ◌∙◌, length, sym, ap, refl}
+use Rattle.recursor_core.specs.Derived.{terms_of, ResolutionHolds}
+use Rattle.recursor_core.specs.Machine.{need_in}
+use Rattle.recursor_core.proofs.Ranks.{rank_falls, sum_falls, read_at, need_within}
+use Rattle.recursor_core.proofs.Cores.{all-after, begun-set}
 use Rattle.recursor_core.proofs.machine.RecursorCore.opens.Goals as goal
 
 pub returns-clause-falls : goal.returns-clause-falls
@@ -17,17 +16,18 @@ returns-clause-falls c p =
     sum_falls p xs c.args.r f c.opens.new.self within at (rank_falls p f c.opens.new.self (c.opens.ensures.falls _ wants))
 
 pub returns-clause-derived : goal.returns-clause-derived
-returns-clause-derived c log d =
+returns-clause-derived c patience log d =
     let core = c.args.self.now in
+    let terms = terms_of patience core in
     let xs = c.args.self.now.resolutions.items in
     let f = c.index_mut-resolution.result.now in
     let at = c.index_mut-resolution.ensures.value in
     let within : c.args.r < length xs = need_within xs c.args.r (λ e. cc) in
     let read = read_at xs c.args.r f within at in
     let wants = sym (ap need_in read) ∙ c.requires in
-    let P = ResolutionHolds core.roots core.greatest core.moment log in
-    let held = held-at P xs c.args.r f within at d.resolutions in
-    record { bound = d.bound; resolutions = All-set P xs c.args.r c.opens.new.self (c.opens.ensures.holds core.roots core.greatest core.moment log wants held) d.resolutions }
+    let P = ResolutionHolds terms core.greatest core.moment log in
+    let kept = all-after P xs c.args.r f c.opens.new.self within at (λ h. c.opens.ensures.holds terms core.greatest core.moment log wants h) d.resolutions in
+    record { bound = d.bound; some = d.some; resolutions = kept }
 
 pub returns-clause-same : goal.returns-clause-same
 returns-clause-same c =

@@ -1,24 +1,19 @@
-use Rattle.std.proofs.Common.{◌≡◌, ◌<◌, ◌∙◌, ℕ, length, arith, sym, ap, subst, refl, None, Some, All}
+use Rattle.std.proofs.Common.{◌<◌, length, arith, refl}
 use Rattle.std.proofs.lemmas.List.Elements.{All-set}
-use Rattle.std.proofs.Common.{max}
 use Rattle.recursor_core.specs.Order.{entry_of}
-use Rattle.recursor_core.specs.Derived.{ResolutionHolds}
+use Rattle.recursor_core.specs.Derived.{terms_of, ResolutionHolds}
 use Rattle.recursor_core.proofs.Kept.{resolutions-kept}
-use Rattle.recursor_core.proofs.Sends.{below-max-left}
-use Rattle.recursor_core.specs.Machine.{need_in, MayAskOf}
-use Rattle.recursor_core.proofs.Ranks.{rank_falls, sum_falls, read_at, need_within, may_ask_within, order_within, sum_keeps, late_or_not}
-use Rattle.std.proofs.Common.{◌≤◌, ⊎_elim}
-use Rattle.recursor_core.specs.Resolving.{rank}
-use Rattle.recursor_core.proofs.Cores.{held-at, begun-set, max-below}
+use Rattle.recursor_core.proofs.Ranks.{sum_falls, order_within, sum_keeps}
+use Rattle.recursor_core.proofs.Cores.{held-at, begun-set}
 use Rattle.recursor_core.proofs.machine.RecursorCore.take.Goals as goal
 
 pub returns-clause-falls : goal.returns-clause-falls
-returns-clause-falls c timely =
+returns-clause-falls c timely kept =
     let xs = c.args.self.now.resolutions.items in
     let f = c.index_mut-resolution.result.now in
     let at = c.index_mut-resolution.ensures.value in
     let within : c.args.r < length xs = order_within xs c.args.r c.requires in
-    sum_falls c.args.patience xs c.args.r f c.take.new.self within at (c.take.ensures.falls timely)
+    sum_falls c.args.tick.patience xs c.args.r f c.take.new.self within at (c.take.ensures.falls timely kept)
 
 pub returns-clause-keeps : goal.returns-clause-keeps
 returns-clause-keeps c =
@@ -26,25 +21,22 @@ returns-clause-keeps c =
     let f = c.index_mut-resolution.result.now in
     let at = c.index_mut-resolution.ensures.value in
     let within : c.args.r < length xs = order_within xs c.args.r c.requires in
-    let p = c.args.patience in
-    sum_keeps p xs c.args.r f c.take.new.self within at
-    (⊎_elim (λ late. let same = ap (rank p) (c.take.ensures.late late) in omega (arith, same)) (λ timely. let less = c.take.ensures.falls timely in omega (arith, less)) (late_or_not c.take.result))
+    sum_keeps c.args.tick.patience xs c.args.r f c.take.new.self within at c.take.ensures.keeps
 
 pub returns-clause-derived : goal.returns-clause-derived
-returns-clause-derived c now log longer d x fits later =
+returns-clause-derived c patience log longer bound above later d x fits =
     let core = c.args.self.now in
+    let terms = terms_of patience core in
     let xs = c.args.self.now.resolutions.items in
     let f = c.index_mut-resolution.result.now in
     let at = c.index_mut-resolution.ensures.value in
     let within : c.args.r < length xs = order_within xs c.args.r c.requires in
-    let up = max core.greatest (entry_of c.args.outcome) in
-    let P = ResolutionHolds core.roots up now longer in
-    let held = held-at (ResolutionHolds core.roots core.greatest core.moment log) xs c.args.r f within at d.resolutions in
-    record {
-      bound = let b = d.bound in let l = x.later in max-below core.greatest (entry_of c.args.outcome) longer.next (omega (arith, b, l)) fits.within;
-      resolutions = All-set P xs c.args.r c.take.new.self (c.take.ensures.holds core.roots core.greatest core.moment now log longer held x fits later)
-          (resolutions-kept core.roots log longer x core.greatest up core.moment now xs (below-max-left core.greatest (entry_of c.args.outcome)) later d.resolutions);
-    }
+    let entry = entry_of c.args.outcome in
+    let now = c.args.tick.now in
+    let held = held-at (ResolutionHolds terms core.greatest core.moment log) xs c.args.r f within at d.resolutions in
+    let new = c.take.ensures.holds terms core.greatest core.moment log longer bound above later held x fits in
+    let others = resolutions-kept terms log longer x core.greatest entry core.moment now xs (omega (arith, above)) later d.resolutions in
+    record { bound = fits.within; some = d.some; resolutions = All-set (ResolutionHolds terms entry now longer) xs c.args.r c.take.new.self new others }
 
 pub returns-clause-same : goal.returns-clause-same
 returns-clause-same c =

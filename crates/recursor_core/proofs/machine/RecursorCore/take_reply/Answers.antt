@@ -1,9 +1,9 @@
-use Rattle.std.proofs.Common.{◌≡◌, ◌<◌, ◌∙◌, ℕ, length, arith, sym, ap, subst, refl, None, Some, All}
+use Rattle.std.proofs.Common.{◌<◌, length, ap, refl}
 use Rattle.std.proofs.lemmas.List.Elements.{All-set}
-use Rattle.recursor_core.specs.Derived.{ResolutionHolds}
+use Rattle.recursor_core.specs.Derived.{terms_of, ResolutionHolds}
 use Rattle.std.specs.Option.{option_map}
 use Rattle.recursor_core.specs.Machine.{begun_of}
-use Rattle.recursor_core.proofs.Ranks.{rank_falls, sum_falls, read_at, need_within, may_ask_within, order_within}
+use Rattle.recursor_core.proofs.Ranks.{rank_falls, sum_falls, read_at, need_within}
 use Rattle.recursor_core.proofs.Cores.{held-at, begun-set, given-some}
 use Rattle.recursor_core.proofs.machine.RecursorCore.take_reply.Goals as goal
 
@@ -16,17 +16,18 @@ returns-clause-falls c p =
     sum_falls p xs c.args.r f c.take_reply.new.self within at (rank_falls p f c.take_reply.new.self c.take_reply.ensures.falls)
 
 pub returns-clause-derived : goal.returns-clause-derived
-returns-clause-derived c log d =
+returns-clause-derived c patience log d =
     let core = c.args.self.now in
     let xs = c.args.self.now.resolutions.items in
     let f = c.index_mut-resolution.result.now in
     let at = c.index_mut-resolution.ensures.value in
     let within : c.args.r < length xs = need_within xs c.args.r (λ e. cc) in
-    let P = ResolutionHolds core.roots core.greatest core.moment log in
+    let terms = terms_of patience core in
+    let P = ResolutionHolds terms core.greatest core.moment log in
     let read = read_at xs c.args.r f within at in
-    let taken = c.take_reply.ensures.holds core.roots core.greatest core.moment log (held-at P xs c.args.r f within at d.resolutions) in (
-      record { bound = d.bound; resolutions = All-set P xs c.args.r c.take_reply.new.self taken.0 d.resolutions },
-      given-some core.roots log c.take_reply.result _ (begun_of f) (ap (option_map begun_of) read) taken.1,
+    let taken = c.take_reply.ensures.holds terms core.greatest core.moment log (held-at P xs c.args.r f within at d.resolutions) in (
+      record { bound = d.bound; some = d.some; resolutions = All-set P xs c.args.r c.take_reply.new.self taken.0 d.resolutions },
+      given-some terms log c.take_reply.result _ (begun_of f) (ap (option_map begun_of) read) taken.1,
     )
 
 pub returns-clause-same : goal.returns-clause-same

@@ -5,11 +5,11 @@ use Rattle.recursor_core.proofs.Resolved.{under-holds}
 use Rattle.recursor_core.proofs.resolving.Resolution.opens.Goals as goal
 
 pub returns-in-Under-clause-holds : goal.returns-in-Under-clause-holds
-returns-in-Under-clause-holds c roots greatest moment log want h =
+returns-in-Under-clause-holds c terms greatest moment log want h =
     let r = c.args.self.now in
     let w = c.in-Under.walk in
     let state = rw c.in-Under.is at h.state in
     let wants = rw c.in-Under.is at want in
     let connects : send_want w.lookup.send ≡ Connect c.args.ip = cc in
-    under-holds roots greatest moment log r.question r.begun w c.opens.new.self h.begun state.way c.opens.ensures.query
-    (c.opens.ensures.holds roots greatest r.begun log w.zone connects state.lookup)
+    under-holds terms greatest moment log r.question r.begun w c.opens.new.self h.begun state.way c.opens.ensures.query
+    (c.opens.ensures.holds terms greatest moment r.begun log w.zone connects state.lookup)

@@ -1,35 +1,47 @@
-use Rattle.std.proofs.Common.{◌∙◌, sym, subst, List, [], Contains, Err, arith}
+use Rattle.std.proofs.Common.{◌∙◌, sym, subst, refl, List, [], length, ◌<◌, ◌↔◌, Contains, Err, arith}
 use Rattle.std.proofs.lemmas.Bool.Decides.{nat_tests}
 use Rattle.recursor_core.specs.declared.error.RecursorError.TheVariants.{NoNameServer}
 use Rattle.recursor_core.specs.declared.error.WalkCause.TheVariants.{NoAddress}
+use Rattle.resolution.specs.declared.verdict.Verdict.TheVariants.{Pos}
+use Rattle.resolution.specs.Serving.{glue}
 use Rattle.std.specs.declared.net.ip_addr.IpAddr.{IpAddr}
-use Rattle.recursor_core.proofs.Walks.{cut-way, candidate-asked, glueless-of, stops}
+use Rattle.recursor_core.proofs.Denials.{glueless-of, stops}
+use Rattle.recursor_core.proofs.Walks.{cut-way, cut-leaves, candidate-asked, candidate-on-the-way, leaves-told}
 use Rattle.recursor_core.proofs.walk.Walk.descend.Goals as goal
 
 pub returns-then-not-is_delegation-clause-holds : goal.returns-then-not-is_delegation-clause-holds
-returns-then-not-is_delegation-clause-holds c roots greatest t0 entry log way counts = c.advance.ensures.holds roots greatest t0 log way
+returns-then-not-is_delegation-clause-holds c terms greatest moment t0 entry log way counts =
+    c.advance.ensures.holds terms greatest moment t0 log way
+    (leaves-told terms greatest log c.args.question.now.query c.args.self.now c.requires way t0 entry (Pos c.args.kept.now) counts
+    (sym c.is_delegation.ensures ∙ c.if-not-is_delegation.true))
 
 pub returns-clause-holds : goal.returns-clause-holds
-returns-clause-holds c roots greatest t0 entry log way counts =
-    c.advance-2.ensures.holds roots greatest t0 log
-    (cut-way roots greatest t0 log c.args.question.now.query c.args.self.now c.args.kept.now entry c.in_ok-self.field-0 c.new.result c.requires way counts
+returns-clause-holds c terms greatest moment t0 entry log way counts =
+    let w = c.args.self.now in
+    let filled = sym c.is_empty.ensures ∙ c.if-is_empty.false in
+    c.advance-2.ensures.holds terms greatest moment t0 log
+    (cut-way terms greatest t0 log c.args.question.now.query w c.args.kept.now entry c.in_ok-self.field-0 c.new.result c.requires way counts
     (sym c.is_delegation.ensures ∙ c.if-not-is_delegation.false) c.in_ok-self.ensures
-    (λ ip has. (c.in_ok-ips.ensures ip).0 (subst (λ (xs : List IpAddr). Contains xs ip) c.new.ensures has)))
+    (subst (λ (xs : List IpAddr). 0 < length xs) (sym c.new.ensures) (grind (arith, nat_tests)))
+    (λ ip. subst (λ (xs : List IpAddr). Contains xs ip ↔ Contains (glue c.args.kept.now w.lookup.query.name) ip) (sym c.new.ensures) (c.in_ok-ips.ensures ip)))
+    (cut-leaves terms log w c.in_ok-self.field-0 c.new.result c.in_ok-self.ensures)
 
 pub returns-then-is_empty-clause-holds : goal.returns-then-is_empty-clause-holds
-returns-then-is_empty-clause-holds c roots greatest t0 entry log way counts =
+returns-then-is_empty-clause-holds c terms greatest moment t0 entry log way counts =
     let w = c.args.self.now in
     let asked = c.args.question.now in
     let name = w.lookup.query.name in
-    let at = candidate-asked roots greatest log asked.query w c.requires way in
     let empty = sym c.is_empty.ensures ∙ c.if-is_empty.true in
-    stops roots greatest t0 log asked _ c.no_server.result (record { outcome = Err (NoNameServer w.name NoAddress); grounds = [] }) c.no_server.ensures (
+    stops terms greatest moment t0 log asked _ c.no_server.result (record { outcome = Err (NoNameServer w.name NoAddress); grounds = [] }) c.no_server.ensures (
       way.name,
+      refl,
       record {
         candidate = name;
         told = c.args.kept.now;
-        on_the_way = at.0;
-        glueless = glueless-of roots greatest t0 log w.zone name w.lookup.query entry c.args.kept.now counts at.1 (sym c.is_delegation.ensures ∙ c.if-not-is_delegation.false)
+        on_the_way = candidate-on-the-way terms greatest log asked.query w c.requires way;
+        glueless = glueless-of terms greatest t0 log w.zone name w.lookup.query entry c.args.kept.now counts
+            (candidate-asked terms greatest log asked.query w c.requires way)
+            (sym c.is_delegation.ensures ∙ c.if-not-is_delegation.false)
             (λ ip has. let place = (c.in_ok-ips.ensures ip).1 has in let less = place.1 in grind (arith, nat_tests));
       },
     )

@@ -1,21 +1,16 @@
-use Rattle.std.proofs.Common.{subst, sym}
-use Rattle.dns_core.specs.declared.message.Query.{Query}
-use Rattle.recursor_core.specs.Derived.{FoundHolds}
 use Rattle.recursor_core.proofs.Walks.{way-looked}
 use Rattle.recursor_core.proofs.walk.Walk.hear.Goals as goal
 
 pub returns-in-None-clause-holds : goal.returns-in-None-clause-holds
-returns-in-None-clause-holds c roots greatest t0 log h =
+returns-in-None-clause-holds c terms greatest moment t0 log h =
     let w = c.args.self.now in
     record {
-      way = way-looked roots greatest log c.args.question.now.query w c.hear.new.self c.hear.ensures.query h.way;
-      lookup = (c.hear.ensures.holds roots greatest t0 log w.zone h.lookup).0;
+      way = way-looked terms greatest log c.args.question.now.query w c.hear.new.self c.hear.ensures.query h.way;
+      lookup = rw c.in-None.is at c.in_ok-hear.ensures.holds terms greatest moment t0 log w.zone h.lookup;
     }
 
 pub returns-in-Some-clause-holds : goal.returns-in-Some-clause-holds
-returns-in-Some-clause-holds c roots greatest t0 log h =
+returns-in-Some-clause-holds c terms greatest moment t0 log h =
     let w = c.args.self.now in
-    let same = c.hear.ensures.query in
-    let found = rw c.in-Some.is at (c.in_ok-hear.ensures.holds roots greatest t0 log w.zone h.lookup).1 in
-    c.conclude.ensures.holds roots greatest t0 log (way-looked roots greatest log c.args.question.now.query w c.hear.new.self same h.way)
-    (subst (λ (a : Query). FoundHolds roots greatest t0 log w.zone a c.in-Some.found) (sym same) found)
+    c.conclude.ensures.holds terms greatest moment t0 log (way-looked terms greatest log c.args.question.now.query w c.hear.new.self c.hear.ensures.query h.way)
+    (rw c.in-Some.is at c.in_ok-hear.ensures.holds terms greatest moment t0 log w.zone h.lookup)

@@ -1,0 +1,17 @@
+use Rattle.std.proofs.Common.{sym, subst, ◌∙◌}
+use Rattle.recursor_core.specs.Derived.{FoundHolds}
+use Rattle.recursor_core.specs.declared.lookup.Found.TheVariants as found
+use Rattle.recursor_core.proofs.Hearing.{message-found, comes}
+use Rattle.recursor_core.proofs.lookup.Lookup.hear.Goals as goal
+
+pub returns-in_ok-push-in-Told-clause-holds : goal.returns-in_ok-push-in-Told-clause-holds
+returns-in_ok-push-in-Told-clause-holds c terms greatest moment t0 log zone h =
+    subst (λ g. FoundHolds terms greatest t0 log zone c.args.self.now.query g (found.Message c.in-Told.entry c.in-Told.message))
+    (sym c.in_ok-push-in-Told.ensures.ok)
+    (message-found terms greatest moment t0 log zone c.args.self.now h c.in-Told.ip c.in-Told.entry c.in-Told.message (sym c.in-Told.ensures.value))
+
+pub returns-in_ok-push-in-Failed-clause-holds : goal.returns-in_ok-push-in-Failed-clause-holds
+returns-in_ok-push-in-Failed-clause-holds c terms greatest moment t0 log zone h =
+    comes terms greatest moment t0 log zone c.args.self.now h c.heard_error.new.self c.in-Failed.ip c.in-Failed.entry c.in-Failed.error c.heard_error.result
+    (sym c.in-Failed.ensures.value) c.heard_error.ensures.same.0 c.heard_error.ensures.same.1 (c.heard_error.ensures.same.2 ∙ c.replace.ensures.after)
+    (c.heard_error.ensures.same.3 ∙ c.in_ok-push-in-Failed.ensures.ok) c.heard_error.ensures.error c.heard_error.ensures.next

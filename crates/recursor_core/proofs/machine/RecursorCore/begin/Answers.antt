@@ -1,0 +1,12 @@
+use Rattle.std.proofs.Common.{◌≡◌, refl, arith}
+use Rattle.recursor_core.proofs.Cores.{derived-is}
+use Rattle.recursor_core.proofs.machine.RecursorCore.begin.Goals as goal
+
+pub returns-in-Ok-clause-derived : goal.returns-in-Ok-clause-derived
+returns-in-Ok-clause-derived c patience log later d =
+    let mid = c.begin_walk.new.self in
+    let now = c.args.now in
+    let h = rw c.in-Ok.is at (c.begin_walk.ensures.derived patience log later d) in
+    let same = c.begin_walk.ensures.same.1 in
+    let moment : c.max-self.result ≡ now = omega (arith, c.max-self.ensures, same, later) in
+    derived-is patience _ log mid.roots mid.greatest now mid.resolutions.items refl refl moment refl h.bound h.some h.resolutions
