@@ -1,5 +1,5 @@
 -- A script of whole messages tells nothing that asks for more than one question to a server.
-use Rattle.std.proofs.Common.{◌≡◌, ◌+◌, ◌-◌, ℕ, zero, suc, Bool, true, false, cond, List, [], ◌∷◌, Option, Some, None, Ok, Err, refl, sym, subst, ap, ◌∙◌, arith}
+use Rattle.std.proofs.Common.{◌≡◌, ◌-◌, ℕ, zero, suc, Bool, true, false, cond, List, [], ◌∷◌, Option, Some, None, Ok, Err, refl, sym, subst, ap, ◌∙◌}
 use Rattle.std.proofs.lemmas.Option.{same_Some}
 use Rattle.std.specs.Prelude.{IsTrue, ◌&&◌, not, find, filter, min, length, slice_get, unwrap_or, option_and_then, take, count_by}
 use Rattle.std.specs.Option.{option_map}
@@ -14,10 +14,9 @@ use Rattle.dns_core.specs.declared.log.LogEntry.{LogEntry}
 use Rattle.dns_core.specs.declared.log.LogEntry.TheVariants.{Opened, Asked, Waited, Told, GaveUp}
 use Rattle.dns_core.specs.declared.log.ToldOutcome.{ToldOutcome}
 use Rattle.dns_core.specs.declared.log.ToldOutcome.TheVariants.{Connected, Message, Error}
-use Rattle.resolution.specs.Telling.{Logged}
 use Rattle.recursor_core.specs.Plain.{is_plain_entry, IsPlainlyTold}
 use Rattle.recursor_world.specs.Course.{reply_course, connect_course}
-use Rattle.recursor_world.specs.Script.{refuses, connects, replies, asks, refusal, connection_course, question_course_for, course_after, waits, Fits, Gives}
+use Rattle.recursor_world.specs.Script.{refuses, connects, replies, asks, connection_course, course_after, waits, Fits, Gives}
 use Rattle.recursor_world.specs.declared.index.Endpoint.{Endpoint}
 use Rattle.recursor_world.specs.declared.index.Asking.{Asking}
 use Rattle.recursor_world.specs.declared.course.Course.{Course}
@@ -31,7 +30,7 @@ use Rattle.recursor_text.specs.Spelling.{IsScriptLine, rules_of}
 use Rattle.recursor_program.specs.Program.{script_of, is_whole_line, is_whole_script}
 
 -- a course whose outcome is a message, not truncated, or a connection
-plain_course : Course → Bool
+abbrev plain_course : Course → Bool
 plain_course Never = true
 plain_course (After polls Connected) = true
 plain_course (After polls (Message m)) = not m.truncation
@@ -54,14 +53,11 @@ none_connects p (Refuse ip protocol ∷ lines) h = cc
 -- some lines of these are such lines
 some_whole : (keep : ScriptLine → Bool) (lines : List ScriptLine) → list_all is_whole_line lines ≡ true → list_all is_whole_line (filter keep lines) ≡ true
 some_whole keep [] h = refl
-some_whole keep (line ∷ lines) h = by (keep line)
+some_whole keep (line ∷ lines) h = by (keep line) (some_whole keep lines (second_so (is_whole_line line) _ h))
   where
-    rest : list_all is_whole_line (filter keep lines) ≡ true
-    rest = some_whole keep lines (second_so (is_whole_line line) _ h)
-
-    by : (b : Bool) → list_all is_whole_line (cond b (line ∷ filter keep lines) (filter keep lines)) ≡ true
-    by true = ap (λ (x : Bool). x && list_all is_whole_line (filter keep lines)) (first_so (is_whole_line line) (list_all is_whole_line lines) h) ∙ rest
-    by false = rest
+    by : (b : Bool) → list_all is_whole_line (filter keep lines) ≡ true → list_all is_whole_line (cond b (line ∷ filter keep lines) (filter keep lines)) ≡ true
+    by true rest = ap (λ (x : Bool). x && list_all is_whole_line (filter keep lines)) (first_so (is_whole_line line) (list_all is_whole_line lines) h) ∙ rest
+    by false rest = rest
 
 -- so is the one at a place, and what it tells of a question
 line_plain : (q : Query) (line : ScriptLine) → is_whole_line line ≡ true → plain_course (reply_course q line) ≡ true
