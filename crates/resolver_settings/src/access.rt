@@ -1,0 +1,108 @@
+//! Which addresses may be asked: those outside of all denied networks, and those in an allowed one.
+ghost use Rattle.std.specs.Prelude.{◌≡◌, ◌++◌, ◌↔◌, [], IfOk, IsTrue};
+ghost use Rattle.resolver_settings.specs.Access.{Access, denies, is_in_any};
+
+use crate::net::IpNet;
+use dns_core::NoMemory;
+use std::alloc::Global;
+use std::marker::Model;
+use std::net::IpAddr;
+
+/// Collects the networks of a set. The order of the calls is kept.
+#[derive(Drop, Debug)]
+pub struct AccessControlSetBuilder {
+    name: &'static str,
+    allow: Vec<IpNet>,
+    deny: Vec<IpNet>,
+}
+
+impl Model for AccessControlSetBuilder {
+    ghost Value = { Access };
+
+    ghost view = { λ a. record { name = a.name.now; allow = a.allow.items; deny = a.deny.items } };
+}
+
+/// Networks that are denied, and networks that are allowed all the same.
+#[derive(Drop, Debug)]
+pub struct AccessControlSet {
+    name: &'static str,
+    allow: Vec<IpNet>,
+    deny: Vec<IpNet>,
+}
+
+impl Model for AccessControlSet {
+    ghost Value = { Access };
+
+    ghost view = { λ a. record { name = a.name.now; allow = a.allow.items; deny = a.deny.items } };
+}
+
+impl AccessControlSetBuilder {
+    /// A set without networks, which denies nothing. The name tells what the set is for.
+    pub fn new(alloc: Global, name: &'static str) -> Self
+        ensures { result ≡ record { name = name.now; allow = []; deny = [] } }
+    {
+        AccessControlSetBuilder {
+            name,
+            allow: Vec::new(alloc),
+            deny: Vec::new(alloc),
+        }
+    }
+
+    /// Allows these networks too. It fails for want of memory alone.
+    pub fn allow(mut self, nets: &[IpNet]) -> Result<Self, NoMemory>
+        ensures { IfOk result (λ a. a ≡ record self { allow = self.allow ++ nets.now }) }
+    {
+        self.allow.extend_from_slice(nets)?;
+        Ok(self)
+    }
+
+    /// Denies these networks too. It fails for want of memory alone.
+    pub fn deny(mut self, nets: &[IpNet]) -> Result<Self, NoMemory>
+        ensures { IfOk result (λ a. a ≡ record self { deny = self.deny ++ nets.now }) }
+    {
+        self.deny.extend_from_slice(nets)?;
+        Ok(self)
+    }
+
+    /// The set of what was collected.
+    pub fn build(self) -> AccessControlSet
+        ensures { result ≡ self }
+    {
+        AccessControlSet {
+            name: self.name,
+            allow: self.allow,
+            deny: self.deny,
+        }
+    }
+}
+
+/// Whether some network holds the address.
+fn is_in_any(nets: &[IpNet], ip: IpAddr) -> bool
+    ensures { result ≡ is_in_any nets.now ip }
+{
+    nets.iter().any(|net| net.contains(ip))
+}
+
+impl AccessControlSet {
+    /// What the set is for.
+    pub fn name(&self) -> &'static str
+        ensures { result.now ≡ self.now.name }
+    {
+        self.name
+    }
+
+    /// Whether the address is in a denied network and in no allowed one. The time grows with the
+    /// number of networks alone.
+    pub fn denied(&self, ip: IpAddr) -> bool
+        ensures { result ≡ denies self.now ip }
+    {
+        is_in_any(self.deny.as_slice(), ip) && !is_in_any(self.allow.as_slice(), ip)
+    }
+
+    /// Whether no network is denied, so that each address may be asked.
+    pub fn allows_all(&self) -> bool
+        ensures { IsTrue result ↔ (self.now.deny ≡ []) }
+    {
+        self.deny.is_empty()
+    }
+}
