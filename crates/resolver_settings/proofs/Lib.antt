@@ -1,1 +1,2 @@
 pub mod SharedBits
+pub mod ByOrder

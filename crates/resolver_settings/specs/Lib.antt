@@ -1,3 +1,7 @@
 pub mod Net
 pub mod Access
 pub mod Recommended
+pub mod Config
+pub mod NameServer
+pub mod Opportunistic
+pub mod Ttl
