@@ -1,2 +1,6 @@
 pub mod Dotted
 pub mod WireLength
+pub mod TextsRead
+pub mod ZonesOrdered
+pub mod NamesTied
+pub mod BytesJoined

@@ -3,7 +3,6 @@ use Rattle.std.specs.Prelude.{Bool, true, false, ◌&&◌, ◌||◌, ◌==◌, n
 use Rattle.std.specs.List.{list_any}
 use Rattle.dns_core.specs.Name.{DomainName, same_names}
 use Rattle.dns_core.specs.declared.message.Query.{Query}
-use Rattle.dns_core.specs.declared.record.RData.{RData}
 use Rattle.dns_core.specs.declared.record.RData.TheVariants.{A, AAAA, NS, SOA}
 use Rattle.dns_core.specs.declared.net_error.NoRecords.{NoRecords}
 use Rattle.dns_core.specs.declared.net_error.ForwardNsData.{ForwardNsData}

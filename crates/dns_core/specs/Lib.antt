@@ -14,3 +14,4 @@ pub mod Provider
 pub mod Record
 pub mod SharedLabels
 pub mod Stripping
+pub mod WholeStreams

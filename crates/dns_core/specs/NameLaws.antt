@@ -1,12 +1,12 @@
 -- The laws of equality, order and hash of names.
 use Rattle.std.specs.Prelude.{◌≡◌, Bool, true, false, refl}
 use Rattle.std.specs.Bool.{beq}
-use Rattle.std.specs.Ordering.{as_partial_cmp, eq_by_cmp, then_cmp, bool_cmp, on}
+use Rattle.std.specs.Ordering.{as_partial_cmp, eq_by_cmp, bool_cmp}
 use Rattle.std.specs.Hash.{Alike, on_Alike, items_Alike, and-Alike, same_Alike}
 use Rattle.std.specs.Hash as fed
 use Rattle.std.specs.Cmp.{IsTotalOrder, IsEquivalence, IsPartialOrder, IsPartialEquivalence, on_total, on_equiv, then_total, and_equiv, bool_cmp_total, bool_eq_equiv, both_tied, booleans_Decides, partial_equiv_from_equiv, partial_order_from_agreeing_total}
 use Rattle.std.specs.Cmp.Lexicographic.{pointwise, slice_cmp, lists_total, lists_ties, lists_equiv}
-use Rattle.dns_core.specs.Letters.{same_letter, letter_cmp, letter_fed, same_letter_equiv, letter_cmp_total, letter_ties, letter_alike}
+use Rattle.dns_core.specs.Letters.{same_letter, letter_cmp, same_letter_equiv, letter_cmp_total, letter_ties, letter_alike}
 use Rattle.dns_core.specs.Name.{DomainName, same_names, names_cmp, names_fed}
 
 pub same_names_equiv : IsEquivalence same_names

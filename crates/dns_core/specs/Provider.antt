@@ -1,5 +1,5 @@
 -- What each call of a provider answers beside its entry.
-use Rattle.std.specs.Prelude.{◌≡◌, ℕ, ◌+◌, ◌-◌, ◌≤◌, ◌^◌, min, Bool, Option, Some, None, Result, Ok, Err, IsTrue, IfSome, MatchBool}
+use Rattle.std.specs.Prelude.{◌≡◌, ℕ, None, Result, Ok, Err, IsTrue, IfSome, MatchBool}
 use Rattle.std.specs.Bool.{OnTrue}
 use Rattle.dns_core.specs.Message.{is_qualified_message}
 use Rattle.dns_core.specs.NetError.{is_memory, is_qualified_error, negative_query}

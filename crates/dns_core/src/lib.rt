@@ -15,6 +15,7 @@ mod log;
 mod memory_streams;
 mod message;
 mod name;
+mod name_laws;
 mod name_text;
 mod net_error;
 mod provider;
@@ -23,6 +24,7 @@ mod request;
 mod std_streams;
 mod streams;
 mod stripping;
+mod whole_streams;
 
 pub use classifying::classify;
 pub use codes::{DnsClass, RecordType, ResponseCode};
@@ -35,6 +37,9 @@ pub use log::{Log, LogEntry, ToldOutcome};
 pub use memory_streams::{MemorySink, MemorySource};
 pub use message::{Message, Query};
 pub use name::{Name, is_subzone};
+pub use name_laws::{
+    a_read_name_keeps_its_text, equality_order_and_hash_of_names_agree, lying_in_a_zone_is_an_order,
+};
 pub use name_text::NameError;
 pub use net_error::{DnsError, ForwardNsData, IoKind, NetError, NoRecords};
 pub use provider::{ConnectionProvider, Poll};
@@ -43,6 +48,15 @@ pub use request::{DnsRequest, DnsRequestOptions, Question, Turn};
 pub use std_streams::{StdSink, StdSource};
 pub use streams::{Sink, Source};
 pub use stripping::strip;
+pub use whole_streams::{ReadError, read_all, write_all};
 
+#[cfg(test)]
+mod copy_tests;
+#[cfg(test)]
+mod name_tests;
+#[cfg(test)]
+mod samples;
+#[cfg(test)]
+mod stream_tests;
 #[cfg(test)]
 mod tests;

@@ -1,207 +1,197 @@
+//! Numbers of the registry, responses, and what they end in.
+
+use crate::samples::{
+    address, alias, authority, negative, negative_records, query, response, signature,
+};
 use crate::{
-    Bytes, DnsClass, Failed, IoKind, Items, MemorySink, MemorySource, Message, Name, NameError,
-    NetError, NoMemory, Numbers, Query, RData, Record, RecordType, Records, ResponseCode, Sink,
-    Source, StdSink, StdSource, TryClone, classify, is_subzone, strip,
+    DnsClass, DnsError, IoKind, Message, Name, NetError, NoMemory, NoRecords, RecordType, Records,
+    ResponseCode, Text, TryClone, classify, strip,
 };
 use std::alloc::Global;
-use std::hash::{BuildHasher, BuildHasherDefault, FoldHasher};
-use std::net::Ipv4Addr;
 use std::test::Fail;
 
-fn subzone(alloc: Global, parent: &str, child: &str) -> Result<bool, NameError> {
-    let parent = Name::parse(alloc, parent)?;
-    let child = Name::parse(alloc, child)?;
-    Ok(is_subzone(&parent, &child))
+#[test]
+fn types_have_the_numbers_of_the_registry(rt: HostRuntime) {
+    let found = [
+        RecordType::A.code,
+        RecordType::NS.code,
+        RecordType::CNAME.code,
+        RecordType::SOA.code,
+        RecordType::NULL.code,
+        RecordType::PTR.code,
+        RecordType::MX.code,
+        RecordType::TXT.code,
+        RecordType::AAAA.code,
+        RecordType::SRV.code,
+        RecordType::OPT.code,
+        RecordType::DS.code,
+        RecordType::RRSIG.code,
+        RecordType::NSEC.code,
+        RecordType::DNSKEY.code,
+        RecordType::NSEC3.code,
+        RecordType::NSEC3PARAM.code,
+        RecordType::SVCB.code,
+        RecordType::HTTPS.code,
+        RecordType::IXFR.code,
+        RecordType::AXFR.code,
+        RecordType::ANY.code,
+        RecordType::CAA.code,
+    ];
+    let registry = [
+        1, 2, 5, 6, 10, 12, 15, 16, 28, 33, 41, 43, 46, 47, 48, 50, 51, 64, 65, 251, 252, 255, 257,
+    ];
+    assert_eq!(rt; found, registry);
 }
 
 #[test]
-fn a_child_lies_in_the_zone_of_its_parent_alone(rt: HostRuntime) -> Result<(), Fail> {
-    let alloc = rt.alloc();
-    assert!(rt; subzone(alloc, ".", "com.")?);
-    assert!(rt; !subzone(alloc, "com.", "example.net.")?);
-    assert!(rt; subzone(alloc, "example.com.", "www.Example.com.")?);
-    assert!(rt; !subzone(alloc, "example.com.", "www.otherdomain.com.")?);
-    assert!(rt; !subzone(alloc, "example.com", "www.example.com.")?);
-    Ok(())
-}
-
-fn written(alloc: Global, name: &Name) -> Result<Vec<u8>, NoMemory> {
-    let mut out = Vec::new(alloc);
-    name.write_text(&mut out)?;
-    Ok(out)
-}
-
-#[test]
-fn names_keep_their_text(rt: HostRuntime) -> Result<(), Fail> {
-    let alloc = rt.alloc();
-    let name = Name::parse(alloc, "WWW.example.com.")?;
-    assert_eq!(rt; name.num_labels(), 3);
-    assert_eq!(rt;
-        written(alloc, &name)?.as_slice(),
-        b"WWW.example.com.".as_slice()
-    );
-    let trimmed = name.trim_to(alloc, 2)?;
-    assert_eq!(rt;
-        written(alloc, &trimmed)?.as_slice(),
-        b"example.com.".as_slice()
-    );
-    let base = trimmed.base_name(alloc)?;
-    assert_eq!(rt; written(alloc, &base)?.as_slice(), b"com.".as_slice());
-    let copy = base.try_clone(alloc)?;
-    assert!(rt; copy.eq_case(&base));
-    assert_eq!(rt;
-        written(alloc, &Name::root(alloc))?.as_slice(),
-        b".".as_slice()
-    );
-    Ok(())
+fn classes_and_codes_have_the_numbers_of_the_registry(rt: HostRuntime) {
+    let classes = [DnsClass::IN.code, DnsClass::CH.code, DnsClass::HS.code];
+    assert_eq!(rt; classes, [1, 3, 4]);
+    let codes = [
+        ResponseCode::NoError.code,
+        ResponseCode::FormErr.code,
+        ResponseCode::ServFail.code,
+        ResponseCode::NXDomain.code,
+        ResponseCode::NotImp.code,
+        ResponseCode::Refused.code,
+    ];
+    assert_eq!(rt; codes, [0, 1, 2, 3, 4, 5]);
 }
 
 #[test]
-fn names_are_equal_without_case(rt: HostRuntime) -> Result<(), Fail> {
-    let alloc = rt.alloc();
-    let lower = Name::parse(alloc, "example.com.")?;
-    let upper = Name::parse(alloc, "EXAMPLE.com.")?;
-    assert!(rt; lower == upper);
-    assert!(rt; !lower.eq_case(&upper));
-    let hasher: BuildHasherDefault<FoldHasher> = BuildHasherDefault::new();
-    assert_eq!(rt; hasher.hash_one(&lower), hasher.hash_one(&upper));
-    Ok(())
+fn types_of_questions_alone_are_no_data(rt: HostRuntime) {
+    assert!(rt; RecordType::A.is_data() && RecordType::CAA.is_data());
+    assert!(rt; !RecordType::ANY.is_data() && !RecordType::OPT.is_data());
+    assert!(rt; RecordType::NSEC3PARAM.is_dnssec() && !RecordType::SVCB.is_dnssec());
 }
 
-fn fault(alloc: Global, text: &str) -> Option<NameError> {
-    Name::parse(alloc, text).err()
-}
-
-#[test]
-fn the_first_fault_of_a_name_is_told(rt: HostRuntime) -> Result<(), Fail> {
-    let alloc = rt.alloc();
-    assert_eq!(rt; fault(alloc, ""), Some(NameError::EmptyLabel));
-    assert_eq!(rt; fault(alloc, "a..b"), Some(NameError::EmptyLabel));
-    assert_eq!(rt; fault(alloc, "a!b"), Some(NameError::BadByte));
-    let long = "aaaaaaaaaaaaaaaaaaaaaaaaaaaaaaaaaaaaaaaaaaaaaaaaaaaaaaaaaaaaaaaa.com";
-    assert_eq!(rt; fault(alloc, long), Some(NameError::LongLabel));
-    assert_eq!(rt; fault(alloc, "_dns.*.com"), None);
-    assert!(rt; Name::parse_relaxed(alloc, "a!b").is_ok());
-    assert!(rt; Name::parse_relaxed_bytes(alloc, b"a!b.").is_ok());
-    Ok(())
-}
-
-fn response(alloc: Global, answers: Records) -> Result<Message, NameError> {
-    Ok(Message {
-        query: Query {
-            name: Name::parse(alloc, "a.")?,
-            query_type: RecordType::A,
-            query_class: DnsClass::IN,
-        },
-        response_code: ResponseCode::NoError,
-        authoritative: true,
-        truncation: false,
-        answers,
-        authorities: Records::empty(alloc),
-        additionals: Records::empty(alloc),
-    })
-}
-
-fn address(alloc: Global) -> Result<Record, NameError> {
-    Ok(Record {
-        name: Name::parse(alloc, "a.")?,
-        ttl: 60,
-        dns_class: DnsClass::IN,
-        record_type: RecordType::A,
-        rdata: RData::A(Ipv4Addr::new(192, 0, 2, 1)),
-    })
-}
-
-fn signature(alloc: Global) -> Result<Record, NameError> {
-    Ok(Record {
-        name: Name::parse(alloc, "a.")?,
-        ttl: 60,
-        dns_class: DnsClass::IN,
-        record_type: RecordType::RRSIG,
-        rdata: RData::RRSIG {
-            covered: RecordType::A,
-            rest: Bytes::empty(alloc),
-        },
-    })
-}
-
-fn is_negative(alloc: Global, message: Message) -> Result<bool, NoMemory> {
+fn is_kept(alloc: Global, message: Message) -> Result<bool, NoMemory> {
+    let copy = message.try_clone(alloc)?;
     match classify(alloc, message)? {
-        Ok(_) => Ok(false),
-        Err(error) => Ok(NetError::Dns(error).is_no_records_found()),
+        Ok(kept) => Ok(kept == copy),
+        Err(_) => Ok(false),
     }
+}
+
+#[test]
+fn a_response_with_data_or_cut_off_is_itself(rt: HostRuntime) -> Result<(), Fail> {
+    let alloc = rt.alloc();
+    let mut answered = response(alloc, ResponseCode::NoError)?;
+    answered.answers.push(alias(alloc)?)?;
+    assert!(rt; is_kept(alloc, answered)?);
+    let mut aside = response(alloc, ResponseCode::NXDomain)?;
+    aside.authorities.push(address(alloc, "A.")?)?;
+    assert!(rt; is_kept(alloc, aside)?);
+    let mut added = response(alloc, ResponseCode::NoError)?;
+    added.additionals.push(address(alloc, "a.")?)?;
+    assert!(rt; is_kept(alloc, added)?);
+    let mut cut = response(alloc, ResponseCode::NoError)?;
+    cut.truncation = true;
+    assert!(rt; is_kept(alloc, cut)?);
+    Ok(())
 }
 
 #[test]
 fn a_response_without_data_is_negative(rt: HostRuntime) -> Result<(), Fail> {
     let alloc = rt.alloc();
-    assert!(rt; is_negative(alloc, response(alloc, Records::empty(alloc))?)?);
-    let mut answers = Records::empty(alloc);
-    answers.push(address(alloc)?)?;
-    assert!(rt; !is_negative(alloc, response(alloc, answers)?)?);
+    let code = ResponseCode::NXDomain;
+    let want = DnsError::NoRecordsFound(negative_records(alloc, code)?);
+    assert_eq!(rt; classify(alloc, negative(alloc, code)?)?, Err(want));
+    let plain = NoRecords {
+        query: query(alloc)?,
+        soa: None,
+        ns: None,
+        response_code: ResponseCode::NoError,
+        authorities: Records::empty(alloc),
+    };
+    let told = response(alloc, ResponseCode::NoError)?;
+    assert_eq!(rt;
+        classify(alloc, told)?,
+        Err(DnsError::NoRecordsFound(plain))
+    );
+    Ok(())
+}
+
+#[test]
+fn a_response_with_another_code_is_that_code(rt: HostRuntime) -> Result<(), Fail> {
+    let alloc = rt.alloc();
+    let code = ResponseCode::ServFail;
+    let mut failed = response(alloc, code)?;
+    failed.truncation = true;
+    failed.answers.push(address(alloc, "a.")?)?;
+    assert_eq!(rt; classify(alloc, failed)?, Err(DnsError::ResponseCode(code)));
     Ok(())
 }
 
 #[test]
 fn dnssec_records_leave_where_they_were_not_asked_for(rt: HostRuntime) -> Result<(), Fail> {
     let alloc = rt.alloc();
-    let mut answers = Records::empty(alloc);
-    answers.push(address(alloc)?)?;
-    answers.push(signature(alloc)?)?;
-    let told = response(alloc, answers)?;
-    assert_eq!(rt; strip(told.try_clone(alloc)?, true).answers.len(), 2);
-    assert_eq!(rt; strip(told, false).answers.len(), 1);
+    let mut told = response(alloc, ResponseCode::NoError)?;
+    told.answers.push(address(alloc, "a.")?)?;
+    let mut signed = told.try_clone(alloc)?;
+    signed.answers.push(signature(alloc)?)?;
+    signed.authorities.push(signature(alloc)?)?;
+    signed.additionals.push(signature(alloc)?)?;
+    assert_eq!(rt; strip(signed.try_clone(alloc)?, true), signed);
+    assert_eq!(rt; strip(signed.try_clone(alloc)?, false), told);
+    signed.query.query_type = RecordType::RRSIG;
+    assert_eq!(rt; strip(signed.try_clone(alloc)?, false), signed);
+    Ok(())
+}
+
+/// Whether an error is want of memory, a closed connection, a response without records, and one
+/// without the name.
+fn kinds(error: &NetError) -> [bool; 4] {
+    [
+        error.is_memory(),
+        error.is_connection_closed(),
+        error.is_no_records_found(),
+        error.is_nx_domain(),
+    ]
+}
+
+/// Whether an error is none of these, and has no SOA.
+fn is_plain(error: NetError) -> bool {
+    kinds(&error) == [false, false, false, false] && error.into_soa().is_none()
+}
+
+#[test]
+fn other_errors_are_of_no_kind(rt: HostRuntime) -> Result<(), Fail> {
+    let alloc = rt.alloc();
+    assert!(rt; is_plain(NetError::Busy));
+    assert!(rt; is_plain(NetError::Io(IoKind::Refused)));
+    assert!(rt; is_plain(NetError::Io(IoKind::Other)));
+    assert!(rt; is_plain(NetError::Timeout));
+    assert!(rt; is_plain(NetError::NoConnections));
+    assert!(rt; is_plain(NetError::Truncated));
+    assert!(rt; is_plain(NetError::QueryCaseMismatch));
+    assert!(rt;
+        is_plain(NetError::ForeignClassRecord {
+            record_name: Name::parse(alloc, "a.")?,
+            record_class: DnsClass::CH,
+            record_type: RecordType::A,
+        })
+    );
+    assert!(rt; is_plain(NetError::Dns(DnsError::ResponseCode(ResponseCode::NXDomain))));
+    assert!(rt; is_plain(NetError::Msg(Text::new(String::from_str(alloc, "why")?))));
     Ok(())
 }
 
 #[test]
 fn errors_are_told_apart(rt: HostRuntime) -> Result<(), Fail> {
-    assert!(rt; NetError::Io(IoKind::Closed).is_connection_closed());
-    assert!(rt; !NetError::Io(IoKind::Other).is_connection_closed());
-    assert!(rt; !NetError::Timeout.is_no_records_found());
-    assert!(rt; NetError::Timeout.into_soa().is_none());
-    Ok(())
-}
-
-fn failing(alloc: Global, call: u64) -> Result<Numbers, NoMemory> {
-    let mut numbers = Numbers::empty(alloc);
-    numbers.push(call)?;
-    Ok(numbers)
-}
-
-#[test]
-fn a_source_in_memory_fails_where_it_is_told_to(rt: HostRuntime) -> Result<(), Fail> {
     let alloc = rt.alloc();
-    let bytes = Items::new(b"abc".to_vec(alloc)?);
-    let mut source = MemorySource::new(alloc, bytes, failing(alloc, 2)?);
-    let mut piece = [0u8; 2];
-    assert_eq!(rt; source.read(&mut piece), Ok(2));
-    assert_eq!(rt; piece, [b'a', b'b']);
-    assert_eq!(rt; source.read(&mut piece), Err(Failed));
-    assert_eq!(rt; source.read(&mut piece), Ok(1));
-    assert_eq!(rt; source.read(&mut piece), Ok(0));
-    Ok(())
-}
-
-#[test]
-fn a_sink_in_memory_keeps_what_it_took(rt: HostRuntime) -> Result<(), Fail> {
-    let alloc = rt.alloc();
-    let mut sink = MemorySink::new(alloc, failing(alloc, 2)?);
-    assert_eq!(rt; sink.write(b"ab"), Ok(2));
-    assert_eq!(rt; sink.write(b"cd"), Err(Failed));
-    assert_eq!(rt; sink.write(b"ef"), Ok(2));
-    assert_eq!(rt; sink.written(), b"abef".as_slice());
-    Ok(())
-}
-
-#[test]
-fn the_streams_of_the_system_pass_bytes_on(rt: HostRuntime) -> Result<(), Fail> {
-    let mut source = StdSource::new(b"abc".as_slice());
-    let mut piece = [0u8; 8];
-    assert_eq!(rt; source.read(&mut piece), Ok(3));
-    assert_eq!(rt; source.faults, 0);
-    let mut sink = StdSink::new(Vec::new(rt.alloc()));
-    assert_eq!(rt; sink.write(b"abc"), Ok(3));
-    assert_eq!(rt; sink.faults, 0);
+    let memory = NetError::NoMemory;
+    assert_eq!(rt; kinds(&memory), [true, false, false, false]);
+    assert!(rt; memory.into_soa().is_none());
+    let closed = NetError::Io(IoKind::Closed);
+    assert_eq!(rt; kinds(&closed), [false, true, false, false]);
+    assert!(rt; closed.into_soa().is_none());
+    let found = negative_records(alloc, ResponseCode::NoError)?;
+    let none = NetError::Dns(DnsError::NoRecordsFound(found));
+    assert_eq!(rt; kinds(&none), [false, false, true, false]);
+    let found = negative_records(alloc, ResponseCode::NXDomain)?;
+    let no_name = NetError::Dns(DnsError::NoRecordsFound(found));
+    assert_eq!(rt; kinds(&no_name), [false, false, true, true]);
+    assert_eq!(rt; no_name.into_soa(), Some(authority(alloc)?));
     Ok(())
 }

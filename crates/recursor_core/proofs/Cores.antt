@@ -12,11 +12,12 @@ use Rattle.resolution.specs.Names.{is_above, walk}
 use Rattle.resolution.specs.Serving.{Serves}
 use Rattle.resolution.specs.Asking.{IsServer, IsServerFor}
 use Rattle.recursor_core.specs.Order.{GoesToServer}
-use Rattle.recursor_core.specs.Replies.{Terms, given_of, ReplyHolds}
+use Rattle.recursor_core.specs.Replies.{Terms, terms_with, given_of, ReplyHolds}
 use Rattle.recursor_core.specs.Tried.{machine_timer}
 use Rattle.recursor_core.specs.Derived.{ResolutionHolds, StateHolds, terms_of, Derived}
 use Rattle.recursor_core.specs.Resolving.{SameBegun, MayAskIn, asked_of, state_want}
 use Rattle.recursor_core.specs.Machine.{Begun, begun_of, begun_at, need_in, MayAskOf, asked_in, ReplyGiven, StepGives, Gives, SameCore, IsSetAs}
+use Rattle.recursor_core.specs.declared.setting.Setting.{Setting}
 use Rattle.recursor_core.specs.declared.machine.RecursorCore.{RecursorCore}
 use Rattle.recursor_core.specs.declared.machine.Step.{Step}
 use Rattle.recursor_core.specs.declared.machine.Step.TheVariants as step
@@ -134,19 +135,15 @@ pub given-some : (terms : Terms) (log : Log) (reply : Option Reply) (here : Opti
 given-some terms log None here b is h = tt
 given-some terms log (Some reply) here b is h = subst (λ (o : Option Begun). ReplyGiven terms log o reply) (sym is) h
 
--- roots and a patience
-abbrev pub terms_with : ℕ → List IpAddr → Terms
-terms_with patience roots = record { roots = roots; patience = patience }
-
 -- what a step gives holds by the machine before it too, where the two agree
 pub gives-before : (patience : ℕ) (old mid : RecursorCore) (log : Log) (r : ℕ) (s : Step) → SameCore old mid
     → StepGives patience mid log r s → StepGives patience old log r s
 gives-before patience old mid log r (step.Order number order) same h =
-    subst (λ (roots : List IpAddr). GoesToServer (given_of (terms_with patience roots)) log (old.greatest + 1) order) same.roots
+    subst (λ (held : Setting). GoesToServer (given_of (terms_with patience held)) log (old.greatest + 1) order) same.setting
     (subst (λ (g : ℕ). GoesToServer (given_of (terms_of patience mid)) log (g + 1) order) same.greatest h)
 gives-before patience old mid log r (step.Waiting number) same h = tt
 gives-before patience old mid log r (step.Done reply) same h =
-    subst (λ (roots : List IpAddr). ReplyGiven (terms_with patience roots) log (begun_at old r) reply) same.roots
+    subst (λ (held : Setting). ReplyGiven (terms_with patience held) log (begun_at old r) reply) same.setting
     (subst (λ (o : Option Begun). ReplyGiven (terms_of patience mid) log o reply) (same.begun r) h)
 gives-before patience old mid log r step.Ended same h = tt
 
@@ -159,7 +156,7 @@ progress-before patience old mid log r (progress.Step s) same h = gives-before p
 -- two steps
 pub same-trans : (a b c : RecursorCore) → SameCore a b → SameCore b c → SameCore a c
 same-trans a b c x y = record {
-  roots = y.roots ∙ x.roots;
+  setting = y.setting ∙ x.setting;
   greatest = y.greatest ∙ x.greatest;
   moment = y.moment ∙ x.moment;
   begun = λ k. y.begun k ∙ x.begun k;
@@ -168,27 +165,27 @@ same-trans a b c x y = record {
 -- new numbers and connections leave the questions
 pub same-set : (a b : RecursorCore) → IsSetAs a b → SameCore a b
 same-set a b h = record {
-  roots = h.1;
+  setting = h.1;
   greatest = h.2;
   moment = h.3;
   begun = λ k. ap (λ (rs : Vec Resolution). option_map begun_of (slice_get rs.items k)) h.0;
 }
 
 -- what is derived, by its parts
-pub derived-is : (patience : ℕ) (core : RecursorCore) (log : Log) (roots : List IpAddr) (greatest moment : ℕ) (rs : List Resolution) → core.roots ≡ roots
-    → core.greatest ≡ greatest → core.moment ≡ moment → core.resolutions.items ≡ rs → greatest < log.next → 0 < length roots
-    → All (ResolutionHolds (terms_with patience roots) greatest moment log) rs → Derived patience core log
-derived-is patience core log roots greatest moment rs a b c e bound some all = record {
+pub derived-is : (patience : ℕ) (core : RecursorCore) (log : Log) (setting : Setting) (greatest moment : ℕ) (rs : List Resolution) → core.setting ≡ setting
+    → core.greatest ≡ greatest → core.moment ≡ moment → core.resolutions.items ≡ rs → greatest < log.next → 0 < length setting.roots
+    → All (ResolutionHolds (terms_with patience setting) greatest moment log) rs → Derived patience core log
+derived-is patience core log setting greatest moment rs a b c e bound some all = record {
   bound = subst (λ (g : ℕ). g < log.next) (sym b) bound;
-  some = subst (λ (r : List IpAddr). 0 < length r) (sym a) some;
-  resolutions = subst (λ (r : List IpAddr). All (ResolutionHolds (terms_with patience r) core.greatest core.moment log) core.resolutions.items) (sym a)
-      (subst (λ (g : ℕ). All (ResolutionHolds (terms_with patience roots) g core.moment log) core.resolutions.items) (sym b)
-      (subst (λ (m : ℕ). All (ResolutionHolds (terms_with patience roots) greatest m log) core.resolutions.items) (sym c)
-      (subst (All (ResolutionHolds (terms_with patience roots) greatest moment log)) (sym e) all)));
+  some = subst (λ (held : Setting). 0 < length held.roots) (sym a) some;
+  resolutions = subst (λ (held : Setting). All (ResolutionHolds (terms_with patience held) core.greatest core.moment log) core.resolutions.items) (sym a)
+      (subst (λ (g : ℕ). All (ResolutionHolds (terms_with patience setting) g core.moment log) core.resolutions.items) (sym b)
+      (subst (λ (m : ℕ). All (ResolutionHolds (terms_with patience setting) greatest m log) core.resolutions.items) (sym c)
+      (subst (All (ResolutionHolds (terms_with patience setting) greatest moment log)) (sym e) all)));
 }
 
 -- new numbers and connections leave what is derived
 pub derived-set : (patience : ℕ) (a b : RecursorCore) (log : Log) → IsSetAs a b → Derived patience a log → Derived patience b log
 derived-set patience a b log h d =
-    derived-is patience b log a.roots a.greatest a.moment a.resolutions.items h.1 h.2 h.3 (ap (λ (rs : Vec Resolution). rs.items) h.0)
+    derived-is patience b log a.setting a.greatest a.moment a.resolutions.items h.1 h.2 h.3 (ap (λ (rs : Vec Resolution). rs.items) h.0)
     d.bound d.some d.resolutions

@@ -27,6 +27,7 @@ use Rattle.resolution.specs.Failing as failing
 use Rattle.resolution.specs.Failing.{Glueless}
 use Rattle.resolution.specs.Class.{class_of, class_of_message, has_no_data_for, is_foreign}
 use Rattle.resolution.specs.Given.{allows_all}
+use Rattle.resolver_settings.specs.Access.{denies as access_denies}
 use Rattle.resolution.specs.Verdict.{verdict_of_told}
 use Rattle.resolution.specs.Serving.{is_delegation, glue, allowed}
 use Rattle.resolution.specs.Answering.{Base}
@@ -203,15 +204,15 @@ none-in : {X : Type 0} (xs : List X) → ((x : X) → Contains xs x → ⊥) →
 none-in [] h = refl
 none-in (x ∷ xs) h = absurd (h x (0, omega arith, refl))
 
--- a delegation that counts and gives no address
+-- a delegation that counts and gives no address that may be asked
 pub glueless-of : (terms : Terms) (greatest t0 : ℕ) (log : Log) (zone c : DomainName) (asked : Query) (entry : ℕ) (kept : Message)
     → Counts terms greatest t0 log zone asked entry (Pos kept) → asked ≡ question c 2 → is_delegation kept c ≡ true
-    → ((ip : IpAddr) → Contains (glue kept c) ip → ⊥)
+    → ((ip : IpAddr) → Contains (allowed (access_denies terms.server_filter) (glue kept c)) ip → ⊥)
     → Glueless (given_of terms) log t0 c kept
 glueless-of terms greatest t0 log zone c asked entry kept counts is d none = record {
   i = entry;
   z = zone;
   base = base-of terms greatest t0 log zone (question c 2) entry (Pos kept) (subst (λ (q : Query). Counts terms greatest t0 log zone q entry (Pos kept)) is counts);
   delegates = d;
-  none = ap (λ (ips : List IpAddr). allowed allows_all ips) (none-in (glue kept c) none);
+  none = none-in (allowed (access_denies terms.server_filter) (glue kept c)) none;
 }

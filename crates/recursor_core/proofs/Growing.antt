@@ -1,8 +1,8 @@
 -- How a log grows by an entry.
-use Rattle.std.proofs.Common.{Bool, true, false, cond, ◌≡◌, ◌≤◌, ◌<◌, ◌+◌, ◌-◌, ◌^◌, ◌⊎◌, ⊎_elim, inl, inr, ℕ, List, [], ◌∷◌, ◌++◌, length, Option, Some, None, refl, sym, ◌∙◌, ap, subst, arith, zero, suc, length-append, add-one, min, slice_get}
+use Rattle.std.proofs.Common.{◌≢◌, ◌==◌, Bool, true, false, cond, ◌≡◌, ◌≤◌, ◌<◌, ◌+◌, ◌-◌, ◌^◌, ◌⊎◌, ⊎_elim, inl, inr, ℕ, List, [], ◌∷◌, ◌++◌, length, Option, Some, None, refl, sym, ◌∙◌, ap, subst, arith, zero, suc, length-append, add-one, min, slice_get}
 use Rattle.std.specs.Cmp.{nat_eq_equiv}
 use Rattle.std.specs.declared.net.ip_addr.IpAddr.{IpAddr}
-use Rattle.std.proofs.Math.Nat.{le_refl, le_trans, le-add_right}
+use Rattle.std.proofs.lemmas.Bool.{eqb-true}
 use Rattle.std.proofs.lemmas.Option.{same_Some}
 use Rattle.dns_core.specs.Log.{Log, Extends, log_of, added, Numbered}
 use Rattle.dns_core.specs.declared.log.LogEntry.{LogEntry}
@@ -147,35 +147,38 @@ Grown-unless true now e old new grew at = subst (Grown now old) (sym grew) (Grow
 Grown-unless false now e old new grew at = Grown-added now e old new grew at
 
 -- what an entry adds to how often a number was waited for
-abbrev once : Bool → ℕ
+abbrev pub once : Bool → ℕ
 once b = cond b 1 0
 
--- how often it was waited for does not fall
-waits-rise : (log : Log) (of n m : ℕ) → n ≤ m → waits log of n ≤ waits log of m
-waits-rise log of n zero h =
-    let e : n ≡ zero = omega (arith, h) in
-    subst (λ (k : ℕ). waits log of k ≤ waits log of zero) (sym e) (le_refl (waits log of zero))
-waits-rise log of n (suc m) h = ⊎_elim
-    (λ below. le_trans (waits-rise log of n m (omega (arith, below))) (le-add_right (waits log of m) (once (is_wait_for of (log.entry m)))))
-    (λ from. let e : n ≡ suc m = omega (arith, h, from) in subst (λ (k : ℕ). waits log of k ≤ waits log of (suc m)) (sym e) (le_refl (waits log of (suc m))))
-    (below_or_from n (suc m))
-
--- nor while the log grows
-pub waits-grown : (old new : Log) (of : ℕ) → Extends old new → waits old of old.next ≤ waits new of new.next
-waits-grown old new of x =
-    subst (λ (k : ℕ). k ≤ waits new of new.next) (waits-extend old new x of old.next (omega arith)) (waits-rise new of old.next new.next x.later)
+-- a newest entry adds one where it says so
+pub waits-added : (es : List LogEntry) (e : LogEntry) (of : ℕ)
+    → waits (log_of (es ++ e ∷ [])) of (log_of (es ++ e ∷ [])).next ≡ waits (log_of es) of (log_of es).next + once (is_wait_for of (Some e))
+waits-added es e of =
+    let new = log_of (es ++ e ∷ []) in
+    let x = Extends-added es e in
+    let next : new.next ≡ suc (length es + 1) = omega (arith, length-append es (e ∷ [])) in
+    let one : once (is_wait_for of (new.entry (length es + 1))) ≡ once (is_wait_for of (Some e)) =
+    ap (λ (e : Option LogEntry). once (is_wait_for of e)) ((Logged-newest es e).is) in
+    let before : waits new of (length es + 1) ≡ waits (log_of es) of (length es + 1) = waits-extend (log_of es) new x of (length es + 1) (omega arith) in
+    ap (waits new of) next ∙ ap (λ (k : ℕ). waits new of (length es + 1) + k) one ∙ ap (λ (k : ℕ). k + once (is_wait_for of (Some e))) before
 
 -- once more with a newest entry that says so
 pub waits-newest : (es : List LogEntry) (of : ℕ)
     → waits (log_of (es ++ Waited of ∷ [])) of (log_of (es ++ Waited of ∷ [])).next ≡ waits (log_of es) of (log_of es).next + 1
-waits-newest es of =
-    let new = log_of (es ++ Waited of ∷ []) in
-    let x = Extends-added es (Waited of) in
-    let next : new.next ≡ suc (length es + 1) = omega (arith, length-append es (Waited of ∷ [])) in
-    let one : once (is_wait_for of (new.entry (length es + 1))) ≡ 1 =
-    ap (λ (e : Option LogEntry). once (is_wait_for of e)) ((Logged-newest es (Waited of)).is) ∙ ap once (nat_eq_equiv.refl of) in
-    let before : waits new of (length es + 1) ≡ waits (log_of es) of (length es + 1) = waits-extend (log_of es) new x of (length es + 1) (omega arith) in
-    ap (waits new of) next ∙ ap (λ (k : ℕ). waits new of (length es + 1) + k) one ∙ ap (λ (k : ℕ). k + 1) before
+waits-newest es of = waits-added es (Waited of) of ∙ ap (λ (b : Bool). waits (log_of es) of (log_of es).next + once b) (nat_eq_equiv.refl of)
+
+-- as often as before with one that does not
+pub waits-other : (es : List LogEntry) (e : LogEntry) (of : ℕ) → is_wait_for of (Some e) ≡ false
+    → waits (log_of (es ++ e ∷ [])) of (log_of (es ++ e ∷ [])).next ≡ waits (log_of es) of (log_of es).next
+waits-other es e of other = omega (arith, waits-added es e of, ap once other)
+
+-- an entry that waits for another does not wait for this one
+pub waits_for_another : (k of : ℕ) → k ≢ of → is_wait_for of (Some (Waited k)) ≡ false
+waits_for_another k of differ = by (k == of) refl
+  where
+    by : (b : Bool) → (k == of) ≡ b → (k == of) ≡ false
+    by false is = is
+    by true is = absurd (differ (eqb-true k of is))
 
 -- an entry that opens or asks goes to a server
 abbrev pub GoesRight : Given → Log → LogEntry → Type 0

@@ -16,4 +16,5 @@ pub mod Timed
 pub mod Standing
 pub mod Playing
 pub mod Growing
+pub mod Patience
 pub mod Slots

@@ -4,19 +4,19 @@ use Rattle.std.proofs.Math.ListN.{set}
 use Rattle.std.proofs.lemmas.Bool.{ne_eqb}
 use Rattle.std.proofs.lemmas.Option.{same_Some, slice_get_within, get_or_from_slice_get}
 use Rattle.std.proofs.lemmas.List.Elements.{All-get_or}
-use Rattle.std.specs.declared.net.ip_addr.IpAddr.{IpAddr}
 use Rattle.dns_core.specs.Log.{Log, log_of}
 use Rattle.dns_core.specs.declared.log.LogEntry.{LogEntry}
 use Rattle.dns_core.specs.declared.request.Question.{Question}
 use Rattle.dns_core.specs.declared.request.Turn.{Turn}
 use Rattle.dns_core.specs.declared.provider.ConnectionProvider.{Ghosts}
-use Rattle.recursor_core.specs.Replies.{Terms, Timer, ReplyHolds}
+use Rattle.recursor_core.specs.Replies.{Terms, terms_with, Timer, ReplyHolds}
 use Rattle.recursor_core.specs.Tried.{machine_timer}
 use Rattle.recursor_core.specs.Carrying.{TellsThat, Grown}
 use Rattle.recursor_core.specs.Derived.{terms_of}
 use Rattle.recursor_core.specs.Machine.{Begun, begun_at}
 use Rattle.recursor_core.specs.Standing.{Moves, ReplyTold, IsTimely, first_moment, last_moment, begin_moment, run_moments, run_timer, PlayHolds, PlaysHold, RepliesHold}
 use Rattle.recursor_core.specs.Turns.{Begins, BeginsIf, BeginsAt, IsRefused, ReplyOf}
+use Rattle.recursor_core.specs.declared.setting.Setting.{Setting}
 use Rattle.recursor_core.specs.declared.carrier.Carrier.{Carrier}
 use Rattle.recursor_core.specs.declared.error.RecursorError.TheVariants as error
 use Rattle.recursor_core.specs.declared.machine.RecursorCore.{RecursorCore}
@@ -122,65 +122,65 @@ work_else false new mid old h le = omega arith
 -- a question that goes on as it was
 play_on : (patience now : ℕ) (core new : RecursorCore) (told later : Option (List LogEntry)) (start : ℕ) (turns rest left : List Turn) (q : ℕ)
     (question : Question) (p : Played)
-    → new.roots ≡ core.roots → ((k : ℕ) (b : Begun) → begun_at core k ≡ Some b → begun_at new k ≡ Some b) → Grown now told later
+    → new.setting ≡ core.setting → ((k : ℕ) (b : Begun) → begun_at core k ≡ Some b → begun_at new k ≡ Some b) → Grown now told later
     → (p ≡ played.Waiting → first_moment rest q ≡ first_moment left q)
     → PlayHolds patience core told start turns rest q question p → PlayHolds patience new later start turns left q question p
-play_on patience now core new told later start turns rest left q question played.Waiting roots begun grown same h = h ∙ same refl
-play_on patience now core new told later start turns rest left q question (played.Begun r) roots begun grown same h =
+play_on patience now core new told later start turns rest left q question played.Waiting setting begun grown same h = h ∙ same refl
+play_on patience now core new told later start turns rest left q question (played.Begun r) setting begun grown same h =
     record { begun = h.begun; is = begun r h.begun h.is; question = h.question; late = h.late }
-play_on patience now core new told later start turns rest left q question (played.Answered reply) roots begun grown same h =
-    subst (λ (ips : List IpAddr). TellsThat later (λ log. ReplyHolds (record { roots = ips; patience = patience }) machine_timer log
-    (begin_moment start turns q) question reply)) (sym roots)
+play_on patience now core new told later start turns rest left q question (played.Answered reply) setting begun grown same h =
+    subst (λ (held : Setting). TellsThat later (λ log. ReplyHolds (terms_with patience held) machine_timer log
+    (begin_moment start turns q) question reply)) (sym setting)
     (ReplyHolds-grown now (terms_of patience core) (begin_moment start turns q) question reply told later grown h)
 
 -- a question at the place where one begins
 begin_here : (patience : ℕ) (core new : RecursorCore) (told : Option (List LogEntry)) (start : ℕ) (turns rest left : List Turn) (q now : ℕ)
     (question : Question) (old : Option Played) (p : Played)
-    → new.roots ≡ core.roots → ((k : ℕ) (b : Begun) → begun_at core k ≡ Some b → begun_at new k ≡ Some b)
+    → new.setting ≡ core.setting → ((k : ℕ) (b : Begun) → begun_at core k ≡ Some b → begun_at new k ≡ Some b)
     → (first_moment turns q ≡ first_moment rest q → begin_moment start turns q ≤ now)
     → BeginsIf (Some question) now new old (Some p) → ((was : Played) → old ≡ Some was → PlayHolds patience core told start turns rest q question was)
     → PlayHolds patience new told start turns left q question p
-begin_here patience core new told start turns rest left q now question None p roots begun due begins h = cc
-begin_here patience core new told start turns rest left q now question (Some played.Waiting) played.Waiting roots begun due begins h = absurd begins
-begin_here patience core new told start turns rest left q now question (Some played.Waiting) (played.Begun r) roots begun due begins h =
+begin_here patience core new told start turns rest left q now question None p setting begun due begins h = cc
+begin_here patience core new told start turns rest left q now question (Some played.Waiting) played.Waiting setting begun due begins h = absurd begins
+begin_here patience core new told start turns rest left q now question (Some played.Waiting) (played.Begun r) setting begun due begins h =
     record { begun = record { question = question; moment = now }; is = begins; question = refl; late = due (h played.Waiting refl) }
-begin_here patience core new told start turns rest left q now question (Some played.Waiting) (played.Answered reply) roots begun due begins h =
+begin_here patience core new told start turns rest left q now question (Some played.Waiting) (played.Answered reply) setting begun due begins h =
     λ es t. refused_holds (terms_of patience new) machine_timer (log_of es) (begin_moment start turns q) question reply begins
-begin_here patience core new told start turns rest left q now question (Some (played.Begun r)) p roots begun due begins h =
+begin_here patience core new told start turns rest left q now question (Some (played.Begun r)) p setting begun due begins h =
     subst (λ (x : Played). PlayHolds patience new told start turns left q question x) (sym (same_Some _ _ begins))
-    (play_on patience now core new told told start turns rest left q question (played.Begun r) roots begun (Grown-refl now told) (λ e. cc) (h (played.Begun r) refl))
-begin_here patience core new told start turns rest left q now question (Some (played.Answered reply)) p roots begun due begins h =
+    (play_on patience now core new told told start turns rest left q question (played.Begun r) setting begun (Grown-refl now told) (λ e. cc) (h (played.Begun r) refl))
+begin_here patience core new told start turns rest left q now question (Some (played.Answered reply)) p setting begun due begins h =
     subst (λ (x : Played). PlayHolds patience new told start turns left q question x) (sym (same_Some _ _ begins))
-    (play_on patience now core new told told start turns rest left q question (played.Answered reply) roots begun (Grown-refl now told) (λ e. cc)
+    (play_on patience now core new told told start turns rest left q question (played.Answered reply) setting begun (Grown-refl now told) (λ e. cc)
     (h (played.Answered reply) refl))
 
 -- Where a question waits at the place it begins, if its moment has come; the others go on.
 begins_hold : (patience : ℕ) (core new : RecursorCore) (told : Option (List LogEntry)) (start : ℕ) (turns rest left : List Turn) (questions : List Question)
     (old plays : List Played) (q now : ℕ)
-    → new.roots ≡ core.roots → ((k : ℕ) (b : Begun) → begun_at core k ≡ Some b → begun_at new k ≡ Some b)
+    → new.setting ≡ core.setting → ((k : ℕ) (b : Begun) → begun_at core k ≡ Some b → begun_at new k ≡ Some b)
     → ((k : ℕ) → k ≢ q → slice_get plays k ≡ slice_get old k)
     → BeginsAt questions q now new (slice_get old q) (slice_get plays q)
     → ((k : ℕ) → k ≢ q → first_moment rest k ≡ first_moment left k)
     → (first_moment turns q ≡ first_moment rest q → begin_moment start turns q ≤ now)
     → PlaysHold patience core told start turns rest questions old → PlaysHold patience new told start turns left questions plays
-begins_hold patience core new told start turns rest left questions old plays q now roots begun others begins after due h k question p asks plays_p = ⊎_elim
+begins_hold patience core new told start turns rest left questions old plays q now setting begun others begins after due h k question p asks plays_p = ⊎_elim
     (λ (same : k ≡ q).
     let asks_q : slice_get questions q ≡ Some question = subst (λ i. slice_get questions i ≡ Some question) same asks in
     let plays_q : slice_get plays q ≡ Some p = subst (λ i. slice_get plays i ≡ Some p) same plays_p in
     let at_q : BeginsIf (Some question) now new (slice_get old q) (Some p) = rw (asks_q, plays_q) at begins in
     subst (λ i. PlayHolds patience new told start turns left i question p) (sym same)
-    (begin_here patience core new told start turns rest left q now question (slice_get old q) p roots begun due at_q (λ was e. h q question was asks_q e)))
-    (λ ne. play_on patience now core new told told start turns rest left k question p roots begun (Grown-refl now told) (λ e. after k ne)
+    (begin_here patience core new told start turns rest left q now question (slice_get old q) p setting begun due at_q (λ was e. h q question was asks_q e)))
+    (λ ne. play_on patience now core new told told start turns rest left k question p setting begun (Grown-refl now told) (λ e. after k ne)
     (h k question p asks (sym (others k ne) ∙ plays_p)))
     (same_or_not k q)
 
 module _ {P C F E : Type 0} (p : Ghosts P C F E) (patience now : ℕ) (core new : RecursorCore) (c later : Carrier P C F E p)
-    (moves : Moves p now core new c later) where
+    (moves : Moves p patience now core new c later) where
   -- the questions go on while the machine and the provider do
   pub plays_moved : (start : ℕ) (turns rest : List Turn) (questions : List Question) (plays : List Played)
       → PlaysHold patience core (p.log c.provider) start turns rest questions plays → PlaysHold patience new (p.log later.provider) start turns rest questions plays
   plays_moved start turns rest questions plays h q question play asks at =
-      play_on patience now core new (p.log c.provider) (p.log later.provider) start turns rest rest q question play moves.roots moves.begun moves.grown
+      play_on patience now core new (p.log c.provider) (p.log later.provider) start turns rest rest q question play moves.setting moves.begun moves.grown
       (λ e. refl) (h q question play asks at)
 
   -- one has its reply
@@ -199,7 +199,7 @@ module _ {P C F E : Type 0} (p : Ghosts P C F E) (patience now : ℕ) (core new 
       let holds : TellsThat told_now (λ log. ReplyHolds (terms_of patience core) machine_timer log b.moment b.question reply) = rw f.is at told in
       let given : PlayHolds patience new told_now start turns rest q question (played.Answered reply) = λ es t.
       ReplyHolds-earlier (terms_of patience new) (log_of es) (begin_moment start turns q) b.moment question reply f.late
-      (subst (λ (ips : List IpAddr). ReplyHolds (record { roots = ips; patience = patience }) machine_timer (log_of es) b.moment question reply) (sym moves.roots)
+      (subst (λ (held : Setting). ReplyHolds (terms_with patience held) machine_timer (log_of es) b.moment question reply) (sym moves.setting)
       (subst (λ (x : Question). ReplyHolds (terms_of patience core) machine_timer (log_of es) b.moment x reply) f.question (holds es t))) in
       subst (λ i. PlayHolds patience new told_now start turns rest i question play) (sym same)
       (subst (λ (x : Played). PlayHolds patience new told_now start turns rest q question x) (sym is) given))
@@ -253,21 +253,21 @@ plays_skip patience core told start turns rest t questions plays none h q questi
 -- at its turn a question begins, if it waits
 pub plays_turn : (patience : ℕ) (core new : RecursorCore) (told : Option (List LogEntry)) (start : ℕ) (turns rest : List Turn) (t : Turn)
     (questions : List Question) (old plays : List Played) (q now : ℕ)
-    → t.question ≡ q + 1 → start ≤ now → t.moment ≤ now → new.roots ≡ core.roots → ((k : ℕ) (b : Begun) → begun_at core k ≡ Some b → begun_at new k ≡ Some b)
+    → t.question ≡ q + 1 → start ≤ now → t.moment ≤ now → new.setting ≡ core.setting → ((k : ℕ) (b : Begun) → begun_at core k ≡ Some b → begun_at new k ≡ Some b)
     → ((k : ℕ) → k ≢ q → slice_get plays k ≡ slice_get old k) → BeginsAt questions q now new (slice_get old q) (slice_get plays q)
     → PlaysHold patience core told start turns (t ∷ rest) questions old → PlaysHold patience new told start turns rest questions plays
-plays_turn patience core new told start turns rest t questions old plays q now names after due roots begun others begins h =
-    begins_hold patience core new told start turns (t ∷ rest) rest questions old plays q now roots begun others begins
+plays_turn patience core new told start turns rest t questions old plays q now names after due setting begun others begins h =
+    begins_hold patience core new told start turns (t ∷ rest) rest questions old plays q now setting begun others begins
     (λ k ne. first_other t rest k (λ named. ne (omega arith))) (λ e. let is = begins_now start turns rest t q names e in omega (arith, is, after, due)) h
 
 -- after the turns a question begins that waits still
 pub plays_end : (patience : ℕ) (core new : RecursorCore) (told : Option (List LogEntry)) (start : ℕ) (turns : List Turn) (questions : List Question)
     (old plays : List Played) (q now : ℕ)
-    → start ≤ now → last_moment start turns ≤ now → new.roots ≡ core.roots → ((k : ℕ) (b : Begun) → begun_at core k ≡ Some b → begun_at new k ≡ Some b)
+    → start ≤ now → last_moment start turns ≤ now → new.setting ≡ core.setting → ((k : ℕ) (b : Begun) → begun_at core k ≡ Some b → begun_at new k ≡ Some b)
     → ((k : ℕ) → k ≢ q → slice_get plays k ≡ slice_get old k) → BeginsAt questions q now new (slice_get old q) (slice_get plays q)
     → PlaysHold patience core told start turns [] questions old → PlaysHold patience new told start turns [] questions plays
-plays_end patience core new told start turns questions old plays q now after due roots begun others begins h =
-    begins_hold patience core new told start turns [] [] questions old plays q now roots begun others begins
+plays_end patience core new told start turns questions old plays q now after due setting begun others begins h =
+    begins_hold patience core new told start turns [] [] questions old plays q now setting begun others begins
     (λ k ne. refl) (λ e. let is = begins_last start turns q e in omega (arith, is, after, due)) h
 
 -- the last turn is at the last moment

@@ -1,6 +1,5 @@
 -- What holds of the machine and its provider goes on holding at each step of the two.
-use Rattle.std.proofs.Common.{◌≡◌, ◌≤◌, ◌<◌, ◌+◌, ◌∙◌, ◌⊎◌, ⊎_elim, inl, inr, ℕ, zero, suc, List, length, Option, Some, None, Result, Ok, Err, OnOk, IfOk, refl, sym, subst, arith}
-use Rattle.std.specs.declared.net.ip_addr.IpAddr.{IpAddr}
+use Rattle.std.proofs.Common.{◌≡◌, ◌≤◌, ◌<◌, ◌+◌, ◌∙◌, ◌⊎◌, ⊎_elim, inl, inr, ℕ, zero, suc, List, length, Option, Some, None, Result, Ok, Err, OnOk, IfOk, refl, sym, subst, arith, max}
 use Rattle.dns_core.specs.Log.{Log, Extends, log_of}
 use Rattle.dns_core.specs.declared.log.LogEntry.{LogEntry}
 use Rattle.dns_core.specs.declared.request.Question.{Question}
@@ -10,13 +9,15 @@ use Rattle.resolution.specs.Telling.{Logged}
 use Rattle.resolution.specs.Asking.{AsksServers}
 use Rattle.resolution.proofs.Keeping.{Serves-later, Serves-extend}
 use Rattle.recursor_core.specs.Order.{Fits, GoesToServer}
-use Rattle.recursor_core.specs.Replies.{Terms, given_of, ReplyHolds}
+use Rattle.recursor_core.specs.Replies.{Terms, terms_with, given_of, ReplyHolds}
 use Rattle.recursor_core.specs.Tried.{machine_timer}
 use Rattle.recursor_core.specs.Carrying.{TellsThat, Grown, CarrierHolds}
 use Rattle.recursor_core.specs.Derived.{terms_of, Derived}
+use Rattle.recursor_core.specs.Patience.{IsPatient}
 use Rattle.recursor_core.specs.Machine.{Begun, begun_at, ReplyGiven, StepGives}
 use Rattle.recursor_core.specs.Standing.{IsPast, Holds, Rests, Moves, ReplyTold}
 use Rattle.recursor_core.specs.Turns.{TurnFalls}
+use Rattle.recursor_core.specs.declared.setting.Setting.{Setting}
 use Rattle.recursor_core.specs.declared.carrier.Carrier.{Carrier}
 use Rattle.recursor_core.specs.declared.machine.RecursorCore.{RecursorCore}
 use Rattle.recursor_core.specs.declared.machine.Step.{Step}
@@ -28,6 +29,7 @@ use Rattle.recursor_core.specs.declared.order.Order.{Order}
 use Rattle.recursor_core.specs.declared.order.Order.TheVariants.{Open, Ask}
 use Rattle.recursor_core.specs.declared.order.Outcome.{Outcome}
 use Rattle.recursor_core.specs.declared.reply.Reply.{Reply}
+use Rattle.recursor_core.proofs.Patience.{IsPatient-refl, IsPatient-trans}
 use Rattle.recursor_core.proofs.Kept.{Derived-extends, ReplyHolds-extends}
 
 -- ---- growing logs
@@ -121,13 +123,13 @@ GoesToServer-later given log n m (Ask conn ip protocol request) le h = record { 
 
 module _ (patience : ℕ) (core new : RecursorCore) (told : Option (List LogEntry)) where
   -- an order that the machine gives goes to a server by all that is told
-  pub step_goes : (r number : ℕ) (next : Step) (order : Order) → next ≡ step.Order number order → new.roots ≡ core.roots → TellsThat told (Derived patience core)
+  pub step_goes : (r number : ℕ) (next : Step) (order : Order) → next ≡ step.Order number order → new.setting ≡ core.setting → TellsThat told (Derived patience core)
       → ((log : Log) → Derived patience core log → Derived patience new log × StepGives patience core log r next)
       → TellsThat told (λ log. GoesToServer (given_of (terms_of patience new)) log log.next order)
-  step_goes r number next order is roots d gives es t =
+  step_goes r number next order is setting d gives es t =
       let given = subst (λ (s : Step). StepGives patience core (log_of es) r s) is (gives (log_of es) (d es t)).1 in
       let b : core.greatest < length es + 1 = (d es t).bound in
-      subst (λ (ips : List IpAddr). GoesToServer (given_of (record { roots = ips; patience = patience })) (log_of es) (length es + 1) order) (sym roots)
+      subst (λ (held : Setting). GoesToServer (given_of (terms_with patience held)) (log_of es) (length es + 1) order) (sym setting)
       (GoesToServer-later (given_of (terms_of patience core)) (log_of es) (core.greatest + 1) (length es + 1) order (omega arith) given)
 
   -- a reply that is given to a question that has begun is told
@@ -177,23 +179,23 @@ turn_falls new mid old (Err e) h le = tt
 
 module _ {P C F E : Type 0} (p : Ghosts P C F E) where
   -- a step of the machine alone
-  pub holds_derived : (patience : ℕ) (core new : RecursorCore) (c : Carrier P C F E p) → new.roots ≡ core.roots → core.moment ≤ new.moment
+  pub holds_derived : (patience : ℕ) (core new : RecursorCore) (c : Carrier P C F E p) → new.setting ≡ core.setting → core.moment ≤ new.moment
       → ((log : Log) → Derived patience core log → Derived patience new log) → Holds p patience core c → Holds p patience new c
-  holds_derived patience core new c roots later derived h = record {
+  holds_derived patience core new c setting later derived h = record {
     carrier = h.carrier;
     derived = λ es t. derived (log_of es) (h.derived es t);
-    asks = subst (λ (ips : List IpAddr). TellsThat (p.log c.provider) (AsksServers (given_of (record { roots = ips; patience = patience })))) (sym roots) h.asks;
+    asks = subst (λ (held : Setting). TellsThat (p.log c.provider) (AsksServers (given_of (terms_with patience held)))) (sym setting) h.asks;
     past = IsPast-later core.moment new.moment (p.log c.provider) later h.past;
   }
 
   -- the machine is fed what the provider told
-  pub holds_put : (patience : ℕ) (core new : RecursorCore) (c : Carrier P C F E p) (now : ℕ) (outcome : Outcome) → new.roots ≡ core.roots → new.moment ≡ now
+  pub holds_put : (patience : ℕ) (core new : RecursorCore) (c : Carrier P C F E p) (now : ℕ) (outcome : Outcome) → new.setting ≡ core.setting → new.moment ≡ now
       → ((log longer : Log) → core.moment ≤ now → Derived patience core log → Extends log longer → Fits longer now outcome → Derived patience new longer)
       → TellsThat (p.log c.provider) (λ log. Fits log now outcome) → core.moment ≡ now → Holds p patience core c → Holds p patience new c
-  holds_put patience core new c now outcome roots moment derived fits at h = record {
+  holds_put patience core new c now outcome setting moment derived fits at h = record {
     carrier = h.carrier;
     derived = λ es t. derived (log_of es) (log_of es) (omega arith) (h.derived es t) (Extends-refl (log_of es)) (fits es t);
-    asks = subst (λ (ips : List IpAddr). TellsThat (p.log c.provider) (AsksServers (given_of (record { roots = ips; patience = patience })))) (sym roots) h.asks;
+    asks = subst (λ (held : Setting). TellsThat (p.log c.provider) (AsksServers (given_of (terms_with patience held)))) (sym setting) h.asks;
     past = IsPast-later core.moment new.moment (p.log c.provider) (omega arith) h.past;
   }
 
@@ -212,35 +214,43 @@ module _ {P C F E : Type 0} (p : Ghosts P C F E) where
   }
 
   -- two steps are one
-  pub moves_trans : (now : ℕ) (a b c : RecursorCore) (x y z : Carrier P C F E p) → Moves p now a b x y → Moves p now b c y z → Moves p now a c x z
-  moves_trans now a b c x y z m n = record {
-    roots = n.roots ∙ m.roots;
+  pub moves_trans : (patience now : ℕ) (a b c : RecursorCore) (x y z : Carrier P C F E p) → Moves p patience now a b x y → Moves p patience now b c y z
+      → Moves p patience now a c x z
+  moves_trans patience now a b c x y z m n = record {
+    setting = n.setting ∙ m.setting;
     begun = λ k begun e. n.begun k begun (m.begun k begun e);
     grown = Grown-trans now (p.log x.provider) (p.log y.provider) (p.log z.provider) m.grown n.grown;
+    patient = IsPatient-trans (max 1 patience) (p.log x.provider) (p.log y.provider) (p.log z.provider) m.patient n.patient;
   }
 
   -- a step of the machine alone that keeps the questions
-  pub moves_core : (now : ℕ) (core new : RecursorCore) (c : Carrier P C F E p) → new.roots ≡ core.roots → ((k : ℕ) → begun_at new k ≡ begun_at core k)
-      → Moves p now core new c c
-  moves_core now core new c roots begun = record { roots = roots; begun = λ k b e. begun k ∙ e; grown = Grown-refl now (p.log c.provider) }
+  pub moves_core : (patience now : ℕ) (core new : RecursorCore) (c : Carrier P C F E p) → new.setting ≡ core.setting
+      → ((k : ℕ) → begun_at new k ≡ begun_at core k) → Moves p patience now core new c c
+  moves_core patience now core new c setting begun = record {
+    setting = setting;
+    begun = λ k b e. begun k ∙ e;
+    grown = Grown-refl now (p.log c.provider);
+    patient = IsPatient-refl (max 1 patience) (p.log c.provider);
+  }
 
   -- a step of the provider alone
-  pub moves_grown : (now : ℕ) (core : RecursorCore) (c new : Carrier P C F E p) → Grown now (p.log c.provider) (p.log new.provider) → Moves p now core core c new
-  moves_grown now core c new grown = record { roots = refl; begun = λ k b e. e; grown = grown }
+  pub moves_grown : (patience now : ℕ) (core : RecursorCore) (c new : Carrier P C F E p) → Grown now (p.log c.provider) (p.log new.provider)
+      → IsPatient (max 1 patience) (p.log c.provider) (p.log new.provider) → Moves p patience now core core c new
+  moves_grown patience now core c new grown patient = record { setting = refl; begun = λ k b e. e; grown = grown; patient = patient }
 
   -- a machine at rest begins a run: its questions are left
-  pub rests_holds : (patience : ℕ) (core new : RecursorCore) (c : Carrier P C F E p) → new.roots ≡ core.roots → new.moment ≡ core.moment
-      → ((log : Log) → core.greatest < log.next → 0 < length core.roots → Derived patience new log) → Rests p core c → Holds p patience new c
-  rests_holds patience core new c roots moment derived h = record {
+  pub rests_holds : (patience : ℕ) (core new : RecursorCore) (c : Carrier P C F E p) → new.setting ≡ core.setting → new.moment ≡ core.moment
+      → ((log : Log) → core.greatest < log.next → 0 < length core.setting.roots → Derived patience new log) → Rests p core c → Holds p patience new c
+  rests_holds patience core new c setting moment derived h = record {
     carrier = h.carrier;
     derived = λ es t. derived (log_of es) (h.bound es t) h.some;
-    asks = subst (λ (ips : List IpAddr). TellsThat (p.log c.provider) (AsksServers (given_of (record { roots = ips; patience = patience })))) (sym roots)
+    asks = subst (λ (held : Setting). TellsThat (p.log c.provider) (AsksServers (given_of (terms_with patience held)))) (sym setting)
         (h.asks patience);
     past = subst (λ m. TellsThat (p.log c.provider) (IsPast m)) (sym moment) h.past;
   }
 
   -- and after it the machine is at rest again
-  pub holds_rests : (patience : ℕ) (core : RecursorCore) (c : Carrier P C F E p) → 0 < length core.roots → Holds p patience core c → Rests p core c
+  pub holds_rests : (patience : ℕ) (core : RecursorCore) (c : Carrier P C F E p) → 0 < length core.setting.roots → Holds p patience core c → Rests p core c
   holds_rests patience core c some h = record {
     some = some;
     carrier = h.carrier;

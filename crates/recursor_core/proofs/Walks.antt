@@ -1,6 +1,6 @@
 -- How a walk goes on.
 use Rattle.std.proofs.Common.{◌≡◌, ◌≤◌, ◌<◌, ◌+◌, ◌-◌, ◌↔◌, ℕ, Bool, true, false, cond, List, length, Option, Some, None, Contains, refl, sym, ◌∙◌, ap, subst, arith, inl, inr, Result, Ok, Err, OnOk, IfOk, IfNone}
-use Rattle.std.proofs.lemmas.List.Elements.{All-weaker, All-contains_itself, All-filter, recursion_from_All}
+use Rattle.std.proofs.lemmas.List.Elements.{All-weaker, All-contains_itself, recursion_from_All}
 use Rattle.std.proofs.lemmas.List.FromFn.{get_or-map-range_with_len, length-map-range_with_len}
 use Rattle.std.proofs.lemmas.Bool.Decides.{nat_tests}
 use Rattle.std.specs.Prelude.{nat_lt, ◌&&◌, ◌==◌, not, IsTrue, IsSomeAnd}
@@ -15,7 +15,7 @@ use Rattle.dns_core.specs.declared.errors.NoMemory.{NoMemory}
 use Rattle.dns_core.specs.declared.net_error.NetError.{NetError}
 use Rattle.dns_core.specs.declared.net_error.NetError.TheVariants as net
 use Rattle.resolution.specs.Names.{root, base, candidates, is_above, is_root, walk, question}
-use Rattle.resolution.specs.Given.{allows_all}
+use Rattle.resolver_settings.specs.Access.{denies}
 use Rattle.resolution.specs.Serving.{Serves, Delegates, is_delegation, glue, allowed}
 use Rattle.resolution.specs.Serving.Serves.{of_root, of_glue}
 use Rattle.resolution.specs.Serving.Delegates.{delegates}
@@ -25,6 +25,7 @@ use Rattle.resolution.specs.Walking.{NoCut, Walked, at_any_time, is_cut}
 use Rattle.resolution.specs.Walking.NoCut.{told_otherwise, not_told}
 use Rattle.resolution.specs.declared.verdict.Verdict.TheVariants.{Pos}
 use Rattle.resolution.specs.declared.verdict.Verdict.{Verdict}
+use Rattle.resolution.proofs.Members.{Has-from_Contains, Contains-from_Has, Has-filter, Has-passes}
 use Rattle.recursor_core.specs.Replies.{Terms, given_of}
 use Rattle.recursor_core.specs.Tried.{Concluded, machine_timer}
 use Rattle.recursor_core.specs.Causes.{WalksTo, HasNoServer}
@@ -303,14 +304,25 @@ cut-delegates terms greatest t0 log zone c asked entry kept counts is d long =
     let early = now.is.early in
     delegates (omega arith) now.is.heard now.counts d (not-root c long)
 
--- the addresses beside a delegation are the servers of the delegated zone
+-- an address that may be asked is beside the delegation, and is not denied
+may-ask : (denied : IpAddr → Bool) (ips : List IpAddr) (ip : IpAddr) → Contains (allowed denied ips) ip → (denied ip ≡ false) × Contains ips ip
+may-ask denied ips ip h =
+    let may : IpAddr → Bool = λ x. not (denied x) in
+    let there = Has-from_Contains (allowed denied ips) ip h in
+    (not-so (denied ip) (Has-passes may ips ip there), Contains-from_Has ips ip (Has-filter may ips ip there))
+  where
+    not-so : (b : Bool) → not b ≡ true → b ≡ false
+    not-so true e = cc
+    not-so false e = refl
+
+-- the addresses beside a delegation that may be asked are the servers of the delegated zone
 cut-pool : (terms : Terms) (greatest : ℕ) (log : Log) (c : DomainName) (kept : Message) (ips : List IpAddr)
-    → Delegates (given_of terms) log (greatest + 1) c kept → 0 < length ips → ((ip : IpAddr) → Contains ips ip ↔ Contains (glue kept c) ip)
+    → Delegates (given_of terms) log (greatest + 1) c kept → 0 < length ips → ((ip : IpAddr) → Contains ips ip ↔ Contains (allowed (denies terms.server_filter) (glue kept c)) ip)
     → ArePool terms log (greatest + 1) c ips
 cut-pool terms greatest log c kept ips told some glued =
-    let serve = All-weaker (Contains ips) (λ (ip : IpAddr). Serves (given_of terms) log (greatest + 1) ip c) (λ ip has. of_glue told refl ((glued ip).0 has))
-    ips (All-contains_itself ips) in
-    let there = All-weaker (Contains (glue kept c)) (Contains ips) (λ ip has. (glued ip).1 has) (glue kept c) (All-contains_itself (glue kept c)) in
+    let serve = All-weaker (Contains ips) (λ (ip : IpAddr). Serves (given_of terms) log (greatest + 1) ip c) (λ ip has. let may = may-ask (denies terms.server_filter) (glue kept c) ip ((glued ip).0 has) in
+    of_glue told may.0 may.1) ips (All-contains_itself ips) in
+    let asked = allowed (denies terms.server_filter) (glue kept c) in
     record {
       serve = serve;
       listed = of_told (record {
@@ -319,8 +331,8 @@ cut-pool terms greatest log c kept ips told some glued =
         some = some;
         k = kept;
         told = told;
-        whole = recursion_from_All (Contains ips) (allowed allows_all (glue kept c))
-            (All-filter (λ (ip : IpAddr). not (allows_all ip)) (Contains ips) (glue kept c) there);
+        whole = recursion_from_All (Contains ips) asked
+            (All-weaker (Contains asked) (Contains ips) (λ ip has. (glued ip).1 has) asked (All-contains_itself asked));
       });
       some = some;
     }
@@ -329,7 +341,7 @@ cut-pool terms greatest log c kept ips told some glued =
 pub cut-way : (terms : Terms) (greatest t0 : ℕ) (log : Log) (q : Query) (w : Walk) (kept : Message) (entry : ℕ) (zone : DomainName) (ips : List IpAddr)
     → IsCandidate w.stage → WayHolds terms greatest log q w → Counts terms greatest t0 log w.zone w.lookup.query entry (Pos kept)
     → is_delegation kept w.lookup.query.name ≡ true → zone ≡ w.lookup.query.name → 0 < length ips
-    → ((ip : IpAddr) → Contains ips ip ↔ Contains (glue kept w.lookup.query.name) ip)
+    → ((ip : IpAddr) → Contains ips ip ↔ Contains (allowed (denies terms.server_filter) (glue kept w.lookup.query.name)) ip)
     → WayHolds terms greatest log q (record w { zone = zone; servers = ips })
 cut-way terms greatest t0 log q w kept entry zone ips here way counts d z some glued =
     let now = at terms greatest log q w here way in

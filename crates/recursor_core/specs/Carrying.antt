@@ -1,5 +1,5 @@
 -- What is under way for orders over a provider, and how its log grows meanwhile.
-use Rattle.std.specs.Prelude.{◌≡◌, ◌≤◌, ◌<◌, ◌+◌, ◌^◌, ℕ, List, length, Option, Some, None}
+use Rattle.std.specs.Prelude.{◌≡◌, ◌≢◌, ◌≤◌, ◌<◌, ◌+◌, ◌^◌, ℕ, List, length, Option, Some, None, unwrap_or}
 use Rattle.std.specs.BTreeMap as tree
 use Rattle.std.specs.BTreeMap.{BTreeMap}
 use Rattle.std.specs.Ordering.{nat_cmp}
@@ -32,11 +32,11 @@ pub record LongerThan (now : ℕ) (old : Option (List LogEntry)) (es : List LogE
 abbrev pub Grown : ℕ → Option (List LogEntry) → Option (List LogEntry) → Type 0
 Grown now old new = (es : List LogEntry) → new ≡ Some es → LongerThan now old es
 
--- What is under way, by this number, was sent so, and so many polls of it found nothing.
+-- What is under way, by this number, was sent so, and just so many polls of it found nothing.
 pub record IsWaitedFor (number : ℕ) (s : Sent) (polls : ℕ) (log : Log) : Type 0 where
   pub numbered : number ≡ s.of
   pub sent : IsSent log s None
-  pub waited : polls ≤ waits log s.of log.next
+  pub waited : polls ≡ waits log s.of log.next
 
 abbrev pub SlotHolds : {P C F E : Type 0} (p : Ghosts P C F E) → Option (List LogEntry) → Slot P C F E p → Type 0
 SlotHolds p told (slot.Opening o) = (o.sent.query ≡ None) × TellsThat told (IsWaitedFor (p.opened o.future) o.sent o.polls)
@@ -50,7 +50,42 @@ slot_at slots n = tree.get nat_cmp slots n
 abbrev pub SlotsHold : {P C F E : Type 0} (p : Ghosts P C F E) → Option (List LogEntry) → BTreeMap ℕ (Slot P C F E p) → Type 0
 SlotsHold {P} {C} {F} {E} p told slots = (n : ℕ) (s : Slot P C F E p) → slot_at slots n ≡ Some s → SlotHolds p told s
 
--- The entries are counted, as far as the count goes, and each question under way was asked as it says.
+-- how many polls of it found nothing
+abbrev pub polls_of : {P C F E : Type 0} {p : Ghosts P C F E} → Slot P C F E p → ℕ
+polls_of (slot.Opening o) = o.polls
+polls_of (slot.Asking a) = a.polls
+polls_of slot.Over = 0
+
+-- the entry by which it was sent
+abbrev pub sent_by : {P C F E : Type 0} {p : Ghosts P C F E} → Slot P C F E p → Option ℕ
+sent_by (slot.Opening o) = Some o.sent.of
+sent_by (slot.Asking a) = Some a.sent.of
+sent_by slot.Over = None
+
+-- how many polls of what is under way for the order of a number found nothing
+abbrev pub polls_at : {P C F E : Type 0} {p : Ghosts P C F E} → BTreeMap ℕ (Slot P C F E p) → ℕ → ℕ
+polls_at slots n = polls_of (unwrap_or (slot_at slots n) slot.Over)
+
+-- the entry by which what is under way for the order of a number was sent
+abbrev pub sent_at : {P C F E : Type 0} {p : Ghosts P C F E} → BTreeMap ℕ (Slot P C F E p) → ℕ → Option ℕ
+sent_at slots n = sent_by (unwrap_or (slot_at slots n) slot.Over)
+
+-- no two of what is under way were sent by one entry
+abbrev pub AreApart : {P C F E : Type 0} (p : Ghosts P C F E) → BTreeMap ℕ (Slot P C F E p) → Type 0
+AreApart p slots = (n m of : ℕ) → sent_at slots n ≡ Some of → sent_at slots m ≡ Some of → n ≡ m
+
+-- nothing under way was sent by the entry
+abbrev pub IsAlone : {P C F E : Type 0} (p : Ghosts P C F E) → BTreeMap ℕ (Slot P C F E p) → ℕ → Type 0
+IsAlone p slots of = (n : ℕ) → sent_at slots n ≢ Some of
+
+-- no entry to come was waited for
+abbrev pub IsUnwaited : Log → Type 0
+IsUnwaited log = (of : ℕ) → log.next ≤ of → waits log of log.next ≡ 0
+
+-- The entries are counted, as far as the count goes, each question under way was asked as it says and by an entry of its own,
+-- and none was waited for that is yet to be asked.
 pub record CarrierHolds {P C F E : Type 0} (p : Ghosts P C F E) (c : Carrier P C F E p) : Type 0 where
   pub counted : c.entries + 1 < 2 ^ 64 → Counted (p.log c.provider) c.entries
   pub slots : SlotsHold p (p.log c.provider) c.slots
+  pub apart : TellsThat (p.log c.provider) (λ log. AreApart p c.slots)
+  pub unwaited : TellsThat (p.log c.provider) IsUnwaited

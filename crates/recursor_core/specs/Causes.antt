@@ -75,7 +75,7 @@ is_lookup_error (net.Io kind) = false
 is_lookup_error (net.Dns (dns.NoRecordsFound n)) = false
 is_lookup_error _ = true
 
--- A candidate on the way is delegated without an address.
+-- A candidate on the way is delegated without an address that may be asked.
 pub record HasNoAddress (given : Given) (log : Log) (t0 : ℕ) (q : Query) : Type 0 where
   pub candidate : DomainName
   pub told : Response

@@ -17,7 +17,7 @@ use Rattle.resolution.specs.Walking.{NoCut}
 use Rattle.resolution.specs.declared.verdict.Verdict.{Verdict}
 use Rattle.recursor_core.specs.Plain.{IsPlainlyTold}
 use Rattle.recursor_core.specs.Causes.{is_lookup_error}
-use Rattle.recursor_core.specs.Replies.{Terms, given_of, ReplyHolds}
+use Rattle.recursor_core.specs.Replies.{Terms, terms_with, given_of, ReplyHolds}
 use Rattle.recursor_core.specs.Tried.{Tried, Came, Concluded, machine_timer}
 use Rattle.recursor_core.specs.Lookup.{present}
 use Rattle.recursor_core.specs.declared.lookup.Send.{Send}
@@ -151,12 +151,12 @@ pub record ResolutionHolds (terms : Terms) (greatest moment : ℕ) (log : Log) (
   pub begun : r.begun ≤ moment
   pub state : StateHolds terms greatest moment r.begun log r.question r.state
 
--- its roots, with this patience
+-- its roots and filter, with this patience
 abbrev pub terms_of : ℕ → RecursorCore → Terms
-terms_of patience core = record { roots = core.roots; patience = patience }
+terms_of patience core = terms_with patience core.setting
 
 -- All that the machine keeps is derived from the log, in which orders were given up at this many polls or more.
 pub record Derived (patience : ℕ) (core : RecursorCore) (log : Log) : Type 0 where
   pub bound : core.greatest < log.next
-  pub some : 0 < length core.roots
+  pub some : 0 < length core.setting.roots
   pub resolutions : All (ResolutionHolds (terms_of patience core) core.greatest core.moment log) core.resolutions.items

@@ -4,10 +4,12 @@ pub mod Walk
 pub mod Resolving
 pub mod Plain
 pub mod Causes
+pub mod Setting
 pub mod Replies
 pub mod Tried
 pub mod Derived
 pub mod Machine
 pub mod Turns
 pub mod Carrying
+pub mod Patience
 pub mod Standing

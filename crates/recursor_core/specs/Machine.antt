@@ -70,11 +70,11 @@ IsBegunAt core r question now = begun_at core r ≡ Some (record { question = qu
 
 -- nothing but the numbers of orders and the connections has changed
 abbrev pub IsSetAs : RecursorCore → RecursorCore → Type 0
-IsSetAs old new = (new.resolutions ≡ old.resolutions) × (new.roots ≡ old.roots) × (new.greatest ≡ old.greatest) × (new.moment ≡ old.moment)
+IsSetAs old new = (new.resolutions ≡ old.resolutions) × (new.setting ≡ old.setting) × (new.greatest ≡ old.greatest) × (new.moment ≡ old.moment)
 
--- The roots, the greatest entry and moment and the questions are as before.
+-- The roots and the filter, the greatest entry and moment and the questions are as before.
 pub record SameCore (old new : RecursorCore) : Type 0 where
-  pub roots : new.roots ≡ old.roots
+  pub setting : new.setting ≡ old.setting
   pub greatest : new.greatest ≡ old.greatest
   pub moment : new.moment ≡ old.moment
   pub begun : (k : ℕ) → begun_at new k ≡ begun_at old k

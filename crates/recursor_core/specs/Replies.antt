@@ -7,6 +7,7 @@ use Rattle.dns_core.specs.Stripping.{strip_of}
 use Rattle.dns_core.specs.declared.message.Query.{Query}
 use Rattle.dns_core.specs.declared.message.Message.{Message}
 use Rattle.dns_core.specs.declared.request.Question.{Question}
+use Rattle.resolver_settings.specs.Access.{Access, denies}
 use Rattle.resolution.specs.Same.{Same}
 use Rattle.resolution.specs.Given.{Given, Bounds, allows_all}
 use Rattle.resolution.specs.Following.{follow}
@@ -16,22 +17,28 @@ use Rattle.resolution.specs.declared.verdict.Verdict.TheVariants.{Pos}
 use Rattle.resolution.specs.declared.following.Follow.TheVariants.{Done}
 use Rattle.recursor_core.specs.declared.error.RecursorError.{RecursorError}
 use Rattle.recursor_core.specs.declared.reply.Reply.{Reply}
+use Rattle.recursor_core.specs.declared.setting.Setting.{Setting}
 use Rattle.recursor_core.specs.Causes.{WalksTo, ErrorHolds}
 
 -- the bounds of lives where none are set: from nothing to a day
 abbrev pub standard_bounds : Bounds
 standard_bounds = record { least = 0; most = 86400 }
 
--- the roots, and at how many polls an order is given up
+-- the roots, the filter of other servers, and at how many polls an order is given up
 pub record Terms : Type 0 where
   pub roots : List IpAddr
+  pub server_filter : Access
   pub patience : ℕ
 
--- these roots and this patience, filters that deny nothing, and the standard bounds and limits
+-- the roots and the filter of a machine, with this patience
+abbrev pub terms_with : ℕ → Setting → Terms
+terms_with patience setting = record { roots = setting.roots; server_filter = setting.server_filter; patience = patience }
+
+-- these roots, this filter and this patience, answers with any address, and the standard bounds and limits
 abbrev pub given_of : Terms → Given
 given_of terms = record {
   roots = terms.roots;
-  server_denied = allows_all;
+  server_denied = denies terms.server_filter;
   answer_denied = allows_all;
   positive_bounds = λ _. standard_bounds;
   negative_bounds = λ _. standard_bounds;

@@ -6,6 +6,7 @@ use Rattle.dns_core.specs.declared.log.LogEntry.{LogEntry}
 use Rattle.dns_core.specs.declared.request.Question.{Question}
 use Rattle.dns_core.specs.declared.request.Turn.{Turn}
 use Rattle.dns_core.specs.declared.provider.ConnectionProvider.{Ghosts}
+use Rattle.resolver_settings.specs.Access.{Access}
 use Rattle.resolution.specs.Telling.{Logged, moment_of}
 use Rattle.resolution.specs.Asking.{AsksServers}
 use Rattle.resolution.specs.Timing.{known_to_drive}
@@ -13,6 +14,7 @@ use Rattle.recursor_core.specs.Replies.{Terms, Timer, given_of, ReplyHolds}
 use Rattle.recursor_core.specs.Tried.{machine_timer}
 use Rattle.recursor_core.specs.Carrying.{TellsThat, Grown, CarrierHolds}
 use Rattle.recursor_core.specs.Derived.{terms_of, Derived}
+use Rattle.recursor_core.specs.Patience.{IsPatient}
 use Rattle.recursor_core.specs.Machine.{Begun, begun_at}
 use Rattle.recursor_core.specs.declared.carrier.Carrier.{Carrier}
 use Rattle.recursor_core.specs.declared.machine.RecursorCore.{RecursorCore}
@@ -22,11 +24,16 @@ use Rattle.recursor_core.specs.declared.turns.Turned.TheVariants as turned
 use Rattle.recursor_core.specs.declared.turns.Played.{Played}
 use Rattle.recursor_core.specs.declared.turns.Played.TheVariants as played
 
--- a recursor: its provider, its roots, and the greatest moment handed in so far
+-- a recursor: its provider, its roots, the filter of other servers, and the greatest moment handed in so far
 pub record Standing (P : Type 0) : Type 0 where
   pub provider : P
   pub roots : List IpAddr
+  pub server_filter : Access
   pub moment : ℕ
+
+-- the terms of a run: the roots and the filter of the recursor, with this patience
+abbrev pub run_terms : {P : Type 0} → ℕ → Standing P → Terms
+run_terms patience recursor = record { roots = recursor.roots; server_filter = recursor.server_filter; patience = patience }
 
 -- no entry carries a later moment
 abbrev pub IsPast : ℕ → Log → Type 0
@@ -45,17 +52,18 @@ pub record Holds {P C F E : Type 0} (p : Ghosts P C F E) (patience : ℕ) (core 
 
 -- So it is between two runs, whatever their patience, once the questions of the last run are left.
 pub record Rests {P C F E : Type 0} (p : Ghosts P C F E) (core : RecursorCore) (c : Carrier P C F E p) : Type 0 where
-  pub some : 0 < length core.roots
+  pub some : 0 < length core.setting.roots
   pub carrier : CarrierHolds p c
   pub bound : TellsThat (p.log c.provider) (λ log. core.greatest < log.next)
   pub asks : (patience : ℕ) → TellsThat (p.log c.provider) (AsksServers (given_of (terms_of patience core)))
   pub past : TellsThat (p.log c.provider) (IsPast core.moment)
 
--- The roots and the questions are as before, and the log has only grown, by entries of the moment.
-pub record Moves {P C F E : Type 0} (p : Ghosts P C F E) (now : ℕ) (core new_core : RecursorCore) (c new : Carrier P C F E p) : Type 0 where
-  pub roots : new_core.roots ≡ core.roots
+-- The roots, the filter and the questions are as before, and the log has only grown, by entries of the moment, none of which waits for an entry beyond patience.
+pub record Moves {P C F E : Type 0} (p : Ghosts P C F E) (patience now : ℕ) (core new_core : RecursorCore) (c new : Carrier P C F E p) : Type 0 where
+  pub setting : new_core.setting ≡ core.setting
   pub begun : (k : ℕ) (b : Begun) → begun_at core k ≡ Some b → begun_at new_core k ≡ Some b
   pub grown : Grown now (p.log c.provider) (p.log new.provider)
+  pub patient : IsPatient (max 1 patience) (p.log c.provider) (p.log new.provider)
 
 -- a reply holds by the log, where it is told
 abbrev pub ReplyTold : Terms → Option (List LogEntry) → Option Begun → Reply → Type 0

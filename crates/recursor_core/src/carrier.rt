@@ -1,12 +1,13 @@
 //! Carries orders over a provider, and counts the entries of its log.
-ghost use Rattle.std.specs.Prelude.{◌≡◌, ◌<◌, ◌+◌, ◌-◌, ◌^◌, ◌&&◌, ◌↔◌, ℕ, false, true, not, unwrap_or, IsTrue, List, [], Some, IfOk, IfSome, min, is_ok, is_some, if◌then◌else◌};
+ghost use Rattle.std.specs.Prelude.{◌≡◌, ◌<◌, ◌+◌, ◌-◌, ◌^◌, ◌&&◌, ◌↔◌, ℕ, false, true, not, unwrap_or, IsTrue, List, [], Some, IfOk, IfSome, min, max, is_ok, is_some, if◌then◌else◌};
 ghost use Rattle.std.specs.Ordering.{nat_cmp, is_eq};
 ghost use Rattle.dns_core.specs.declared.log.LogEntry.{LogEntry};
 ghost use Rattle.dns_core.specs.NetError.{is_memory};
 ghost use Rattle.resolution.specs.Given.{Given};
 ghost use Rattle.resolution.specs.Asking.{IsServer, IsServerFor, AsksServers};
 ghost use Rattle.recursor_core.specs.Order.{Fits, GoesToServer};
-ghost use Rattle.recursor_core.specs.Carrying.{TellsThat, Grown, SlotHolds, slot_at, CarrierHolds};
+ghost use Rattle.recursor_core.specs.Carrying.{TellsThat, Grown, SlotHolds, slot_at, polls_at, IsAlone, CarrierHolds};
+ghost use Rattle.recursor_core.specs.Patience.{IsPatient};
 ghost use Rattle.recursor_core.specs.declared.slot.Slot.TheVariants as slot;
 
 use crate::order::{Order, Outcome, Sent};
@@ -111,6 +112,17 @@ impl<P: ConnectionProvider> Carrier<P> {
         }
     }
 
+    /// How many polls of what is under way for an order found nothing.
+    fn polls(&self, number: u64) -> u32
+        ensures { result ≡ polls_at self.now.slots number }
+    {
+        match self.slots.get(&number) {
+            Some(Slot::Opening(opening)) => opening.polls,
+            Some(Slot::Asking(asking)) => asking.polls,
+            _ => 0,
+        }
+    }
+
     /// A poll failed: its outcome, or want of memory, which leaves no entry.
     fn failed(&mut self, sent: Sent, error: NetError) -> Result<Outcome, NoMemory>
         ensures ok { IfOk result (λ outcome. outcome ≡ Outcome.Failed self.new.entries sent false error) }
@@ -194,9 +206,12 @@ impl<P: ConnectionProvider> Carrier<P> {
         requires holds { CarrierHolds P.ConnectionProvider self.old }
         requires room { self.old.entries + 2 < 2 ^ 64 }
         requires opened { SlotHolds P.ConnectionProvider (P.log self.old.provider) (slot.Opening opening) }
+        requires alone { TellsThat (P.log self.old.provider) (λ log. IsAlone P.ConnectionProvider self.old.slots opening.sent.of) }
+        requires fewer { opening.polls + 1 < 2 ^ 32 }
         ensures vouches { (es : List LogEntry) → P.vouches self.new.provider es → P.vouches self.old.provider es }
         ensures holds { CarrierHolds P.ConnectionProvider self.new }
         ensures grown { Grown now (P.log self.old.provider) (P.log self.new.provider) }
+        ensures patient { (most : ℕ) → opening.polls < most → IsPatient most (P.log self.old.provider) (P.log self.new.provider) }
         ensures fits { IfOk result (λ outcome. TellsThat (P.log self.new.provider) (λ log. Fits log now outcome)) }
         ensures asks { (given : Given) → TellsThat (P.log self.old.provider) (AsksServers given) → TellsThat (P.log self.new.provider) (AsksServers given) }
     {
@@ -237,9 +252,12 @@ impl<P: ConnectionProvider> Carrier<P> {
         requires holds { CarrierHolds P.ConnectionProvider self.old }
         requires room { self.old.entries + 2 < 2 ^ 64 }
         requires asked { SlotHolds P.ConnectionProvider (P.log self.old.provider) (slot.Asking asking) }
+        requires alone { TellsThat (P.log self.old.provider) (λ log. IsAlone P.ConnectionProvider self.old.slots asking.sent.of) }
+        requires fewer { asking.polls + 1 < 2 ^ 32 }
         ensures vouches { (es : List LogEntry) → P.vouches self.new.provider es → P.vouches self.old.provider es }
         ensures holds { CarrierHolds P.ConnectionProvider self.new }
         ensures grown { Grown now (P.log self.old.provider) (P.log self.new.provider) }
+        ensures patient { (most : ℕ) → asking.polls < most → IsPatient most (P.log self.old.provider) (P.log self.new.provider) }
         ensures fits { IfOk result (λ outcome. TellsThat (P.log self.new.provider) (λ log. Fits log now outcome)) }
         ensures asks { (given : Given) → TellsThat (P.log self.old.provider) (AsksServers given) → TellsThat (P.log self.new.provider) (AsksServers given) }
     {
@@ -295,6 +313,7 @@ impl<P: ConnectionProvider> Carrier<P> {
         ensures vouches { (es : List LogEntry) → P.vouches self.new.provider es → P.vouches self.old.provider es }
         ensures holds { CarrierHolds P.ConnectionProvider self.new }
         ensures grown { Grown now (P.log self.old.provider) (P.log self.new.provider) }
+        ensures patient { (most : ℕ) → 0 < most → IsPatient most (P.log self.old.provider) (P.log self.new.provider) }
         ensures fits { IfOk result (λ outcome. TellsThat (P.log self.new.provider) (λ log. Fits log now outcome)) }
         ensures asks { (given : Given) → TellsThat (P.log self.old.provider) (λ log. IsServer given log log.next ip)
             → TellsThat (P.log self.old.provider) (AsksServers given) → TellsThat (P.log self.new.provider) (AsksServers given) }
@@ -331,6 +350,7 @@ impl<P: ConnectionProvider> Carrier<P> {
         ensures vouches { (es : List LogEntry) → P.vouches self.new.provider es → P.vouches self.old.provider es }
         ensures holds { CarrierHolds P.ConnectionProvider self.new }
         ensures grown { Grown now (P.log self.old.provider) (P.log self.new.provider) }
+        ensures patient { (most : ℕ) → 0 < most → IsPatient most (P.log self.old.provider) (P.log self.new.provider) }
         ensures fits { IfOk result (λ outcome. TellsThat (P.log self.new.provider) (λ log. Fits log now outcome)) }
         ensures asks { (given : Given) → TellsThat (P.log self.old.provider) (λ log. IsServerFor given log log.next connection.ip request.query)
             → TellsThat (P.log self.old.provider) (AsksServers given) → TellsThat (P.log self.new.provider) (AsksServers given) }
@@ -378,6 +398,7 @@ impl<P: ConnectionProvider> Carrier<P> {
         ensures vouches { (es : List LogEntry) → P.vouches self.new.provider es → P.vouches self.old.provider es }
         ensures holds { CarrierHolds P.ConnectionProvider self.new }
         ensures grown { Grown now (P.log self.old.provider) (P.log self.new.provider) }
+        ensures patient { (most : ℕ) → 0 < most → IsPatient most (P.log self.old.provider) (P.log self.new.provider) }
         ensures fits { IfOk result (λ outcome. TellsThat (P.log self.new.provider) (λ log. Fits log now outcome)) }
         ensures asks { (given : Given) → TellsThat (P.log self.old.provider) (λ log. GoesToServer given log log.next order)
             → TellsThat (P.log self.old.provider) (AsksServers given) → TellsThat (P.log self.new.provider) (AsksServers given) }
@@ -400,17 +421,22 @@ impl<P: ConnectionProvider> Carrier<P> {
         }
     }
 
-    /// Polls an order that is under way.
-    pub fn poll(&mut self, number: u64, now: u64) -> Result<Outcome, NoMemory>
+    /// Polls an order that is under way. One that patience allows no further poll is given up in place
+    /// of that; in a run the machine gives an order up before, at the last poll that patience allows.
+    pub fn poll(&mut self, number: u64, now: u64, patience: u32) -> Result<Outcome, NoMemory>
         requires holds { CarrierHolds P.ConnectionProvider self.old }
         ensures vouches { (es : List LogEntry) → P.vouches self.new.provider es → P.vouches self.old.provider es }
         ensures holds { CarrierHolds P.ConnectionProvider self.new }
         ensures grown { Grown now (P.log self.old.provider) (P.log self.new.provider) }
+        ensures patient { IsPatient (max 1 patience) (P.log self.old.provider) (P.log self.new.provider) }
         ensures fits { IfOk result (λ outcome. TellsThat (P.log self.new.provider) (λ log. Fits log now outcome)) }
         ensures asks { (given : Given) → TellsThat (P.log self.old.provider) (AsksServers given) → TellsThat (P.log self.new.provider) (AsksServers given) }
     {
         if !self.has_numbers() {
             return Err(NoMemory);
+        }
+        if self.polls(number) >= patience.max(1) {
+            return self.give_up(number, now).ok_or(NoMemory);
         }
         match self.take(number) {
             Slot::Opening(opening) => self.poll_opening(number, opening, now),
@@ -425,6 +451,7 @@ impl<P: ConnectionProvider> Carrier<P> {
         ensures vouches { (es : List LogEntry) → P.vouches self.new.provider es → P.vouches self.old.provider es }
         ensures holds { CarrierHolds P.ConnectionProvider self.new }
         ensures grown { Grown now (P.log self.old.provider) (P.log self.new.provider) }
+        ensures patient { (most : ℕ) → IsPatient most (P.log self.old.provider) (P.log self.new.provider) }
         ensures fits { IfSome result (λ outcome. TellsThat (P.log self.new.provider) (λ log. Fits log now outcome)) }
         ensures asks { (given : Given) → TellsThat (P.log self.old.provider) (AsksServers given) → TellsThat (P.log self.new.provider) (AsksServers given) }
     {

@@ -1,14 +1,15 @@
 //! Answers questions over a provider, whatever it tells.
-ghost use Rattle.std.specs.Prelude.{◌≡◌, ◌≤◌, ◌<◌, ◌⊎◌, ℕ, List, [], ◌∷◌, Option, Some, All, Contains, ◌≢◌, length, IfOk, MatchBool, slice_get, vec_len};
+ghost use Rattle.std.specs.Prelude.{◌≡◌, ◌≤◌, ◌<◌, ◌⊎◌, ℕ, List, [], ◌∷◌, Option, Some, All, Contains, ◌≢◌, length, max, IfOk, MatchBool, slice_get, vec_len};
 ghost use Rattle.dns_core.specs.Log.{Log};
 ghost use Rattle.dns_core.specs.declared.log.LogEntry.{LogEntry};
 ghost use Rattle.dns_core.specs.declared.request.Turn.{Turn};
 ghost use Rattle.resolution.specs.Asking.{AsksServers};
 ghost use Rattle.recursor_core.specs.Replies.{given_of};
 ghost use Rattle.recursor_core.specs.Carrying.{TellsThat, Grown};
+ghost use Rattle.recursor_core.specs.Patience.{IsPatient};
 ghost use Rattle.recursor_core.specs.Derived.{terms_of, Derived};
 ghost use Rattle.recursor_core.specs.Machine.{Begun, begun_at};
-ghost use Rattle.recursor_core.specs.Standing.{Holds, IsTimely, PlaysHold, RepliesHold, last_moment};
+ghost use Rattle.recursor_core.specs.Standing.{Holds, run_terms, IsTimely, PlaysHold, RepliesHold, last_moment};
 ghost use Rattle.recursor_core.specs.Turns.{work, BeginsAt, ReplyOf};
 ghost use Rattle.recursor_core.specs.declared.reply.Reply.{Reply};
 ghost use Rattle.dns_core.specs.declared.request.Question.{Question};
@@ -33,7 +34,7 @@ fn begin_one(
 )
     requires { core.old.moment ≤ now }
     ensures derived { (patience : ℕ) (log : Log) → Derived patience core.old log → Derived patience core.new log }
-    ensures roots { core.new.roots ≡ core.old.roots }
+    ensures setting { core.new.setting ≡ core.old.setting }
     ensures moment { (core.new.moment ≡ core.old.moment) ⊎ (core.new.moment ≡ now) }
     ensures begun { (k : ℕ) (b : Begun) → begun_at core.old k ≡ Some b → begun_at core.new k ≡ Some b }
     ensures count { vec_len plays.new ≡ vec_len plays.old }
@@ -57,7 +58,7 @@ fn begin_all(
 )
     requires { core.old.moment ≤ now }
     ensures derived { (patience : ℕ) (log : Log) → Derived patience core.old log → Derived patience core.new log }
-    ensures roots { core.new.roots ≡ core.old.roots }
+    ensures setting { core.new.setting ≡ core.old.setting }
     ensures moment { (core.new.moment ≡ core.old.moment) ⊎ (core.new.moment ≡ now) }
     ensures begun { (k : ℕ) (b : Begun) → begun_at core.old k ≡ Some b → begun_at core.new k ≡ Some b }
     ensures count { vec_len plays.new ≡ vec_len plays.old }
@@ -83,7 +84,8 @@ fn play_turn<P: ConnectionProvider>(
     requires { Holds P.ConnectionProvider patience core.old carrier.old }
     ensures vouches { (es : List LogEntry) → P.vouches carrier.new.provider es → P.vouches carrier.old.provider es }
     ensures holds { Holds P.ConnectionProvider patience core.new carrier.new }
-    ensures roots { core.new.roots ≡ core.old.roots }
+    ensures setting { core.new.setting ≡ core.old.setting }
+    ensures patient { IsPatient (max 1 patience) (P.log carrier.old.provider) (P.log carrier.new.provider) }
     ensures moment { core.old.moment ≤ core.new.moment }
     ensures timely { (start : ℕ) (moments : List ℕ) → Contains moments core.old.moment → Contains moments turn.now.moment → TellsThat (P.log carrier.old.provider) (IsTimely start moments)
         → Contains moments core.new.moment × TellsThat (P.log carrier.new.provider) (IsTimely start moments) }
@@ -113,7 +115,8 @@ fn play_turns<P: ConnectionProvider>(
     requires { Holds P.ConnectionProvider patience core.old carrier.old }
     ensures vouches { (es : List LogEntry) → P.vouches carrier.new.provider es → P.vouches carrier.old.provider es }
     ensures holds { Holds P.ConnectionProvider patience core.new carrier.new }
-    ensures roots { core.new.roots ≡ core.old.roots }
+    ensures setting { core.new.setting ≡ core.old.setting }
+    ensures patient { IsPatient (max 1 patience) (P.log carrier.old.provider) (P.log carrier.new.provider) }
     ensures moment { core.old.moment ≤ core.new.moment }
     ensures timely { (start : ℕ) (moments : List ℕ) → Contains moments core.old.moment → All (λ t. Contains moments t.moment) turns.now → TellsThat (P.log carrier.old.provider) (IsTimely start moments)
         → Contains moments core.new.moment × TellsThat (P.log carrier.new.provider) (IsTimely start moments) }
@@ -138,7 +141,8 @@ fn round<P: ConnectionProvider>(
     requires moment { core.old.moment ≤ tick.now }
     ensures vouches { (es : List LogEntry) → P.vouches carrier.new.provider es → P.vouches carrier.old.provider es }
     ensures holds { Holds P.ConnectionProvider tick.patience core.new carrier.new }
-    ensures roots { core.new.roots ≡ core.old.roots }
+    ensures setting { core.new.setting ≡ core.old.setting }
+    ensures patient { IsPatient (max 1 tick.patience) (P.log carrier.old.provider) (P.log carrier.new.provider) }
     ensures moment { (core.new.moment ≡ core.old.moment) ⊎ (core.new.moment ≡ tick.now) }
     ensures grown { Grown tick.now (P.log carrier.old.provider) (P.log carrier.new.provider) }
     ensures plays { (start : ℕ) (turns rest : List Turn) (questions : List Question) → PlaysHold tick.patience core.old (P.log carrier.old.provider) start turns rest questions plays.old.items
@@ -167,7 +171,8 @@ fn finish<P: ConnectionProvider>(
     requires moment { core.old.moment ≤ tick.now }
     ensures vouches { (es : List LogEntry) → P.vouches carrier.new.provider es → P.vouches carrier.old.provider es }
     ensures holds { Holds P.ConnectionProvider tick.patience core.new carrier.new }
-    ensures roots { core.new.roots ≡ core.old.roots }
+    ensures setting { core.new.setting ≡ core.old.setting }
+    ensures patient { IsPatient (max 1 tick.patience) (P.log carrier.old.provider) (P.log carrier.new.provider) }
     ensures moment { (core.new.moment ≡ core.old.moment) ⊎ (core.new.moment ≡ tick.now) }
     ensures grown { Grown tick.now (P.log carrier.old.provider) (P.log carrier.new.provider) }
     ensures plays { (start : ℕ) (turns rest : List Turn) (questions : List Question) → PlaysHold tick.patience core.old (P.log carrier.old.provider) start turns rest questions plays.old.items
@@ -226,7 +231,8 @@ fn answer<P: ConnectionProvider>(
     requires { Holds P.ConnectionProvider patience core.old carrier.old }
     ensures vouches { (es : List LogEntry) → P.vouches carrier.new.provider es → P.vouches carrier.old.provider es }
     ensures holds { Holds P.ConnectionProvider patience core.new carrier.new }
-    ensures roots { core.new.roots ≡ core.old.roots }
+    ensures setting { core.new.setting ≡ core.old.setting }
+    ensures patient { IsPatient (max 1 patience) (P.log carrier.old.provider) (P.log carrier.new.provider) }
     ensures answered { IfOk result (λ replies. vec_len replies ≡ length questions.now) }
     ensures replies { IfOk result (λ replies. TellsThat (P.log carrier.new.provider) (λ log.
         RepliesHold (terms_of patience core.old) log core.old.moment turns.now questions.now replies.items)) }
@@ -254,18 +260,23 @@ pub fn drive<P: ConnectionProvider>(
     ensures answered { IfOk result (λ replies. vec_len replies ≡ length questions.now) }
 
     // Only servers were asked: by what was told before, each address that was opened serves a zone, and
-    // each one that was asked serves a zone at or above the name of the question.
-    ensures asks { TellsThat (P.log recursor.new.provider) (AsksServers (given_of (record { roots = recursor.old.roots; patience = patience }))) }
+    // each one that was asked serves a zone at or above the name of the question. Each is a root, or its
+    // address is not denied.
+    ensures asks { TellsThat (P.log recursor.new.provider) (AsksServers (given_of (run_terms patience recursor.old))) }
 
     // Each message that is answered is what counts of a response that a server of a zone at or above the
     // name told since the question began; the walk went down to this zone. Each error has its cause: a
     // name that is not fully qualified, a denial or a referral that such a server told, a delegation
-    // without addresses, or servers of such a zone of which none answered.
+    // without an address that may be asked, or servers of such a zone of which none answered.
     ensures replies { IfOk result (λ replies. TellsThat (P.log recursor.new.provider) (λ log.
-        RepliesHold (record { roots = recursor.old.roots; patience = patience }) log recursor.old.moment turns.now questions.now replies.items)) }
+        RepliesHold (run_terms patience recursor.old) log recursor.old.moment turns.now questions.now replies.items)) }
 
-    // The roots stay.
+    // No entry was waited for more often than patience allows, which is once at least, or than it was before.
+    ensures patient { IsPatient (max 1 patience) (P.log recursor.old.provider) (P.log recursor.new.provider) }
+
+    // The roots and the filter stay.
     ensures roots { recursor.new.roots ≡ recursor.old.roots }
+    ensures server_filter { recursor.new.server_filter ≡ recursor.old.server_filter }
 
     // What the provider vouches for of its log it vouched for before.
     ensures vouches { (es : List LogEntry) → P.vouches recursor.new.provider es → P.vouches recursor.old.provider es }

@@ -11,6 +11,7 @@ mod order;
 mod recursor;
 mod reply;
 mod resolving;
+mod setting;
 mod slot;
 mod turns;
 mod walk;

@@ -2,6 +2,7 @@
 ghost use Rattle.std.specs.Prelude.{◌≡◌, ◌≢◌, ◌≤◌, ◌<◌, ◌+◌, ◌⊎◌, ◌↔◌, ℕ, [], true, false, max, length, None, Some, Ok, Err, IfOk, IfSome, IfNone, IfErr, IsSome};
 ghost use Rattle.dns_core.specs.Log.{Log, Extends};
 ghost use Rattle.recursor_core.specs.Order.{entry_of, Fits};
+ghost use Rattle.recursor_core.specs.Setting.{server_filter_of};
 ghost use Rattle.recursor_core.specs.Derived.{terms_of, Derived};
 ghost use Rattle.recursor_core.specs.Machine.{need_at, order_at, asked_at, begun_at, MayAskAt, rank, GoesOn, Steps, Gives, StepGives, IsAwaited, IsNewError, IsBeginError, SameCore, IsSetAs, IsBegunAt};
 
@@ -11,9 +12,9 @@ use crate::options::RecursorOptions;
 use crate::order::{After, Order, Outcome, Tick};
 use crate::reply::Reply;
 use crate::resolving::{Need, Resolution, State};
+use crate::setting::Setting;
 use dns_core::{
-    ConnectionConfig, DnsRequest, DnsRequestOptions, Ips, NoMemory, Protocol, ProtocolConfig,
-    Question,
+    ConnectionConfig, DnsRequest, DnsRequestOptions, NoMemory, Protocol, ProtocolConfig, Question,
 };
 use std::alloc::Global;
 use std::collections::BTreeMap;
@@ -40,7 +41,7 @@ pub enum Progress {
 /// handed in so far, and the greatest number of a log entry.
 #[derive(Drop, Debug)]
 pub struct RecursorCore {
-    roots: Ips,
+    setting: Setting,
     options: RecursorOptions,
     resolutions: Vec<Resolution>,
     connections: BTreeMap<IpAddr, u64>,
@@ -67,16 +68,16 @@ impl RecursorCore {
     ) -> Result<RecursorCore, RecursorError>
         ensures no_roots { (result ≡ Err (RecursorError.Message MessageKind.NoRoots)) ↔ (roots.now ≡ []) }
         ensures only { IfErr result IsNewError }
-        ensures new { IfOk result (λ core. (core.roots ≡ roots.now) × (core.moment ≡ 0) × (core.greatest ≡ 0) × (core.resolutions.items ≡ [])) }
+        ensures new { IfOk result (λ core. (core.setting ≡ record { roots = roots.now; server_filter = server_filter_of options }) × (core.moment ≡ 0) × (core.greatest ≡ 0) × (core.resolutions.items ≡ [])) }
     {
         if roots.is_empty() {
             return Err(RecursorError::Message(MessageKind::NoRoots));
         }
-        let Ok(roots) = Vec::from_slice(alloc, roots) else {
+        let Ok(setting) = Setting::new(alloc, roots, &options) else {
             return Err(RecursorError::NoMemory);
         };
         Ok(RecursorCore {
-            roots: Ips::new(roots),
+            setting,
             options,
             resolutions: Vec::new(alloc),
             connections: BTreeMap::new(alloc),
@@ -97,15 +98,15 @@ impl RecursorCore {
     pub fn reach(&mut self, now: u64)
         ensures moment { self.new.moment ≡ max self.old.moment now }
         ensures derived { (patience : ℕ) (log : Log) → Derived patience self.old log → Derived patience self.new log }
-        ensures same { (self.new.roots ≡ self.old.roots) × (self.new.greatest ≡ self.old.greatest) × (self.new.resolutions ≡ self.old.resolutions) }
+        ensures same { (self.new.setting ≡ self.old.setting) × (self.new.greatest ≡ self.old.greatest) × (self.new.resolutions ≡ self.old.resolutions) }
     {
         self.moment = self.moment.max(now);
     }
 
     /// Leaves all questions.
     pub fn clear(&mut self)
-        ensures derived { (patience : ℕ) (log : Log) → self.old.greatest < log.next → 0 < length self.old.roots → Derived patience self.new log }
-        ensures same { (self.new.roots ≡ self.old.roots) × (self.new.greatest ≡ self.old.greatest) × (self.new.moment ≡ self.old.moment) }
+        ensures derived { (patience : ℕ) (log : Log) → self.old.greatest < log.next → 0 < length self.old.setting.roots → Derived patience self.new log }
+        ensures same { (self.new.setting ≡ self.old.setting) × (self.new.greatest ≡ self.old.greatest) × (self.new.moment ≡ self.old.moment) }
     {
         self.resolutions.clear();
     }
@@ -120,7 +121,7 @@ impl RecursorCore {
         ensures not_qualified { (result ≡ Err (RecursorError.Message MessageKind.NotQualified)) ↔ (question.query.name.fqdn ≡ false) }
         ensures only { IfErr result IsBeginError }
         ensures derived { (patience : ℕ) (log : Log) → self.old.moment ≤ now → Derived patience self.old log → Derived patience self.new log }
-        ensures roots { self.new.roots ≡ self.old.roots }
+        ensures setting { self.new.setting ≡ self.old.setting }
         ensures moment { self.old.moment ≤ now → (self.new.moment ≡ self.old.moment) ⊎ (self.new.moment ≡ now) }
         ensures others { (k : ℕ) → k < length self.old.resolutions.items → begun_at self.new k ≡ begun_at self.old k }
         ensures begun { IfOk result (λ r. (r ≡ length self.old.resolutions.items) × IsBegunAt self.new r question now) }
@@ -142,13 +143,13 @@ impl RecursorCore {
         requires { question.query.name.fqdn ≡ true }
         ensures derived { (patience : ℕ) (log : Log) → self.old.moment ≤ now → Derived patience self.old log
             → IfOk result (λ r. Derived patience (record self.new { moment = now }) log) }
-        ensures same { (self.new.roots ≡ self.old.roots) × (self.new.moment ≡ self.old.moment) × (self.new.greatest ≡ self.old.greatest) }
+        ensures same { (self.new.setting ≡ self.old.setting) × (self.new.moment ≡ self.old.moment) × (self.new.greatest ≡ self.old.greatest) }
         ensures others { (k : ℕ) → k < length self.old.resolutions.items → begun_at self.new k ≡ begun_at self.old k }
         ensures begun { IfOk result (λ r. (r ≡ length self.old.resolutions.items) × IsBegunAt self.new r question now) }
         ensures err { IfErr result (λ e. self.new.resolutions.items ≡ self.old.resolutions.items) }
         ensures count { length self.old.resolutions.items ≤ length self.new.resolutions.items }
     {
-        let resolution = Resolution::begin(alloc, question, &self.roots, now)?;
+        let resolution = Resolution::begin(alloc, question, &self.setting.roots, now)?;
         let place = self.resolutions.len();
         self.resolutions.push(resolution)?;
         Ok(place)
@@ -170,7 +171,7 @@ impl RecursorCore {
         ensures same { SameCore self.old self.new }
     {
         let resolution = &mut self.resolutions[r];
-        resolution.choose(alloc)
+        resolution.choose(alloc, &self.setting.server_filter)
     }
 
     fn hear(&mut self, alloc: Global, r: usize) -> Result<(), NoMemory>
@@ -180,7 +181,7 @@ impl RecursorCore {
         ensures same { SameCore self.old self.new }
     {
         let resolution = &mut self.resolutions[r];
-        resolution.hear(alloc)
+        resolution.hear(alloc, &self.setting.server_filter)
     }
 
     fn opens(&mut self, r: usize, ip: IpAddr, order: u64)
@@ -436,7 +437,7 @@ impl RecursorCore {
         ensures late { (IsAwaited self.old number → ⊥) → result ≡ After.Late }
         ensures derived { (patience : ℕ) (log longer : Log) → patience ≤ tick.patience → self.old.moment ≤ tick.now
             → Derived patience self.old log → Extends log longer → Fits longer tick.now outcome → Derived patience self.new longer }
-        ensures roots { self.new.roots ≡ self.old.roots }
+        ensures setting { self.new.setting ≡ self.old.setting }
         ensures moment { self.old.moment ≡ tick.now → self.new.moment ≡ tick.now }
         ensures begun { (k : ℕ) → begun_at self.new k ≡ begun_at self.old k }
     {

@@ -2,6 +2,7 @@
 ghost use Rattle.std.specs.Prelude.{◌≡◌, ◌↔◌, List, [], Some, Err, IfOk, IfErr};
 ghost use Rattle.dns_core.specs.declared.log.LogEntry.{LogEntry};
 ghost use Rattle.recursor_core.specs.Machine.{IsNewError};
+ghost use Rattle.recursor_core.specs.Setting.{server_filter_of};
 ghost use Rattle.recursor_core.specs.Standing.{Standing, Rests};
 
 use crate::carrier::Carrier;
@@ -13,8 +14,8 @@ use std::alloc::Global;
 use std::marker::Model;
 use std::net::IpAddr;
 
-/// A recursor over a provider. Contracts see the provider, the roots and the greatest moment handed
-/// in so far. What it keeps is derived from the provider's log.
+/// A recursor over a provider. Contracts see the provider, the roots, the filter of other servers and
+/// the greatest moment handed in so far. What it keeps is derived from the provider's log.
 #[derive(Drop)]
 pub struct Recursor<P: ConnectionProvider> {
     pub(crate) core: RecursorCore,
@@ -24,7 +25,7 @@ pub struct Recursor<P: ConnectionProvider> {
 impl<P: ConnectionProvider> Model for Recursor<P> {
     ghost Value = { Standing P };
 
-    ghost view = { λ a. record { provider = a.carrier.provider; roots = a.core.roots; moment = a.core.moment } };
+    ghost view = { λ a. record { provider = a.carrier.provider; roots = a.core.setting.roots; server_filter = a.core.setting.server_filter; moment = a.core.moment } };
 
     ghost invariant = { λ a. Rests P.ConnectionProvider a.core a.carrier };
 }
@@ -41,8 +42,8 @@ fn connect_options(alloc: Global, options: &RecursorOptions) -> Result<ConnectOp
 }
 
 impl<P: ConnectionProvider> Recursor<P> {
-    /// A recursor that begins at these roots, over a provider whose log is empty. It is refused where
-    /// there is no root.
+    /// A recursor that begins at these roots, over a provider whose log is empty. The filter of the
+    /// options is for other servers: no root is left out for it. It is refused where there is no root.
     pub fn with_options(
         alloc: Global,
         roots: &[IpAddr],
@@ -50,7 +51,7 @@ impl<P: ConnectionProvider> Recursor<P> {
         provider: P,
     ) -> Result<Recursor<P>, RecursorError>
         requires { (es : List LogEntry) → P.log provider ≡ Some es → es ≡ [] }
-        ensures ok { IfOk result (λ recursor. recursor ≡ record { provider = provider; roots = roots.now; moment = 0 }) }
+        ensures ok { IfOk result (λ recursor. recursor ≡ record { provider = provider; roots = roots.now; server_filter = server_filter_of options; moment = 0 }) }
         ensures no_roots { (result ≡ Err (RecursorError.Message MessageKind.NoRoots)) ↔ (roots.now ≡ []) }
         ensures only { IfErr result IsNewError }
     {

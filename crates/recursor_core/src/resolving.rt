@@ -2,6 +2,7 @@
 ghost use Rattle.std.specs.Prelude.{◌≡◌, ◌≢◌, ◌≤◌, ◌<◌, ℕ, true, length, Some, None, IfOk, IfSome, IsSome};
 ghost use Rattle.std.specs.declared.net.ip_addr.IpAddr.{IpAddr};
 ghost use Rattle.dns_core.specs.Log.{Log, Extends};
+ghost use Rattle.resolver_settings.specs.Access.{Access};
 ghost use Rattle.recursor_core.specs.Order.{entry_of, Fits};
 ghost use Rattle.recursor_core.specs.Replies.{Terms, ReplyHolds};
 ghost use Rattle.recursor_core.specs.Tried.{machine_timer};
@@ -13,6 +14,7 @@ use crate::order::{After, Outcome, Tick};
 use crate::reply::Reply;
 use crate::walk::Walk;
 use dns_core::{Ips, NoMemory, Query, Question, TryClone};
+use resolver_settings::AccessControlSet;
 use std::alloc::Global;
 use std::mem;
 use std::net::IpAddr;
@@ -59,7 +61,8 @@ impl Resolution {
         now: u64,
     ) -> Result<Resolution, NoMemory>
         requires { question.query.name.fqdn ≡ true }
-        ensures holds { (patience greatest : ℕ) (log : Log) → 0 < length roots.now → IfOk result (ResolutionHolds (record { roots = roots.now; patience = patience }) greatest now log) }
+        ensures holds { (filter : Access) (patience greatest : ℕ) (log : Log) → 0 < length roots.now
+            → IfOk result (ResolutionHolds (record { roots = roots.now; server_filter = filter; patience = patience }) greatest now log) }
         ensures begun { IfOk result (λ r. (r.question ≡ question) × (r.begun ≡ now)) }
     {
         let walk = Walk::new(alloc, &question, roots)?;
@@ -111,32 +114,32 @@ impl Resolution {
     }
 
     /// The next server is chosen. On want of memory it has ended.
-    pub fn choose(&mut self, alloc: Global) -> Result<(), NoMemory>
+    pub fn choose(&mut self, alloc: Global, filter: &AccessControlSet) -> Result<(), NoMemory>
         requires { want_of self.old ≡ Need.Send Want.Choose }
         ensures falls { steps self.new < steps self.old }
         ensures begun { SameBegun self.old self.new }
-        ensures holds { (terms : Terms) (greatest moment : ℕ) (log : Log)
+        ensures holds { (terms : Terms) (greatest moment : ℕ) (log : Log) → terms.server_filter ≡ filter.now
             → ResolutionHolds terms greatest moment log self.old → ResolutionHolds terms greatest moment log self.new }
     {
         if let State::Under(walk) = mem::replace(&mut self.state, State::Ended) {
             let mut walk = walk;
-            let reply = walk.choose(alloc, &self.question)?;
+            let reply = walk.choose(alloc, &self.question, filter)?;
             self.state = state_after(walk, reply);
         }
         Ok(())
     }
 
     /// Hears what came of its order. On want of memory it has ended.
-    pub fn hear(&mut self, alloc: Global) -> Result<(), NoMemory>
+    pub fn hear(&mut self, alloc: Global, filter: &AccessControlSet) -> Result<(), NoMemory>
         requires { want_of self.old ≡ Need.Send Want.Hear }
         ensures falls { steps self.new < steps self.old }
         ensures begun { SameBegun self.old self.new }
-        ensures holds { (terms : Terms) (greatest moment : ℕ) (log : Log)
+        ensures holds { (terms : Terms) (greatest moment : ℕ) (log : Log) → terms.server_filter ≡ filter.now
             → ResolutionHolds terms greatest moment log self.old → ResolutionHolds terms greatest moment log self.new }
     {
         if let State::Under(walk) = mem::replace(&mut self.state, State::Ended) {
             let mut walk = walk;
-            let reply = walk.hear(alloc, &self.question)?;
+            let reply = walk.hear(alloc, &self.question, filter)?;
             self.state = state_after(walk, reply);
         }
         Ok(())

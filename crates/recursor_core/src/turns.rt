@@ -59,7 +59,7 @@ fn give_up_order<P: ConnectionProvider>(
     requires moment { core.old.moment ≡ tick.now }
     ensures vouches { (es : List LogEntry) → P.vouches carrier.new.provider es → P.vouches carrier.old.provider es }
     ensures holds { Holds P.ConnectionProvider tick.patience core.new carrier.new }
-    ensures moves { Moves P.ConnectionProvider tick.now core.old core.new carrier.old carrier.new }
+    ensures moves { Moves P.ConnectionProvider tick.patience tick.now core.old core.new carrier.old carrier.new }
     ensures moment { core.new.moment ≡ tick.now }
     ensures falls { OnOk result (rank tick.patience core.new < rank tick.patience core.old) }
     ensures keeps { rank tick.patience core.new ≤ rank tick.patience core.old }
@@ -90,7 +90,7 @@ fn settle<P: ConnectionProvider>(
     requires fits { TellsThat (P.log carrier.old.provider) (λ log. Fits log tick.now outcome) }
     ensures vouches { (es : List LogEntry) → P.vouches carrier.new.provider es → P.vouches carrier.old.provider es }
     ensures holds { Holds P.ConnectionProvider tick.patience core.new carrier.new }
-    ensures moves { Moves P.ConnectionProvider tick.now core.old core.new carrier.old carrier.new }
+    ensures moves { Moves P.ConnectionProvider tick.patience tick.now core.old core.new carrier.old carrier.new }
     ensures moment { core.new.moment ≡ tick.now }
     ensures falls { OnOk result (rank tick.patience core.new < rank tick.patience core.old) }
     ensures keeps { rank tick.patience core.new ≤ rank tick.patience core.old }
@@ -117,7 +117,7 @@ fn start_order<P: ConnectionProvider>(
     requires goes { TellsThat (P.log carrier.old.provider) (λ log. GoesToServer (given_of (terms_of tick.patience core.old)) log log.next order) }
     ensures vouches { (es : List LogEntry) → P.vouches carrier.new.provider es → P.vouches carrier.old.provider es }
     ensures holds { Holds P.ConnectionProvider tick.patience core.new carrier.new }
-    ensures moves { Moves P.ConnectionProvider tick.now core.old core.new carrier.old carrier.new }
+    ensures moves { Moves P.ConnectionProvider tick.patience tick.now core.old core.new carrier.old carrier.new }
     ensures moment { core.new.moment ≡ tick.now }
     ensures falls { OnOk result (rank tick.patience core.new < rank tick.patience core.old) }
     ensures keeps { rank tick.patience core.new ≤ rank tick.patience core.old }
@@ -138,13 +138,13 @@ fn poll_order<P: ConnectionProvider>(
     requires moment { core.old.moment ≡ tick.now }
     ensures vouches { (es : List LogEntry) → P.vouches carrier.new.provider es → P.vouches carrier.old.provider es }
     ensures holds { Holds P.ConnectionProvider tick.patience core.new carrier.new }
-    ensures moves { Moves P.ConnectionProvider tick.now core.old core.new carrier.old carrier.new }
+    ensures moves { Moves P.ConnectionProvider tick.patience tick.now core.old core.new carrier.old carrier.new }
     ensures moment { core.new.moment ≡ tick.now }
     ensures falls { OnOk result (rank tick.patience core.new < rank tick.patience core.old) }
     ensures keeps { rank tick.patience core.new ≤ rank tick.patience core.old }
     ensures told { (b : Option Begun) → IfOk result (TurnedTold (terms_of tick.patience core.old) (P.log carrier.new.provider) b) }
 {
-    let outcome = carrier.poll(number, tick.now)?;
+    let outcome = carrier.poll(number, tick.now, tick.patience)?;
     settle(core, carrier, number, outcome, tick)
 }
 
@@ -160,7 +160,7 @@ fn step<P: ConnectionProvider>(
     requires moment { core.old.moment ≡ tick.now }
     ensures vouches { (es : List LogEntry) → P.vouches carrier.new.provider es → P.vouches carrier.old.provider es }
     ensures holds { Holds P.ConnectionProvider tick.patience core.new carrier.new }
-    ensures moves { Moves P.ConnectionProvider tick.now core.old core.new carrier.old carrier.new }
+    ensures moves { Moves P.ConnectionProvider tick.patience tick.now core.old core.new carrier.old carrier.new }
     ensures moment { core.new.moment ≡ tick.now }
     ensures told { IfOk result (TurnedTold (terms_of tick.patience core.old) (P.log carrier.new.provider) (begun_at core.old r)) }
     ensures falls { IfOk result (TurnFalls (rank tick.patience core.new) (rank tick.patience core.old)) }
@@ -187,7 +187,7 @@ fn turn<P: ConnectionProvider>(
     requires moment { core.old.moment ≡ tick.now }
     ensures vouches { (es : List LogEntry) → P.vouches carrier.new.provider es → P.vouches carrier.old.provider es }
     ensures holds { Holds P.ConnectionProvider tick.patience core.new carrier.new }
-    ensures moves { Moves P.ConnectionProvider tick.now core.old core.new carrier.old carrier.new }
+    ensures moves { Moves P.ConnectionProvider tick.patience tick.now core.old core.new carrier.old carrier.new }
     ensures moment { core.new.moment ≡ tick.now }
     ensures told { IfOk result (TurnedTold (terms_of tick.patience core.old) (P.log carrier.new.provider) (begun_at core.old r)) }
     ensures falls { IfOk result (TurnFalls (rank tick.patience core.new) (rank tick.patience core.old)) }
@@ -214,7 +214,7 @@ fn abandon<P: ConnectionProvider>(
     requires moment { core.old.moment ≡ tick.now }
     ensures vouches { (es : List LogEntry) → P.vouches carrier.new.provider es → P.vouches carrier.old.provider es }
     ensures holds { Holds P.ConnectionProvider tick.patience core.new carrier.new }
-    ensures moves { Moves P.ConnectionProvider tick.now core.old core.new carrier.old carrier.new }
+    ensures moves { Moves P.ConnectionProvider tick.patience tick.now core.old core.new carrier.old carrier.new }
     ensures moment { core.new.moment ≡ tick.now }
     ensures keeps { (p : ℕ) → rank p core.new ≤ rank p core.old }
 {
@@ -236,7 +236,7 @@ fn answer_of<P: ConnectionProvider>(
     requires moment { core.old.moment ≤ tick.now }
     ensures vouches { (es : List LogEntry) → P.vouches carrier.new.provider es → P.vouches carrier.old.provider es }
     ensures holds { Holds P.ConnectionProvider tick.patience core.new carrier.new }
-    ensures moves { Moves P.ConnectionProvider tick.now core.old core.new carrier.old carrier.new }
+    ensures moves { Moves P.ConnectionProvider tick.patience tick.now core.old core.new carrier.old carrier.new }
     ensures moment { core.new.moment ≡ tick.now }
     ensures told { IfSome result (ReplyTold (terms_of tick.patience core.old) (P.log carrier.new.provider) (begun_at core.old r)) }
     ensures falls { IfNone result (rank tick.patience core.new < rank tick.patience core.old) }
@@ -257,7 +257,7 @@ fn answer_of<P: ConnectionProvider>(
 /// A question as it begins: under way, or refused.
 pub fn begun(alloc: Global, core: &mut RecursorCore, question: &Question, now: u64) -> Played
     ensures derived { (patience : ℕ) (log : Log) → core.old.moment ≤ now → Derived patience core.old log → Derived patience core.new log }
-    ensures roots { core.new.roots ≡ core.old.roots }
+    ensures setting { core.new.setting ≡ core.old.setting }
     ensures moment { core.old.moment ≤ now → (core.new.moment ≡ core.old.moment) ⊎ (core.new.moment ≡ now) }
     ensures others { (k : ℕ) (b : Begun) → begun_at core.old k ≡ Some b → begun_at core.new k ≡ Some b }
     ensures begun { Begins question.now now core.new result }
@@ -306,7 +306,7 @@ pub fn play<P: ConnectionProvider>(
     requires moment { core.old.moment ≤ tick.now }
     ensures vouches { (es : List LogEntry) → P.vouches carrier.new.provider es → P.vouches carrier.old.provider es }
     ensures holds { Holds P.ConnectionProvider tick.patience core.new carrier.new }
-    ensures moves { Moves P.ConnectionProvider tick.now core.old core.new carrier.old carrier.new }
+    ensures moves { Moves P.ConnectionProvider tick.patience tick.now core.old core.new carrier.old carrier.new }
     ensures moment { (core.new.moment ≡ core.old.moment) ⊎ (core.new.moment ≡ tick.now) }
     ensures plays { (start : ℕ) (turns rest : List Turn) (questions : List Question) → PlaysHold tick.patience core.old (P.log carrier.old.provider) start turns rest questions plays.old.items
         → PlaysHold tick.patience core.new (P.log carrier.new.provider) start turns rest questions plays.new.items }

@@ -2,6 +2,7 @@
 //! question itself at them (RFC 1034 section 5.3.3).
 ghost use Rattle.std.specs.Prelude.{◌≡◌, ◌<◌, ◌≤◌, ◌+◌, ◌∷◌, [], ℕ, true, length, Ok, Err, Some, None, IfOk, OnOk};
 ghost use Rattle.dns_core.specs.Log.{Log};
+ghost use Rattle.resolver_settings.specs.Access.{Access};
 ghost use Rattle.resolution.specs.Names.{walk};
 ghost use Rattle.recursor_core.specs.Replies.{Terms, ReplyHolds};
 ghost use Rattle.recursor_core.specs.Tried.{machine_timer};
@@ -18,6 +19,7 @@ use dns_core::{
 };
 use recursor_walk::{addresses, is_delegation, verdict_of};
 use resolution::{Cause, Verdict};
+use resolver_settings::AccessControlSet;
 use std::alloc::Global;
 use std::mem;
 
@@ -145,11 +147,12 @@ fn reply_by(
 }
 
 impl Walk {
-    /// A walk from the roots to the name of a question, which is fully qualified.
+    /// A walk from the roots, which no filter denies, to the name of a question, which is fully
+    /// qualified.
     pub fn new(alloc: Global, question: &Question, roots: &Ips) -> Result<Walk, NoMemory>
         requires { question.now.query.name.fqdn ≡ true }
-        ensures { (patience greatest moment t0 : ℕ) (log : Log) → 0 < length roots.now
-            → IfOk result (WalkHolds (record { roots = roots.now; patience = patience }) greatest moment t0 log question.now.query) }
+        ensures { (filter : Access) (patience greatest moment t0 : ℕ) (log : Log) → 0 < length roots.now
+            → IfOk result (WalkHolds (record { roots = roots.now; server_filter = filter; patience = patience }) greatest moment t0 log question.now.query) }
     {
         let name = walked_name(alloc, &question.query)?;
         let stage = stage_after(name.labels().len(), 0);
@@ -166,28 +169,40 @@ impl Walk {
     }
 
     /// The next server of the lookup is chosen; a reply where the walk ends for want of one.
-    pub fn choose(&mut self, alloc: Global, question: &Question) -> Result<Option<Reply>, NoMemory>
+    pub fn choose(
+        &mut self,
+        alloc: Global,
+        question: &Question,
+        filter: &AccessControlSet,
+    ) -> Result<Option<Reply>, NoMemory>
         requires { send_want self.old.lookup.send ≡ Want.Choose }
         ensures falls { Goes self.old self.new result }
-        ensures holds { (terms : Terms) (greatest moment t0 : ℕ) (log : Log) → WalkHolds terms greatest moment t0 log question.now.query self.old
+        ensures holds { (terms : Terms) (greatest moment t0 : ℕ) (log : Log) → terms.server_filter ≡ filter.now
+            → WalkHolds terms greatest moment t0 log question.now.query self.old
             → IfOk result (WalkComes terms greatest moment t0 log question.now self.new) }
     {
         match self.lookup.choose() {
             None => Ok(None),
-            Some(found) => self.conclude(alloc, question, found),
+            Some(found) => self.conclude(alloc, question, filter, found),
         }
     }
 
     /// Hears what was told to the lookup; a reply where the walk ends with it.
-    pub fn hear(&mut self, alloc: Global, question: &Question) -> Result<Option<Reply>, NoMemory>
+    pub fn hear(
+        &mut self,
+        alloc: Global,
+        question: &Question,
+        filter: &AccessControlSet,
+    ) -> Result<Option<Reply>, NoMemory>
         requires { send_want self.old.lookup.send ≡ Want.Hear }
         ensures falls { Goes self.old self.new result }
-        ensures holds { (terms : Terms) (greatest moment t0 : ℕ) (log : Log) → WalkHolds terms greatest moment t0 log question.now.query self.old
+        ensures holds { (terms : Terms) (greatest moment t0 : ℕ) (log : Log) → terms.server_filter ≡ filter.now
+            → WalkHolds terms greatest moment t0 log question.now.query self.old
             → IfOk result (WalkComes terms greatest moment t0 log question.now self.new) }
     {
         match self.lookup.hear()? {
             None => Ok(None),
-            Some(found) => self.conclude(alloc, question, found),
+            Some(found) => self.conclude(alloc, question, filter, found),
         }
     }
 
@@ -195,15 +210,17 @@ impl Walk {
         &mut self,
         alloc: Global,
         question: &Question,
+        filter: &AccessControlSet,
         found: Found,
     ) -> Result<Option<Reply>, NoMemory>
         ensures falls { Goes self.old self.new result }
-        ensures holds { (terms : Terms) (greatest moment t0 : ℕ) (log : Log) → WayHolds terms greatest log question.now.query self.old
+        ensures holds { (terms : Terms) (greatest moment t0 : ℕ) (log : Log) → terms.server_filter ≡ filter.now
+            → WayHolds terms greatest log question.now.query self.old
             → FoundHolds terms greatest t0 log self.old.zone self.old.lookup.query self.old.lookup.ends found
             → IfOk result (WalkComes terms greatest moment t0 log question.now self.new) }
     {
         match self.stage {
-            Stage::Candidate { .. } => self.conclude_candidate(alloc, question, found),
+            Stage::Candidate { .. } => self.conclude_candidate(alloc, question, filter, found),
             Stage::Last => {
                 let reply = self.conclude_last(alloc, question, found)?;
                 Ok(Some(reply))
@@ -215,17 +232,19 @@ impl Walk {
         &mut self,
         alloc: Global,
         question: &Question,
+        filter: &AccessControlSet,
         found: Found,
     ) -> Result<Option<Reply>, NoMemory>
         requires { IsCandidate self.old.stage }
         ensures falls { Goes self.old self.new result }
-        ensures holds { (terms : Terms) (greatest moment t0 : ℕ) (log : Log) → WayHolds terms greatest log question.now.query self.old
+        ensures holds { (terms : Terms) (greatest moment t0 : ℕ) (log : Log) → terms.server_filter ≡ filter.now
+            → WayHolds terms greatest log question.now.query self.old
             → FoundHolds terms greatest t0 log self.old.zone self.old.lookup.query self.old.lookup.ends found
             → IfOk result (WalkComes terms greatest moment t0 log question.now self.new) }
     {
         match found {
             Found::Message { entry, message } => {
-                self.hear_candidate(alloc, question, entry, message)
+                self.hear_candidate(alloc, question, filter, entry, message)
             }
             Found::Error(error) => match error {
                 NetError::Timeout => self.no_server(alloc, WalkCause::Timeout),
@@ -238,17 +257,19 @@ impl Walk {
         &mut self,
         alloc: Global,
         question: &Question,
+        filter: &AccessControlSet,
         entry: u64,
         message: Message,
     ) -> Result<Option<Reply>, NoMemory>
         requires { IsCandidate self.old.stage }
         ensures falls { Goes self.old self.new result }
-        ensures holds { (terms : Terms) (greatest moment t0 : ℕ) (log : Log) → WayHolds terms greatest log question.now.query self.old
+        ensures holds { (terms : Terms) (greatest moment t0 : ℕ) (log : Log) → terms.server_filter ≡ filter.now
+            → WayHolds terms greatest log question.now.query self.old
             → FoundHolds terms greatest t0 log self.old.zone self.old.lookup.query self.old.lookup.ends (Found.Message entry message)
             → IfOk result (WalkComes terms greatest moment t0 log question.now self.new) }
     {
         match verdict_of(alloc, message, &self.zone)? {
-            Ok(Verdict::Pos(kept)) => self.descend(alloc, question, &kept),
+            Ok(Verdict::Pos(kept)) => self.descend(alloc, question, filter, &kept),
             Ok(Verdict::Neg(found)) => self.deny_candidate(alloc, question, entry, found),
             Ok(Verdict::Made(cause)) => {
                 let denial = made_negative(alloc, &self.lookup.query, cause)?;
@@ -283,18 +304,20 @@ impl Walk {
         &mut self,
         alloc: Global,
         question: &Question,
+        filter: &AccessControlSet,
         kept: &Message,
     ) -> Result<Option<Reply>, NoMemory>
         requires { IsCandidate self.old.stage }
         ensures falls { Goes self.old self.new result }
-        ensures holds { (terms : Terms) (greatest moment t0 entry : ℕ) (log : Log) → WayHolds terms greatest log question.now.query self.old
+        ensures holds { (terms : Terms) (greatest moment t0 entry : ℕ) (log : Log) → terms.server_filter ≡ filter.now
+            → WayHolds terms greatest log question.now.query self.old
             → Counts terms greatest t0 log self.old.zone self.old.lookup.query entry (Verdict.Pos kept.now)
             → IfOk result (WalkComes terms greatest moment t0 log question.now self.new) }
     {
         if !is_delegation(kept, &self.lookup.query.name) {
             return self.advance(alloc, question);
         }
-        let ips = addresses(alloc, kept, &self.lookup.query.name)?;
+        let ips = addresses(alloc, kept, &self.lookup.query.name, filter)?;
         if ips.is_empty() {
             return self.no_server(alloc, WalkCause::NoAddress);
         }

@@ -8,7 +8,7 @@ use Rattle.recursor_text.specs.declared.scenario.Cause.{Cause}
 use Rattle.recursor_text.specs.declared.scenario.Cause.TheVariants as cause
 use Rattle.recursor_text.specs.declared.scenario.ScenarioError.{ScenarioError}
 use Rattle.recursor_text.specs.Faults.{HasFault}
-use Rattle.recursor_program.specs.Streams.{HeldAll}
+use Rattle.dns_core.specs.WholeStreams.{HeldAll}
 use Rattle.recursor_program.specs.declared.faults.Fault.{Fault}
 use Rattle.recursor_program.specs.declared.faults.Fault.TheVariants.{Words, Line, NotBuilt, Read, Memory}
 use Rattle.recursor_program.specs.Program.{fault_by, fault_of, IsFaultOf, HasWritten, HasRefused}

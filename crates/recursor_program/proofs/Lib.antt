@@ -1,4 +1,3 @@
-pub mod Known
 pub mod Held
 pub mod Qualified
 pub mod Runs

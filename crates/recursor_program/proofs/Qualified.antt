@@ -4,7 +4,6 @@ use Rattle.std.specs.Prelude.{IsTrue, ◌&&◌}
 use Rattle.std.specs.List.{list_all, AllByRecursion}
 use Rattle.dns_core.specs.Record.{is_qualified_data}
 use Rattle.dns_core.specs.Message.{is_qualified_record}
-use Rattle.dns_core.specs.declared.codes.RecordType.{RecordType}
 use Rattle.dns_core.specs.declared.record.Record.{Record}
 use Rattle.dns_core.specs.declared.record.RData.{RData}
 use Rattle.dns_core.specs.declared.record.RData.TheVariants.{A, AAAA, NS, CNAME, SOA, RRSIG, Opaque}
@@ -13,7 +12,7 @@ use Rattle.recursor_world.specs.declared.script.ScriptLine.TheVariants.{Connect,
 use Rattle.recursor_world.specs.Script.{is_qualified_line, is_qualified_script}
 use Rattle.recursor_text.specs.declared.scenario.Upstream.{Upstream}
 use Rattle.recursor_text.specs.declared.scenario.Upstream.TheVariants.{Script as FromScript}
-use Rattle.recursor_text.specs.Spelling.{IsData, IsRecord, IsToldFor, IsRule, IsScriptLine, rules_of}
+use Rattle.recursor_text.specs.Spelling.{IsData, IsRecord, IsScriptLine, rules_of}
 use Rattle.recursor_program.specs.Program.{script_of}
 
 both : (a b : Bool) → a ≡ true → b ≡ true → (a && b) ≡ true
@@ -21,26 +20,26 @@ both a b p q = ap (λ x. x && b) p ∙ q
 
 data_qualified : (d : RData) → IsData d → is_qualified_data d ≡ true
 data_qualified (A ip) h = refl
-data_qualified (AAAA ip) h = absurd h
+data_qualified (AAAA ip) h = refl
 data_qualified (NS target) h = h.1
 data_qualified (CNAME target) h = absurd h
-data_qualified (SOA soa) h = absurd h
+data_qualified (SOA soa) h = both soa.mname.fqdn soa.rname.fqdn h.mname.1 h.rname.1
 data_qualified (RRSIG covered rest) h = absurd h
-data_qualified (Opaque bytes) h = absurd h
+data_qualified (Opaque bytes) h = refl
 
 record_qualified : (r : Record) → IsRecord r → is_qualified_record r ≡ true
 record_qualified r h = both r.name.fqdn (is_qualified_data r.rdata) h.name.1 (data_qualified r.rdata h.told)
 
-records_qualified : (asked : RecordType) (rs : List Record) → AllByRecursion (IsToldFor asked) rs → list_all is_qualified_record rs ≡ true
-records_qualified asked [] h = refl
-records_qualified asked (r ∷ rs) h = both (is_qualified_record r) (list_all is_qualified_record rs) (record_qualified r h.0.0) (records_qualified asked rs h.1)
+records_qualified : (rs : List Record) → AllByRecursion IsRecord rs → list_all is_qualified_record rs ≡ true
+records_qualified [] h = refl
+records_qualified (r ∷ rs) h = both (is_qualified_record r) (list_all is_qualified_record rs) (record_qualified r h.0) (records_qualified rs h.1)
 
 line_qualified : (line : ScriptLine) → IsScriptLine line → is_qualified_line line ≡ true
 line_qualified (Reply ip protocol name type delay (Ok m)) h =
     both name.fqdn _ h.named.1
     (both _ (list_all is_qualified_record m.additionals)
-    (both (list_all is_qualified_record m.answers) (list_all is_qualified_record m.authorities) (records_qualified type m.answers h.answers) (records_qualified type m.authorities h.authorities))
-    (records_qualified type m.additionals h.additionals))
+    (both (list_all is_qualified_record m.answers) (list_all is_qualified_record m.authorities) (records_qualified m.answers h.answers) (records_qualified m.authorities h.authorities))
+    (records_qualified m.additionals h.additionals))
 line_qualified (Reply ip protocol name type delay (Err e)) h = absurd h
 line_qualified (Connect ip protocol delay error) h = absurd h
 line_qualified (Refuse ip protocol) h = absurd h

@@ -1,4 +1,3 @@
 pub mod Faults
 pub mod Program
 pub mod Status
-pub mod Streams

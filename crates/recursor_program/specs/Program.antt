@@ -1,5 +1,5 @@
 -- What the program writes for what it reads.
-use Rattle.std.specs.Prelude.{◌≡◌, ◌≢◌, ◌⊎◌, ℕ, Bool, false, not, List, [], ◌∷◌, length, codes, Result, Ok, Err}
+use Rattle.std.specs.Prelude.{◌≡◌, ◌≢◌, ◌⊎◌, ℕ, Bool, false, not, List, [], ◌∷◌, length, codes, Ok, Err}
 use Rattle.std.specs.declared.option.Option.{Option}
 use Rattle.std.specs.Io.KnownBytes.{Appends}
 use Rattle.std.specs.List.{list_all}
@@ -14,7 +14,9 @@ use Rattle.dns_core.specs.Log.{log_of}
 use Rattle.resolution.specs.Asking.{AsksServers}
 use Rattle.recursor_core.specs.Plain.{IsPlainlyTold}
 use Rattle.recursor_core.specs.Replies.{Terms, given_of}
+use Rattle.recursor_core.specs.Setting.{server_filter_of}
 use Rattle.recursor_core.specs.Standing.{Standing, RepliesHold}
+use Rattle.recursor_core.specs.declared.options.RecursorOptions.{RecursorOptions}
 use Rattle.std.specs.declared.net.ip_addr.IpAddr.{IpAddr}
 use Rattle.recursor_text.specs.declared.scenario.Cause.{Cause}
 use Rattle.recursor_text.specs.declared.scenario.Cause.TheVariants as cause
@@ -26,7 +28,7 @@ use Rattle.recursor_text.specs.declared.transcript.Transcript.{Transcript}
 use Rattle.recursor_text.specs.Spelling.{Reads}
 use Rattle.recursor_text.specs.Faults.{HasFault}
 use Rattle.recursor_text.specs.Transcript.{transcript_text}
-use Rattle.recursor_program.specs.Streams.{AppendsPart}
+use Rattle.dns_core.specs.WholeStreams.{AppendsPart}
 use Rattle.recursor_program.specs.Faults.{fault_text, status_of}
 use Rattle.recursor_program.specs.declared.faults.Fault.{Fault}
 use Rattle.recursor_program.specs.declared.faults.Fault.TheVariants.{Words, Line, NotBuilt, Read, Memory}
@@ -42,9 +44,9 @@ are_words (w ∷ v ∷ ws) = false
 abbrev pub script_of : Told → Script
 script_of (upstream.Script s) = s
 
--- a new recursor over a script
-abbrev pub IsNewOver : List IpAddr → Script → Standing Upstream → Type 0
-IsNewOver roots script r = (r.provider.script ≡ script) × (r.roots ≡ roots) × (r.moment ≡ 0)
+-- a new recursor over a script, with these options
+abbrev pub IsNewOver : List IpAddr → RecursorOptions → Script → Standing Upstream → Type 0
+IsNewOver roots options script r = (r.provider.script ≡ script) × (r.roots ≡ roots) × (r.server_filter ≡ server_filter_of options) × (r.moment ≡ 0)
 
 -- the line tells a message, and not a truncated one
 abbrev pub is_whole_line : ScriptLine → Bool
@@ -56,12 +58,12 @@ is_whole_line (line.Refuse ip protocol) = false
 abbrev pub is_whole_script : Script → Bool
 is_whole_script s = list_all is_whole_line s.lines
 
--- the roots and the patience of a scenario
+-- the roots of a scenario, the filter of other servers that its options say, and its patience
 abbrev pub terms_of : Scenario → Terms
-terms_of s = record { roots = s.roots; patience = s.patience }
+terms_of s = record { roots = s.roots; server_filter = server_filter_of s.options; patience = s.patience }
 
 -- A run of a scenario: its log is one that the script gives, and each question has its reply, in order. Only servers were asked,
--- by what was told before. A reply with a message is what counts of a response that a server of a zone at or above the name told since the question
+-- by what was told before, each a root or at an address that is not denied. A reply with a message is what counts of a response that a server of a zone at or above the name told since the question
 -- began; the walk went down to this zone. Each error has its cause.
 pub record Ran (s : Scenario) (t : Transcript) : Type 0 where
   pub gives : Gives (script_of s.upstream) t.log

@@ -3,7 +3,7 @@ use Rattle.std.specs.Prelude.{◌≡◌, ◌≢◌, ℕ, List}
 use Rattle.std.specs.declared.option.Option.{Option}
 use Rattle.std.specs.Io.KnownBytes.{Appends}
 use Rattle.dns_core.specs.Faults.{Rose}
-use Rattle.recursor_program.specs.Streams.{AppendsPart}
+use Rattle.dns_core.specs.WholeStreams.{AppendsPart}
 use Rattle.recursor_program.specs.declared.status.Status.{Status}
 use Rattle.recursor_program.specs.declared.status.Status.TheVariants.{Done, BadWords, BadScenario, ReadFault, WriteFault, NoMemory}
 

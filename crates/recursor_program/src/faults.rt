@@ -4,8 +4,7 @@ ghost use Rattle.recursor_program.specs.Status.{Wrote};
 ghost use Rattle.recursor_program.specs.Faults.{fault_text, status_of};
 
 use crate::status::Status;
-use crate::streams::write_all;
-use dns_core::{NoMemory, Sink};
+use dns_core::{NoMemory, Sink, write_all};
 use std::alloc::Global;
 
 /// What ends a run before its output.

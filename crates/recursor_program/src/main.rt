@@ -1,12 +1,13 @@
 //! The program `resolve`: a scenario in, a transcript out.
 #![tactic(auto)]
 
+#[cfg(test)]
+mod bad_input_tests;
+#[cfg(test)]
+mod fault_tests;
 mod faults;
 mod program;
 mod status;
-#[cfg(test)]
-mod stream_tests;
-mod streams;
 #[cfg(test)]
 mod tests;
 

@@ -10,8 +10,7 @@ ghost use Rattle.recursor_program.specs.Program.{are_words, script_of, is_whole_
 
 use crate::faults::{Fault, say};
 use crate::status::Status;
-use crate::streams::{ReadError, read_all};
-use dns_core::{Ips, Items, Log, NoMemory, Sink, Source, Text, TryClone};
+use dns_core::{Ips, Items, Log, NoMemory, ReadError, Sink, Source, Text, TryClone, read_all};
 use recursor_core::{Recursor, RecursorOptions, drive};
 use recursor_text::{
     Cause, Scenario, ScenarioError, Transcript, Upstream, has_transcript_words, print_transcript,
@@ -41,7 +40,7 @@ fn recursor_over(
     script: Script,
 ) -> Result<Recursor<ScriptUpstream>, NoMemory>
     requires { IsTrue (is_qualified_script script) }
-    ensures { IfOk result (IsNewOver roots.now script) }
+    ensures { IfOk result (IsNewOver roots.now options script) }
 {
     let upstream = ScriptUpstream::new(alloc, script)?;
     match Recursor::with_options(alloc, roots.items(), options, upstream) {

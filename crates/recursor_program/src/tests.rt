@@ -28,6 +28,9 @@ const GLUELESS: &str =
 const STRAY: &str =
     "reply 11.0.0.2 udp example.com. NS 0 message NOERROR none 0 2 2\nexample.com. 172800 IN NS ns.evil.net.\nexample.com. 172800 IN NS ns.example.com.\nns.evil.net. 172800 IN A 66.6.6.6\nns.example.com. 172800 IN A 11.0.0.3\n";
 
+const DENIED: &str =
+    "reply 11.0.0.2 udp example.com. NS 0 message NOERROR none 0 1 1\nexample.com. 172800 IN NS ns.example.com.\nns.example.com. 172800 IN A 192.0.2.5\n";
+
 const TWO: &str =
     "reply 11.0.0.1 udp com. NS 0 message NOERROR none 0 1 2\ncom. 172800 IN NS a.nic.com.\na.nic.com. 172800 IN A 11.0.0.2\na.nic.com. 172800 IN A 11.0.0.4\n";
 
@@ -36,6 +39,15 @@ const NO_CUT: &str =
 
 const LATE_ANSWER: &str =
     "reply 11.0.0.2 udp example.com. A 0 message NOERROR aa 1 0 0\nexample.com. 300 IN A 93.184.215.14\n";
+
+const REFERRAL: &str =
+    "reply 11.0.0.1 udp . A 0 message NOERROR none 0 1 1\n. 60 IN NS x.\nx. 60 IN A 11.0.0.9\n";
+
+const NO_SUCH_NAME: &str =
+    "reply 11.0.0.1 udp c. NS 0 message NXDOMAIN aa 0 1 0\n. 60 IN SOA ns. ns. 1 1800 900 604800 300\n";
+
+const ANSWER_OF_SIX: &str =
+    "reply 11.0.0.3 udp example.com. AAAA 0 message NOERROR aa 1 0 0\nexample.com. 300 IN AAAA 2001:db8::1\n";
 
 const TAIL: &str = "question example.com. A plain\nturn 1 0\nend\n";
 
@@ -75,6 +87,43 @@ fn the_base_script_is_answered(rt: HostRuntime) -> Result<(), Fail> {
     assert_eq!(rt; status, Status::Done);
     assert!(rt; written.starts_with(b"log 12\n1 opened 11.0.0.1 udp 0\n"));
     let end = "reply 1 message NOERROR aa 1 0 0\nexample.com. 300 IN A 93.184.215.14\nend\n";
+    assert!(rt; ends_with(&written, end));
+    Ok(())
+}
+
+#[test]
+fn a_question_for_addresses_of_ipv6_is_answered(rt: HostRuntime) -> Result<(), Fail> {
+    let alloc = rt.alloc();
+    let tail = "question example.com. AAAA plain\nturn 1 0\nend\n";
+    let (status, written) = outcome(alloc, &[HEAD, COM, EXAMPLE, ANSWER_OF_SIX, tail])?;
+    assert_eq!(rt; status, Status::Done);
+    assert!(rt; written.starts_with(b"log 12\n1 opened 11.0.0.1 udp 0\n"));
+    let end = "reply 1 message NOERROR aa 1 0 0\nexample.com. 300 IN AAAA 2001:db8::1\nend\n";
+    assert!(rt; ends_with(&written, end));
+    Ok(())
+}
+
+#[test]
+fn a_referral_in_place_of_an_answer_is_told(rt: HostRuntime) -> Result<(), Fail> {
+    let alloc = rt.alloc();
+    let tail = "question . A plain\nturn 1 0\nend\n";
+    let (status, written) = outcome(alloc, &[HEAD, REFERRAL, tail])?;
+    assert_eq!(rt; status, Status::Done);
+    assert!(rt; written.starts_with(b"log 4\n1 opened 11.0.0.1 udp 0\n"));
+    let end = "reply 1 error ForwardNS 1\nns 1 . 60 IN NS x.\nx. 60 IN A 11.0.0.9\nend\n";
+    assert!(rt; ends_with(&written, end));
+    Ok(())
+}
+
+#[test]
+fn a_name_above_that_does_not_exist_denies_those_below(rt: HostRuntime) -> Result<(), Fail> {
+    let alloc = rt.alloc();
+    let tail = "question a.b.c. A plain\nturn 1 0\nend\n";
+    let (status, written) = outcome(alloc, &[HEAD, NO_SUCH_NAME, tail])?;
+    assert_eq!(rt; status, Status::Done);
+    assert!(rt; written.starts_with(b"log 4\n1 opened 11.0.0.1 udp 0\n"));
+    let end =
+        "reply 1 error Negative c. NS 1 1 1 1\n. 60 IN SOA ns. ns. 1 1800 900 604800 300\n. 60 IN SOA ns. ns. 1 1800 900 604800 300\nend\n";
     assert!(rt; ends_with(&written, end));
     Ok(())
 }
@@ -134,6 +183,74 @@ fn a_delegation_without_addresses_leads_nowhere(rt: HostRuntime) -> Result<(), F
             "reply 1 error NoNameServer example.com. NoAddress\nend\n"
         )
     );
+    Ok(())
+}
+
+#[test]
+fn a_denied_address_is_never_opened(rt: HostRuntime) -> Result<(), Fail> {
+    let alloc = rt.alloc();
+    let (_, written) = outcome(alloc, &[HEAD, COM, DENIED, ANSWER, TAIL])?;
+    // The servers of the root and of com. are asked; 192.0.2.5 is an address for documentation.
+    assert!(rt; written.starts_with(b"log 8\n"));
+    assert!(rt;
+        ends_with(
+            &written,
+            "reply 1 error NoNameServer example.com. NoAddress\nend\n"
+        )
+    );
+    Ok(())
+}
+
+/// The head of a script with this option.
+fn head(alloc: Global, option: &str) -> Result<Text, Fail> {
+    text(
+        alloc,
+        &[
+            "recursor 1\nroot 11.0.0.1\n",
+            option,
+            "patience 3\ntold script\n",
+        ],
+    )
+}
+
+#[test]
+fn an_address_that_an_option_denies_is_never_opened(rt: HostRuntime) -> Result<(), Fail> {
+    let alloc = rt.alloc();
+    let head = head(alloc, "option deny_server 11.0.0.3/32\n")?;
+    let (status, written) = outcome(alloc, &[head.items(), COM, EXAMPLE, ANSWER, TAIL])?;
+    assert_eq!(rt; status, Status::Done);
+    // The servers of the root and of com. are opened and asked, and 11.0.0.3 is not.
+    let whole =
+        "log 8\n1 opened 11.0.0.1 udp 0\n2 told 1 0 connected\n3 asked 11.0.0.1 udp com. NS 0\n4 told 3 0 message NOERROR none 0 1 1\ncom. 172800 IN NS a.nic.com.\na.nic.com. 172800 IN A 11.0.0.2\n5 opened 11.0.0.2 udp 0\n6 told 5 0 connected\n7 asked 11.0.0.2 udp example.com. NS 0\n8 told 7 0 message NOERROR none 0 1 1\nexample.com. 172800 IN NS ns.example.com.\nns.example.com. 172800 IN A 11.0.0.3\nreply 1 error NoNameServer example.com. NoAddress\nend\n";
+    assert!(rt; written.as_slice() == whole.as_bytes());
+    Ok(())
+}
+
+#[test]
+fn an_address_that_an_option_allows_is_asked(rt: HostRuntime) -> Result<(), Fail> {
+    let alloc = rt.alloc();
+    let head = head(alloc, "option allow_server 192.0.2.5/32\n")?;
+    let answer =
+        "reply 192.0.2.5 udp example.com. A 0 message NOERROR aa 1 0 0\nexample.com. 300 IN A 93.184.215.14\n";
+    let (status, written) = outcome(alloc, &[head.items(), COM, DENIED, answer, TAIL])?;
+    assert_eq!(rt; status, Status::Done);
+    assert!(rt; written.starts_with(b"log 12\n1 opened 11.0.0.1 udp 0\n"));
+    let end =
+        "9 opened 192.0.2.5 udp 0\n10 told 9 0 connected\n11 asked 192.0.2.5 udp example.com. A 0\n12 told 11 0 message NOERROR aa 1 0 0\nexample.com. 300 IN A 93.184.215.14\nreply 1 message NOERROR aa 1 0 0\nexample.com. 300 IN A 93.184.215.14\nend\n";
+    assert!(rt; ends_with(&written, end));
+    Ok(())
+}
+
+#[test]
+fn a_root_is_asked_though_its_network_is_denied(rt: HostRuntime) -> Result<(), Fail> {
+    let alloc = rt.alloc();
+    let head = "recursor 1\nroot 192.0.2.1\npatience 3\ntold script\n";
+    let com =
+        "reply 192.0.2.1 udp com. NS 0 message NOERROR none 0 1 1\ncom. 172800 IN NS a.nic.com.\na.nic.com. 172800 IN A 11.0.0.2\n";
+    let (_, written) = outcome(alloc, &[head, com, EXAMPLE, ANSWER, TAIL])?;
+    assert!(rt; written.starts_with(b"log 12\n1 opened 192.0.2.1 udp 0\n"));
+    let end = "reply 1 message NOERROR aa 1 0 0\nexample.com. 300 IN A 93.184.215.14\nend\n";
+    assert!(rt; ends_with(&written, end));
     Ok(())
 }
 
@@ -223,7 +340,7 @@ fn a_recursor_wants_a_root(rt: HostRuntime) -> Result<(), Fail> {
         lines: Items::empty(alloc),
     };
     let upstream = ScriptUpstream::new(alloc, script)?;
-    let options = RecursorOptions::standard(alloc);
+    let options = RecursorOptions::standard(alloc)?;
     match Recursor::with_options(alloc, &[], options, upstream) {
         Err(error) => assert!(rt; error == RecursorError::Message(MessageKind::NoRoots)),
         Ok(_) => assert!(rt; false),

@@ -1,12 +1,11 @@
 -- The lines of a scenario are taken again.
-use Rattle.std.proofs.Common.{◌≡◌, ℕ, zero, suc, ◌+◌, ◌-◌, ◌<◌, ◌≤◌, Bool, true, false, cond, ◌&&◌, eqb, ltb, List, [], ◌∷◌, ◌++◌, length, map, Option, Some, None, Result, Ok, Err, refl, sym, ap, subst, ◌∙◌, arith, append_assoc, lit<, lit≤}
+use Rattle.std.proofs.Common.{◌≡◌, ℕ, suc, ◌+◌, ◌-◌, ◌<◌, ◌≤◌, true, false, ltb, List, [], ◌∷◌, ◌++◌, length, map, Option, Some, None, Ok, Err, refl, sym, ap, subst, ◌∙◌, arith, append_assoc}
 use Rattle.std.specs.List.{flat_map, AllByRecursion}
-use Rattle.std.proofs.lemmas.Bool.{lt-ltb, le-ltb, ne_eqb}
+use Rattle.std.proofs.lemmas.Bool.{lt-ltb, ne_eqb}
 use Rattle.std.proofs.lemmas.List.{append-nil, length_push}
 use Rattle.std.specs.declared.net.ip_addr.IpAddr.{IpAddr}
 use Rattle.dns_core.specs.Name.{DomainName}
 use Rattle.dns_core.specs.declared.codes.RecordType.{RecordType}
-use Rattle.dns_core.specs.declared.codes.ResponseCode.{ResponseCode}
 use Rattle.dns_core.specs.declared.connection.Protocol.{Protocol}
 use Rattle.dns_core.specs.declared.message.Message.{Message}
 use Rattle.dns_core.specs.declared.record.Record.{Record}
@@ -19,16 +18,19 @@ use Rattle.recursor_text.specs.declared.scenario.Upstream.{Upstream}
 use Rattle.recursor_text.specs.declared.scenario.Upstream.TheVariants.{Script as FromScript}
 use Rattle.recursor_text.specs.declared.reading.lines.Form.{Form}
 use Rattle.recursor_text.specs.declared.reading.lines.Form.TheVariants as form
+use Rattle.recursor_text.specs.declared.reading.option_form.OptionLine.{OptionLine}
 use Rattle.recursor_text.specs.declared.reading.rules.OpenRule.{OpenRule}
 use Rattle.recursor_text.specs.declared.reading.draft.Stage.{Stage}
-use Rattle.recursor_text.specs.declared.reading.draft.Stage.TheVariants.{Start, Headed, Rooted, Patient, Scripted, Asked, Turned, Ended}
+use Rattle.recursor_text.specs.declared.reading.draft.Stage.TheVariants.{Headed, Rooted, Optioned, Patient, Scripted, Asked, Turned, Ended}
 use Rattle.recursor_text.specs.declared.reading.draft.Draft.{Draft}
 use Rattle.recursor_text.specs.Numbers.{◌>>=◌}
-use Rattle.recursor_text.specs.Lines.{class_in, no_error}
-use Rattle.recursor_text.specs.Steps.{may_ask, may_turn, may_end, start, is_settled, rule_of, settle, add, put, taken_at, taken, scenario_of}
-use Rattle.recursor_text.specs.Spelling.{head_words, spelled, record_text, record_texts, script_lines, root_line, question_line, turn_line, rules_of, to_roots, to_patience, to_told, to_rules, to_questions, to_turns, scenario_lines, patience_words, told_words, end_words, standard_options, most_roots, most_questions, most_turns, IsAddress, IsRecord, IsToldFor, IsRule, IsScriptLine, IsQuestion, IsTurn, IsScenario}
+use Rattle.recursor_text.specs.RecordLines.{class_in}
+use Rattle.recursor_text.specs.Steps.{start, is_settled, rule_of, settle, add, put, taken_at, taken, scenario_of}
+use Rattle.recursor_text.specs.Spelling.{spelled, record_text, record_texts, script_lines, root_line, option_line, question_line, turn_line, rules_of, to_roots, to_options, to_patience, to_told, to_rules, to_questions, to_turns, scenario_lines, patience_words, told_words, end_words, options_with, option_rank, last_rank, RiseAbove, most_roots, most_questions, most_turns, IsAddress, IsRecord, IsRule, IsScriptLine, IsQuestion, IsTurn, IsOption, IsScenario}
 use Rattle.recursor_text.proofs.Binds.{bind_some}
-use Rattle.recursor_text.proofs.LineLaws.{form_words, IsBare, IsForm, form_again, record_again}
+use Rattle.recursor_text.proofs.LineLaws.{form_words, IsBare, IsForm, form_again}
+use Rattle.recursor_text.proofs.OptionLaws.{last_push}
+use Rattle.recursor_text.proofs.RecordLaws.{record_again}
 
 abbrev pub run : Draft → List (List ℕ) → Option Draft
 run d [] = Some d
@@ -56,7 +58,7 @@ takes_record d e o r ls opened fits h = ap (λ (p : Option OpenRule). taken_at p
 -- ---- roots
 
 abbrev with_roots : List IpAddr → Draft
-with_roots roots = record { stage = Rooted; roots = roots; patience = 0; rules = []; pending = None; questions = []; turns = [] }
+with_roots roots = record { stage = Rooted; roots = roots; written = []; patience = 0; rules = []; pending = None; questions = []; turns = [] }
 
 roots_again : (front roots : List IpAddr) → length front + length roots ≤ most_roots → AllByRecursion IsAddress roots → run (with_roots front) (map root_line roots) ≡ Some (with_roots (front ++ roots))
 roots_again front [] few all = ap (λ (r : List IpAddr). Some (with_roots r)) (sym (append-nil front))
@@ -66,71 +68,98 @@ roots_again front (ip ∷ roots) few all =
     ∙ roots_again (front ++ ip ∷ []) roots (omega (arith, length_push front ip)) all.1
     ∙ ap (λ (r : List IpAddr). Some (with_roots r)) (append_assoc front (ip ∷ []) roots)
 
+-- ---- options
+
+abbrev stage_after : List OptionLine → Stage
+stage_after [] = Rooted
+stage_after (o ∷ os) = Optioned
+
+abbrev with_options : List IpAddr → List OptionLine → Draft
+with_options roots written = record { stage = stage_after written; roots = roots; written = written; patience = 0; rules = []; pending = None; questions = []; turns = [] }
+
+puts_option : (roots : List IpAddr) (front : List OptionLine) (o : OptionLine) → last_rank 0 front < option_rank o → put (with_options roots front) (form.Option o) ≡ Some (with_options roots (front ++ o ∷ []))
+puts_option roots [] o lt = let behind : ltb 0 (option_rank o) ≡ true = lt-ltb _ _ lt in rw behind refl
+puts_option roots (p ∷ ps) o lt = let behind : ltb (last_rank (option_rank p) ps) (option_rank o) ≡ true = lt-ltb _ _ lt in rw behind refl
+
+options_again : (roots : List IpAddr) (front os : List OptionLine) → RiseAbove (last_rank 0 front) os → AllByRecursion IsOption os → run (with_options roots front) (map option_line os) ≡ Some (with_options roots (front ++ os))
+options_again roots front [] rise all = ap (λ (l : List OptionLine). Some (with_options roots l)) (sym (append-nil front))
+options_again roots front (o ∷ os) rise all =
+    takes_form (with_options roots front) (with_options roots (front ++ o ∷ [])) (form.Option o) (map option_line os) refl all.0 (puts_option roots front o rise.0)
+    ∙ options_again roots (front ++ o ∷ []) os (subst (λ (n : ℕ). RiseAbove n os) (sym (last_push 0 front o)) rise.1) all.1
+    ∙ ap (λ (l : List OptionLine). Some (with_options roots l)) (append_assoc front (o ∷ []) os)
+
+abbrev waiting : List IpAddr → List OptionLine → ℕ → Draft
+waiting roots written patience = record { stage = Patient; roots = roots; written = written; patience = patience; rules = []; pending = None; questions = []; turns = [] }
+
+puts_patience : (roots : List IpAddr) (written : List OptionLine) (n : ℕ) → put (with_options roots written) (form.Patience n) ≡ Some (waiting roots written n)
+puts_patience roots [] n = refl
+puts_patience roots (o ∷ os) n = refl
+
 -- ---- rules
 
-abbrev scripted : List IpAddr → ℕ → List ScriptLine → Draft
-scripted roots patience rules = record { stage = Scripted; roots = roots; patience = patience; rules = rules; pending = None; questions = []; turns = [] }
+abbrev scripted : List IpAddr → List OptionLine → ℕ → List ScriptLine → Draft
+scripted roots written patience rules = record { stage = Scripted; roots = roots; written = written; patience = patience; rules = rules; pending = None; questions = []; turns = [] }
 
 -- a rule with these records, that owes so many
 abbrev part : OpenRule → List Record → List Record → List Record → ℕ → ℕ → ℕ → OpenRule
 part o us vs ws a b c = record o { message = record o.message { answers = us; authorities = vs; additionals = ws }; owed = record { answers = a; authorities = b; additionals = c } }
 
 abbrev Told : OpenRule → List Record → Type 0
-Told o xs = AllByRecursion (IsToldFor o.message.query.query_type) xs
+Told o xs = AllByRecursion IsRecord xs
 
-abbrev done : List IpAddr → ℕ → List ScriptLine → OpenRule → List Record → List Record → List Record → Option Draft
-done roots patience rules o us vs ws = Some (scripted roots patience (rules ++ rule_of (part o us vs ws 0 0 0) ∷ []))
+abbrev done : List IpAddr → List OptionLine → ℕ → List ScriptLine → OpenRule → List Record → List Record → List Record → Option Draft
+done roots written patience rules o us vs ws = Some (scripted roots written patience (rules ++ rule_of (part o us vs ws 0 0 0) ∷ []))
 
-third : (roots : List IpAddr) (patience : ℕ) (rules : List ScriptLine) (r : OpenRule) (us vs ws xs : List Record) → Told r xs
-    → run (settle (scripted roots patience rules) (part r us vs ws 0 0 (length xs))) (map record_text xs) ≡ done roots patience rules r us vs (ws ++ xs)
-third roots patience rules r us vs ws [] all = ap (done roots patience rules r us vs) (sym (append-nil ws))
-third roots patience rules r us vs ws (x ∷ xs) all =
-    let d = scripted roots patience rules in
+third : (roots : List IpAddr) (written : List OptionLine) (patience : ℕ) (rules : List ScriptLine) (r : OpenRule) (us vs ws xs : List Record) → Told r xs
+    → run (settle (scripted roots written patience rules) (part r us vs ws 0 0 (length xs))) (map record_text xs) ≡ done roots written patience rules r us vs (ws ++ xs)
+third roots written patience rules r us vs ws [] all = ap (done roots written patience rules r us vs) (sym (append-nil ws))
+third roots written patience rules r us vs ws (x ∷ xs) all =
+    let d = scripted roots written patience rules in
     let o = part r us vs ws 0 0 (suc (length xs)) in
     let p = part r us vs (ws ++ x ∷ []) 0 0 (length xs) in
     let unsettled : is_settled o.owed ≡ false = rw (ne_eqb (suc (length xs)) 0 (λ e. omega arith)) refl in
     let opened : settle d o ≡ record d { pending = Some o } = rw unsettled refl in
     let more : ltb 0 (suc (length xs)) ≡ true = lt-ltb _ _ (omega arith) in
     let less : suc (length xs) - 1 ≡ length xs = omega arith in
-    let added : add o x ≡ Some p = rw (all.0.1, more, less) refl in
+    let added : add o x ≡ Some p = rw (more, less) refl in
     ap (λ (e : Draft). run e (map record_text (x ∷ xs))) opened
-    ∙ takes_record (record d { pending = Some o }) (settle d p) o x (map record_text xs) refl all.0.0 (rw added refl)
-    ∙ third roots patience rules r us vs (ws ++ x ∷ []) xs all.1
-    ∙ ap (done roots patience rules r us vs) (append_assoc ws (x ∷ []) xs)
+    ∙ takes_record (record d { pending = Some o }) (settle d p) o x (map record_text xs) refl all.0 (rw added refl)
+    ∙ third roots written patience rules r us vs (ws ++ x ∷ []) xs all.1
+    ∙ ap (done roots written patience rules r us vs) (append_assoc ws (x ∷ []) xs)
 
-second : (roots : List IpAddr) (patience : ℕ) (rules : List ScriptLine) (r : OpenRule) (us vs ws xs : List Record) → Told r xs → Told r ws
-    → run (settle (scripted roots patience rules) (part r us vs [] 0 (length xs) (length ws))) (map record_text xs ++ map record_text ws) ≡ done roots patience rules r us (vs ++ xs) ws
-second roots patience rules r us vs ws [] all later = third roots patience rules r us vs [] ws later ∙ ap (λ (l : List Record). done roots patience rules r us l ws) (sym (append-nil vs))
-second roots patience rules r us vs ws (x ∷ xs) all later =
-    let d = scripted roots patience rules in
+second : (roots : List IpAddr) (written : List OptionLine) (patience : ℕ) (rules : List ScriptLine) (r : OpenRule) (us vs ws xs : List Record) → Told r xs → Told r ws
+    → run (settle (scripted roots written patience rules) (part r us vs [] 0 (length xs) (length ws))) (map record_text xs ++ map record_text ws) ≡ done roots written patience rules r us (vs ++ xs) ws
+second roots written patience rules r us vs ws [] all later = third roots written patience rules r us vs [] ws later ∙ ap (λ (l : List Record). done roots written patience rules r us l ws) (sym (append-nil vs))
+second roots written patience rules r us vs ws (x ∷ xs) all later =
+    let d = scripted roots written patience rules in
     let o = part r us vs [] 0 (suc (length xs)) (length ws) in
     let p = part r us (vs ++ x ∷ []) [] 0 (length xs) (length ws) in
     let unsettled : is_settled o.owed ≡ false = rw (ne_eqb (suc (length xs)) 0 (λ e. omega arith)) refl in
     let opened : settle d o ≡ record d { pending = Some o } = rw unsettled refl in
     let more : ltb 0 (suc (length xs)) ≡ true = lt-ltb _ _ (omega arith) in
     let less : suc (length xs) - 1 ≡ length xs = omega arith in
-    let added : add o x ≡ Some p = rw (all.0.1, more, less) refl in
+    let added : add o x ≡ Some p = rw (more, less) refl in
     ap (λ (e : Draft). run e (map record_text (x ∷ xs) ++ map record_text ws)) opened
-    ∙ takes_record (record d { pending = Some o }) (settle d p) o x (map record_text xs ++ map record_text ws) refl all.0.0 (rw added refl)
-    ∙ second roots patience rules r us (vs ++ x ∷ []) ws xs all.1 later
-    ∙ ap (λ (l : List Record). done roots patience rules r us l ws) (append_assoc vs (x ∷ []) xs)
+    ∙ takes_record (record d { pending = Some o }) (settle d p) o x (map record_text xs ++ map record_text ws) refl all.0 (rw added refl)
+    ∙ second roots written patience rules r us (vs ++ x ∷ []) ws xs all.1 later
+    ∙ ap (λ (l : List Record). done roots written patience rules r us l ws) (append_assoc vs (x ∷ []) xs)
 
-first : (roots : List IpAddr) (patience : ℕ) (rules : List ScriptLine) (r : OpenRule) (us vs ws xs : List Record) → Told r xs → Told r vs → Told r ws
-    → run (settle (scripted roots patience rules) (part r us [] [] (length xs) (length vs) (length ws))) (map record_text xs ++ (map record_text vs ++ map record_text ws)) ≡ done roots patience rules r (us ++ xs) vs ws
-first roots patience rules r us vs ws [] all next later = second roots patience rules r us [] ws vs next later ∙ ap (λ (l : List Record). done roots patience rules r l vs ws) (sym (append-nil us))
-first roots patience rules r us vs ws (x ∷ xs) all next later =
-    let d = scripted roots patience rules in
+first : (roots : List IpAddr) (written : List OptionLine) (patience : ℕ) (rules : List ScriptLine) (r : OpenRule) (us vs ws xs : List Record) → Told r xs → Told r vs → Told r ws
+    → run (settle (scripted roots written patience rules) (part r us [] [] (length xs) (length vs) (length ws))) (map record_text xs ++ (map record_text vs ++ map record_text ws)) ≡ done roots written patience rules r (us ++ xs) vs ws
+first roots written patience rules r us vs ws [] all next later = second roots written patience rules r us [] ws vs next later ∙ ap (λ (l : List Record). done roots written patience rules r l vs ws) (sym (append-nil us))
+first roots written patience rules r us vs ws (x ∷ xs) all next later =
+    let d = scripted roots written patience rules in
     let o = part r us [] [] (suc (length xs)) (length vs) (length ws) in
     let p = part r (us ++ x ∷ []) [] [] (length xs) (length vs) (length ws) in
     let unsettled : is_settled o.owed ≡ false = rw (ne_eqb (suc (length xs)) 0 (λ e. omega arith)) refl in
     let opened : settle d o ≡ record d { pending = Some o } = rw unsettled refl in
     let more : ltb 0 (suc (length xs)) ≡ true = lt-ltb _ _ (omega arith) in
     let less : suc (length xs) - 1 ≡ length xs = omega arith in
-    let added : add o x ≡ Some p = rw (all.0.1, more, less) refl in
+    let added : add o x ≡ Some p = rw (more, less) refl in
     ap (λ (e : Draft). run e (map record_text (x ∷ xs) ++ (map record_text vs ++ map record_text ws))) opened
-    ∙ takes_record (record d { pending = Some o }) (settle d p) o x (map record_text xs ++ (map record_text vs ++ map record_text ws)) refl all.0.0 (rw added refl)
-    ∙ first roots patience rules r (us ++ x ∷ []) vs ws xs all.1 next later
-    ∙ ap (λ (l : List Record). done roots patience rules r l vs ws) (append_assoc us (x ∷ []) xs)
+    ∙ takes_record (record d { pending = Some o }) (settle d p) o x (map record_text xs ++ (map record_text vs ++ map record_text ws)) refl all.0 (rw added refl)
+    ∙ first roots written patience rules r (us ++ x ∷ []) vs ws xs all.1 next later
+    ∙ ap (λ (l : List Record). done roots written patience rules r l vs ws) (append_assoc us (x ∷ []) xs)
 
 -- the rule of a message, none of whose records is there
 abbrev bare_rule : IpAddr → Protocol → DomainName → RecordType → ℕ → Message → OpenRule
@@ -163,62 +192,62 @@ message_is : (ip : IpAddr) (protocol : Protocol) (n : DomainName) (t : RecordTyp
 message_is ip protocol n t delay m fits =
     ap (λ (x : Message). Reply ip protocol n t delay (Ok x)) (λ i. record m { query = sym fits.query i })
 
-rule_again : (roots : List IpAddr) (patience : ℕ) (rules : List ScriptLine) (r : ScriptLine) → IsScriptLine r → run (scripted roots patience rules) (script_lines r) ≡ Some (scripted roots patience (rules ++ r ∷ []))
-rule_again roots patience rules (Reply ip protocol n t delay (Ok m)) fits =
+rule_again : (roots : List IpAddr) (written : List OptionLine) (patience : ℕ) (rules : List ScriptLine) (r : ScriptLine) → IsScriptLine r → run (scripted roots written patience rules) (script_lines r) ≡ Some (scripted roots written patience (rules ++ r ∷ []))
+rule_again roots written patience rules (Reply ip protocol n t delay (Ok m)) fits =
     let o = bare_rule ip protocol n t delay m in
-    takes_form (scripted roots patience rules) (settle (scripted roots patience rules) o) (form.Reply o) (record_texts m) refl (is_bare ip protocol n t delay m fits) refl
-    ∙ first roots patience rules o [] m.authorities m.additionals m.answers fits.answers fits.authorities fits.additionals
-    ∙ ap (λ (l : ScriptLine). Some (scripted roots patience (rules ++ l ∷ []))) (message_is ip protocol n t delay m fits)
-rule_again roots patience rules (Reply ip protocol n t delay (Err e)) fits = absurd fits
-rule_again roots patience rules (Connect ip protocol delay e) fits = absurd fits
-rule_again roots patience rules (Refuse ip protocol) fits = absurd fits
+    takes_form (scripted roots written patience rules) (settle (scripted roots written patience rules) o) (form.Reply o) (record_texts m) refl (is_bare ip protocol n t delay m fits) refl
+    ∙ first roots written patience rules o [] m.authorities m.additionals m.answers fits.answers fits.authorities fits.additionals
+    ∙ ap (λ (l : ScriptLine). Some (scripted roots written patience (rules ++ l ∷ []))) (message_is ip protocol n t delay m fits)
+rule_again roots written patience rules (Reply ip protocol n t delay (Err e)) fits = absurd fits
+rule_again roots written patience rules (Connect ip protocol delay e) fits = absurd fits
+rule_again roots written patience rules (Refuse ip protocol) fits = absurd fits
 
-rules_again : (roots : List IpAddr) (patience : ℕ) (front rules : List ScriptLine) → AllByRecursion IsScriptLine rules → run (scripted roots patience front) (flat_map script_lines rules) ≡ Some (scripted roots patience (front ++ rules))
-rules_again roots patience front [] all = ap (λ (l : List ScriptLine). Some (scripted roots patience l)) (sym (append-nil front))
-rules_again roots patience front (r ∷ rules) all =
-    run_append (scripted roots patience front) (scripted roots patience (front ++ r ∷ [])) (script_lines r) (flat_map script_lines rules) (rule_again roots patience front r all.0)
-    ∙ rules_again roots patience (front ++ r ∷ []) rules all.1
-    ∙ ap (λ (l : List ScriptLine). Some (scripted roots patience l)) (append_assoc front (r ∷ []) rules)
+rules_again : (roots : List IpAddr) (written : List OptionLine) (patience : ℕ) (front rules : List ScriptLine) → AllByRecursion IsScriptLine rules → run (scripted roots written patience front) (flat_map script_lines rules) ≡ Some (scripted roots written patience (front ++ rules))
+rules_again roots written patience front [] all = ap (λ (l : List ScriptLine). Some (scripted roots written patience l)) (sym (append-nil front))
+rules_again roots written patience front (r ∷ rules) all =
+    run_append (scripted roots written patience front) (scripted roots written patience (front ++ r ∷ [])) (script_lines r) (flat_map script_lines rules) (rule_again roots written patience front r all.0)
+    ∙ rules_again roots written patience (front ++ r ∷ []) rules all.1
+    ∙ ap (λ (l : List ScriptLine). Some (scripted roots written patience l)) (append_assoc front (r ∷ []) rules)
 
 -- ---- questions and turns
 
-abbrev asking : Stage → Scenario → List Question → Draft
-asking s sc questions = record { stage = s; roots = sc.roots; patience = sc.patience; rules = rules_of sc.upstream; pending = None; questions = questions; turns = [] }
+abbrev asking : Stage → List OptionLine → Scenario → List Question → Draft
+asking s written sc questions = record { stage = s; roots = sc.roots; written = written; patience = sc.patience; rules = rules_of sc.upstream; pending = None; questions = questions; turns = [] }
 
-asked_again : (sc : Scenario) (front qs : List Question) → length front + length qs ≤ most_questions → AllByRecursion IsQuestion qs
-    → run (asking Asked sc front) (map question_line qs) ≡ Some (asking Asked sc (front ++ qs))
-asked_again sc front [] few all = ap (λ (l : List Question). Some (asking Asked sc l)) (sym (append-nil front))
-asked_again sc front (q ∷ qs) few all =
+asked_again : (written : List OptionLine) (sc : Scenario) (front qs : List Question) → length front + length qs ≤ most_questions → AllByRecursion IsQuestion qs
+    → run (asking Asked written sc front) (map question_line qs) ≡ Some (asking Asked written sc (front ++ qs))
+asked_again written sc front [] few all = ap (λ (l : List Question). Some (asking Asked written sc l)) (sym (append-nil front))
+asked_again written sc front (q ∷ qs) few all =
     let room : ltb (length front) most_questions ≡ true = lt-ltb _ _ (omega arith) in
-    takes_form (asking Asked sc front) (asking Asked sc (front ++ q ∷ [])) (form.Question q) (map question_line qs) refl all.0 (rw room refl)
-    ∙ asked_again sc (front ++ q ∷ []) qs (omega (arith, length_push front q)) all.1
-    ∙ ap (λ (l : List Question). Some (asking Asked sc l)) (append_assoc front (q ∷ []) qs)
+    takes_form (asking Asked written sc front) (asking Asked written sc (front ++ q ∷ [])) (form.Question q) (map question_line qs) refl all.0 (rw room refl)
+    ∙ asked_again written sc (front ++ q ∷ []) qs (omega (arith, length_push front q)) all.1
+    ∙ ap (λ (l : List Question). Some (asking Asked written sc l)) (append_assoc front (q ∷ []) qs)
 
-questions_again : (sc : Scenario) (qs : List Question) → 0 < length qs → length qs ≤ most_questions → AllByRecursion IsQuestion qs
-    → run (asking Scripted sc []) (map question_line qs) ≡ Some (asking Asked sc qs)
-questions_again sc [] some few all = absurd (omega arith)
-questions_again sc (q ∷ qs) some few all =
-    takes_form (asking Scripted sc []) (asking Asked sc (q ∷ [])) (form.Question q) (map question_line qs) refl all.0 refl
-    ∙ asked_again sc (q ∷ []) qs (omega arith) all.1
+questions_again : (written : List OptionLine) (sc : Scenario) (qs : List Question) → 0 < length qs → length qs ≤ most_questions → AllByRecursion IsQuestion qs
+    → run (asking Scripted written sc []) (map question_line qs) ≡ Some (asking Asked written sc qs)
+questions_again written sc [] some few all = absurd (omega arith)
+questions_again written sc (q ∷ qs) some few all =
+    takes_form (asking Scripted written sc []) (asking Asked written sc (q ∷ [])) (form.Question q) (map question_line qs) refl all.0 refl
+    ∙ asked_again written sc (q ∷ []) qs (omega arith) all.1
 
-abbrev turning : Stage → Scenario → List Turn → Draft
-turning s sc turns = record { stage = s; roots = sc.roots; patience = sc.patience; rules = rules_of sc.upstream; pending = None; questions = sc.questions; turns = turns }
+abbrev turning : Stage → List OptionLine → Scenario → List Turn → Draft
+turning s written sc turns = record { stage = s; roots = sc.roots; written = written; patience = sc.patience; rules = rules_of sc.upstream; pending = None; questions = sc.questions; turns = turns }
 
-turned_again : (sc : Scenario) (front ts : List Turn) → length front + length ts ≤ most_turns → AllByRecursion IsTurn ts
-    → run (turning Turned sc front) (map turn_line ts) ≡ Some (turning Turned sc (front ++ ts))
-turned_again sc front [] few all = ap (λ (l : List Turn). Some (turning Turned sc l)) (sym (append-nil front))
-turned_again sc front (t ∷ ts) few all =
+turned_again : (written : List OptionLine) (sc : Scenario) (front ts : List Turn) → length front + length ts ≤ most_turns → AllByRecursion IsTurn ts
+    → run (turning Turned written sc front) (map turn_line ts) ≡ Some (turning Turned written sc (front ++ ts))
+turned_again written sc front [] few all = ap (λ (l : List Turn). Some (turning Turned written sc l)) (sym (append-nil front))
+turned_again written sc front (t ∷ ts) few all =
     let room : ltb (length front) most_turns ≡ true = lt-ltb _ _ (omega arith) in
-    takes_form (turning Turned sc front) (turning Turned sc (front ++ t ∷ [])) (form.Turn t) (map turn_line ts) refl all.0 (rw room refl)
-    ∙ turned_again sc (front ++ t ∷ []) ts (omega (arith, length_push front t)) all.1
-    ∙ ap (λ (l : List Turn). Some (turning Turned sc l)) (append_assoc front (t ∷ []) ts)
+    takes_form (turning Turned written sc front) (turning Turned written sc (front ++ t ∷ [])) (form.Turn t) (map turn_line ts) refl all.0 (rw room refl)
+    ∙ turned_again written sc (front ++ t ∷ []) ts (omega (arith, length_push front t)) all.1
+    ∙ ap (λ (l : List Turn). Some (turning Turned written sc l)) (append_assoc front (t ∷ []) ts)
 
-turns_again : (sc : Scenario) (ts : List Turn) → 0 < length ts → length ts ≤ most_turns → AllByRecursion IsTurn ts
-    → run (turning Asked sc []) (map turn_line ts) ≡ Some (turning Turned sc ts)
-turns_again sc [] some few all = absurd (omega arith)
-turns_again sc (t ∷ ts) some few all =
-    takes_form (turning Asked sc []) (turning Turned sc (t ∷ [])) (form.Turn t) (map turn_line ts) refl all.0 refl
-    ∙ turned_again sc (t ∷ []) ts (omega arith) all.1
+turns_again : (written : List OptionLine) (sc : Scenario) (ts : List Turn) → 0 < length ts → length ts ≤ most_turns → AllByRecursion IsTurn ts
+    → run (turning Asked written sc []) (map turn_line ts) ≡ Some (turning Turned written sc ts)
+turns_again written sc [] some few all = absurd (omega arith)
+turns_again written sc (t ∷ ts) some few all =
+    takes_form (turning Asked written sc []) (turning Turned written sc (t ∷ [])) (form.Turn t) (map turn_line ts) refl all.0 refl
+    ∙ turned_again written sc (t ∷ []) ts (omega arith) all.1
 
 -- ---- all of it
 
@@ -232,23 +261,25 @@ first_root (ip ∷ roots) some few all =
 upstream_is : (u : Upstream) → FromScript (record { lines = rules_of u }) ≡ u
 upstream_is (FromScript s) = refl
 
-scenario_is : (sc : Scenario) → sc.options ≡ standard_options → scenario_of (turning Ended sc sc.turns) ≡ sc
-scenario_is sc is = λ i. record { roots = sc.roots; options = sym is i; patience = sc.patience; upstream = upstream_is sc.upstream i; questions = sc.questions; turns = sc.turns }
+scenario_is : (written : List OptionLine) (sc : Scenario) → sc.options ≡ options_with written → scenario_of (turning Ended written sc sc.turns) ≡ sc
+scenario_is written sc is = λ i. record { roots = sc.roots; options = sym is i; patience = sc.patience; upstream = upstream_is sc.upstream i; questions = sc.questions; turns = sc.turns }
 
-pub run_again : (sc : Scenario) → IsScenario sc → (d : Draft) × (run start (scenario_lines sc) ≡ Some d) × (d.stage ≡ Ended) × (scenario_of d ≡ sc)
-run_again sc fits =
+pub run_again : (written : List OptionLine) (sc : Scenario) → IsScenario written sc → (d : Draft) × (run start (scenario_lines written sc) ≡ Some d) × (d.stage ≡ Ended) × (scenario_of d ≡ sc)
+run_again written sc fits =
     let r1 = first_root sc.roots fits.rooted fits.few_roots fits.roots in
-    let waiting : Draft = record (with_roots sc.roots) { stage = Patient; patience = sc.patience } in
-    let r2 : run start (to_patience sc.roots sc.patience) ≡ Some waiting = run_append start (with_roots sc.roots) (to_roots sc.roots) (spelled (patience_words sc.patience) ∷ []) r1
-    ∙ takes_form (with_roots sc.roots) waiting (form.Patience sc.patience) [] refl fits.patience refl in
-    let r3 : run start (to_told sc.roots sc.patience) ≡ Some (scripted sc.roots sc.patience []) = run_append start waiting (to_patience sc.roots sc.patience) (spelled told_words ∷ []) r2
-    ∙ takes_form waiting (scripted sc.roots sc.patience []) form.ToldScript [] refl tt refl in
-    let r4 : run start (to_rules sc) ≡ Some (scripted sc.roots sc.patience (rules_of sc.upstream)) = run_append start (scripted sc.roots sc.patience []) (to_told sc.roots sc.patience) (flat_map script_lines (rules_of sc.upstream)) r3
-    ∙ rules_again sc.roots sc.patience [] (rules_of sc.upstream) fits.rules in
-    let r5 : run start (to_questions sc) ≡ Some (turning Asked sc []) = run_append start (scripted sc.roots sc.patience (rules_of sc.upstream)) (to_rules sc) (map question_line sc.questions) r4
-    ∙ questions_again sc sc.questions fits.asked fits.few_questions fits.questions in
-    let r6 : run start (to_turns sc) ≡ Some (turning Turned sc sc.turns) = run_append start (turning Asked sc []) (to_questions sc) (map turn_line sc.turns) r5
-    ∙ turns_again sc sc.turns fits.played fits.few_turns fits.turns in
-    let r7 : run start (scenario_lines sc) ≡ Some (turning Ended sc sc.turns) = run_append start (turning Turned sc sc.turns) (to_turns sc) (spelled end_words ∷ []) r6
-    ∙ takes_form (turning Turned sc sc.turns) (turning Ended sc sc.turns) form.End [] refl tt refl in
-    (turning Ended sc sc.turns, r7, refl, scenario_is sc fits.options)
+    let r0 : run start (to_options sc.roots written) ≡ Some (with_options sc.roots written) = run_append start (with_roots sc.roots) (to_roots sc.roots) (map option_line written) r1
+    ∙ options_again sc.roots [] written fits.ordered fits.valued in
+    let rested = waiting sc.roots written sc.patience in
+    let r2 : run start (to_patience sc.roots written sc.patience) ≡ Some rested = run_append start (with_options sc.roots written) (to_options sc.roots written) (spelled (patience_words sc.patience) ∷ []) r0
+    ∙ takes_form (with_options sc.roots written) rested (form.Patience sc.patience) [] refl fits.patience (puts_patience sc.roots written sc.patience) in
+    let r3 : run start (to_told sc.roots written sc.patience) ≡ Some (scripted sc.roots written sc.patience []) = run_append start rested (to_patience sc.roots written sc.patience) (spelled told_words ∷ []) r2
+    ∙ takes_form rested (scripted sc.roots written sc.patience []) form.ToldScript [] refl tt refl in
+    let r4 : run start (to_rules written sc) ≡ Some (scripted sc.roots written sc.patience (rules_of sc.upstream)) = run_append start (scripted sc.roots written sc.patience []) (to_told sc.roots written sc.patience) (flat_map script_lines (rules_of sc.upstream)) r3
+    ∙ rules_again sc.roots written sc.patience [] (rules_of sc.upstream) fits.rules in
+    let r5 : run start (to_questions written sc) ≡ Some (turning Asked written sc []) = run_append start (scripted sc.roots written sc.patience (rules_of sc.upstream)) (to_rules written sc) (map question_line sc.questions) r4
+    ∙ questions_again written sc sc.questions fits.asked fits.few_questions fits.questions in
+    let r6 : run start (to_turns written sc) ≡ Some (turning Turned written sc sc.turns) = run_append start (turning Asked written sc []) (to_questions written sc) (map turn_line sc.turns) r5
+    ∙ turns_again written sc sc.turns fits.played fits.few_turns fits.turns in
+    let r7 : run start (scenario_lines written sc) ≡ Some (turning Ended written sc sc.turns) = run_append start (turning Turned written sc sc.turns) (to_turns written sc) (spelled end_words ∷ []) r6
+    ∙ takes_form (turning Turned written sc sc.turns) (turning Ended written sc sc.turns) form.End [] refl tt refl in
+    (turning Ended written sc sc.turns, r7, refl, scenario_is written sc fits.options)

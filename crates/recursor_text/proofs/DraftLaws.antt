@@ -1,175 +1,31 @@
 -- What a draft holds is what the lines so far say.
-use Rattle.std.proofs.Common.{◌≡◌, ◌≢◌, ℕ, zero, suc, ◌+◌, ◌-◌, ◌<◌, ◌≤◌, Bool, true, false, cond, ◌&&◌, eqb, ltb, List, [], ◌∷◌, ◌++◌, length, map, Option, Some, None, Result, Ok, refl, sym, ap, subst, ◌∙◌, arith, inl, inr, ◌⊎◌, append_assoc, lit<, lit≤}
+use Rattle.std.proofs.Common.{◌≡◌, ◌≢◌, ℕ, ◌<◌, ◌≤◌, true, false, ◌&&◌, eqb, ltb, List, [], ◌∷◌, ◌++◌, length, Option, Some, None, refl, sym, ap, subst, ◌∙◌, arith, inl, inr, append_assoc, lit<, lit≤}
 use Rattle.std.specs.Prelude.{IfSome}
-use Rattle.std.specs.List.{flat_map, AllByRecursion}
-use Rattle.std.proofs.lemmas.Bool.{and_parts, ltb-true, ltb-false, eqb-true, cases_Bool}
+use Rattle.std.specs.List.{AllByRecursion}
+use Rattle.std.proofs.lemmas.Bool.{and_parts, ltb-true, eqb-true, cases_Bool}
 use Rattle.std.proofs.lemmas.List.{append-nil, map_push, flat_map_more, length_push}
 use Rattle.std.specs.declared.net.ip_addr.IpAddr.{IpAddr}
-use Rattle.dns_core.specs.declared.connection.Protocol.TheVariants.{Udp}
-use Rattle.dns_core.specs.declared.message.Message.{Message}
 use Rattle.dns_core.specs.declared.record.Record.{Record}
 use Rattle.dns_core.specs.declared.request.Question.{Question}
 use Rattle.dns_core.specs.declared.request.Turn.{Turn}
-use Rattle.recursor_world.specs.declared.script.ScriptLine.{ScriptLine}
 use Rattle.recursor_text.specs.declared.reading.lines.Form.{Form}
 use Rattle.recursor_text.specs.declared.reading.lines.Form.TheVariants as form
+use Rattle.recursor_text.specs.declared.reading.option_form.OptionLine.{OptionLine}
 use Rattle.recursor_text.specs.declared.reading.rules.Counts.{Counts}
 use Rattle.recursor_text.specs.declared.reading.rules.OpenRule.{OpenRule}
 use Rattle.recursor_text.specs.declared.reading.draft.Stage.{Stage}
-use Rattle.recursor_text.specs.declared.reading.draft.Stage.TheVariants.{Start, Headed, Rooted, Patient, Scripted, Asked, Turned, Ended}
+use Rattle.recursor_text.specs.declared.reading.draft.Stage.TheVariants.{Start, Headed, Rooted, Optioned, Patient, Scripted, Asked, Turned, Ended}
 use Rattle.recursor_text.specs.declared.reading.draft.Draft.{Draft}
 use Rattle.recursor_text.specs.Numbers.{◌>>=◌}
-use Rattle.recursor_text.specs.Lines.{class_in, form_of, record_of}
-use Rattle.recursor_text.specs.Steps.{may_head, may_root, may_wait, may_tell, may_reply, may_ask, may_turn, may_end, is_ended, start, is_settled, rule_of, settle, add, put, add_line, taken_at, taken, scenario_of}
-use Rattle.recursor_text.specs.Spelling.{head_words, patience_words, told_words, end_words, reply_words, spelled, record_text, record_texts, script_lines, root_line, question_line, turn_line, to_roots, to_patience, to_told, to_rules, to_questions, to_turns, scenario_lines, is_kept_out, standard_options, most_roots, most_questions, most_turns, IsFullName, IsAddress, IsType, IsRecord, IsToldFor, IsRule, IsScriptLine, IsQuestion, IsTurn, IsScenario}
-use Rattle.recursor_text.proofs.Binds.{bind_some, guard_some, guard_not, some_is, chosen}
-use Rattle.recursor_text.proofs.LineLaws.{form_words, IsBare, IsForm, form_takes, record_takes}
-
--- ---- lists that grow
-
-all_push : {X : Type 0} (P : X → Type 0) (xs : List X) (x : X) → AllByRecursion P xs → P x → AllByRecursion P (xs ++ x ∷ [])
-all_push P [] x all p = (p, tt)
-all_push P (y ∷ ys) x all p = (all.0, all_push P ys x all.1 p)
-
-mapped_push : {X : Type 0} (f : X → List ℕ) (base : List (List ℕ)) (xs : List X) (x : X) → base ++ map f (xs ++ x ∷ []) ≡ (base ++ map f xs) ++ f x ∷ []
-mapped_push f base xs x = ap (λ (l : List (List ℕ)). base ++ l) (map_push f xs x) ∙ sym (append_assoc base (map f xs) (f x ∷ []))
-
--- ---- an open rule
-
-pub record IsOpen (o : OpenRule) : Type 0 where
-  pub address : IsAddress o.ip
-  pub transport : o.protocol ≡ Udp
-  pub named : IsFullName o.message.query.name
-  pub typed : IsType o.message.query.query_type
-  pub soon : o.delay ≡ 0
-  pub class : o.message.query.query_class ≡ class_in
-  pub fine : o.message.response_code.code ≡ 0
-  pub full : o.message.truncation ≡ false
-  pub few_answers : length o.message.answers + o.owed.answers ≤ 65535
-  pub few_authorities : length o.message.authorities + o.owed.authorities ≤ 65535
-  pub few_additionals : length o.message.additionals + o.owed.additionals ≤ 65535
-  pub answers : AllByRecursion (IsToldFor o.message.query.query_type) o.message.answers
-  pub authorities : AllByRecursion (IsToldFor o.message.query.query_type) o.message.authorities
-  pub additionals : AllByRecursion (IsToldFor o.message.query.query_type) o.message.additionals
-  pub first : 0 < o.owed.answers → (o.message.authorities ≡ []) × (o.message.additionals ≡ [])
-  pub second : 0 < o.owed.authorities → o.message.additionals ≡ []
-
-abbrev pub open_head : OpenRule → ℕ → ℕ → ℕ → List ℕ
-open_head o a b c = spelled (reply_words o.ip o.protocol o.message.query.name o.message.query.query_type o.delay o.message a b c)
-
-abbrev pub open_lines : OpenRule → List (List ℕ)
-open_lines o = open_head o (length o.message.answers + o.owed.answers) (length o.message.authorities + o.owed.authorities) (length o.message.additionals + o.owed.additionals) ∷ record_texts o.message
-
-moved : {X : Type 0} (xs : List X) (x : X) (n : ℕ) → 0 < n → length (xs ++ x ∷ []) + (n - 1) ≡ length xs + n
-moved xs x n lt = omega (arith, length_push xs x)
-
-last_push : (us vs ws : List Record) (r : Record) → map record_text us ++ (map record_text vs ++ map record_text (ws ++ r ∷ [])) ≡ (map record_text us ++ (map record_text vs ++ map record_text ws)) ++ record_text r ∷ []
-last_push us vs ws r = ap (λ (l : List (List ℕ)). map record_text us ++ l) (mapped_push record_text (map record_text vs) ws r) ∙ sym (append_assoc (map record_text us) (map record_text vs ++ map record_text ws) (record_text r ∷ []))
-
-middle_push : (us vs ws : List Record) (r : Record) → ws ≡ [] → map record_text us ++ (map record_text (vs ++ r ∷ []) ++ map record_text ws) ≡ (map record_text us ++ (map record_text vs ++ map record_text ws)) ++ record_text r ∷ []
-middle_push us vs ws r e = rw (e, append-nil (map record_text (vs ++ r ∷ [])), append-nil (map record_text vs)) (mapped_push record_text (map record_text us) vs r)
-
-front_push : (us vs ws : List Record) (r : Record) → (vs ≡ []) × (ws ≡ []) → map record_text (us ++ r ∷ []) ++ (map record_text vs ++ map record_text ws) ≡ (map record_text us ++ (map record_text vs ++ map record_text ws)) ++ record_text r ∷ []
-front_push us vs ws r e = rw (e.0, e.1, append-nil (map record_text (us ++ r ∷ [])), append-nil (map record_text us)) (map_push record_text us r)
-
-abbrev with_answer : OpenRule → Record → OpenRule
-with_answer o r = record o { message = record o.message { answers = o.message.answers ++ r ∷ [] }; owed = record o.owed { answers = o.owed.answers - 1 } }
-
-abbrev with_authority : OpenRule → Record → OpenRule
-with_authority o r = record o { message = record o.message { authorities = o.message.authorities ++ r ∷ [] }; owed = record o.owed { authorities = o.owed.authorities - 1 } }
-
-abbrev with_additional : OpenRule → Record → OpenRule
-with_additional o r = record o { message = record o.message { additionals = o.message.additionals ++ r ∷ [] }; owed = record o.owed { additionals = o.owed.additionals - 1 } }
-
--- the lines of a head with three counts and of records
-same_head : (o : OpenRule) (a b c d e f : ℕ) (l m : List (List ℕ)) → a ≡ d → b ≡ e → c ≡ f → l ≡ m → (open_head o a b c ∷ l) ≡ (open_head o d e f ∷ m)
-same_head o a b c d e f l m p q s t =
-    ap (λ (n : ℕ). open_head o n b c ∷ l) p ∙ ap (λ (n : ℕ). open_head o d n c ∷ l) q ∙ ap (λ (n : ℕ). open_head o d e n ∷ l) s ∙ ap (λ (x : List (List ℕ)). open_head o d e f ∷ x) t
-
-abbrev Adds : OpenRule → Record → OpenRule → Type 0
-Adds o r p = IsOpen p × (open_lines p ≡ open_lines o ++ record_text r ∷ [])
-
-answer_added : (o : OpenRule) (r : Record) → IsOpen o → IsToldFor o.message.query.query_type r → 0 < o.owed.answers → Adds o r (with_answer o r)
-answer_added o r g fits lt = (
-  record {
-    address = g.address;
-    transport = g.transport;
-    named = g.named;
-    typed = g.typed;
-    soon = g.soon;
-    class = g.class;
-    fine = g.fine;
-    full = g.full;
-    few_answers = omega (arith, moved o.message.answers r o.owed.answers lt, g.few_answers);
-    few_authorities = g.few_authorities;
-    few_additionals = g.few_additionals;
-    answers = all_push _ o.message.answers r g.answers fits;
-    authorities = g.authorities;
-    additionals = g.additionals;
-    first = λ h. g.first lt;
-    second = g.second;
-  },
-  same_head o _ _ _ _ _ _ _ _ (moved o.message.answers r o.owed.answers lt) refl refl (front_push o.message.answers o.message.authorities o.message.additionals r (g.first lt)),
-)
-
-authority_added : (o : OpenRule) (r : Record) → IsOpen o → IsToldFor o.message.query.query_type r → o.owed.answers ≤ 0 → 0 < o.owed.authorities → Adds o r (with_authority o r)
-authority_added o r g fits none lt = (
-  record {
-    address = g.address;
-    transport = g.transport;
-    named = g.named;
-    typed = g.typed;
-    soon = g.soon;
-    class = g.class;
-    fine = g.fine;
-    full = g.full;
-    few_answers = g.few_answers;
-    few_authorities = omega (arith, moved o.message.authorities r o.owed.authorities lt, g.few_authorities);
-    few_additionals = g.few_additionals;
-    answers = g.answers;
-    authorities = all_push _ o.message.authorities r g.authorities fits;
-    additionals = g.additionals;
-    first = λ h. absurd (omega arith);
-    second = λ h. g.second lt;
-  },
-  same_head o _ _ _ _ _ _ _ _ refl (moved o.message.authorities r o.owed.authorities lt) refl (middle_push o.message.answers o.message.authorities o.message.additionals r (g.second lt)),
-)
-
-additional_added : (o : OpenRule) (r : Record) → IsOpen o → IsToldFor o.message.query.query_type r → o.owed.answers ≤ 0 → o.owed.authorities ≤ 0 → 0 < o.owed.additionals → Adds o r (with_additional o r)
-additional_added o r g fits none neither lt = (
-  record {
-    address = g.address;
-    transport = g.transport;
-    named = g.named;
-    typed = g.typed;
-    soon = g.soon;
-    class = g.class;
-    fine = g.fine;
-    full = g.full;
-    few_answers = g.few_answers;
-    few_authorities = g.few_authorities;
-    few_additionals = omega (arith, moved o.message.additionals r o.owed.additionals lt, g.few_additionals);
-    answers = g.answers;
-    authorities = g.authorities;
-    additionals = all_push _ o.message.additionals r g.additionals fits;
-    first = λ h. absurd (omega arith);
-    second = λ h. absurd (omega arith);
-  },
-  same_head o _ _ _ _ _ _ _ _ refl refl (moved o.message.additionals r o.owed.additionals lt) (last_push o.message.answers o.message.authorities o.message.additionals r),
-)
-
-add_takes : (o : OpenRule) (r : Record) (p : OpenRule) → IsOpen o → IsRecord r → add o r ≡ Some p → Adds o r p
-add_takes o r p g fits e =
-    let k = guard_not (is_kept_out o.message.query.query_type r) _ p e in
-    let told : IsToldFor o.message.query.query_type r = (fits, k.0) in
-    elim (chosen (ltb 0 o.owed.answers) (Some (with_answer o r)) _ (Some p) k.1) [
-      | inl h ↦ subst (Adds o r) (some_is (with_answer o r) p h.1) (answer_added o r g told (ltb-true _ _ h.0))
-      | inr h ↦ elim (chosen (ltb 0 o.owed.authorities) (Some (with_authority o r)) _ (Some p) h.1) [
-        | inl i ↦ subst (Adds o r) (some_is (with_authority o r) p i.1) (authority_added o r g told (ltb-false _ _ h.0) (ltb-true _ _ i.0))
-        | inr i ↦ let j = guard_some (ltb 0 o.owed.additionals) (Some (with_additional o r)) p i.1 in
-            subst (Adds o r) (some_is (with_additional o r) p j.1) (additional_added o r g told (ltb-false _ _ h.0) (ltb-false _ _ i.0) (ltb-true _ _ j.0))
-      ]
-    ]
+use Rattle.recursor_text.specs.Lines.{form_of}
+use Rattle.recursor_text.specs.RecordLines.{record_of}
+use Rattle.recursor_text.specs.Steps.{may_head, may_root, may_option, may_wait, may_tell, may_reply, may_ask, may_turn, may_end, is_ended, start, is_settled, rule_of, settle, add, put, taken_at, taken, scenario_of}
+use Rattle.recursor_text.specs.Spelling.{head_words, patience_words, told_words, end_words, spelled, record_text, script_lines, root_line, option_line, question_line, turn_line, to_roots, to_options, to_patience, to_told, to_rules, to_questions, to_turns, scenario_lines, most_roots, most_questions, most_turns, IsAddress, IsScriptLine, IsQuestion, IsTurn, IsOption, option_rank, RiseAbove, last_rank, IsScenario}
+use Rattle.recursor_text.proofs.Binds.{bind_some, guard_some, some_is}
+use Rattle.recursor_text.proofs.LineLaws.{form_words, IsBare, IsForm, form_takes}
+use Rattle.recursor_text.proofs.OptionLaws.{rise_push}
+use Rattle.recursor_text.proofs.OpenRuleLaws.{all_push, mapped_push, IsOpen, open_lines, same_head, add_takes}
+use Rattle.recursor_text.proofs.RecordLaws.{record_takes}
 
 -- ---- a draft
 
@@ -178,25 +34,29 @@ abbrev pub rank : Stage → ℕ
 rank Start = 0
 rank Headed = 1
 rank Rooted = 2
-rank Patient = 3
-rank Scripted = 4
-rank Asked = 5
-rank Turned = 6
-rank Ended = 7
+rank Optioned = 3
+rank Patient = 4
+rank Scripted = 5
+rank Asked = 6
+rank Turned = 7
+rank Ended = 8
 
 -- what is not yet told is empty, and what was told is well formed
 pub record Good (d : Draft) : Type 0 where
   pub no_roots : rank d.stage < 2 → d.roots ≡ []
   pub rooted : 2 ≤ rank d.stage → 0 < length d.roots
-  pub patient : 3 ≤ rank d.stage → (1 ≤ d.patience) × (d.patience ≤ 1000)
-  pub no_rules : rank d.stage < 4 → d.rules ≡ []
-  pub no_pending : rank d.stage ≢ 4 → d.pending ≡ None
-  pub no_questions : rank d.stage < 5 → d.questions ≡ []
-  pub asked : 5 ≤ rank d.stage → 0 < length d.questions
-  pub no_turns : rank d.stage < 6 → d.turns ≡ []
-  pub played : 6 ≤ rank d.stage → 0 < length d.turns
+  pub no_written : rank d.stage < 3 → d.written ≡ []
+  pub patient : 4 ≤ rank d.stage → (1 ≤ d.patience) × (d.patience ≤ 1000)
+  pub no_rules : rank d.stage < 5 → d.rules ≡ []
+  pub no_pending : rank d.stage ≢ 5 → d.pending ≡ None
+  pub no_questions : rank d.stage < 6 → d.questions ≡ []
+  pub asked : 6 ≤ rank d.stage → 0 < length d.questions
+  pub no_turns : rank d.stage < 7 → d.turns ≡ []
+  pub played : 7 ≤ rank d.stage → 0 < length d.turns
   pub few_roots : length d.roots ≤ most_roots
   pub roots : AllByRecursion IsAddress d.roots
+  pub ordered : RiseAbove 0 d.written
+  pub valued : AllByRecursion IsOption d.written
   pub rules : AllByRecursion IsScriptLine d.rules
   pub pending : IfSome d.pending IsOpen
   pub waits : IfSome d.pending (λ o. is_settled o.owed ≡ false)
@@ -214,11 +74,12 @@ abbrev pub so_far_at : Stage → Draft → List (List ℕ)
 so_far_at Start d = []
 so_far_at Headed d = spelled head_words ∷ []
 so_far_at Rooted d = to_roots d.roots
-so_far_at Patient d = to_patience d.roots d.patience
-so_far_at Scripted d = to_rules (scenario_of d) ++ pending_lines d.pending
-so_far_at Asked d = to_questions (scenario_of d)
-so_far_at Turned d = to_turns (scenario_of d)
-so_far_at Ended d = scenario_lines (scenario_of d)
+so_far_at Optioned d = to_options d.roots d.written
+so_far_at Patient d = to_patience d.roots d.written d.patience
+so_far_at Scripted d = to_rules d.written (scenario_of d) ++ pending_lines d.pending
+so_far_at Asked d = to_questions d.written (scenario_of d)
+so_far_at Turned d = to_turns d.written (scenario_of d)
+so_far_at Ended d = scenario_lines d.written (scenario_of d)
 
 abbrev pub so_far : Draft → List (List ℕ)
 so_far d = so_far_at d.stage d
@@ -227,27 +88,19 @@ head_rank : (s : Stage) → may_head s ≡ true → s ≡ Start
 head_rank Start e = refl
 head_rank Headed e = absurd cc
 head_rank Rooted e = absurd cc
+head_rank Optioned e = absurd cc
 head_rank Patient e = absurd cc
 head_rank Scripted e = absurd cc
 head_rank Asked e = absurd cc
 head_rank Turned e = absurd cc
 head_rank Ended e = absurd cc
 
-wait_rank : (s : Stage) → may_wait s ≡ true → s ≡ Rooted
-wait_rank Rooted e = refl
-wait_rank Start e = absurd cc
-wait_rank Headed e = absurd cc
-wait_rank Patient e = absurd cc
-wait_rank Scripted e = absurd cc
-wait_rank Asked e = absurd cc
-wait_rank Turned e = absurd cc
-wait_rank Ended e = absurd cc
-
 tell_rank : (s : Stage) → may_tell s ≡ true → s ≡ Patient
 tell_rank Patient e = refl
 tell_rank Start e = absurd cc
 tell_rank Headed e = absurd cc
 tell_rank Rooted e = absurd cc
+tell_rank Optioned e = absurd cc
 tell_rank Scripted e = absurd cc
 tell_rank Asked e = absurd cc
 tell_rank Turned e = absurd cc
@@ -258,30 +111,44 @@ reply_rank Scripted e = refl
 reply_rank Start e = absurd cc
 reply_rank Headed e = absurd cc
 reply_rank Rooted e = absurd cc
+reply_rank Optioned e = absurd cc
 reply_rank Patient e = absurd cc
 reply_rank Asked e = absurd cc
 reply_rank Turned e = absurd cc
 reply_rank Ended e = absurd cc
 
-last_rank : (s : Stage) → may_end s ≡ true → s ≡ Turned
-last_rank Turned e = refl
-last_rank Start e = absurd cc
-last_rank Headed e = absurd cc
-last_rank Rooted e = absurd cc
-last_rank Patient e = absurd cc
-last_rank Scripted e = absurd cc
-last_rank Asked e = absurd cc
-last_rank Ended e = absurd cc
+turned_rank : (s : Stage) → may_end s ≡ true → s ≡ Turned
+turned_rank Turned e = refl
+turned_rank Start e = absurd cc
+turned_rank Headed e = absurd cc
+turned_rank Rooted e = absurd cc
+turned_rank Optioned e = absurd cc
+turned_rank Patient e = absurd cc
+turned_rank Scripted e = absurd cc
+turned_rank Asked e = absurd cc
+turned_rank Ended e = absurd cc
 
 end_rank : (s : Stage) → is_ended s ≡ true → s ≡ Ended
 end_rank Ended e = refl
 end_rank Start e = absurd cc
 end_rank Headed e = absurd cc
 end_rank Rooted e = absurd cc
+end_rank Optioned e = absurd cc
 end_rank Patient e = absurd cc
 end_rank Scripted e = absurd cc
 end_rank Asked e = absurd cc
 end_rank Turned e = absurd cc
+
+wait_as : (s : Stage) → may_wait s ≡ may_option s
+wait_as Start = refl
+wait_as Headed = refl
+wait_as Rooted = refl
+wait_as Optioned = refl
+wait_as Patient = refl
+wait_as Scripted = refl
+wait_as Asked = refl
+wait_as Turned = refl
+wait_as Ended = refl
 
 abbrev Between : ℕ → ℕ → ℕ → Type 0
 Between low high n = (low ≤ n) × (n ≤ high)
@@ -289,6 +156,7 @@ Between low high n = (low ≤ n) × (n ≤ high)
 at_roots : (s : Stage) (d : Draft) → may_root s ≡ true → (rank s < 2 → d.roots ≡ []) → Between 1 2 (rank s) × (so_far_at s d ≡ to_roots d.roots)
 at_roots Headed d e none = ((lit≤ tt, lit≤ tt), rw (none (lit< tt)) refl)
 at_roots Rooted d e none = ((lit≤ tt, lit≤ tt), refl)
+at_roots Optioned d e none = absurd cc
 at_roots Start d e none = absurd cc
 at_roots Patient d e none = absurd cc
 at_roots Scripted d e none = absurd cc
@@ -296,22 +164,35 @@ at_roots Asked d e none = absurd cc
 at_roots Turned d e none = absurd cc
 at_roots Ended d e none = absurd cc
 
-at_questions : (s : Stage) (d : Draft) → may_ask s ≡ true → d.pending ≡ None → (rank s < 5 → d.questions ≡ []) → Between 4 5 (rank s) × (so_far_at s d ≡ to_questions (scenario_of d))
+at_options : (s : Stage) (d : Draft) → may_option s ≡ true → (rank s < 3 → d.written ≡ []) → Between 2 3 (rank s) × (so_far_at s d ≡ to_options d.roots d.written)
+at_options Rooted d e none = ((lit≤ tt, lit≤ tt), rw (none (lit< tt)) (sym (append-nil (to_roots d.roots))))
+at_options Optioned d e none = ((lit≤ tt, lit≤ tt), refl)
+at_options Start d e none = absurd cc
+at_options Headed d e none = absurd cc
+at_options Patient d e none = absurd cc
+at_options Scripted d e none = absurd cc
+at_options Asked d e none = absurd cc
+at_options Turned d e none = absurd cc
+at_options Ended d e none = absurd cc
+
+at_questions : (s : Stage) (d : Draft) → may_ask s ≡ true → d.pending ≡ None → (rank s < 6 → d.questions ≡ []) → Between 5 6 (rank s) × (so_far_at s d ≡ to_questions d.written (scenario_of d))
 at_questions Scripted d e shut none = ((lit≤ tt, lit≤ tt), rw (shut, none (lit< tt)) refl)
 at_questions Asked d e shut none = ((lit≤ tt, lit≤ tt), refl)
 at_questions Start d e shut none = absurd cc
 at_questions Headed d e shut none = absurd cc
 at_questions Rooted d e shut none = absurd cc
+at_questions Optioned d e shut none = absurd cc
 at_questions Patient d e shut none = absurd cc
 at_questions Turned d e shut none = absurd cc
 at_questions Ended d e shut none = absurd cc
 
-at_turns : (s : Stage) (d : Draft) → may_turn s ≡ true → (rank s < 6 → d.turns ≡ []) → Between 5 6 (rank s) × (so_far_at s d ≡ to_turns (scenario_of d))
-at_turns Asked d e none = ((lit≤ tt, lit≤ tt), rw (none (lit< tt)) (sym (append-nil (to_questions (scenario_of d)))))
+at_turns : (s : Stage) (d : Draft) → may_turn s ≡ true → (rank s < 7 → d.turns ≡ []) → Between 6 7 (rank s) × (so_far_at s d ≡ to_turns d.written (scenario_of d))
+at_turns Asked d e none = ((lit≤ tt, lit≤ tt), rw (none (lit< tt)) (sym (append-nil (to_questions d.written (scenario_of d)))))
 at_turns Turned d e none = ((lit≤ tt, lit≤ tt), refl)
 at_turns Start d e none = absurd cc
 at_turns Headed d e none = absurd cc
 at_turns Rooted d e none = absurd cc
+at_turns Optioned d e none = absurd cc
 at_turns Patient d e none = absurd cc
 at_turns Scripted d e none = absurd cc
 at_turns Ended d e none = absurd cc
@@ -327,6 +208,7 @@ headed d g e shut =
       record {
         no_roots = λ h. g.no_roots (omega arith);
         rooted = λ h. absurd (omega arith);
+        no_written = λ h. g.no_written (omega arith);
         patient = λ h. absurd (omega arith);
         no_rules = λ h. g.no_rules (omega arith);
         no_pending = λ h. shut;
@@ -336,6 +218,8 @@ headed d g e shut =
         played = λ h. absurd (omega arith);
         few_roots = g.few_roots;
         roots = g.roots;
+        ordered = g.ordered;
+        valued = g.valued;
         rules = g.rules;
         pending = g.pending;
         waits = g.waits;
@@ -356,6 +240,7 @@ rooted d ip g fits e room shut =
       record {
         no_roots = λ h. absurd (omega arith);
         rooted = λ h. omega (arith, length_push d.roots ip);
+        no_written = λ h. g.no_written (omega (arith, at.0.1));
         patient = λ h. absurd (omega arith);
         no_rules = λ h. g.no_rules (omega (arith, at.0.1));
         no_pending = λ h. shut;
@@ -365,6 +250,8 @@ rooted d ip g fits e room shut =
         played = λ h. absurd (omega arith);
         few_roots = omega (arith, length_push d.roots ip);
         roots = all_push IsAddress d.roots ip g.roots fits;
+        ordered = g.ordered;
+        valued = g.valued;
         rules = g.rules;
         pending = g.pending;
         waits = g.waits;
@@ -376,22 +263,27 @@ rooted d ip g fits e room shut =
       ap (λ (l : List (List ℕ)). spelled head_words ∷ l) (map_push root_line d.roots ip) ∙ sym (ap (λ (l : List (List ℕ)). l ++ root_line ip ∷ []) at.1),
     )
 
-patient : (d : Draft) (n : ℕ) → Good d → (1 ≤ n) × (n ≤ 1000) → may_wait d.stage ≡ true → d.pending ≡ None → Takes d (spelled (patience_words n)) (record d { stage = Patient; patience = n })
-patient d n g fits e shut =
-    let is : d.stage ≡ Rooted = wait_rank d.stage e in
-    let r : rank d.stage ≡ 2 = ap rank is in (
+abbrev with_option : Draft → OptionLine → Draft
+with_option d o = record d { stage = Optioned; written = d.written ++ o ∷ [] }
+
+optioned : (d : Draft) (o : OptionLine) → Good d → IsOption o → may_option d.stage ≡ true → last_rank 0 d.written < option_rank o → d.pending ≡ None → Takes d (option_line o) (with_option d o)
+optioned d o g fits e behind shut =
+    let at = at_options d.stage d e g.no_written in (
       record {
         no_roots = λ h. absurd (omega arith);
-        rooted = λ h. g.rooted (omega arith);
-        patient = λ h. fits;
-        no_rules = λ h. g.no_rules (omega arith);
+        rooted = λ h. g.rooted (omega (arith, at.0.0));
+        no_written = λ h. absurd (omega arith);
+        patient = λ h. absurd (omega arith);
+        no_rules = λ h. g.no_rules (omega (arith, at.0.1));
         no_pending = λ h. shut;
-        no_questions = λ h. g.no_questions (omega arith);
+        no_questions = λ h. g.no_questions (omega (arith, at.0.1));
         asked = λ h. absurd (omega arith);
-        no_turns = λ h. g.no_turns (omega arith);
+        no_turns = λ h. g.no_turns (omega (arith, at.0.1));
         played = λ h. absurd (omega arith);
         few_roots = g.few_roots;
         roots = g.roots;
+        ordered = rise_push 0 d.written o g.ordered behind;
+        valued = all_push IsOption d.written o g.valued fits;
         rules = g.rules;
         pending = g.pending;
         waits = g.waits;
@@ -400,20 +292,50 @@ patient d n g fits e shut =
         few_turns = g.few_turns;
         turns = g.turns;
       },
-      sym (ap (λ (s : Stage). so_far_at s d ++ spelled (patience_words n) ∷ []) is),
+      mapped_push option_line (to_roots d.roots) d.written o ∙ sym (ap (λ (l : List (List ℕ)). l ++ option_line o ∷ []) at.1),
     )
 
-nothing_told : (d : Draft) → d.rules ≡ [] → d.pending ≡ None → so_far_at Scripted d ≡ to_patience d.roots d.patience ++ spelled told_words ∷ []
-nothing_told d none shut = rw (none, shut) (append-nil (to_told d.roots d.patience ++ []) ∙ append-nil (to_told d.roots d.patience))
+patient : (d : Draft) (n : ℕ) → Good d → (1 ≤ n) × (n ≤ 1000) → may_wait d.stage ≡ true → d.pending ≡ None → Takes d (spelled (patience_words n)) (record d { stage = Patient; patience = n })
+patient d n g fits e shut =
+    let at = at_options d.stage d (sym (wait_as d.stage) ∙ e) g.no_written in (
+      record {
+        no_roots = λ h. absurd (omega arith);
+        rooted = λ h. g.rooted (omega (arith, at.0.0));
+        no_written = λ h. absurd (omega arith);
+        patient = λ h. fits;
+        no_rules = λ h. g.no_rules (omega (arith, at.0.1));
+        no_pending = λ h. shut;
+        no_questions = λ h. g.no_questions (omega (arith, at.0.1));
+        asked = λ h. absurd (omega arith);
+        no_turns = λ h. g.no_turns (omega (arith, at.0.1));
+        played = λ h. absurd (omega arith);
+        few_roots = g.few_roots;
+        roots = g.roots;
+        ordered = g.ordered;
+        valued = g.valued;
+        rules = g.rules;
+        pending = g.pending;
+        waits = g.waits;
+        few_questions = g.few_questions;
+        questions = g.questions;
+        few_turns = g.few_turns;
+        turns = g.turns;
+      },
+      sym (ap (λ (l : List (List ℕ)). l ++ spelled (patience_words n) ∷ []) at.1),
+    )
+
+nothing_told : (d : Draft) → d.rules ≡ [] → d.pending ≡ None → so_far_at Scripted d ≡ to_patience d.roots d.written d.patience ++ spelled told_words ∷ []
+nothing_told d none shut = rw (none, shut) (append-nil (to_told d.roots d.written d.patience ++ []) ∙ append-nil (to_told d.roots d.written d.patience))
 
 told : (d : Draft) → Good d → may_tell d.stage ≡ true → d.pending ≡ None → Takes d (spelled told_words) (record d { stage = Scripted })
 told d g e shut =
     let is : d.stage ≡ Patient = tell_rank d.stage e in
-    let r : rank d.stage ≡ 3 = ap rank is in
+    let r : rank d.stage ≡ 4 = ap rank is in
     let no_rules : d.rules ≡ [] = g.no_rules (omega arith) in (
       record {
         no_roots = λ h. absurd (omega arith);
         rooted = λ h. g.rooted (omega arith);
+        no_written = λ h. absurd (omega arith);
         patient = λ h. g.patient (omega arith);
         no_rules = λ h. absurd (omega arith);
         no_pending = λ h. shut;
@@ -423,6 +345,8 @@ told d g e shut =
         played = λ h. absurd (omega arith);
         few_roots = g.few_roots;
         roots = g.roots;
+        ordered = g.ordered;
+        valued = g.valued;
         rules = g.rules;
         pending = g.pending;
         waits = g.waits;
@@ -465,21 +389,22 @@ is_rule o fits z = record {
 }
 
 -- A rule that is told in part, or whole, stands after the rules before it.
-settled : (d : Draft) (o : OpenRule) (line : List ℕ) → Good d → d.stage ≡ Scripted → IsOpen o → to_rules (scenario_of d) ++ open_lines o ≡ so_far d ++ line ∷ [] → Takes d line (settle d o)
+settled : (d : Draft) (o : OpenRule) (line : List ℕ) → Good d → d.stage ≡ Scripted → IsOpen o → to_rules d.written (scenario_of d) ++ open_lines o ≡ so_far d ++ line ∷ [] → Takes d line (settle d o)
 settled d o line g is fits lines =
-    let r : rank d.stage ≡ 4 = ap rank is in
+    let r : rank d.stage ≡ 5 = ap rank is in
     elim (cases_Bool (is_settled o.owed)) [
       | inl whole ↦
           let z = none_owed o.owed whole in
           let made : settle d o ≡ shut_in d o = rw whole refl in
           let rule : open_lines o ≡ script_lines (rule_of o) = same_head o _ _ _ _ _ _ _ _ (omega (arith, z.0)) (omega (arith, z.1)) (omega (arith, z.2)) refl in
-          let spelt : so_far (shut_in d o) ≡ to_rules (scenario_of d) ++ open_lines o =
-          ap (λ (s : Stage). so_far_at s (shut_in d o)) is ∙ append-nil (to_rules (scenario_of (shut_in d o)))
-          ∙ sym (flat_map_more script_lines (to_told d.roots d.patience) d.rules (rule_of o)) ∙ sym (ap (λ (l : List (List ℕ)). to_rules (scenario_of d) ++ l) rule) in
+          let spelt : so_far (shut_in d o) ≡ to_rules d.written (scenario_of d) ++ open_lines o =
+          ap (λ (s : Stage). so_far_at s (shut_in d o)) is ∙ append-nil (to_rules d.written (scenario_of (shut_in d o)))
+          ∙ sym (flat_map_more script_lines (to_told d.roots d.written d.patience) d.rules (rule_of o)) ∙ sym (ap (λ (l : List (List ℕ)). to_rules d.written (scenario_of d) ++ l) rule) in
           subst (Takes d line) (sym made) (
             record {
               no_roots = λ h. absurd (omega arith);
               rooted = λ h. g.rooted (omega arith);
+              no_written = λ h. absurd (omega arith);
               patient = λ h. g.patient (omega arith);
               no_rules = λ h. absurd (omega arith);
               no_pending = λ h. refl;
@@ -489,6 +414,8 @@ settled d o line g is fits lines =
               played = g.played;
               few_roots = g.few_roots;
               roots = g.roots;
+              ordered = g.ordered;
+              valued = g.valued;
               rules = all_push IsScriptLine d.rules (rule_of o) g.rules (is_rule o fits z);
               pending = tt;
               waits = tt;
@@ -505,6 +432,7 @@ settled d o line g is fits lines =
             record {
               no_roots = g.no_roots;
               rooted = g.rooted;
+              no_written = g.no_written;
               patient = g.patient;
               no_rules = g.no_rules;
               no_pending = λ h. absurd (h r);
@@ -514,6 +442,8 @@ settled d o line g is fits lines =
               played = g.played;
               few_roots = g.few_roots;
               roots = g.roots;
+              ordered = g.ordered;
+              valued = g.valued;
               rules = g.rules;
               pending = fits;
               waits = part;
@@ -535,6 +465,7 @@ asked d q g fits e room shut =
       record {
         no_roots = λ h. absurd (omega arith);
         rooted = λ h. g.rooted (omega (arith, at.0.0));
+        no_written = λ h. absurd (omega arith);
         patient = λ h. g.patient (omega (arith, at.0.0));
         no_rules = λ h. absurd (omega arith);
         no_pending = λ h. shut;
@@ -544,6 +475,8 @@ asked d q g fits e room shut =
         played = λ h. absurd (omega arith);
         few_roots = g.few_roots;
         roots = g.roots;
+        ordered = g.ordered;
+        valued = g.valued;
         rules = g.rules;
         pending = g.pending;
         waits = g.waits;
@@ -552,7 +485,7 @@ asked d q g fits e room shut =
         few_turns = g.few_turns;
         turns = g.turns;
       },
-      mapped_push question_line (to_rules (scenario_of d)) d.questions q ∙ sym (ap (λ (l : List (List ℕ)). l ++ question_line q ∷ []) at.1),
+      mapped_push question_line (to_rules d.written (scenario_of d)) d.questions q ∙ sym (ap (λ (l : List (List ℕ)). l ++ question_line q ∷ []) at.1),
     )
 
 abbrev with_turn : Draft → Turn → Draft
@@ -564,6 +497,7 @@ turned d t g fits e room shut =
       record {
         no_roots = λ h. absurd (omega arith);
         rooted = λ h. g.rooted (omega (arith, at.0.0));
+        no_written = λ h. absurd (omega arith);
         patient = λ h. g.patient (omega (arith, at.0.0));
         no_rules = λ h. absurd (omega arith);
         no_pending = λ h. shut;
@@ -573,6 +507,8 @@ turned d t g fits e room shut =
         played = λ h. omega (arith, length_push d.turns t);
         few_roots = g.few_roots;
         roots = g.roots;
+        ordered = g.ordered;
+        valued = g.valued;
         rules = g.rules;
         pending = g.pending;
         waits = g.waits;
@@ -581,16 +517,17 @@ turned d t g fits e room shut =
         few_turns = omega (arith, length_push d.turns t);
         turns = all_push IsTurn d.turns t g.turns fits;
       },
-      mapped_push turn_line (to_questions (scenario_of d)) d.turns t ∙ sym (ap (λ (l : List (List ℕ)). l ++ turn_line t ∷ []) at.1),
+      mapped_push turn_line (to_questions d.written (scenario_of d)) d.turns t ∙ sym (ap (λ (l : List (List ℕ)). l ++ turn_line t ∷ []) at.1),
     )
 
 ended : (d : Draft) → Good d → may_end d.stage ≡ true → d.pending ≡ None → Takes d (spelled end_words) (record d { stage = Ended })
 ended d g e shut =
-    let is : d.stage ≡ Turned = last_rank d.stage e in
-    let r : rank d.stage ≡ 6 = ap rank is in (
+    let is : d.stage ≡ Turned = turned_rank d.stage e in
+    let r : rank d.stage ≡ 7 = ap rank is in (
       record {
         no_roots = λ h. absurd (omega arith);
         rooted = λ h. g.rooted (omega arith);
+        no_written = λ h. absurd (omega arith);
         patient = λ h. g.patient (omega arith);
         no_rules = λ h. absurd (omega arith);
         no_pending = λ h. shut;
@@ -600,6 +537,8 @@ ended d g e shut =
         played = λ h. g.played (omega arith);
         few_roots = g.few_roots;
         roots = g.roots;
+        ordered = g.ordered;
+        valued = g.valued;
         rules = g.rules;
         pending = g.pending;
         waits = g.waits;
@@ -650,6 +589,10 @@ put_takes d (form.Root ip) e g shut fits h =
     let k = guard_some (may_root d.stage && ltb (length d.roots) most_roots) (Some (with_root d ip)) e h in
     let p = and_parts (may_root d.stage) (ltb (length d.roots) most_roots) k.0 in
     subst (Takes d (root_line ip)) (some_is (with_root d ip) e k.1) (rooted d ip g fits p.0 (ltb-true _ _ p.1) shut)
+put_takes d (form.Option o) e g shut fits h =
+    let k = guard_some (may_option d.stage && ltb (last_rank 0 d.written) (option_rank o)) (Some (with_option d o)) e h in
+    let p = and_parts (may_option d.stage) (ltb (last_rank 0 d.written) (option_rank o)) k.0 in
+    subst (Takes d (option_line o)) (some_is (with_option d o) e k.1) (optioned d o g fits p.0 (ltb-true _ _ p.1) shut)
 put_takes d (form.Patience n) e g shut fits h =
     let k = guard_some (may_wait d.stage) _ e h in
     subst (Takes d (spelled (patience_words n))) (some_is (record d { stage = Patient; patience = n }) e k.1) (patient d n g fits k.0 shut)
@@ -660,9 +603,9 @@ put_takes d (form.Reply o) e g shut fits h =
     let line = spelled (form_words (form.Reply o)) in
     let k = guard_some (may_reply d.stage) (Some (settle d o)) e h in
     let is : d.stage ≡ Scripted = reply_rank d.stage k.0 in
-    let before : so_far d ≡ to_rules (scenario_of d) = ap (λ (s : Stage). so_far_at s d) is ∙ ap (λ (p : Option OpenRule). to_rules (scenario_of d) ++ pending_lines p) shut ∙ append-nil (to_rules (scenario_of d)) in
+    let before : so_far d ≡ to_rules d.written (scenario_of d) = ap (λ (s : Stage). so_far_at s d) is ∙ ap (λ (p : Option OpenRule). to_rules d.written (scenario_of d) ++ pending_lines p) shut ∙ append-nil (to_rules d.written (scenario_of d)) in
     subst (Takes d line) (some_is (settle d o) e k.1) (settled d o line g is (is_new o fits)
-    (ap (λ (l : List (List ℕ)). to_rules (scenario_of d) ++ l) (new_lines o fits) ∙ sym (ap (λ (l : List (List ℕ)). l ++ line ∷ []) before)))
+    (ap (λ (l : List (List ℕ)). to_rules d.written (scenario_of d) ++ l) (new_lines o fits) ∙ sym (ap (λ (l : List (List ℕ)). l ++ line ∷ []) before)))
 put_takes d (form.Question q) e g shut fits h =
     let k = guard_some (may_ask d.stage && ltb (length d.questions) most_questions) (Some (with_question d q)) e h in
     let p = and_parts (may_ask d.stage) (ltb (length d.questions) most_questions) k.0 in
@@ -675,11 +618,12 @@ put_takes d form.End e g shut fits h =
     let k = guard_some (may_end d.stage) _ e h in
     subst (Takes d (spelled end_words)) (some_is (record d { stage = Ended }) e k.1) (ended d g k.0 shut)
 
-scripted : (s : Stage) (p : Option OpenRule) (o : OpenRule) → p ≡ Some o → (rank s ≢ 4 → p ≡ None) → s ≡ Scripted
+scripted : (s : Stage) (p : Option OpenRule) (o : OpenRule) → p ≡ Some o → (rank s ≢ 5 → p ≡ None) → s ≡ Scripted
 scripted Scripted p o is shut = refl
 scripted Start p o is shut = absurd (let h : p ≡ None = shut (λ e. omega arith) in cc)
 scripted Headed p o is shut = absurd (let h : p ≡ None = shut (λ e. omega arith) in cc)
 scripted Rooted p o is shut = absurd (let h : p ≡ None = shut (λ e. omega arith) in cc)
+scripted Optioned p o is shut = absurd (let h : p ≡ None = shut (λ e. omega arith) in cc)
 scripted Patient p o is shut = absurd (let h : p ≡ None = shut (λ e. omega arith) in cc)
 scripted Asked p o is shut = absurd (let h : p ≡ None = shut (λ e. omega arith) in cc)
 scripted Turned p o is shut = absurd (let h : p ≡ None = shut (λ e. omega arith) in cc)
@@ -697,8 +641,8 @@ taken_at_takes (Some o) d line e is g h =
     let opened : IsOpen o = subst (λ (p : Option OpenRule). IfSome p IsOpen) is g.pending in
     let s = add_takes o b.0 a.0 opened t.1 a.1 in
     let stage : d.stage ≡ Scripted = scripted d.stage d.pending o is g.no_pending in
-    let base = to_rules (scenario_of d) in
-    let before : so_far d ≡ base ++ open_lines o = ap (λ (s : Stage). so_far_at s d) stage ∙ ap (λ (p : Option OpenRule). to_rules (scenario_of d) ++ pending_lines p) is in
+    let base = to_rules d.written (scenario_of d) in
+    let before : so_far d ≡ base ++ open_lines o = ap (λ (s : Stage). so_far_at s d) stage ∙ ap (λ (p : Option OpenRule). to_rules d.written (scenario_of d) ++ pending_lines p) is in
     let lines : base ++ open_lines a.0 ≡ so_far d ++ record_text b.0 ∷ [] =
     ap (λ (l : List (List ℕ)). base ++ l) s.1 ∙ sym (append_assoc base (open_lines o) (record_text b.0 ∷ [])) ∙ sym (ap (λ (l : List (List ℕ)). l ++ record_text b.0 ∷ []) before) in
     subst (λ (l : List ℕ). Takes d l e) (sym t.0) (subst (Takes d (record_text b.0)) (some_is (settle d a.0) e a.2) (settled d a.0 (record_text b.0) g stage s.0 lines))
@@ -710,6 +654,7 @@ pub start_good : Good start
 start_good = record {
   no_roots = λ h. refl;
   rooted = λ h. absurd (omega arith);
+  no_written = λ h. refl;
   patient = λ h. absurd (omega arith);
   no_rules = λ h. refl;
   no_pending = λ h. refl;
@@ -719,6 +664,8 @@ start_good = record {
   played = λ h. absurd (omega arith);
   few_roots = lit≤ tt;
   roots = tt;
+  ordered = tt;
+  valued = tt;
   rules = tt;
   pending = tt;
   waits = tt;
@@ -728,14 +675,16 @@ start_good = record {
   turns = tt;
 }
 
-pub ended_is : (d : Draft) → Good d → is_ended d.stage ≡ true → IsScenario (scenario_of d) × (so_far d ≡ scenario_lines (scenario_of d))
+pub ended_is : (d : Draft) → Good d → is_ended d.stage ≡ true → IsScenario d.written (scenario_of d) × (so_far d ≡ scenario_lines d.written (scenario_of d))
 ended_is d g e =
     let is : d.stage ≡ Ended = end_rank d.stage e in
-    let r : rank d.stage ≡ 7 = ap rank is in (
+    let r : rank d.stage ≡ 8 = ap rank is in (
       record {
         rooted = g.rooted (omega arith);
         few_roots = g.few_roots;
         roots = g.roots;
+        ordered = g.ordered;
+        valued = g.valued;
         options = refl;
         patience = g.patient (omega arith);
         rules = g.rules;

@@ -1,14 +1,14 @@
 -- The line that is named is the first that cannot stand.
-use Rattle.std.proofs.Common.{◌≡◌, ◌≢◌, ℕ, zero, suc, ◌+◌, ◌-◌, ◌<◌, ◌≤◌, Bool, true, false, cond, ◌&&◌, eqb, ltb, List, [], ◌∷◌, ◌++◌, length, Option, Some, None, Result, Ok, Err, refl, sym, ap, subst, ◌∙◌, arith, append_assoc, inl, inr, ◌⊎◌, lit<, lit≤}
+use Rattle.std.proofs.Common.{◌≡◌, ◌≢◌, ℕ, zero, suc, ◌+◌, ◌-◌, ◌≤◌, true, false, eqb, ltb, List, [], ◌∷◌, ◌++◌, length, Option, Some, None, Result, Ok, Err, refl, sym, ap, subst, ◌∙◌, arith, append_assoc, inl, inr, lit<, lit≤}
 use Rattle.std.specs.Prelude.{IfSome, IfErr}
 use Rattle.std.proofs.lemmas.Bool.{lt-ltb, le-ltb, ltb-true, ltb-false, eqb-false, cases_Bool, cases_lt}
 use Rattle.std.proofs.lemmas.List.{append-nil, length_push}
 use Rattle.std.specs.declared.net.ipv4_addr.Ipv4Addr.{Ipv4Addr}
-use Rattle.std.specs.declared.net.ip_addr.IpAddr.{IpAddr}
 use Rattle.std.specs.declared.net.ip_addr.IpAddr.TheVariants.{V4}
 use Rattle.std.specs.Net.Addr.{IsIpv4Addr}
 use Rattle.dns_core.specs.Name.{DomainName}
 use Rattle.dns_core.specs.declared.codes.RecordType.{RecordType}
+use Rattle.dns_core.specs.declared.record.RData.TheVariants.{A}
 use Rattle.dns_core.specs.declared.record.Record.{Record}
 use Rattle.dns_core.specs.declared.request.Question.{Question}
 use Rattle.dns_core.specs.declared.request.Turn.{Turn}
@@ -21,18 +21,18 @@ use Rattle.recursor_text.specs.declared.reading.lines.Form.TheVariants as form
 use Rattle.recursor_text.specs.declared.reading.rules.Counts.{Counts}
 use Rattle.recursor_text.specs.declared.reading.rules.OpenRule.{OpenRule}
 use Rattle.recursor_text.specs.declared.reading.draft.Stage.{Stage}
-use Rattle.recursor_text.specs.declared.reading.draft.Stage.TheVariants.{Start, Headed, Rooted, Patient, Scripted, Asked, Turned, Ended}
+use Rattle.recursor_text.specs.declared.reading.draft.Stage.TheVariants.{Start, Headed, Rooted, Optioned, Patient, Scripted, Asked, Turned, Ended}
 use Rattle.recursor_text.specs.declared.reading.draft.Draft.{Draft}
 use Rattle.recursor_text.specs.declared.reading.draft.Refusal.{Refusal}
 use Rattle.recursor_text.specs.declared.reading.draft.Refusal.TheVariants.{Bad, NotBuilt}
 use Rattle.recursor_text.specs.Pieces.{pieces}
 use Rattle.recursor_text.specs.Numbers.{◌>>=◌}
-use Rattle.recursor_text.specs.Lines.{type_a, class_in, a_record}
-use Rattle.recursor_text.specs.Steps.{start, settle, rule_of, add, put, taken, is_settled, is_ended, scenario_of}
+use Rattle.recursor_text.specs.RecordLines.{class_in}
+use Rattle.recursor_text.specs.Steps.{start, may_wait, settle, rule_of, add, put, taken, is_settled, is_ended, scenario_of}
 use Rattle.recursor_text.specs.Unbuilt.{refusal_of}
-use Rattle.recursor_text.specs.Reading.{fails_at, cause_of, step_by, finish, onward, read_from, scenario_in, GivesScenario, FailsBy}
-use Rattle.recursor_text.specs.Faults.{CanStand, IsWhole, IsFirstBad, IsTrailing, IsCut, FaultIn, HasFault}
-use Rattle.recursor_text.specs.Spelling.{spelled, record_text, scenario_lines, is_kept_out, most_roots, IsAddress, IsRecord, IsQuestion, IsTurn, IsScenario}
+use Rattle.recursor_text.specs.Reading.{cause_of, step_by, finish, onward, read_from, scenario_in, GivesScenario, FailsBy}
+use Rattle.recursor_text.specs.Faults.{CanStand, IsWhole, IsFirstBad, FaultIn, HasFault}
+use Rattle.recursor_text.specs.Spelling.{spelled, record_text, scenario_lines, IsRecord, IsQuestion}
 use Rattle.recursor_text.proofs.Binds.{bind_some}
 use Rattle.recursor_text.proofs.Cuts.{split_cons}
 use Rattle.recursor_text.proofs.NumberLaws.{octet_fits}
@@ -62,11 +62,14 @@ from_asked d is shut none =
 abbrev root_name : DomainName
 root_name = record { labels = []; fqdn = true }
 
+abbrev type_a : RecordType
+type_a = record { code = 1 }
+
 abbrev some_question : Question
 some_question = record { query = record { name = root_name; query_type = type_a; query_class = class_in }; dnssec_ok = false }
 
 is_question : IsQuestion some_question
-is_question = record { named = refl; short = lit≤ tt; typed = refl; class = refl; plain = refl }
+is_question = record { named = refl; short = lit≤ tt; typed = (lit≤ tt, refl); class = refl; plain = refl }
 
 from_scripted : (d : Draft) → d.stage ≡ Scripted → d.pending ≡ None → d.questions ≡ [] → d.turns ≡ [] → Completes d
 from_scripted d is shut none neither =
@@ -76,8 +79,8 @@ from_scripted d is shut none neither =
 from_patient : (d : Draft) → d.stage ≡ Patient → d.pending ≡ None → d.questions ≡ [] → d.turns ≡ [] → Completes d
 from_patient d is shut none neither = by_form d (record d { stage = Scripted }) form.ToldScript shut tt (rw is refl) (from_scripted (record d { stage = Scripted }) refl shut none neither)
 
-from_rooted : (d : Draft) → d.stage ≡ Rooted → d.pending ≡ None → d.questions ≡ [] → d.turns ≡ [] → Completes d
-from_rooted d is shut none neither = by_form d (record d { stage = Patient; patience = 1 }) (form.Patience 1) shut (lit≤ tt, lit≤ tt) (rw is refl) (from_patient (record d { stage = Patient; patience = 1 }) refl shut none neither)
+from_options : (d : Draft) → may_wait d.stage ≡ true → d.pending ≡ None → d.questions ≡ [] → d.turns ≡ [] → Completes d
+from_options d may shut none neither = by_form d (record d { stage = Patient; patience = 1 }) (form.Patience 1) shut (lit≤ tt, lit≤ tt) (rw may refl) (from_patient (record d { stage = Patient; patience = 1 }) refl shut none neither)
 
 abbrev nowhere : Ipv4Addr
 nowhere = record { octets = 0 ∷ 0 ∷ 0 ∷ 0 ∷ [] }
@@ -88,34 +91,29 @@ is_ipv4 = (refl, octet_fits 0 0 0 0 (lit≤ tt) (lit≤ tt) (lit≤ tt) (lit≤ 
 from_headed : (d : Draft) → d.stage ≡ Headed → d.pending ≡ None → d.roots ≡ [] → d.questions ≡ [] → d.turns ≡ [] → Completes d
 from_headed d is shut rootless none neither =
     by_form d (record d { stage = Rooted; roots = d.roots ++ V4 nowhere ∷ [] }) (form.Root (V4 nowhere)) shut is_ipv4 (rw (is, rootless) refl)
-    (from_rooted (record d { stage = Rooted; roots = d.roots ++ V4 nowhere ∷ [] }) refl shut none neither)
+    (from_options (record d { stage = Rooted; roots = d.roots ++ V4 nowhere ∷ [] }) refl shut none neither)
 
 from_start : (d : Draft) → d.stage ≡ Start → d.pending ≡ None → d.roots ≡ [] → d.questions ≡ [] → d.turns ≡ [] → Completes d
 from_start d is shut rootless none neither = by_form d (record d { stage = Headed }) form.Head shut tt (rw is refl) (from_headed (record d { stage = Headed }) refl shut rootless none neither)
 
 abbrev dummy : Record
-dummy = a_record root_name 0 nowhere
+dummy = record { name = root_name; ttl = 0; dns_class = class_in; record_type = type_a; rdata = A nowhere; typed = refl }
 
 is_dummy : IsRecord dummy
-is_dummy = record { name = (refl, refl); life = lit≤ tt; class = refl; told = is_ipv4 }
-
-let_in : (b : Bool) → (b && false) ≡ false
-let_in true = refl
-let_in false = refl
+is_dummy = record { name = (refl, refl); life = lit≤ tt; class = refl; type = (lit≤ tt, refl); told = is_ipv4 }
 
 abbrev total : Counts → ℕ
 total c = c.answers + c.authorities + c.additionals
 
 adds : (o : OpenRule) (k : ℕ) → total o.owed ≡ suc k → (p : OpenRule) × (add o dummy ≡ Some p) × (total p.owed ≡ k)
 adds o k e =
-    let admitted : is_kept_out o.message.query.query_type dummy ≡ false = let_in (eqb o.message.query.query_type.code 1) in
     elim (cases_lt 0 o.owed.answers) [
-      | inl a ↦ (record o { message = record o.message { answers = o.message.answers ++ dummy ∷ [] }; owed = record o.owed { answers = o.owed.answers - 1 } }, rw (admitted, lt-ltb 0 o.owed.answers a) refl, omega arith)
+      | inl a ↦ (record o { message = record o.message { answers = o.message.answers ++ dummy ∷ [] }; owed = record o.owed { answers = o.owed.answers - 1 } }, rw (lt-ltb 0 o.owed.answers a) refl, omega arith)
       | inr none ↦ elim (cases_lt 0 o.owed.authorities) [
-        | inl b ↦ (record o { message = record o.message { authorities = o.message.authorities ++ dummy ∷ [] }; owed = record o.owed { authorities = o.owed.authorities - 1 } }, rw (admitted, le-ltb 0 o.owed.answers none, lt-ltb 0 o.owed.authorities b) refl, omega arith)
+        | inl b ↦ (record o { message = record o.message { authorities = o.message.authorities ++ dummy ∷ [] }; owed = record o.owed { authorities = o.owed.authorities - 1 } }, rw (le-ltb 0 o.owed.answers none, lt-ltb 0 o.owed.authorities b) refl, omega arith)
         | inr neither ↦ (
           record o { message = record o.message { additionals = o.message.additionals ++ dummy ∷ [] }; owed = record o.owed { additionals = o.owed.additionals - 1 } },
-          rw (admitted, le-ltb 0 o.owed.answers none, le-ltb 0 o.owed.authorities neither, lt-ltb 0 o.owed.additionals (omega arith)) refl,
+          rw (le-ltb 0 o.owed.answers none, le-ltb 0 o.owed.authorities neither, lt-ltb 0 o.owed.additionals (omega arith)) refl,
           omega arith,
         )
       ]
@@ -146,16 +144,17 @@ from_told (Some o) d opened is none neither g =
     let waits : is_settled o.owed ≡ false = subst (λ (p : Option OpenRule). IfSome p (λ o. is_settled o.owed ≡ false)) opened g.waits in
     from_open (total o.owed) d o is opened none neither waits refl
 
-other : (s : Stage) (d : Draft) → d.stage ≡ s → Good d → rank s ≢ 4 → d.pending ≡ None
+other : (s : Stage) (d : Draft) → d.stage ≡ s → Good d → rank s ≢ 5 → d.pending ≡ None
 other s d is g ne = g.no_pending (λ e. ne (sym (ap rank is) ∙ e))
 
 completes : (s : Stage) (d : Draft) → d.stage ≡ s → Good d → Completes d
 completes Start d is g = let r : rank d.stage ≡ 0 = ap rank is in from_start d is (other Start d is g (λ e. omega arith)) (g.no_roots (omega arith)) (g.no_questions (omega arith)) (g.no_turns (omega arith))
 completes Headed d is g = let r : rank d.stage ≡ 1 = ap rank is in from_headed d is (other Headed d is g (λ e. omega arith)) (g.no_roots (omega arith)) (g.no_questions (omega arith)) (g.no_turns (omega arith))
-completes Rooted d is g = let r : rank d.stage ≡ 2 = ap rank is in from_rooted d is (other Rooted d is g (λ e. omega arith)) (g.no_questions (omega arith)) (g.no_turns (omega arith))
-completes Patient d is g = let r : rank d.stage ≡ 3 = ap rank is in from_patient d is (other Patient d is g (λ e. omega arith)) (g.no_questions (omega arith)) (g.no_turns (omega arith))
-completes Scripted d is g = let r : rank d.stage ≡ 4 = ap rank is in from_told d.pending d refl is (g.no_questions (omega arith)) (g.no_turns (omega arith)) g
-completes Asked d is g = let r : rank d.stage ≡ 5 = ap rank is in from_asked d is (other Asked d is g (λ e. omega arith)) (g.no_turns (omega arith))
+completes Rooted d is g = let r : rank d.stage ≡ 2 = ap rank is in from_options d (ap may_wait is) (other Rooted d is g (λ e. omega arith)) (g.no_questions (omega arith)) (g.no_turns (omega arith))
+completes Optioned d is g = let r : rank d.stage ≡ 3 = ap rank is in from_options d (ap may_wait is) (other Optioned d is g (λ e. omega arith)) (g.no_questions (omega arith)) (g.no_turns (omega arith))
+completes Patient d is g = let r : rank d.stage ≡ 4 = ap rank is in from_patient d is (other Patient d is g (λ e. omega arith)) (g.no_questions (omega arith)) (g.no_turns (omega arith))
+completes Scripted d is g = let r : rank d.stage ≡ 5 = ap rank is in from_told d.pending d refl is (g.no_questions (omega arith)) (g.no_turns (omega arith)) g
+completes Asked d is g = let r : rank d.stage ≡ 6 = ap rank is in from_asked d is (other Asked d is g (λ e. omega arith)) (g.no_turns (omega arith))
 completes Turned d is g = from_turned d is (other Turned d is g (λ e. omega arith))
 completes Ended d is g = ([], d, refl, is)
 
@@ -170,7 +169,7 @@ run_takes d e (l ∷ ls) g h =
     (r.0, r.1 ∙ ap (λ (x : List (List ℕ)). x ++ ls) t.1 ∙ append_assoc (so_far d) (l ∷ []) ls)
 
 whole_run : (ls : List (List ℕ)) (d : Draft) → run start ls ≡ Some d → is_ended d.stage ≡ true → IsWhole ls
-whole_run ls d h e = let t = run_takes start d ls start_good h in let w = ended_is d t.0 e in (scenario_of d, w.0, sym w.1 ∙ t.1)
+whole_run ls d h e = let t = run_takes start d ls start_good h in let w = ended_is d t.0 e in (d.written, scenario_of d, w.0, sym w.1 ∙ t.1)
 
 stands : (ls : List (List ℕ)) (d : Draft) → run start ls ≡ Some d → CanStand ls
 stands ls d h =
@@ -178,20 +177,20 @@ stands ls d h =
     let c = completes d.stage d refl t.0 in
     let r : run start (ls ++ c.0) ≡ Some c.1 = run_append start d ls c.0 h ∙ c.2 in
     let w = whole_run (ls ++ c.0) c.1 r (ap is_ended c.3) in
-    (w.0, c.0, w.1, w.2)
+    (w.0, w.1, c.0, w.2, w.3)
 
 fails : (ls : List (List ℕ)) (d : Draft) (l : List ℕ) → run start ls ≡ Some d → taken d l ≡ None → CanStand (ls ++ l ∷ []) → ⊥
 fails ls d l h refused can =
-    let r = run_again can.0 can.2 in
-    let same : scenario_lines can.0 ≡ ls ++ (l ∷ can.1) = can.3 ∙ append_assoc ls (l ∷ []) can.1 in
-    let none : run d (l ∷ can.1) ≡ None = ap (λ (o : Option Draft). o >>= λ m. run m can.1) refused in
-    let both : Some r.0 ≡ None = sym r.1 ∙ ap (run start) same ∙ run_append start d ls (l ∷ can.1) h ∙ none in
+    let r = run_again can.0 can.1 can.3 in
+    let same : scenario_lines can.0 can.1 ≡ ls ++ (l ∷ can.2) = can.4 ∙ append_assoc ls (l ∷ []) can.2 in
+    let none : run d (l ∷ can.2) ≡ None = ap (λ (o : Option Draft). o >>= λ m. run m can.2) refused in
+    let both : Some r.0 ≡ None = sym r.1 ∙ ap (run start) same ∙ run_append start d ls (l ∷ can.2) h ∙ none in
     cc
 
 not_whole : (ls : List (List ℕ)) (d : Draft) → run start ls ≡ Some d → is_ended d.stage ≡ false → IsWhole ls → ⊥
 not_whole ls d h open_end w =
-    let r = run_again w.0 w.1 in
-    let same : r.0 ≡ d = draft_is r.0 d (sym r.1 ∙ ap (run start) w.2 ∙ h) in
+    let r = run_again w.0 w.1 w.2 in
+    let same : r.0 ≡ d = draft_is r.0 d (sym r.1 ∙ ap (run start) w.3 ∙ h) in
     let ended : is_ended d.stage ≡ true = ap (λ (x : Draft). is_ended x.stage) (sym same) ∙ ap is_ended r.2 in
     absurd (let t : true ≡ false = sym ended ∙ open_end in cc)
 

@@ -1,19 +1,18 @@
 -- Fields of a line: what is read is spelled so, and what is spelled so is read.
-use Rattle.std.proofs.Common.{◌≡◌, ℕ, ◌^◌, ◌<◌, ◌≤◌, Bool, true, false, cond, eqb, ltb, List, [], ◌∷◌, ◌++◌, length, Option, Some, None, refl, sym, ap, subst, ◌∙◌, append_assoc, arith, inl, inr}
+use Rattle.std.proofs.Common.{◌≡◌, ℕ, ◌^◌, ◌<◌, ◌≤◌, Bool, true, false, cond, ltb, List, [], ◌∷◌, ◌++◌, length, Option, Some, None, refl, sym, ap, subst, ◌∙◌, append_assoc, arith, inl, inr}
 use Rattle.std.specs.Prelude.{decimal}
 use Rattle.std.specs.Str.{bytes_eq}
 use Rattle.std.specs.List.{AllByRecursion}
 use Rattle.std.proofs.lemmas.Bool.{ltb-false, le-ltb}
 use Rattle.std.proofs.lemmas.List.{append-nil}
 use Rattle.std.proofs.lemmas.Slice.Eq.{bytes_eq-Decides}
-use Rattle.std.specs.declared.net.ipv4_addr.Ipv4Addr.{Ipv4Addr}
 use Rattle.std.specs.Net.Addr.{ipv4_octets, IsIpv4Addr}
 use Rattle.std.specs.Net.Text.{ipv4_text}
 use Rattle.dns_core.specs.Name.{DomainName}
 use Rattle.dns_core.specs.NameText.{text_of}
 use Rattle.recursor_text.specs.Numbers.{◌>>=◌, number_of, number_within, ipv4_of}
 use Rattle.recursor_text.specs.Names.{relaxed_name, full_name, short_name}
-use Rattle.recursor_text.specs.Fields.{Fields, field, literal, in_table, both, skip, whole, nothing, end_of}
+use Rattle.recursor_text.specs.Fields.{Fields, field, kept, literal, in_table, both, skip, whole, nothing, end_of}
 use Rattle.recursor_text.specs.Spelling.{IsName, IsFullName}
 use Rattle.recursor_text.proofs.Binds.{bind_some, guard_some, guard_not, some_is, chosen}
 use Rattle.recursor_text.proofs.NumberLaws.{number_takes, number_again, ipv4_takes, ipv4_again}
@@ -60,7 +59,7 @@ pair_law {X = X} {Y = Y} p text Fits q words Suits first second = record {
       ap (both p q) (append_assoc (text x.0) (words x.1) rest) ∙ rw (first.again x.0 (words x.1 ++ rest) fits.0, second.again x.1 rest fits.1) refl;
 }
 
-bytes_same : (v w : List ℕ) → bytes_eq v w ≡ true → v ≡ w
+pub bytes_same : (v w : List ℕ) → bytes_eq v w ≡ true → v ≡ w
 bytes_same v w e = (bytes_eq-Decides v w).0 e
 
 pub skip_law : {Y : Type 0} (key : List ℕ) (q : Fields Y) (words : Y → List (List ℕ)) (Suits : Y → Type 0) → IsSeq q words Suits → IsSeq (skip key q) (λ y. key ∷ words y) Suits
@@ -155,6 +154,17 @@ short_name_field most = record {
       let read = relaxed_takes w b.0 b.1 in
       subst (λ (m : DomainName). (w ≡ text_of m) × IsShort most m) is (name_takes false w b.0 read, (name_again false w b.0 read, ltb-false _ _ g.0));
   again = λ n fits. rw (relaxed_again (text_of n) n fits.0, le-ltb most (length n.labels) fits.1) refl;
+}
+
+-- a word whose value passes a test
+pub kept_field : {X : Type 0} (p : List ℕ → Option X) (text : X → List ℕ) (Fits : X → Type 0) → IsField p text Fits → (test : X → Bool) → IsField (kept test p) text (λ x. Fits x × (test x ≡ true))
+kept_field {X = X} p text Fits law test = record {
+  takes = λ w x e.
+      let b = bind_some (p w) (λ y. cond (test y) (Some y) None) x e in
+      let g = guard_some (test b.0) (Some b.0) x b.2 in
+      let t = law.takes w b.0 b.1 in
+      subst (λ (y : X). (w ≡ text y) × (Fits y × (test y ≡ true))) (some_is b.0 x g.1) (t.0, (t.1, g.0));
+  again = λ x fits. rw (law.again x fits.0, fits.1) refl;
 }
 
 -- each entry of a table has the text of its value

@@ -1,18 +1,16 @@
 -- Names: what is read is spelled so, in bytes that no line is cut at.
-use Rattle.std.proofs.Common.{◌≡◌, ℕ, zero, suc, ◌+◌, ◌-◌, ◌<◌, ◌≤◌, Bool, true, false, cond, not, ◌&&◌, eqb, ltb, List, [], ◌∷◌, ◌++◌, length, take, drop, Option, Some, None, Result, Ok, Err, refl, sym, ap, subst, ◌∙◌, append_assoc, arith, inl, inr, ◌⊎◌}
+use Rattle.std.proofs.Common.{◌≡◌, ℕ, ◌-◌, Bool, true, false, cond, not, ◌&&◌, eqb, ltb, List, [], ◌∷◌, ◌++◌, length, take, drop, Option, Some, None, Result, Ok, Err, refl, sym, ap, subst, ◌∙◌, append_assoc, arith, inl, inr, ◌⊎◌}
 use Rattle.std.specs.List.{list_all}
 use Rattle.std.specs.Result.{result_ok}
-use Rattle.std.proofs.lemmas.Bool.{ltb-true, ltb-false, le-ltb, eqb-true, and_parts, cases_Bool}
+use Rattle.std.proofs.lemmas.Bool.{eqb-true, and_parts}
 use Rattle.std.proofs.lemmas.List.{append-nil, nil_from_length}
 use Rattle.dns_core.specs.Name.{DomainName}
 use Rattle.dns_core.specs.declared.name_text.NameError.{NameError}
 use Rattle.dns_core.specs.declared.name_text.NameError.TheVariants.{LongName}
-use Rattle.dns_core.specs.NameText.{pieces_from, is_allowed, label_fault, first_fault, wire_length, is_dotted, labels_of, checked, is_dot, name_of, dotted, separator, text_of}
+use Rattle.dns_core.specs.NameText.{pieces_from, is_allowed, label_fault, first_fault, wire_length, is_dotted, labels_of, checked, is_dot, name_of, dotted, text_of}
 use Rattle.dns_core.specs.NameText.{pieces as labels_in}
-use Rattle.dns_core.proofs.Dotted.{dotted-push}
-use Rattle.recursor_text.specs.Numbers.{◌>>=◌}
-use Rattle.recursor_text.specs.Names.{relaxed_name, full_name, short_name}
-use Rattle.recursor_text.proofs.Binds.{bind_some, guard_some, guard_not, some_is}
+use Rattle.recursor_text.specs.Names.{relaxed_name}
+use Rattle.recursor_text.proofs.Binds.{some_is}
 use Rattle.recursor_text.proofs.PlainLaws.{AllBytes, append_plain, weaker}
 use Rattle.recursor_text.proofs.NumberLaws.{is_word_byte}
 

@@ -1,10 +1,10 @@
 -- Numbers and addresses: what a word spells is read again, and what is read is spelled so.
-use Rattle.std.proofs.Common.{◌≡◌, ◌≢◌, ℕ, zero, suc, ◌+◌, ◌-◌, ◌*◌, ◌^◌, ◌<◌, ◌≤◌, Bool, true, false, cond, not, ◌&&◌, eqb, ltb, leb, List, [], ◌∷◌, ◌++◌, length, get_or, Option, Some, None, refl, sym, ap, subst, ◌∙◌, append_assoc, arith, rules, inl, inr, lit<}
+use Rattle.std.proofs.Common.{◌≡◌, ℕ, zero, suc, ◌+◌, ◌-◌, ◌*◌, ◌^◌, ◌<◌, ◌≤◌, Bool, true, false, ◌&&◌, eqb, ltb, leb, List, [], ◌∷◌, length, get_or, Option, Some, refl, sym, ap, subst, ◌∙◌, append_assoc, arith, rules, lit<}
 use Rattle.std.specs.Prelude.{decimal, slice_index}
 use Rattle.std.specs.Char.{is_ascii_digit}
 use Rattle.std.specs.Str.{all_ascii_digits}
-use Rattle.std.specs.List.{list_all, join_with_byte}
-use Rattle.std.proofs.lemmas.Bool.{ltb-true, leb-true, le-leb, lt-ltb, eq-eqb, ne_eqb, and_parts}
+use Rattle.std.specs.List.{join_with_byte}
+use Rattle.std.proofs.lemmas.Bool.{leb-true, le-leb, lt-ltb, eq-eqb, ne_eqb, and_parts}
 use Rattle.std.proofs.lemmas.Fmt.{decimal-digits_value, digits_decimal, digits_value-decimal, decimal_nonempty, decimal_digit, first_decimal}
 use Rattle.std.proofs.lemmas.Str.Parse.{IsNumeralModel, numerals_by_fold}
 use Rattle.std.specs.declared.net.ipv4_addr.Ipv4Addr.{Ipv4Addr}
@@ -169,8 +169,11 @@ four_again x y z w a b c d = rw (number_again 255 x (lit< tt) (omega arith), num
 four_digits : (x y z w : ℕ) → x < 256 → y < 256 → z < 256 → w < 256 → AllPlain is_ascii_digit (words_of x y z w)
 four_digits x y z w a b c d = (decimal_digits x (below x a), (decimal_digits y (below y b), (decimal_digits z (below z c), (decimal_digits w (below w d), tt))))
 
-four_plain : (x y z w : ℕ) → x < 256 → y < 256 → z < 256 → w < 256 → AllPlain is_word_byte (words_of x y z w)
-four_plain x y z w a b c d = (decimal_plain x (below x a), (decimal_plain y (below y b), (decimal_plain z (below z c), (decimal_plain w (below w d), tt))))
+pub decimal_bytes : (q : ℕ → Bool) → ((c : ℕ) → is_ascii_digit c ≡ true → q c ≡ true) → (n : ℕ) → n < 2 ^ 64 → AllBytes q (decimal n)
+decimal_bytes q digit n lt = weaker is_ascii_digit q (decimal n) digit (decimal_digits n lt)
+
+four_bytes : (q : ℕ → Bool) → ((c : ℕ) → is_ascii_digit c ≡ true → q c ≡ true) → (x y z w : ℕ) → x < 256 → y < 256 → z < 256 → w < 256 → AllPlain q (words_of x y z w)
+four_bytes q digit x y z w a b c d = (decimal_bytes q digit x (below x a), (decimal_bytes q digit y (below y b), (decimal_bytes q digit z (below z c), (decimal_bytes q digit w (below w d), tt))))
 
 -- an address has four octets
 pub four_octets : (o : List ℕ) → length o ≡ 4 → ((k : ℕ) → slice_index o k < 2 ^ 8) → o ≡ slice_index o 0 ∷ slice_index o 1 ∷ slice_index o 2 ∷ slice_index o 3 ∷ []
@@ -192,8 +195,12 @@ ipv4_again a fits =
     ap ipv4_of (joined_four a) ∙ ap octets_of (pieces_again is_ascii_digit 46 (decimal (slice_index o 0)) (decimal (slice_index o 1) ∷ decimal (slice_index o 2) ∷ decimal (slice_index o 3) ∷ []) refl
     (four_digits _ _ _ _ (f 0) (f 1) (f 2) (f 3))) ∙ again ∙ back
 
-pub ipv4_plain : (a : Ipv4Addr) → IsIpv4Addr a → AllBytes is_word_byte (ipv4_text (ipv4_octets a))
-ipv4_plain a fits =
+-- its bytes pass a test that digits and dots pass
+pub ipv4_bytes : (q : ℕ → Bool) → ((c : ℕ) → is_ascii_digit c ≡ true → q c ≡ true) → q 46 ≡ true → (a : Ipv4Addr) → IsIpv4Addr a → AllBytes q (ipv4_text (ipv4_octets a))
+ipv4_bytes q digit dot a fits =
     let o = ipv4_octets a in
     let f : (k : ℕ) → slice_index o k < 256 = fits.1 in
-    subst (AllBytes is_word_byte) (sym (joined_four a)) (joined_plain is_word_byte 46 (words_of (slice_index o 0) (slice_index o 1) (slice_index o 2) (slice_index o 3)) refl (four_plain _ _ _ _ (f 0) (f 1) (f 2) (f 3)))
+    subst (AllBytes q) (sym (joined_four a)) (joined_plain q 46 (words_of (slice_index o 0) (slice_index o 1) (slice_index o 2) (slice_index o 3)) dot (four_bytes q digit _ _ _ _ (f 0) (f 1) (f 2) (f 3)))
+
+pub ipv4_plain : (a : Ipv4Addr) → IsIpv4Addr a → AllBytes is_word_byte (ipv4_text (ipv4_octets a))
+ipv4_plain = ipv4_bytes is_word_byte digit_plain refl

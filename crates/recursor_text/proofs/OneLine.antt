@@ -1,5 +1,5 @@
 -- One line of a text that is read line by line.
-use Rattle.std.proofs.Common.{◌≡◌, ℕ, ◌+◌, List, [], ◌∷◌, ◌==◌, Option, Some, None, Result, Ok, Err, refl, sym, ap, ◌∙◌}
+use Rattle.std.proofs.Common.{◌≡◌, ℕ, ◌+◌, List, ◌∷◌, ◌==◌, Option, Some, None, Result, refl, sym, ap, ◌∙◌}
 use Rattle.recursor_text.specs.Pieces.{pieces}
 use Rattle.recursor_text.specs.declared.reading.draft.Draft.{Draft}
 use Rattle.recursor_text.specs.declared.scenario.Scenario.{Scenario}

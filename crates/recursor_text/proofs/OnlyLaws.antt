@@ -1,5 +1,5 @@
 -- The text of a scenario, as bytes, is read again.
-use Rattle.std.proofs.Common.{◌≡◌, ℕ, ◌+◌, ◌<◌, ◌≤◌, Bool, true, false, cond, ◌||◌, eqb, ltb, List, [], ◌∷◌, ◌++◌, length, Option, Some, None, Result, Ok, Err, refl, sym, ap, subst, ◌∙◌, append_assoc}
+use Rattle.std.proofs.Common.{◌≡◌, ℕ, ◌+◌, Bool, true, false, ◌||◌, eqb, ltb, List, [], ◌∷◌, ◌++◌, length, Option, Some, None, Result, Ok, Err, refl, sym, ap, subst, ◌∙◌, append_assoc}
 use Rattle.std.specs.Prelude.{IfOk}
 use Rattle.std.proofs.lemmas.Bool.{le-ltb}
 use Rattle.recursor_text.specs.Pieces.{pieces}
@@ -9,7 +9,8 @@ use Rattle.recursor_text.specs.declared.reading.draft.Stage.TheVariants.{Ended}
 use Rattle.recursor_text.specs.declared.reading.draft.Draft.{Draft}
 use Rattle.recursor_text.specs.declared.scenario.Scenario.{Scenario}
 use Rattle.recursor_text.specs.declared.scenario.ScenarioError.{ScenarioError}
-use Rattle.recursor_text.specs.Lines.{form_of, record_of}
+use Rattle.recursor_text.specs.Lines.{form_of}
+use Rattle.recursor_text.specs.RecordLines.{record_of}
 use Rattle.recursor_text.specs.Steps.{start, settle, add, put, taken_at, taken, is_ended, scenario_of}
 use Rattle.recursor_text.specs.Texts.{record_words}
 use Rattle.recursor_text.specs.Unbuilt.{refusal_of}
@@ -18,7 +19,8 @@ use Rattle.recursor_text.specs.Spelling.{spelled, scenario_lines, text_of, Reads
 use Rattle.recursor_text.proofs.Binds.{bind_some}
 use Rattle.recursor_text.proofs.PlainLaws.{AllBytes, AllPlain, split_at_byte, weaker, joined_plain}
 use Rattle.recursor_text.proofs.NumberLaws.{is_word_byte}
-use Rattle.recursor_text.proofs.LineLaws.{form_words, form_takes, form_plain, record_takes, record_plain}
+use Rattle.recursor_text.proofs.LineLaws.{form_words, form_takes, form_plain}
+use Rattle.recursor_text.proofs.RecordLaws.{record_takes, record_plain}
 use Rattle.recursor_text.proofs.AgainLaws.{run, run_again, draft_is}
 use Rattle.recursor_text.proofs.WholeLaws.{found}
 
@@ -76,10 +78,10 @@ read_run d e n (l ∷ ls) h is =
 
 only : (bytes : List ℕ) (s : Scenario) → Reads bytes s → scenario_in bytes ≡ Ok s
 only bytes s reads =
-    let r = run_again s reads.fits in
-    let cut : pieces 10 bytes ≡ scenario_lines s ++ [] ∷ [] = ap (pieces 10) reads.text ∙ text_pieces (scenario_lines s) (run_plain start r.0 (scenario_lines s) r.1) in
+    let r = run_again reads.written s reads.fits in
+    let cut : pieces 10 bytes ≡ scenario_lines reads.written s ++ [] ∷ [] = ap (pieces 10) reads.text ∙ text_pieces (scenario_lines reads.written s) (run_plain start r.0 (scenario_lines reads.written s) r.1) in
     let short : ltb 16777216 (length bytes) ≡ false = le-ltb _ _ reads.short in
-    rw short (ap (read_from start 1) cut ∙ read_run start r.0 1 (scenario_lines s) r.1 r.2 ∙ ap (λ (x : Scenario). Ok x) r.3)
+    rw short (ap (read_from start 1) cut ∙ read_run start r.0 1 (scenario_lines reads.written s) r.1 r.2 ∙ ap (λ (x : Scenario). Ok x) r.3)
 
 -- a text has one reading at most
 pub one_reading : (bytes : List ℕ) (s t : Scenario) → Reads bytes s → Reads bytes t → s ≡ t

@@ -1,5 +1,6 @@
 -- Where a text is no scenario, and why.
 use Rattle.std.specs.Prelude.{◌≡◌, ℕ, ◌+◌, ◌<◌, ◌≤◌, ◌⊎◌, List, [], ◌∷◌, ◌++◌, length}
+use Rattle.recursor_text.specs.declared.reading.option_form.OptionLine.{OptionLine}
 use Rattle.recursor_text.specs.declared.scenario.Scenario.{Scenario}
 use Rattle.recursor_text.specs.declared.scenario.Cause.{Cause}
 use Rattle.recursor_text.specs.declared.scenario.Cause.TheVariants as cause
@@ -8,11 +9,11 @@ use Rattle.recursor_text.specs.Spelling.{scenario_lines, IsScenario}
 
 -- Some scenario begins with these lines.
 abbrev pub CanStand : List (List ℕ) → Type 0
-CanStand lines = (s : Scenario) × (more : List (List ℕ)) × IsScenario s × (scenario_lines s ≡ lines ++ more)
+CanStand lines = (written : List OptionLine) × (s : Scenario) × (more : List (List ℕ)) × IsScenario written s × (scenario_lines written s ≡ lines ++ more)
 
 -- These lines are a scenario.
 abbrev pub IsWhole : List (List ℕ) → Type 0
-IsWhole lines = (s : Scenario) × IsScenario s × (scenario_lines s ≡ lines)
+IsWhole lines = (written : List OptionLine) × (s : Scenario) × IsScenario written s × (scenario_lines written s ≡ lines)
 
 -- The whole line of this number cannot stand where it stands, and all before it can.
 pub record IsFirstBad (bytes : List ℕ) (number : ℕ) : Type 0 where

@@ -1,5 +1,5 @@
 -- Fields of a line: words that are read one after the other.
-use Rattle.std.specs.Prelude.{◌≡◌, ℕ, Bool, List, [], ◌∷◌, Option, Some, None, Result, Ok, Err, if◌then◌else◌, IfOk}
+use Rattle.std.specs.Prelude.{◌≡◌, ℕ, Bool, List, [], ◌∷◌, Option, Some, None, Result, Ok, Err, if◌then◌else◌}
 use Rattle.std.specs.Str.{bytes_eq}
 use Rattle.recursor_text.specs.declared.reading.words.LineError.{LineError}
 use Rattle.recursor_text.specs.declared.reading.words.LineError.TheVariants.{Refused, NoMemory}
@@ -22,6 +22,10 @@ literal text w = if bytes_eq w text then Some tt else None
 abbrev pub in_table : {X : Type 0} → List (List ℕ × X) → List ℕ → Option X
 in_table [] w = None
 in_table (entry ∷ table) w = if bytes_eq w entry.0 then Some entry.1 else in_table table w
+
+-- a word whose value passes a test
+abbrev pub kept : {X : Type 0} → (X → Bool) → (List ℕ → Option X) → List ℕ → Option X
+kept test p w = p w >>= λ x. if test x then Some x else None
 
 -- a word that passes a test
 abbrev pub checked : (List ℕ → Bool) → Fields (Unit {0})

@@ -1,32 +1,14 @@
--- Option lines, none of which is read yet.
-use Rattle.std.specs.Prelude.{ℕ, ◌+◌, Bool, true, false, ◌&&◌, ◌||◌, nat_lt, List, [], ◌∷◌, Option, Some, None, is_some, if◌then◌else◌, codes}
+-- Option lines of the whole format, which are not all read yet.
+use Rattle.std.specs.Prelude.{ℕ, ◌+◌, nat_lt, Bool, true, false, ◌||◌, List, [], ◌∷◌, Option, Some, None, is_some, if◌then◌else◌, codes}
 use Rattle.std.specs.Str.{bytes_eq}
 use Rattle.std.specs.List.{list_all}
-use Rattle.recursor_text.specs.Addresses.{is_prefix}
-use Rattle.recursor_text.specs.Fields.{Fields, checked, field, both, whole, nothing, end_of}
+use Rattle.recursor_text.specs.Fields.{Fields, checked, field, both, whole, nothing}
+use Rattle.recursor_text.specs.Networks.{nets_of}
 use Rattle.recursor_text.specs.Numbers.{◌>>=◌, number_within}
 use Rattle.recursor_text.specs.Pieces.{pieces}
 
-abbrev pub OptionLine : Type 0
-OptionLine = List (List ℕ) → Option (Unit {0})
-
--- an address and a length
-abbrev pub is_address_and_length : List (List ℕ) → Bool
-is_address_and_length [] = false
-is_address_and_length (a ∷ []) = false
-is_address_and_length (a ∷ p ∷ []) = is_prefix a p
-is_address_and_length (a ∷ p ∷ q ∷ rest) = false
-
--- a network, its length behind a slash
-abbrev pub is_network : List ℕ → Bool
-is_network w = is_address_and_length (pieces 47 w)
-
-abbrev pub are_networks : List (List ℕ) → Bool
-are_networks ws = list_all is_network ws
-
--- a list of networks, or a dash
-abbrev pub is_network_list : List ℕ → Bool
-is_network_list w = bytes_eq w (codes "-") || are_networks (pieces 44 w)
+abbrev pub Line : Type 0
+Line = List (List ℕ) → Option (Unit {0})
 
 -- ports that rise, from this one on
 abbrev pub are_ports_from : ℕ → List (List ℕ) → Bool
@@ -43,29 +25,29 @@ abbrev pub is_delay_list : List ℕ → Bool
 is_delay_list w = list_all is_delay (pieces 44 w)
 
 -- a number up to most
-unfoldable pub number_line : ℕ → OptionLine
+unfoldable pub number_line : ℕ → Line
 number_line most = whole (field (number_within 0 most)) (λ x. tt)
 
-unfoldable pub networks_line : OptionLine
-networks_line = whole (checked is_network_list) (λ x. tt)
+unfoldable pub networks_line : Line
+networks_line = whole (field nets_of) (λ x. tt)
 
-unfoldable pub ports_line : OptionLine
+unfoldable pub ports_line : Line
 ports_line = whole (checked is_port_list) (λ x. tt)
 
-unfoldable pub delays_line : OptionLine
+unfoldable pub delays_line : Line
 delays_line = whole (checked is_delay_list) (λ x. tt)
 
 abbrev pub seconds : Fields ℕ
 seconds = field (number_within 0 4294967295)
 
 -- a least and a most TTL
-unfoldable pub bounds_line : OptionLine
+unfoldable pub bounds_line : Line
 bounds_line ws = seconds ws >>= λ x. whole (field (number_within x.0 4294967295)) (λ y. tt) x.1
 
-unfoldable pub damping_line : OptionLine
+unfoldable pub damping_line : Line
 damping_line = whole (both seconds (both seconds (field (number_within 0 255)))) (λ x. tt)
 
-unfoldable pub encryption_line : OptionLine
+unfoldable pub encryption_line : Line
 encryption_line [] = None
 encryption_line (w ∷ ws) =
     if bytes_eq w (codes "off") then whole nothing (λ x. tt) ws
@@ -75,7 +57,7 @@ encryption_line (w ∷ ws) =
 abbrev pub is_minimization : List ℕ → Bool
 is_minimization w = bytes_eq w (codes "strict") || bytes_eq w (codes "relaxed")
 
-unfoldable pub minimization_line : OptionLine
+unfoldable pub minimization_line : Line
 minimization_line = whole (checked is_minimization) (λ x. tt)
 
 -- the options whose value is a list of networks
@@ -97,7 +79,7 @@ most_of w =
     else None
 
 -- an option that is no number
-unfoldable pub listed_line : List ℕ → OptionLine
+unfoldable pub listed_line : List ℕ → Line
 listed_line w ws =
     if is_network_option w then networks_line ws
     else if bytes_eq w (codes "avoid_local_udp_ports") then ports_line ws
@@ -107,7 +89,32 @@ listed_line w ws =
     else if bytes_eq w (codes "first_delays") then delays_line ws
     else None
 
--- an option and its value
-unfoldable pub option_line : OptionLine
-option_line [] = None
-option_line (w ∷ ws) = elim (most_of w) [ Some most ↦ number_line most ws | None ↦ listed_line w ws ]
+-- the value of an option
+unfoldable pub value_line : List ℕ → Line
+value_line w ws = elim (most_of w) [ Some most ↦ number_line most ws | None ↦ listed_line w ws ]
+
+-- the place of an option in the order of all options, from 1, and 0 for a word that names none
+unfoldable pub rank_of : List ℕ → ℕ
+rank_of w =
+    if bytes_eq w (codes "ns_cache_size") then 1
+    else if bytes_eq w (codes "response_cache_size") then 2
+    else if bytes_eq w (codes "recursion_limit") then 3
+    else if bytes_eq w (codes "ns_recursion_limit") then 4
+    else if bytes_eq w (codes "allow_answers") then 5
+    else if bytes_eq w (codes "deny_answers") then 6
+    else if bytes_eq w (codes "allow_server") then 7
+    else if bytes_eq w (codes "deny_server") then 8
+    else if bytes_eq w (codes "avoid_local_udp_ports") then 9
+    else if bytes_eq w (codes "positive_ttl") then 10
+    else if bytes_eq w (codes "negative_ttl") then 11
+    else if bytes_eq w (codes "case_randomization") then 12
+    else if bytes_eq w (codes "encryption") then 13
+    else if bytes_eq w (codes "edns_payload_len") then 14
+    else if bytes_eq w (codes "qname_minimization") then 15
+    else if bytes_eq w (codes "first_delays") then 16
+    else 0
+
+-- an option and its value, where its rank is above this one
+unfoldable pub option_line : ℕ → Line
+option_line low [] = None
+option_line low (w ∷ ws) = if nat_lt low (rank_of w) then value_line w ws else None

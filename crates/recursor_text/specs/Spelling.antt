@@ -1,9 +1,9 @@
 -- The one text of each scenario.
-use Rattle.std.specs.Prelude.{◌≡◌, ℕ, ◌<◌, ◌≤◌, ◌⊎◌, List, [], ◌∷◌, ◌++◌, length, map, Bool, true, false, ◌&&◌, ◌==◌, Result, Ok, Err, codes, decimal}
+use Rattle.std.specs.Prelude.{◌≡◌, ℕ, ◌<◌, ◌≤◌, ◌⊎◌, List, [], ◌∷◌, ◌++◌, length, map, Bool, true, false, Ok, Err, codes, decimal}
 use Rattle.std.specs.List.{flat_map, join_with_byte, AllByRecursion}
 use Rattle.std.specs.declared.net.ip_addr.IpAddr.{IpAddr}
 use Rattle.std.specs.declared.net.ip_addr.IpAddr.TheVariants.{V4, V6}
-use Rattle.std.specs.Net.Addr.{IsIpv4Addr}
+use Rattle.std.specs.Net.Addr.{IsIpv4Addr, IsIpv6Addr}
 use Rattle.dns_core.specs.Name.{DomainName}
 use Rattle.dns_core.specs.NameText.{name_of}
 use Rattle.dns_core.specs.NameText.{text_of as name_text}
@@ -12,20 +12,24 @@ use Rattle.dns_core.specs.declared.codes.ResponseCode.{ResponseCode}
 use Rattle.dns_core.specs.declared.connection.Protocol.{Protocol}
 use Rattle.dns_core.specs.declared.connection.Protocol.TheVariants.{Udp}
 use Rattle.dns_core.specs.declared.message.Message.{Message}
-use Rattle.dns_core.specs.declared.net_error.NetError.{NetError}
 use Rattle.dns_core.specs.declared.record.RData.{RData}
 use Rattle.dns_core.specs.declared.record.RData.TheVariants.{A, AAAA, NS, CNAME, SOA, RRSIG, Opaque}
 use Rattle.dns_core.specs.declared.record.Record.{Record}
+use Rattle.dns_core.specs.declared.record.Soa.{Soa}
 use Rattle.dns_core.specs.declared.request.Question.{Question}
 use Rattle.dns_core.specs.declared.request.Turn.{Turn}
+use Rattle.resolver_settings.specs.Net.{Network, width_of}
+use Rattle.resolver_settings.specs.Recommended.{special_nets}
 use Rattle.recursor_core.specs.declared.options.RecursorOptions.{RecursorOptions}
-use Rattle.recursor_world.specs.declared.script.Script.{Script}
 use Rattle.recursor_world.specs.declared.script.ScriptLine.{ScriptLine}
 use Rattle.recursor_world.specs.declared.script.ScriptLine.TheVariants.{Connect, Refuse, Reply}
+use Rattle.recursor_text.specs.declared.reading.option_form.OptionLine.{OptionLine}
+use Rattle.recursor_text.specs.declared.reading.option_form.OptionLine.TheVariants.{AllowServer, DenyServer}
 use Rattle.recursor_text.specs.declared.scenario.Scenario.{Scenario}
 use Rattle.recursor_text.specs.declared.scenario.Upstream.{Upstream}
 use Rattle.recursor_text.specs.declared.scenario.Upstream.TheVariants.{Script as FromScript}
-use Rattle.recursor_text.specs.Lines.{class_in}
+use Rattle.recursor_text.specs.Codes.{is_record_type, is_asked_type}
+use Rattle.recursor_text.specs.RecordLines.{class_in}
 use Rattle.recursor_text.specs.Texts.{ip_text, type_text, response_code_text, protocol_text, flags_text, record_words}
 
 -- ---- the words of each line
@@ -39,6 +43,23 @@ head_words = codes "recursor" ∷ codes "1" ∷ []
 
 abbrev pub root_words : IpAddr → List (List ℕ)
 root_words ip = codes "root" ∷ ip_text ip ∷ []
+
+-- a network: its address, a slash, and how many bits count
+abbrev pub net_text : Network → List ℕ
+net_text n = ip_text n.addr ++ 47 ∷ decimal n.prefix
+
+-- networks with commas between them, and a dash where there are none
+abbrev pub nets_text : List Network → List ℕ
+nets_text [] = codes "-"
+nets_text (n ∷ ns) = join_with_byte 44 (map net_text (n ∷ ns))
+
+-- the name of an option, and its value
+abbrev pub named_words : OptionLine → List (List ℕ)
+named_words (AllowServer nets) = codes "allow_server" ∷ nets_text nets ∷ []
+named_words (DenyServer nets) = codes "deny_server" ∷ nets_text nets ∷ []
+
+abbrev pub option_words : OptionLine → List (List ℕ)
+option_words o = codes "option" ∷ named_words o
 
 abbrev pub patience_words : ℕ → List (List ℕ)
 patience_words n = codes "patience" ∷ decimal n ∷ []
@@ -85,6 +106,9 @@ script_lines (Refuse ip protocol) = []
 abbrev pub root_line : IpAddr → List ℕ
 root_line ip = spelled (root_words ip)
 
+abbrev pub option_line : OptionLine → List ℕ
+option_line o = spelled (option_words o)
+
 abbrev pub question_line : Question → List ℕ
 question_line q = spelled (question_words q)
 
@@ -97,23 +121,27 @@ rules_of (FromScript script) = script.lines
 abbrev pub to_roots : List IpAddr → List (List ℕ)
 to_roots roots = spelled head_words ∷ map root_line roots
 
-abbrev pub to_patience : List IpAddr → ℕ → List (List ℕ)
-to_patience roots patience = to_roots roots ++ spelled (patience_words patience) ∷ []
+abbrev pub to_options : List IpAddr → List OptionLine → List (List ℕ)
+to_options roots written = to_roots roots ++ map option_line written
 
-abbrev pub to_told : List IpAddr → ℕ → List (List ℕ)
-to_told roots patience = to_patience roots patience ++ spelled told_words ∷ []
+abbrev pub to_patience : List IpAddr → List OptionLine → ℕ → List (List ℕ)
+to_patience roots written patience = to_options roots written ++ spelled (patience_words patience) ∷ []
 
-abbrev pub to_rules : Scenario → List (List ℕ)
-to_rules s = to_told s.roots s.patience ++ flat_map script_lines (rules_of s.upstream)
+abbrev pub to_told : List IpAddr → List OptionLine → ℕ → List (List ℕ)
+to_told roots written patience = to_patience roots written patience ++ spelled told_words ∷ []
 
-abbrev pub to_questions : Scenario → List (List ℕ)
-to_questions s = to_rules s ++ map question_line s.questions
+abbrev pub to_rules : List OptionLine → Scenario → List (List ℕ)
+to_rules written s = to_told s.roots written s.patience ++ flat_map script_lines (rules_of s.upstream)
 
-abbrev pub to_turns : Scenario → List (List ℕ)
-to_turns s = to_questions s ++ map turn_line s.turns
+abbrev pub to_questions : List OptionLine → Scenario → List (List ℕ)
+to_questions written s = to_rules written s ++ map question_line s.questions
 
-abbrev pub scenario_lines : Scenario → List (List ℕ)
-scenario_lines s = to_turns s ++ spelled end_words ∷ []
+abbrev pub to_turns : List OptionLine → Scenario → List (List ℕ)
+to_turns written s = to_questions written s ++ map turn_line s.turns
+
+-- the lines of a scenario whose options these lines say
+abbrev pub scenario_lines : List OptionLine → Scenario → List (List ℕ)
+scenario_lines written s = to_turns written s ++ spelled end_words ∷ []
 
 -- each line ends with a line feed
 abbrev pub text_of : List (List ℕ) → List ℕ
@@ -128,33 +156,47 @@ IsName n = name_of false (name_text n) ≡ Ok n
 abbrev pub IsFullName : DomainName → Type 0
 IsFullName n = IsName n × (n.fqdn ≡ true)
 
--- an address of IPv4
 abbrev pub IsAddress : IpAddr → Type 0
 IsAddress (V4 a) = IsIpv4Addr a
-IsAddress (V6 a) = ⊥
+IsAddress (V6 a) = IsIpv6Addr a
 
--- A or NS
+-- a type that rules and questions have
 abbrev pub IsType : RecordType → Type 0
-IsType t = (t.code ≡ 1) ⊎ (t.code ≡ 2)
+IsType t = (t.code ≤ 65535) × (is_asked_type t ≡ true)
 
--- the data of an A or an NS record
+-- a type that records have
+abbrev pub IsRecordType : RecordType → Type 0
+IsRecordType t = (t.code ≤ 65535) × (is_record_type t ≡ true)
+
+pub record IsSoa (soa : Soa) : Type 0 where
+  pub mname : IsFullName soa.mname
+  pub rname : IsFullName soa.rname
+  pub serial : soa.serial ≤ 4294967295
+  pub refresh : soa.refresh ≤ 4294967295
+  pub retry : soa.retry ≤ 4294967295
+  pub expire : soa.expire ≤ 4294967295
+  pub minimum : soa.minimum ≤ 4294967295
+
+-- the data of a record
 abbrev pub IsData : RData → Type 0
 IsData (A a) = IsIpv4Addr a
+IsData (AAAA a) = IsIpv6Addr a
 IsData (NS target) = IsFullName target
-IsData _ = ⊥
+IsData (SOA soa) = IsSoa soa
+IsData (Opaque bytes) = AllByRecursion (λ b. b < 256) bytes
+IsData (CNAME target) = ⊥
+IsData (RRSIG covered rest) = ⊥
 
 pub record IsRecord (r : Record) : Type 0 where
   pub name : IsFullName r.name
   pub life : r.ttl ≤ 4294967295
   pub class : r.dns_class ≡ class_in
+  pub type : IsRecordType r.record_type
   pub told : IsData r.rdata
 
--- A rule for addresses tells no delegation.
-abbrev pub is_kept_out : RecordType → Record → Bool
-is_kept_out asked r = asked.code == 1 && r.record_type.code == 2
-
-abbrev pub IsToldFor : RecordType → Record → Type 0
-IsToldFor asked r = IsRecord r × (is_kept_out asked r ≡ false)
+-- the name exists, or does not
+abbrev pub IsCode : ResponseCode → Type 0
+IsCode c = (c.code ≡ 0) ⊎ (c.code ≡ 3)
 
 -- a rule that tells a message at once, over UDP
 pub record IsRule (ip : IpAddr) (protocol : Protocol) (name : DomainName) (type : RecordType) (delay : ℕ) (m : Message) : Type 0 where
@@ -164,14 +206,14 @@ pub record IsRule (ip : IpAddr) (protocol : Protocol) (name : DomainName) (type 
   pub typed : IsType type
   pub soon : delay ≡ 0
   pub query : m.query ≡ record { name = name; query_type = type; query_class = class_in }
-  pub fine : m.response_code.code ≡ 0
+  pub fine : IsCode m.response_code
   pub full : m.truncation ≡ false
   pub few_answers : length m.answers ≤ 65535
   pub few_authorities : length m.authorities ≤ 65535
   pub few_additionals : length m.additionals ≤ 65535
-  pub answers : AllByRecursion (IsToldFor type) m.answers
-  pub authorities : AllByRecursion (IsToldFor type) m.authorities
-  pub additionals : AllByRecursion (IsToldFor type) m.additionals
+  pub answers : AllByRecursion IsRecord m.answers
+  pub authorities : AllByRecursion IsRecord m.authorities
+  pub additionals : AllByRecursion IsRecord m.additionals
 
 abbrev pub IsScriptLine : ScriptLine → Type 0
 IsScriptLine (Reply ip protocol name type delay (Ok m)) = IsRule ip protocol name type delay m
@@ -179,11 +221,11 @@ IsScriptLine (Reply ip protocol name type delay (Err e)) = ⊥
 IsScriptLine (Connect ip protocol delay error) = ⊥
 IsScriptLine (Refuse ip protocol) = ⊥
 
--- a question for addresses, of at most 23 labels
+-- a question of at most 23 labels
 pub record IsQuestion (q : Question) : Type 0 where
   pub named : IsName q.query.name
   pub short : length q.query.name.labels ≤ 23
-  pub typed : q.query.query_type.code ≡ 1
+  pub typed : IsType q.query.query_type
   pub class : q.query.query_class ≡ class_in
   pub plain : q.dnssec_ok ≡ false
 
@@ -191,9 +233,51 @@ pub record IsQuestion (q : Question) : Type 0 where
 abbrev pub IsTurn : Turn → Type 0
 IsTurn t = (t.question ≡ 1) × (t.moment < 4611686018427387904)
 
+-- ---- option lines
+
+-- an address, and no more bits than those of its family have; the bits behind them may be set
+pub record IsNet (n : Network) : Type 0 where
+  pub address : IsAddress n.addr
+  pub short : n.prefix ≤ width_of n.addr
+
+abbrev pub IsOption : OptionLine → Type 0
+IsOption (AllowServer nets) = AllByRecursion IsNet nets
+IsOption (DenyServer nets) = AllByRecursion IsNet nets
+
+-- the place of an option in the order of all options of the format, from 1
+abbrev pub option_rank : OptionLine → ℕ
+option_rank (AllowServer nets) = 7
+option_rank (DenyServer nets) = 8
+
+-- the lines stand in the order of the options, none of them twice, each behind this rank
+abbrev pub RiseAbove : ℕ → List OptionLine → Type 0
+RiseAbove low [] = Unit {0}
+RiseAbove low (o ∷ os) = (low < option_rank o) × RiseAbove (option_rank o) os
+
+-- the rank of the last line, and this one where there is none
+abbrev pub last_rank : ℕ → List OptionLine → ℕ
+last_rank low [] = low
+last_rank low (o ∷ os) = last_rank (option_rank o) os
+
 -- the options that a recursor has where no line says otherwise
 abbrev pub standard_options : RecursorOptions
-standard_options = record { avoid_local_udp_ports = []; case_randomization = false; edns_payload_len = 1232 }
+standard_options = record { allow_server = []; deny_server = special_nets; avoid_local_udp_ports = []; case_randomization = false; edns_payload_len = 1232 }
+
+-- what a line says takes the place of what was, whole
+abbrev pub changed : RecursorOptions → OptionLine → RecursorOptions
+changed options (AllowServer nets) = record options { allow_server = nets }
+changed options (DenyServer nets) = record options { deny_server = nets }
+
+-- the same of several lines, one after the other
+abbrev pub changed_by : RecursorOptions → List OptionLine → RecursorOptions
+changed_by options [] = options
+changed_by options (o ∷ os) = changed_by (changed options o) os
+
+-- the options that these lines say
+abbrev pub options_with : List OptionLine → RecursorOptions
+options_with written = changed_by standard_options written
+
+-- ---- a whole scenario
 
 -- how many roots, questions and turns a scenario may have
 abbrev pub most_roots : ℕ
@@ -205,11 +289,14 @@ most_questions = 1
 abbrev pub most_turns : ℕ
 most_turns = 1
 
-pub record IsScenario (s : Scenario) : Type 0 where
+-- the scenario has the options that these lines say
+pub record IsScenario (written : List OptionLine) (s : Scenario) : Type 0 where
   pub rooted : 0 < length s.roots
   pub few_roots : length s.roots ≤ most_roots
   pub roots : AllByRecursion IsAddress s.roots
-  pub options : s.options ≡ standard_options
+  pub ordered : RiseAbove 0 written
+  pub valued : AllByRecursion IsOption written
+  pub options : s.options ≡ options_with written
   pub patience : (1 ≤ s.patience) × (s.patience ≤ 1000)
   pub rules : AllByRecursion IsScriptLine (rules_of s.upstream)
   pub asked : 0 < length s.questions
@@ -219,8 +306,9 @@ pub record IsScenario (s : Scenario) : Type 0 where
   pub few_turns : length s.turns ≤ most_turns
   pub turns : AllByRecursion IsTurn s.turns
 
--- The bytes are the text of the scenario.
+-- The bytes are the text of the scenario, its options said by some option lines.
 pub record Reads (bytes : List ℕ) (s : Scenario) : Type 0 where
+  pub written : List OptionLine
   pub short : length bytes ≤ 16777216
-  pub fits : IsScenario s
-  pub text : bytes ≡ text_of (scenario_lines s)
+  pub fits : IsScenario written s
+  pub text : bytes ≡ text_of (scenario_lines written s)

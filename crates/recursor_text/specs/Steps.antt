@@ -12,11 +12,12 @@ use Rattle.recursor_text.specs.declared.reading.lines.Form.TheVariants as form
 use Rattle.recursor_text.specs.declared.reading.rules.Counts.{Counts}
 use Rattle.recursor_text.specs.declared.reading.rules.OpenRule.{OpenRule}
 use Rattle.recursor_text.specs.declared.reading.draft.Stage.{Stage}
-use Rattle.recursor_text.specs.declared.reading.draft.Stage.TheVariants.{Start, Headed, Rooted, Patient, Scripted, Asked, Turned, Ended}
+use Rattle.recursor_text.specs.declared.reading.draft.Stage.TheVariants.{Start, Headed, Rooted, Optioned, Patient, Scripted, Asked, Turned, Ended}
 use Rattle.recursor_text.specs.declared.reading.draft.Draft.{Draft}
 use Rattle.recursor_text.specs.Numbers.{◌>>=◌}
-use Rattle.recursor_text.specs.Lines.{form_of, record_of}
-use Rattle.recursor_text.specs.Spelling.{is_kept_out, standard_options, most_roots, most_questions, most_turns}
+use Rattle.recursor_text.specs.Lines.{form_of}
+use Rattle.recursor_text.specs.RecordLines.{record_of}
+use Rattle.recursor_text.specs.Spelling.{option_rank, last_rank, options_with, most_roots, most_questions, most_turns}
 
 -- What a step did is what it should do, unless memory ran out.
 abbrev pub Steps : {X : Type 0} → Result X LineError → Draft → Option Draft → Type 0
@@ -33,8 +34,14 @@ may_root Headed = true
 may_root Rooted = true
 may_root _ = false
 
+abbrev pub may_option : Stage → Bool
+may_option Rooted = true
+may_option Optioned = true
+may_option _ = false
+
 abbrev pub may_wait : Stage → Bool
 may_wait Rooted = true
+may_wait Optioned = true
 may_wait _ = false
 
 abbrev pub may_tell : Stage → Bool
@@ -64,7 +71,7 @@ is_ended Ended = true
 is_ended _ = false
 
 abbrev pub start : Draft
-start = record { stage = Start; roots = []; patience = 0; rules = []; pending = None; questions = []; turns = [] }
+start = record { stage = Start; roots = []; written = []; patience = 0; rules = []; pending = None; questions = []; turns = [] }
 
 abbrev pub is_settled : Counts → Bool
 is_settled c = c.answers == 0 && c.authorities == 0 && c.additionals == 0
@@ -80,8 +87,7 @@ settle d o = if is_settled o.owed then record d { rules = d.rules ++ rule_of o �
 -- a record more, in the first section that lacks one
 abbrev pub add : OpenRule → Record → Option OpenRule
 add o r =
-    if is_kept_out o.message.query.query_type r then None
-    else if nat_lt 0 o.owed.answers then Some (record o { message = record o.message { answers = o.message.answers ++ r ∷ [] }; owed = record o.owed { answers = o.owed.answers - 1 } })
+    if nat_lt 0 o.owed.answers then Some (record o { message = record o.message { answers = o.message.answers ++ r ∷ [] }; owed = record o.owed { answers = o.owed.answers - 1 } })
     else if nat_lt 0 o.owed.authorities then Some (record o { message = record o.message { authorities = o.message.authorities ++ r ∷ [] }; owed = record o.owed { authorities = o.owed.authorities - 1 } })
     else if nat_lt 0 o.owed.additionals then Some (record o { message = record o.message { additionals = o.message.additionals ++ r ∷ [] }; owed = record o.owed { additionals = o.owed.additionals - 1 } })
     else None
@@ -89,6 +95,7 @@ add o r =
 abbrev pub put : Draft → Form → Option Draft
 put d form.Head = if may_head d.stage then Some (record d { stage = Headed }) else None
 put d (form.Root ip) = if may_root d.stage && nat_lt (length d.roots) most_roots then Some (record d { stage = Rooted; roots = d.roots ++ ip ∷ [] }) else None
+put d (form.Option o) = if may_option d.stage && nat_lt (last_rank 0 d.written) (option_rank o) then Some (record d { stage = Optioned; written = d.written ++ o ∷ [] }) else None
 put d (form.Patience n) = if may_wait d.stage then Some (record d { stage = Patient; patience = n }) else None
 put d form.ToldScript = if may_tell d.stage then Some (record d { stage = Scripted }) else None
 put d (form.Reply o) = if may_reply d.stage then Some (settle d o) else None
@@ -109,4 +116,4 @@ abbrev pub taken : Draft → List ℕ → Option Draft
 taken d line = taken_at d.pending d line
 
 abbrev pub scenario_of : Draft → Scenario
-scenario_of d = record { roots = d.roots; options = standard_options; patience = d.patience; upstream = FromScript (record { lines = d.rules }); questions = d.questions; turns = d.turns }
+scenario_of d = record { roots = d.roots; options = options_with d.written; patience = d.patience; upstream = FromScript (record { lines = d.rules }); questions = d.questions; turns = d.turns }

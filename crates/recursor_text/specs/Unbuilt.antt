@@ -1,20 +1,23 @@
 -- Lines that the format has and that are not read yet.
-use Rattle.std.specs.Prelude.{ℕ, ◌%◌, Bool, true, false, not, ◌&&◌, ◌||◌, ◌==◌, nat_le, nat_lt, List, [], ◌∷◌, length, take, drop, Option, Some, None, is_some, if◌then◌else◌, codes}
+use Rattle.std.specs.Prelude.{ℕ, Bool, true, false, not, ◌||◌, ◌==◌, nat_le, List, [], ◌∷◌, Option, Some, None, is_some, if◌then◌else◌, codes}
 use Rattle.std.specs.Str.{bytes_eq}
-use Rattle.std.specs.List.{list_all}
 use Rattle.dns_core.specs.declared.request.Turn.{Turn}
 use Rattle.recursor_text.specs.declared.reading.draft.Draft.{Draft}
 use Rattle.recursor_text.specs.declared.reading.draft.Stage.{Stage}
-use Rattle.recursor_text.specs.declared.reading.draft.Stage.TheVariants.{Headed, Rooted, Patient, Scripted, Asked, Turned}
+use Rattle.recursor_text.specs.declared.reading.draft.Stage.TheVariants.{Headed, Rooted, Optioned, Patient, Scripted, Asked, Turned}
 use Rattle.recursor_text.specs.declared.reading.draft.Place.{Place}
 use Rattle.recursor_text.specs.declared.reading.draft.Refusal.{Refusal}
 use Rattle.recursor_text.specs.declared.reading.draft.Refusal.TheVariants.{Bad, NotBuilt}
-use Rattle.recursor_text.specs.Addresses.{is_ipv6, is_address}
+use Rattle.recursor_text.specs.Addresses.{ip_of, ipv6_of}
+use Rattle.recursor_text.specs.Codes.{number_behind, type_of}
 use Rattle.recursor_text.specs.Fields.{Fields, checked, field, both, skip, whole, nothing}
+use Rattle.recursor_text.specs.Hex.{bytes_of}
 use Rattle.recursor_text.specs.Names.{full_name, relaxed_name}
-use Rattle.recursor_text.specs.Numbers.{◌>>=◌, number_of, number_within, ipv4_of}
-use Rattle.recursor_text.specs.OptionLines.{option_line}
+use Rattle.recursor_text.specs.Numbers.{◌>>=◌, number_within, ipv4_of}
+use Rattle.recursor_text.specs.OptionLines.{Line, option_line}
 use Rattle.recursor_text.specs.Pieces.{pieces}
+use Rattle.recursor_text.specs.RecordLines.{wide_field}
+use Rattle.recursor_text.specs.Spelling.{last_rank}
 
 -- ---- words
 
@@ -35,30 +38,9 @@ is_flags w = is_among (codes "none" ∷ codes "aa" ∷ codes "tc" ∷ codes "aa+
 unfoldable pub is_dnssec : List ℕ → Bool
 is_dnssec w = is_among (codes "plain" ∷ codes "dnssec" ∷ []) w
 
--- the number behind a word
-abbrev pub number_behind : List ℕ → List ℕ → Option ℕ
-number_behind other w = if nat_lt (length other) (length w) && bytes_eq (take (length other) w) other then number_of 65535 (drop (length other) w) else None
-
 -- a number behind a word, and none of these, which have names
 abbrev pub is_numbered : List ℕ → (ℕ → Bool) → List ℕ → Bool
 is_numbered other named w = elim (number_behind other w) [ Some n ↦ not (named n) | None ↦ false ]
-
-abbrev pub is_number_among : List ℕ → ℕ → Bool
-is_number_among [] n = false
-is_number_among (m ∷ ms) n = if n == m then true else is_number_among ms n
-
--- the numbers of the types that have names
-unfoldable pub is_named_type : ℕ → Bool
-is_named_type n = is_number_among (1 ∷ 2 ∷ 5 ∷ 6 ∷ 10 ∷ 12 ∷ 15 ∷ 16 ∷ 28 ∷ 33 ∷ 41 ∷ 43 ∷ 46 ∷ 47 ∷ 48 ∷ 50 ∷ 51 ∷ 64 ∷ 65 ∷ 251 ∷ 252 ∷ 255 ∷ 257 ∷ []) n
-
-unfoldable pub is_early_type : List ℕ → Bool
-is_early_type w = is_among (codes "A" ∷ codes "NS" ∷ codes "CNAME" ∷ codes "SOA" ∷ codes "NULL" ∷ codes "PTR" ∷ codes "MX" ∷ codes "TXT" ∷ codes "AAAA" ∷ codes "SRV" ∷ codes "OPT" ∷ []) w
-
-unfoldable pub is_late_type : List ℕ → Bool
-is_late_type w = is_among (codes "DS" ∷ codes "RRSIG" ∷ codes "NSEC" ∷ codes "DNSKEY" ∷ codes "NSEC3" ∷ codes "NSEC3PARAM" ∷ codes "SVCB" ∷ codes "HTTPS" ∷ codes "IXFR" ∷ codes "AXFR" ∷ codes "ANY" ∷ codes "CAA" ∷ []) w
-
-abbrev pub is_type : List ℕ → Bool
-is_type w = is_early_type w || is_late_type w || is_numbered (codes "TYPE") is_named_type w
 
 abbrev pub is_named_class : ℕ → Bool
 is_named_class n = n == 1 || n == 3 || n == 4
@@ -72,32 +54,19 @@ is_named_code n = nat_le n 5
 unfoldable pub is_code : List ℕ → Bool
 is_code w = is_among (codes "NOERROR" ∷ codes "FORMERR" ∷ codes "SERVFAIL" ∷ codes "NXDOMAIN" ∷ codes "NOTIMP" ∷ codes "REFUSED" ∷ []) w || is_numbered (codes "RCODE") is_named_code w
 
-abbrev pub is_hex_digit : ℕ → Bool
-is_hex_digit b = (nat_le 48 b && nat_le b 57) || (nat_le 97 b && nat_le b 102)
-
--- bytes as pairs of digits in base 16, or a dash
-abbrev pub is_bytes : List ℕ → Bool
-is_bytes w = bytes_eq w (codes "-") || (nat_lt 0 (length w) && length w % 2 == 0 && list_all is_hex_digit w)
-
 -- ---- lines, each after its first word
-
-abbrev pub Line : Type 0
-Line = List (List ℕ) → Option (Unit {0})
 
 abbrev pub delay_field : Fields ℕ
 delay_field = field (number_within 0 1000000)
 
-abbrev pub any_number : Fields ℕ
-any_number = field (number_within 0 4294967295)
-
 unfoldable pub root_line : Line
-root_line = whole (checked is_address) (λ x. tt)
+root_line = whole (field ip_of) (λ x. tt)
 
 unfoldable pub told_line : Line
 told_line = whole (skip (codes "world") nothing) (λ x. tt)
 
 unfoldable pub refuse_line : Line
-refuse_line = whole (both (checked is_address) (checked is_protocol)) (λ x. tt)
+refuse_line = whole (both (field ip_of) (checked is_protocol)) (λ x. tt)
 
 unfoldable pub error_line : Line
 error_line = whole (checked is_error_word) (λ x. tt)
@@ -114,17 +83,17 @@ outcome_line key l [] = None
 outcome_line key l (w ∷ ws) = if bytes_eq w key then l ws else if bytes_eq w (codes "error") then error_line ws else None
 
 unfoldable pub connect_line : Line
-connect_line ws = both (checked is_address) (both (checked is_protocol) delay_field) ws >>= λ x. outcome_line (codes "ok") ok_line x.1
+connect_line ws = both (field ip_of) (both (checked is_protocol) delay_field) ws >>= λ x. outcome_line (codes "ok") ok_line x.1
 
 unfoldable pub reply_line : Line
-reply_line ws = both (checked is_address) (both (checked is_protocol) (both (field full_name) (both (checked is_type) delay_field))) ws >>= λ x. outcome_line (codes "message") message_line x.1
+reply_line ws = both (field ip_of) (both (checked is_protocol) (both (field full_name) (both (field type_of) delay_field))) ws >>= λ x. outcome_line (codes "message") message_line x.1
 
 unfoldable pub question_line : Line
-question_line = whole (both (field relaxed_name) (both (checked is_type) (checked is_dnssec))) (λ x. tt)
+question_line = whole (both (field relaxed_name) (both (field type_of) (checked is_dnssec))) (λ x. tt)
 
 -- a turn at a moment that is not below this one
 unfoldable pub turn_line : ℕ → Line
-turn_line last = whole (both any_number (field (number_within last 4611686018427387903))) (λ x. tt)
+turn_line last = whole (both wide_field (field (number_within last 4611686018427387903))) (λ x. tt)
 
 -- ---- record lines
 
@@ -132,19 +101,19 @@ unfoldable pub ipv4_data : Line
 ipv4_data = whole (field ipv4_of) (λ x. tt)
 
 unfoldable pub ipv6_data : Line
-ipv6_data = whole (checked is_ipv6) (λ x. tt)
+ipv6_data = whole (field ipv6_of) (λ x. tt)
 
 unfoldable pub name_data : Line
 name_data = whole (field full_name) (λ x. tt)
 
 unfoldable pub soa_data : Line
-soa_data = whole (both (field full_name) (both (field full_name) (both any_number (both any_number (both any_number (both any_number any_number)))))) (λ x. tt)
+soa_data = whole (both (field full_name) (both (field full_name) (both wide_field (both wide_field (both wide_field (both wide_field wide_field)))))) (λ x. tt)
 
 unfoldable pub signature_data : Line
-signature_data = whole (both (checked is_type) (checked is_bytes)) (λ x. tt)
+signature_data = whole (both (field type_of) (field bytes_of)) (λ x. tt)
 
 unfoldable pub bytes_data : Line
-bytes_data = whole (checked is_bytes) (λ x. tt)
+bytes_data = whole (field bytes_of) (λ x. tt)
 
 -- the data of the type that a word names
 abbrev pub data_line : Line
@@ -156,11 +125,11 @@ data_line (w ∷ ws) =
     else if bytes_eq w (codes "SOA") then soa_data ws
     else if bytes_eq w (codes "RRSIG") then signature_data ws
     else if bytes_eq w (codes "AAAA") then ipv6_data ws
-    else if is_type w then bytes_data ws
+    else if is_some (type_of w) then bytes_data ws
     else None
 
 unfoldable pub record_line : Line
-record_line ws = both (field full_name) (both any_number (checked is_class)) ws >>= λ x. data_line x.1
+record_line ws = both (field full_name) (both wide_field (checked is_class)) ws >>= λ x. data_line x.1
 
 -- ---- where a line can stand
 
@@ -171,6 +140,7 @@ is_at_roots _ = false
 
 abbrev pub is_at_options : Stage → Bool
 is_at_options Rooted = true
+is_at_options Optioned = true
 is_at_options _ = false
 
 abbrev pub is_at_told : Stage → Bool
@@ -216,7 +186,7 @@ unfoldable pub other_line : Place → Line
 other_line place [] = None
 other_line place (w ∷ ws) =
     if bytes_eq w (codes "root") then stands (is_at_roots place.stage) (root_line ws)
-    else if bytes_eq w (codes "option") then stands (is_at_options place.stage) (option_line ws)
+    else if bytes_eq w (codes "option") then stands (is_at_options place.stage) (option_line place.option ws)
     else if bytes_eq w (codes "told") then stands (is_at_told place.stage) (told_line ws)
     else late_line place w ws
 
@@ -232,7 +202,7 @@ moment_of [] = 0
 moment_of (t ∷ ts) = t.moment
 
 abbrev pub place_of : Draft → Place
-place_of d = record { stage = d.stage; owes = is_some d.pending; last = moment_of d.turns }
+place_of d = record { stage = d.stage; option = last_rank 0 d.written; owes = is_some d.pending; last = moment_of d.turns }
 
 abbrev pub refusal_at : Place → List ℕ → Refusal
 refusal_at place line = if is_some (line_at place line) then NotBuilt else Bad

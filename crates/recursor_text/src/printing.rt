@@ -1,7 +1,7 @@
 //! The printer. Each function that starts with `put` appends its text, and on want of memory
 //! maybe a part of it; what is public cuts the text back to what it was.
 
-mod codes;
+pub mod codes;
 mod errors;
 mod log;
 mod records;

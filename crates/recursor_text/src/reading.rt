@@ -2,11 +2,16 @@
 //! far, and the whole text.
 
 pub mod addresses;
+pub mod codes;
 pub mod draft;
+pub mod hex;
 pub mod lines;
+pub mod networks;
 pub mod numbers;
+pub mod option_form;
 pub mod option_lines;
 pub mod pieces;
+pub mod record_lines;
 pub mod refusal;
 pub mod rules;
 pub mod text;

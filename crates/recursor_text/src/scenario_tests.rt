@@ -1,10 +1,11 @@
 //! Scenarios of the worked example, and texts that are none.
 
 use crate::{Cause, Scenario, ScenarioError, Upstream, read_scenario};
-use dns_core::{Name, Protocol, RData, RecordType};
+use dns_core::{Items, Message, Name, Protocol, RData, RecordType, ResponseCode, Soa};
 use recursor_world::ScriptLine;
+use resolver_settings::IpNet;
 use std::alloc::Global;
-use std::net::{IpAddr, Ipv4Addr};
+use std::net::{IpAddr, Ipv4Addr, Ipv6Addr};
 use std::process::Abort;
 use std::test::Fail;
 
@@ -27,7 +28,7 @@ const OTHER_CODE: &str = "reply 11.0.0.1 udp com. TYPE99 0 message RCODE6 aa+tc 
 
 const MANY_LABELS: &str = "question a.a.a.a.a.a.a.a.a.a.a.a.a.a.a.a.a.a.a.a.a.a.a.a. A plain";
 
-const NETWORKS: &str = "option deny_server ::/0,10.0.0.0/8,2001:db8::/128";
+const NETWORKS: &str = "option deny_answers ::/0,10.0.0.0/8,2001:db8::/128";
 
 /// What is wrong with a text, and `None` where it is a scenario.
 fn fault(alloc: Global, text: &[u8]) -> Option<ScenarioError> {
@@ -196,8 +197,6 @@ fn bad_inputs_name_their_line(rt: HostRuntime) -> Result<(), Fail> {
     bad(alloc, 3, "option positive_ttl 2 1")?;
     bad(alloc, 3, "option first_delays 32")?;
     bad(alloc, 3, "option avoid_local_udp_ports 2,1")?;
-    bad(alloc, 6, "com. 172800 IN TYPE1 00")?;
-    bad(alloc, 6, "com. 172800 IN TXT 0")?;
     bad(alloc, 6, "refuse 11.0.0.1 udp")?;
     bad(alloc, 14, "turn 1")?;
     faulty(alloc, b"recursor 1\npatience 3\n", 2, Cause::Line)?;
@@ -211,7 +210,7 @@ fn lines_that_are_not_built_are_told_so(rt: HostRuntime) -> Result<(), Fail> {
     let alloc = rt.alloc();
     not_built(alloc, 3, "root 11.0.0.9")?;
     not_built(alloc, 3, "option recursion_limit 255")?;
-    not_built(alloc, 3, "option deny_server 11.0.0.3/32,10.0.0.0/8")?;
+    not_built(alloc, 3, "option allow_answers 11.0.0.3/32,10.0.0.0/8")?;
     not_built(alloc, 3, "option negative_ttl 1 1")?;
     not_built(alloc, 3, "option encryption on 300 300 10")?;
     not_built(alloc, 3, "option first_delays 1,31")?;
@@ -224,10 +223,28 @@ fn lines_that_are_not_built_are_told_so(rt: HostRuntime) -> Result<(), Fail> {
     not_built(alloc, 5, "reply 11.0.0.1 udp com. NS 5 error mismatch")?;
     not_built(alloc, 5, OTHER_CODE)?;
     not_built(alloc, 6, "com. 172800 CH NS a.nic.com.")?;
-    not_built(alloc, 6, "com. 172800 IN TYPE99 00ff")?;
-    not_built(alloc, 6, "com. 1 IN SOA a. b. 1 2 3 4 5")?;
-    not_built(alloc, 12, "example.com. 300 IN NS ns.example.com.")?;
+    not_built(
+        alloc,
+        5,
+        "reply 11.0.0.1 udp com. NS 0 message SERVFAIL none 0 0 0",
+    )?;
+    not_built(
+        alloc,
+        5,
+        "reply 11.0.0.1 udp com. CNAME 0 message NOERROR none 0 0 0",
+    )?;
+    not_built(
+        alloc,
+        5,
+        "reply 11.0.0.1 udp com. DNSKEY 0 message NOERROR none 0 0 0",
+    )?;
+    not_built(alloc, 6, "com. 172800 IN CNAME a.nic.com.")?;
+    not_built(alloc, 6, "com. 172800 IN DS 00ff")?;
+    not_built(alloc, 6, "com. 172800 IN RRSIG A 00ff")?;
     not_built(alloc, 13, "question example.com. MX dnssec")?;
+    not_built(alloc, 13, "question example.com. ANY plain")?;
+    not_built(alloc, 13, "question example.com. CNAME plain")?;
+    not_built(alloc, 13, "question example.com. NSEC3 plain")?;
     not_built(alloc, 13, MANY_LABELS)?;
     not_built(alloc, 13, "turn 1 0")?;
     not_built(alloc, 13, "end")?;
@@ -241,13 +258,177 @@ fn lines_that_are_not_built_are_told_so(rt: HostRuntime) -> Result<(), Fail> {
 #[test]
 fn lines_with_ipv6_addresses_are_not_built(rt: HostRuntime) -> Result<(), Fail> {
     let alloc = rt.alloc();
-    not_built(alloc, 2, "root 2001:db8::1")?;
-    not_built(alloc, 2, "root ::")?;
     not_built(alloc, 3, NETWORKS)?;
+    not_built(alloc, 3, "root ::")?;
     not_built(alloc, 5, "connect 2001:db8:0:1:1:1:1:1 h3 0 ok")?;
     not_built(alloc, 5, "refuse 2001:db8::1:0:0:1 tcp")?;
     not_built(alloc, 5, "reply ::1 udp com. NS 0 error io")?;
-    not_built(alloc, 7, "a.nic.com. 172800 IN AAAA ::ffff:c000:201")?;
+    Ok(())
+}
+
+/// The base script with this line in it is read.
+fn read(alloc: Global, line: u32, words: &str) -> Result<Scenario, Fail> {
+    let text = with_line(alloc, line, words)?;
+    Ok(read_scenario(alloc, text.as_bytes())?)
+}
+
+/// The message that the first rule tells.
+fn first_told(scenario: &Scenario) -> Option<&Message> {
+    match rules(scenario) {
+        [
+            ScriptLine::Reply {
+                outcome: Ok(message),
+                ..
+            },
+            ..
+        ] => Some(message),
+        _ => None,
+    }
+}
+
+/// A record line in the first rule is read, and has this type and this data.
+fn holds(alloc: Global, words: &str, record_type: RecordType, rdata: RData) -> Result<(), Fail> {
+    let scenario = read(alloc, 6, words)?;
+    let Some(message) = first_told(&scenario) else {
+        return Err(Fail::new(format_args!("no message")));
+    };
+    let record = &message.authorities.items()[0];
+    if record.record_type == record_type && record.rdata == rdata {
+        return Ok(());
+    }
+    Err(Fail::new(format_args!("{record:?}")))
+}
+
+fn opaque(alloc: Global, bytes: &[u8]) -> Result<RData, Fail> {
+    Ok(RData::Opaque(Items::new(Vec::from_slice(alloc, bytes)?)))
+}
+
+#[test]
+fn reads_addresses_of_both_families(rt: HostRuntime) -> Result<(), Fail> {
+    let alloc = rt.alloc();
+    let scenario = read(alloc, 2, "root 2001:db8::1")?;
+    let root = IpAddr::V6(Ipv6Addr::new(0x2001, 0xdb8, 0, 0, 0, 0, 0, 1));
+    assert_eq!(rt; scenario.roots.items()[0], root);
+    let scenario = read(alloc, 2, "root ::")?;
+    let root = IpAddr::V6(Ipv6Addr::new(0, 0, 0, 0, 0, 0, 0, 0));
+    assert_eq!(rt; scenario.roots.items()[0], root);
+    read(
+        alloc,
+        5,
+        "reply ::1 udp com. NS 0 message NOERROR none 0 1 1",
+    )?;
+    Ok(())
+}
+
+#[test]
+fn reads_data_of_each_type(rt: HostRuntime) -> Result<(), Fail> {
+    let alloc = rt.alloc();
+    let mapped = Ipv6Addr::new(0, 0, 0, 0, 0, 0xffff, 0xc000, 0x201);
+    holds(
+        alloc,
+        "com. 1 IN AAAA ::ffff:c000:201",
+        RecordType::AAAA,
+        RData::AAAA(mapped),
+    )?;
+    let soa = Soa {
+        mname: Name::parse(alloc, "a.")?,
+        rname: Name::parse(alloc, "b.")?,
+        serial: 1,
+        refresh: 2,
+        retry: 3,
+        expire: 4,
+        minimum: 4_294_967_295,
+    };
+    holds(
+        alloc,
+        "com. 1 IN SOA a. b. 1 2 3 4 4294967295",
+        RecordType::SOA,
+        RData::SOA(soa),
+    )?;
+    holds(
+        alloc,
+        "com. 1 IN TXT 00ff",
+        RecordType::TXT,
+        opaque(alloc, b"\x00\xff")?,
+    )?;
+    holds(
+        alloc,
+        "com. 1 IN TXT -",
+        RecordType::TXT,
+        opaque(alloc, b"")?,
+    )?;
+    holds(
+        alloc,
+        "com. 1 IN TYPE99 5a",
+        RecordType { code: 99 },
+        opaque(alloc, b"Z")?,
+    )?;
+    holds(
+        alloc,
+        "com. 1 IN TYPE65535 -",
+        RecordType { code: 65535 },
+        opaque(alloc, b"")?,
+    )?;
+    holds(
+        alloc,
+        "com. 1 IN ANY 00",
+        RecordType::ANY,
+        opaque(alloc, b"\x00")?,
+    )?;
+    Ok(())
+}
+
+#[test]
+fn reads_other_types_and_codes(rt: HostRuntime) -> Result<(), Fail> {
+    let alloc = rt.alloc();
+    let scenario = read(
+        alloc,
+        5,
+        "reply 11.0.0.1 udp com. AAAA 0 message NXDOMAIN aa 0 1 1",
+    )?;
+    let Some(message) = first_told(&scenario) else {
+        return Err(Fail::new(format_args!("no message")));
+    };
+    assert_eq!(rt; message.response_code, ResponseCode::NXDomain);
+    assert_eq!(rt; message.query.query_type, RecordType::AAAA);
+    read(
+        alloc,
+        5,
+        "reply 11.0.0.1 udp com. TYPE0 0 message NOERROR none 0 1 1",
+    )?;
+    let scenario = read(alloc, 13, "question example.com. MX plain")?;
+    assert_eq!(rt;
+        scenario.questions.items()[0].query.query_type,
+        RecordType::MX
+    );
+    read(alloc, 12, "example.com. 300 IN NS ns.example.com.")?;
+    Ok(())
+}
+
+/// Types by another word than their own, digits that are not in pairs or not in lower case, and
+/// data of another type.
+#[test]
+fn other_spellings_of_data_are_bad(rt: HostRuntime) -> Result<(), Fail> {
+    let alloc = rt.alloc();
+    bad(alloc, 6, "com. 172800 IN TYPE1 00")?;
+    bad(alloc, 6, "com. 172800 IN TYPE01 00")?;
+    bad(alloc, 6, "com. 172800 IN TYPE65536 00")?;
+    bad(alloc, 6, "com. 172800 IN TYPE 00")?;
+    bad(alloc, 6, "com. 172800 IN aaaa ::1")?;
+    bad(alloc, 6, "com. 172800 IN TXT 0")?;
+    bad(alloc, 6, "com. 172800 IN TXT 0G")?;
+    bad(alloc, 6, "com. 172800 IN TXT 0A")?;
+    bad(alloc, 6, "com. 172800 IN TXT ")?;
+    bad(alloc, 6, "com. 172800 IN TXT 00 00")?;
+    bad(alloc, 6, "com. 1 IN SOA a. b. 1 2 3 4")?;
+    bad(alloc, 6, "com. 1 IN SOA a. b. 1 2 3 4 5 6")?;
+    bad(alloc, 6, "com. 1 IN SOA a. b. 1 2 3 4 05")?;
+    bad(alloc, 6, "com. 1 IN SOA a. b. 1 2 3 4 4294967296")?;
+    bad(alloc, 6, "com. 1 IN SOA a. b 1 2 3 4 5")?;
+    bad(alloc, 7, "a.nic.com. 172800 IN AAAA 11.0.0.2")?;
+    bad(alloc, 7, "a.nic.com. 172800 IN AAAA ::ffff:1.2.3.4")?;
+    bad(alloc, 7, "a.nic.com. 172800 IN A ::1")?;
+    bad(alloc, 13, "question example.com. TYPE28 plain")?;
     Ok(())
 }
 
@@ -261,9 +442,143 @@ fn other_spellings_of_ipv6_are_bad(rt: HostRuntime) -> Result<(), Fail> {
     bad(alloc, 2, "root 2001:db8:0:0:0:0:0:1")?;
     bad(alloc, 2, "root ::ffff:192.0.2.1")?;
     bad(alloc, 2, "root ::1%1")?;
-    bad(alloc, 3, "option deny_server ::/129")?;
-    bad(alloc, 3, "option deny_server 10.0.0.0/33")?;
-    bad(alloc, 7, "a.nic.com. 172800 IN AAAA 11.0.0.2")?;
-    bad(alloc, 7, "a.nic.com. 172800 IN A ::1")?;
+    Ok(())
+}
+
+/// The base script with these lines before its third.
+fn with_options(alloc: Global, lines: &[&str]) -> Result<String, Fail> {
+    let mut text = String::new(alloc);
+    for (i, old) in BASE.lines().enumerate() {
+        if i == 2 {
+            for line in lines {
+                text.push_str(line)?;
+                text.push_str("\n")?;
+            }
+        }
+        text.push_str(old)?;
+        text.push_str("\n")?;
+    }
+    Ok(text)
+}
+
+fn optioned(alloc: Global, lines: &[&str]) -> Result<Scenario, Fail> {
+    let text = with_options(alloc, lines)?;
+    Ok(read_scenario(alloc, text.as_bytes())?)
+}
+
+/// The base script with these lines before its third fails at the last of them.
+fn last_fails(alloc: Global, lines: &[&str], cause: Cause) -> Result<(), Fail> {
+    let text = with_options(alloc, lines)?;
+    faulty(alloc, text.as_bytes(), 2 + lines.len() as u32, cause)
+}
+
+fn bad_option(alloc: Global, line: &str) -> Result<(), Fail> {
+    last_fails(alloc, &[line], Cause::Line)
+}
+
+fn net(addr: &str, prefix: u8) -> Result<IpNet, Fail> {
+    let addr = addr.parse()?;
+    let net = IpNet::new(addr, prefix)?;
+    Ok(net)
+}
+
+#[test]
+fn standard_options_have_no_line(rt: HostRuntime) -> Result<(), Fail> {
+    let alloc = rt.alloc();
+    let options = optioned(alloc, &[])?.options;
+    assert_eq!(rt; options.allow_server.len(), 0);
+    assert_eq!(rt; options.deny_server.len(), 22);
+    assert_eq!(rt; options.deny_server.items()[3], net("10.0.0.0", 8)?);
+    Ok(())
+}
+
+#[test]
+fn a_list_that_is_written_replaces_the_default(rt: HostRuntime) -> Result<(), Fail> {
+    let alloc = rt.alloc();
+    let options = optioned(alloc, &["option deny_server 11.0.0.3/32,10.1.2.3/8"])?.options;
+    assert_eq!(rt; options.allow_server.len(), 0);
+    assert_eq!(rt;
+        options.deny_server.items(),
+        [net("11.0.0.3", 32)?, net("10.1.2.3", 8)?].as_slice()
+    );
+    let options = optioned(alloc, &["option allow_server 2001:db8::1/128,::/0"])?.options;
+    assert_eq!(rt;
+        options.allow_server.items(),
+        [net("2001:db8::1", 128)?, net("::", 0)?].as_slice()
+    );
+    assert_eq!(rt; options.deny_server.len(), 22);
+    Ok(())
+}
+
+#[test]
+fn both_lists_are_read_and_may_be_empty(rt: HostRuntime) -> Result<(), Fail> {
+    let alloc = rt.alloc();
+    let lines = ["option allow_server 0.0.0.0/0", "option deny_server -"];
+    let options = optioned(alloc, &lines)?.options;
+    assert_eq!(rt;
+        options.allow_server.items(),
+        [net("0.0.0.0", 0)?].as_slice()
+    );
+    assert_eq!(rt; options.deny_server.len(), 0);
+    let lines = ["option allow_server -", "option deny_server fe80::/64"];
+    let options = optioned(alloc, &lines)?.options;
+    assert_eq!(rt; options.allow_server.len(), 0);
+    assert_eq!(rt;
+        options.deny_server.items(),
+        [net("fe80::", 64)?].as_slice()
+    );
+    Ok(())
+}
+
+#[test]
+fn other_spellings_of_networks_are_bad(rt: HostRuntime) -> Result<(), Fail> {
+    let alloc = rt.alloc();
+    bad_option(alloc, "option deny_server 10.0.0.0/33")?;
+    bad_option(alloc, "option allow_server 10.0.0.0/33")?;
+    bad_option(alloc, "option deny_answers 10.0.0.0/33")?;
+    bad_option(alloc, "option deny_server ::/129")?;
+    bad_option(alloc, "option deny_server ::/064")?;
+    bad_option(alloc, "option deny_server 10.0.0.0")?;
+    bad_option(alloc, "option deny_server 10.0.0.0/")?;
+    bad_option(alloc, "option deny_server 10.0.0.0/8/8")?;
+    bad_option(alloc, "option deny_server /8")?;
+    bad_option(alloc, "option deny_server 10.0.0.0/8,")?;
+    bad_option(alloc, "option deny_server ,10.0.0.0/8")?;
+    bad_option(alloc, "option deny_server 10.0.0.0/8,,11.0.0.0/8")?;
+    bad_option(alloc, "option deny_server -,10.0.0.0/8")?;
+    bad_option(alloc, "option deny_server 010.0.0.0/8")?;
+    bad_option(alloc, "option deny_server FE80::/64")?;
+    bad_option(alloc, "option deny_server")?;
+    bad_option(alloc, "option deny_server ")?;
+    bad_option(alloc, "option deny_server - -")?;
+    bad_option(alloc, "option")?;
+    bad_option(alloc, "option deny_servers -")?;
+    Ok(())
+}
+
+/// Options stand between roots and patience, in their order, and none of them twice.
+#[test]
+fn options_out_of_order_are_bad(rt: HostRuntime) -> Result<(), Fail> {
+    let alloc = rt.alloc();
+    let allow = "option allow_server -";
+    let deny = "option deny_server -";
+    let size = "option ns_cache_size 5";
+    last_fails(alloc, &[deny, allow], Cause::Line)?;
+    last_fails(alloc, &[deny, deny], Cause::Line)?;
+    last_fails(alloc, &[allow, allow], Cause::Line)?;
+    last_fails(alloc, &[allow, deny, allow], Cause::Line)?;
+    last_fails(alloc, &[deny, size], Cause::Line)?;
+    last_fails(alloc, &[allow, size], Cause::Line)?;
+    last_fails(alloc, &[size], Cause::NotBuilt)?;
+    last_fails(alloc, &[deny, "option first_delays 1"], Cause::NotBuilt)?;
+    last_fails(alloc, &[allow, "option first_delays 32"], Cause::Line)?;
+    last_fails(alloc, &[deny, "root 11.0.0.9"], Cause::Line)?;
+    last_fails(alloc, &[deny, "told script"], Cause::Line)?;
+    last_fails(alloc, &["patience 1", deny], Cause::Line)?;
+    last_fails(alloc, &["patience 1", size], Cause::Line)?;
+    bad(alloc, 1, deny)?;
+    bad(alloc, 2, deny)?;
+    bad(alloc, 4, deny)?;
+    bad(alloc, 5, deny)?;
     Ok(())
 }

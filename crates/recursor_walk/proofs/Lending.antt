@@ -1,6 +1,6 @@
 -- Lists with the same addresses, and what the servers of a delegation lend.
-use Rattle.std.proofs.Common.{◌≡◌, ℕ, ◌+◌, ◌<◌, ◌≤◌, inl, inr, Bool, true, false, List, [], ◌∷◌, ◌++◌, take, length, get_or, Option, Some, None, refl, ap, sym, ◌∙◌, subst, append_assoc}
-use Rattle.std.specs.Prelude.{Contains, if◌then◌else◌}
+use Rattle.std.proofs.Common.{◌≡◌, ℕ, ◌+◌, ◌<◌, ◌≤◌, inl, inr, Bool, true, false, cond, List, [], ◌∷◌, ◌++◌, take, length, get_or, Option, Some, None, refl, ap, sym, ◌∙◌, subst, append_assoc}
+use Rattle.std.specs.Prelude.{Contains, filter, not, if◌then◌else◌}
 use Rattle.std.specs.List.{list_any, filter_map, flat_map, cons_option}
 use Rattle.std.specs.declared.net.ip_addr.IpAddr.{IpAddr}
 use Rattle.std.proofs.lemmas.List.{take_all, take_more, append-nil}
@@ -11,8 +11,8 @@ use Rattle.dns_core.specs.declared.record.Record.{Record}
 use Rattle.dns_core.specs.declared.message.Message.{Message}
 use Rattle.resolution.specs.Names.{base}
 use Rattle.resolution.specs.Records.{address, records}
-use Rattle.resolution.specs.Serving.{address_under, target_below, targets, glue}
-use Rattle.resolution.proofs.Members.{Has, Has-from_Contains, Contains-from_Has, Has-filter_map, filter_map-Has, flat_map-Has, Has-append_cases}
+use Rattle.resolution.specs.Serving.{address_under, target_below, targets, glue, allowed}
+use Rattle.resolution.proofs.Members.{Has, Has-from_Contains, Contains-from_Has, Has-filter, Has-passes, Has-filter_map, filter_map-Has, flat_map-Has, Has-append_cases}
 use Rattle.resolution.proofs.PlainServed.{any_Has, Has_any}
 use Rattle.recursor_walk.specs.Lending.{SameElements, lent, lent_by, lent_for}
 
@@ -105,3 +105,25 @@ same-glue m name ip =
       (λ h. Contains-from_Has (glue m name) ip (lent-glue names (records m) ip (Has-from_Contains one ip h))),
       (λ h. Contains-from_Has one ip (glue-lent names (records m) ip (Has-from_Contains (glue m name) ip h))),
     )
+
+-- an element that passes the test is kept
+Has-kept : {X : Type 0} (p : X → Bool) (xs : List X) (y : X) → Has xs y → p y ≡ true → Has (filter p xs) y
+Has-kept p [] y h e = elim h [ ]
+Has-kept p (x ∷ xs) y (inl s) e = rw (ap p s ∙ e) (inl s)
+Has-kept {X} p (x ∷ xs) y (inr h) e = at_head (p x) (Has-kept p xs y h e)
+  where
+    at_head : (b : Bool) → Has (filter p xs) y → Has (cond b (x ∷ filter p xs) (filter p xs)) y
+    at_head true k = inr k
+    at_head false k = k
+
+-- an address that may be asked and is in one list is in what may be asked of another that has it
+allowed-more : (denied : IpAddr → Bool) (xs ys : List IpAddr) → ((ip : IpAddr) → Contains xs ip → Contains ys ip) → (ip : IpAddr) → Contains (allowed denied xs) ip → Contains (allowed denied ys) ip
+allowed-more denied xs ys a ip h =
+    let may : IpAddr → Bool = λ x. not (denied x) in
+    let there = Has-from_Contains (allowed denied xs) ip h in
+    Contains-from_Has (allowed denied ys) ip
+    (Has-kept may ys ip (Has-from_Contains ys ip (a ip (Contains-from_Has xs ip (Has-filter may xs ip there)))) (Has-passes may xs ip there))
+
+-- the same may be asked of lists with the same addresses
+pub same-allowed : (denied : IpAddr → Bool) (xs ys : List IpAddr) → SameElements xs ys → SameElements (allowed denied xs) (allowed denied ys)
+same-allowed denied xs ys a ip = (allowed-more denied xs ys (λ x h. (a x).0 h) ip, allowed-more denied ys xs (λ x h. (a x).1 h) ip)

@@ -6,10 +6,12 @@ ghost use Rattle.std.specs.declared.net.ip_addr.IpAddr.{IpAddr};
 ghost use Rattle.dns_core.specs.Classifying.{is_ns};
 ghost use Rattle.dns_core.specs.Name.{same_names};
 ghost use Rattle.resolution.specs.Records.{records};
-ghost use Rattle.resolution.specs.Serving.{glue, is_delegation, target_below};
+ghost use Rattle.resolution.specs.Serving.{allowed, glue, is_delegation, target_below};
+ghost use Rattle.resolver_settings.specs.Access.{denies};
 ghost use Rattle.recursor_walk.specs.Lending.{SameElements, lent, lent_by, lent_for};
 
 use dns_core::{Message, Name, NoMemory, RData, Record, is_subzone};
+use resolver_settings::AccessControlSet;
 use std::alloc::Global;
 use std::net::IpAddr;
 
@@ -159,15 +161,29 @@ fn lend_section(
     Ok(())
 }
 
+/// Leaves out the addresses that the filter denies.
+fn keep_allowed(ips: &mut Vec<IpAddr>, filter: &AccessControlSet)
+    ensures { ips.new.items ≡ allowed (denies filter.now) ips.old.items }
+{
+    ips.retain(|ip| !filter.denied(*ip));
+}
+
 /// The addresses of the servers that a response names for the name, in the order of their NS
-/// records. An address that two of these lend stands there twice.
-pub fn addresses(alloc: Global, message: &Message, name: &Name) -> Result<Vec<IpAddr>, NoMemory>
-    ensures { IfOk result (λ ips. (ip : IpAddr) → Contains ips.items ip ↔ Contains (glue message.now name.now) ip) }
+/// records, without those that the filter denies. An address that two of these lend stands there
+/// twice.
+pub fn addresses(
+    alloc: Global,
+    message: &Message,
+    name: &Name,
+    filter: &AccessControlSet,
+) -> Result<Vec<IpAddr>, NoMemory>
+    ensures { IfOk result (λ ips. (ip : IpAddr) → Contains ips.items ip ↔ Contains (allowed (denies filter.now) (glue message.now name.now)) ip) }
 {
     let base = name.base_name(alloc)?;
     let mut ips = Vec::new(alloc);
     lend_section(&mut ips, message, message.answers.items(), &base)?;
     lend_section(&mut ips, message, message.authorities.items(), &base)?;
     lend_section(&mut ips, message, message.additionals.items(), &base)?;
+    keep_allowed(&mut ips, filter);
     Ok(ips)
 }

@@ -4,6 +4,7 @@ use dns_core::{
     ResponseCode,
 };
 use resolution::{Class, Verdict};
+use resolver_settings::{AccessControlSet, AccessControlSetBuilder, IpNet};
 use std::alloc::Global;
 use std::net::{IpAddr, Ipv4Addr};
 use std::test::Fail;
@@ -126,11 +127,25 @@ fn neighbours(alloc: Global) -> Result<Message, Fail> {
     Ok(response(alloc, "example.com.", authorities, additionals)?)
 }
 
+/// A filter that denies nothing.
+fn open(alloc: Global) -> AccessControlSet {
+    AccessControlSetBuilder::new(alloc, "open").build()
+}
+
+/// A filter that denies one address.
+fn without(alloc: Global, ip: Ipv4Addr) -> Result<AccessControlSet, Fail> {
+    let Ok(net) = IpNet::new(IpAddr::V4(ip), 32) else {
+        return Err(Fail::new(format_args!("a prefix of 32 bits is refused")));
+    };
+    let builder = AccessControlSetBuilder::new(alloc, "one");
+    Ok(builder.deny(&[net])?.build())
+}
+
 #[test]
 fn each_server_lends_its_address_once(rt: HostRuntime) -> Result<(), Fail> {
     let alloc = rt.alloc();
     let name = Name::parse(alloc, "example.com.")?;
-    let ips = addresses(alloc, &shared(alloc)?, &name)?;
+    let ips = addresses(alloc, &shared(alloc)?, &name, &open(alloc))?;
     assert_eq!(rt; ips.len(), 2);
     let ip = IpAddr::V4(Ipv4Addr::new(11, 0, 0, 2));
     assert!(rt; ips.iter().all(|lent| *lent == ip));
@@ -141,11 +156,23 @@ fn each_server_lends_its_address_once(rt: HostRuntime) -> Result<(), Fail> {
 fn servers_lend_in_the_order_of_their_ns_records(rt: HostRuntime) -> Result<(), Fail> {
     let alloc = rt.alloc();
     let name = Name::parse(alloc, "example.com.")?;
-    let ips = addresses(alloc, &neighbours(alloc)?, &name)?;
+    let ips = addresses(alloc, &neighbours(alloc)?, &name, &open(alloc))?;
     let parents = IpAddr::V4(Ipv4Addr::new(11, 0, 0, 2));
     let own = IpAddr::V4(Ipv4Addr::new(11, 0, 0, 3));
     assert_eq!(rt; ips.len(), 2);
     assert_eq!(rt; ips.first(), Some(&parents));
     assert_eq!(rt; ips.last(), Some(&own));
+    Ok(())
+}
+
+#[test]
+fn a_denied_address_is_not_lent(rt: HostRuntime) -> Result<(), Fail> {
+    let alloc = rt.alloc();
+    let name = Name::parse(alloc, "example.com.")?;
+    let filter = without(alloc, Ipv4Addr::new(11, 0, 0, 2))?;
+    let ips = addresses(alloc, &neighbours(alloc)?, &name, &filter)?;
+    let own = IpAddr::V4(Ipv4Addr::new(11, 0, 0, 3));
+    assert_eq!(rt; ips.len(), 1);
+    assert_eq!(rt; ips.first(), Some(&own));
     Ok(())
 }

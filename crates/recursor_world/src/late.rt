@@ -1,5 +1,5 @@
 //! Entries that found no memory in the log, and wait for it.
-ghost use Rattle.std.specs.Prelude.{◌≡◌, ◌↔◌, [], ◌∷◌, ◌++◌, IsTrue, OnOk, IfSome, OnSome, IfNone, reverse};
+ghost use Rattle.std.specs.Prelude.{◌≡◌, ◌↔◌, [], ◌∷◌, ◌++◌, IsTrue, IfOk, OnOk, IfSome, OnSome, IfNone, reverse};
 
 use dns_core::{Items, Log, LogEntry, NoMemory};
 use std::alloc::Global;
@@ -67,7 +67,12 @@ pub struct Room {
 }
 
 impl Room {
-    pub fn new(alloc: Global) -> Result<Room, NoMemory> {
+    ghost use Rattle.recursor_world.specs.Late.{chained};
+
+    /// Room that no entry has taken yet.
+    pub fn new(alloc: Global) -> Result<Room, NoMemory>
+        ensures { IfOk result (λ room. chained room.room.value ≡ []) }
+    {
         let room = Box::new(alloc, Chain::End)?;
         Ok(Room { room })
     }

@@ -1,2 +1,11 @@
 pub mod SharedBits
 pub mod ByOrder
+pub mod OneAddress
+pub mod OneNumber
+pub mod WordsInOrder
+mod Cuts
+mod InOrder
+mod ChangesJoin
+mod ReadNumbers
+mod StrictNames
+mod FewWords

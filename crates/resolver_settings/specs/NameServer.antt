@@ -1,7 +1,6 @@
 -- Servers, and how they are reached.
 use Rattle.std.specs.Prelude.{List, Bool, true, ◌&&◌, None}
 use Rattle.std.specs.Bool.{beq}
-use Rattle.std.specs.Net.Text.{ip_text}
 use Rattle.std.specs.Cmp.{IsEquivalence, IsPartialEquivalence, on_equiv, and_equiv, bool_eq_equiv, partial_equiv_from_equiv}
 use Rattle.std.specs.Cmp.Lexicographic.{pointwise, lists_equiv}
 use Rattle.std.specs.declared.net.IpAddr.{IpAddr}
@@ -11,6 +10,7 @@ use Rattle.dns_core.specs.declared.connection.ConnectionConfig.{ConnectionConfig
 use Rattle.dns_core.specs.declared.connection.ProtocolConfig.TheVariants.{Udp, Tcp, Tls, Quic}
 use Rattle.dns_core.specs.contracts.connection.ConnectionConfigPartialEq.TheImpl as connection_partial
 use Rattle.dns_core.specs.contracts.connection.ConnectionConfigEq.TheImpl.Laws as connection_eq
+use Rattle.resolver_settings.specs.AddressText.{address_text}
 
 -- a server: its address, whether it is believed that a name or a type does not exist, and the ways to reach it
 pub record NameServer : Type 0 where
@@ -31,11 +31,11 @@ over_tcp = record { port = 53; protocol = Tcp; bind_addr = None }
 
 -- that over TLS is 853 (RFC 7858 section 3.1), and the server is named by its address
 abbrev pub over_tls : IpAddr → ConnectionConfig
-over_tls ip = record { port = 853; protocol = Tls (ip_text ip); bind_addr = None }
+over_tls ip = record { port = 853; protocol = Tls (address_text ip); bind_addr = None }
 
 -- and that over QUIC too (RFC 9250 section 4.1.1)
 abbrev pub over_quic : IpAddr → ConnectionConfig
-over_quic ip = record { port = 853; protocol = Quic (ip_text ip); bind_addr = None }
+over_quic ip = record { port = 853; protocol = Quic (address_text ip); bind_addr = None }
 
 -- the same address and trust, and equal ways in the same order
 abbrev pub same_servers : NameServer → NameServer → Bool

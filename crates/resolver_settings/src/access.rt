@@ -3,10 +3,13 @@ ghost use Rattle.std.specs.Prelude.{◌≡◌, ◌++◌, ◌↔◌, [], IfOk, Is
 ghost use Rattle.resolver_settings.specs.Access.{Access, denies, is_in_any};
 
 use crate::net::IpNet;
-use dns_core::NoMemory;
+use dns_core::{Items, NoMemory};
 use std::alloc::Global;
 use std::marker::Model;
 use std::net::IpAddr;
+
+/// Networks, in an order.
+pub type Nets = Items<IpNet>;
 
 /// Collects the networks of a set. The order of the calls is kept.
 #[derive(Drop, Debug)]

@@ -120,6 +120,27 @@ fn an_allowed_network_inside_a_denied_one_is_allowed(rt: HostRuntime) -> Result<
 }
 
 #[test]
+fn an_allowed_address_stands_out_of_denied_networks(rt: HostRuntime) -> Result<(), Fail> {
+    let set = AccessControlSetBuilder::new(rt.alloc(), "answers")
+        .allow(&[net("192.168.0.1", 32)?])?
+        .deny(&[
+            net("127.0.0.1", 8)?,
+            net("192.168.0.0", 23)?,
+            net("172.17.0.0", 20)?,
+        ])?
+        .build();
+    for ip in ["127.0.0.0", "192.168.1.254", "172.17.0.1"] {
+        let addr: IpAddr = ip.parse()?;
+        assert!(rt; set.denied(addr), "{ip}");
+    }
+    for ip in ["128.0.0.0", "192.168.2.0", "192.168.0.1"] {
+        let addr: IpAddr = ip.parse()?;
+        assert!(rt; !set.denied(addr), "{ip}");
+    }
+    Ok(())
+}
+
+#[test]
 fn a_set_that_denies_nothing_allows_all(rt: HostRuntime) -> Result<(), Fail> {
     let alloc = rt.alloc();
     let empty = AccessControlSetBuilder::new(alloc, "empty").build();
@@ -256,6 +277,21 @@ fn denied_ipv6(set: &AccessControlSet) -> usize {
 #[test]
 fn ten_thousand_addresses_meet_the_recommended_networks(rt: HostRuntime) -> Result<(), Fail> {
     let set = server_filters(rt.alloc())?;
+    assert_eq!(rt; denied_ipv4(&set), 376);
+    assert_eq!(rt; denied_ipv6(&set), 59);
+    Ok(())
+}
+
+/// Twice the addresses against twice the networks: bench/access.py compares the times.
+#[test]
+fn twenty_thousand_addresses_meet_each_network_twice(rt: HostRuntime) -> Result<(), Fail> {
+    let nets = recommended_server_filters(rt.alloc())?;
+    let set = AccessControlSetBuilder::new(rt.alloc(), "servers")
+        .deny(&nets)?
+        .deny(&nets)?
+        .build();
+    assert_eq!(rt; denied_ipv4(&set), 376);
+    assert_eq!(rt; denied_ipv6(&set), 59);
     assert_eq!(rt; denied_ipv4(&set), 376);
     assert_eq!(rt; denied_ipv6(&set), 59);
     Ok(())

@@ -1,27 +1,48 @@
 //! What a resolver is set to: the networks whose addresses it may ask, its name servers, its options,
-//! and how long it keeps answers.
+//! how long it keeps answers, and what a system's text of its resolver says of these.
 #![tactic(auto)]
 
 mod access;
+mod address_text;
+mod conf_error;
 mod config;
 mod copies;
+mod directives;
 mod name_server;
 mod net;
+mod number_text;
 mod opportunistic;
 mod options;
 mod recommended;
+mod resolver_text;
+mod search_domains;
+mod search_list;
+mod system_conf;
+mod text_lines;
+mod text_options;
+mod text_servers;
 mod ttl;
 
-pub use access::{AccessControlSet, AccessControlSetBuilder};
+pub use access::{AccessControlSet, AccessControlSetBuilder, Nets};
+pub use conf_error::ConfError;
 pub use config::ResolverConfig;
 pub use name_server::NameServerConfig;
 pub use net::{IpNet, PrefixTooLong};
 pub use opportunistic::{OpportunisticEncryption, OpportunisticEncryptionConfig};
 pub use options::{ResolverOpts, ServerOrderingStrategy};
 pub use recommended::recommended_server_filters;
+pub use resolver_text::parse_resolv_conf;
+pub use search_domains::parse_search_domains;
+pub use system_conf::read_system_conf;
 pub use ttl::{TtlBounds, TtlConfig};
 
 #[cfg(test)]
 mod access_tests;
 #[cfg(test)]
+mod address_tests;
+#[cfg(test)]
 mod config_tests;
+#[cfg(test)]
+mod resolver_text_tests;
+#[cfg(test)]
+mod search_domains_tests;

@@ -1,10 +1,10 @@
 //! Servers, and how they are reached.
 ghost use Rattle.std.specs.Prelude.{◌≡◌, ◌∷◌, [], IfOk};
-ghost use Rattle.std.specs.Net.Text.{ip_text};
 ghost use Rattle.resolver_settings.specs.NameServer.{believed, over_udp, over_tcp, over_tls, over_quic, same_servers, same_servers_per, same_servers_equiv};
 
+use crate::address_text::text_of_address;
 use crate::copies::copies;
-use dns_core::{ConnectionConfig, NoMemory, ProtocolConfig, Text, TryClone};
+use dns_core::{ConnectionConfig, NoMemory, ProtocolConfig, TryClone};
 use std::alloc::Global;
 use std::marker::Model;
 use std::net::IpAddr;
@@ -51,24 +51,17 @@ fn tcp() -> ConnectionConfig
     connection(53, ProtocolConfig::Tcp)
 }
 
-fn address_text(alloc: Global, ip: IpAddr) -> Result<Text, NoMemory>
-    ensures { IfOk result (λ text. text ≡ ip_text ip) }
-{
-    let text = format!(in alloc; "{ip}")?;
-    Ok(Text::new(text))
-}
-
 fn tls(alloc: Global, ip: IpAddr) -> Result<ConnectionConfig, NoMemory>
     ensures { IfOk result (λ connection. connection ≡ over_tls ip) }
 {
-    let server_name = address_text(alloc, ip)?;
+    let server_name = text_of_address(alloc, ip)?;
     Ok(connection(853, ProtocolConfig::Tls { server_name }))
 }
 
 fn quic(alloc: Global, ip: IpAddr) -> Result<ConnectionConfig, NoMemory>
     ensures { IfOk result (λ connection. connection ≡ over_quic ip) }
 {
-    let server_name = address_text(alloc, ip)?;
+    let server_name = text_of_address(alloc, ip)?;
     Ok(connection(853, ProtocolConfig::Quic { server_name }))
 }
 

@@ -7,7 +7,7 @@ use super::words::{put_bytes, put_number};
 use dns_core::{DnsClass, IoKind, NetError, NoMemory, Protocol, RecordType, ResponseCode};
 
 #[tactic(auto, unfolding(crate::specs::Texts::type_names))]
-fn type_name(record_type: RecordType) -> Option<&'static str>
+pub fn type_name(record_type: RecordType) -> Option<&'static str>
     ensures { option_copied result ≡ name_in type_names record_type.code }
 {
     Some(match record_type.code {

@@ -1,14 +1,16 @@
-//! Addresses of both families and networks, each in its one spelling.
-ghost use Rattle.std.specs.Prelude.{◌≡◌, ◌↔◌, IfOk, IsTrue};
+//! Addresses of both families, each in its one spelling.
+ghost use Rattle.std.specs.Prelude.{◌≡◌, IfOk};
 ghost use Rattle.std.specs.Str.{bytes_eq};
 ghost use Rattle.std.specs.Net.Addr.{ipv6_segments, IsIpv6Addr};
 ghost use Rattle.std.specs.Net.Text.{hex_groups_text};
-ghost use Rattle.recursor_text.specs.Addresses.{IsIpv6Word, is_ipv6, is_address, is_prefix};
+ghost use Rattle.recursor_text.specs.Addresses.{ReadsIpv6, ipv6_of, ip_of};
+ghost use Rattle.recursor_text.specs.Fields.{Gives};
 
-use super::numbers::{ipv4, number};
+use super::numbers::ipv4;
+use super::words::LineError;
 use dns_core::NoMemory;
 use std::alloc::Global;
-use std::net::Ipv6Addr;
+use std::net::{IpAddr, Ipv6Addr};
 
 /// The word is the text of this address, which has eight groups of 16 bits.
 fn is_text_of(alloc: Global, ip: Ipv6Addr, word: &[u8]) -> Result<bool, NoMemory>
@@ -20,34 +22,31 @@ fn is_text_of(alloc: Global, ip: Ipv6Addr, word: &[u8]) -> Result<bool, NoMemory
     Ok(text.as_bytes() == word)
 }
 
-/// The word is the text of an IPv6 address.
-pub fn is_ipv6(alloc: Global, word: &[u8]) -> Result<bool, NoMemory>
-    ensures value { IfOk result (λ b. b ≡ is_ipv6 word.now) }
-    ensures spelled { IfOk result (λ b. IsTrue b ↔ IsIpv6Word word.now) }
+/// The IPv6 address that a word spells.
+pub fn ipv6(alloc: Global, word: &[u8]) -> Result<Ipv6Addr, LineError>
+    ensures value { Gives result (ipv6_of word.now) }
+    ensures spelled { ReadsIpv6 result word.now }
 {
     match Ipv6Addr::parse_ascii(word) {
-        Ok(ip) => is_text_of(alloc, ip, word),
-        Err(_) => Ok(false),
+        Ok(ip) => {
+            let same = is_text_of(alloc, ip, word)?;
+            if same {
+                Ok(ip)
+            } else {
+                Err(LineError::Refused)
+            }
+        }
+        Err(_) => Err(LineError::Refused),
     }
 }
 
-/// The word is the text of an address.
-pub fn is_address(alloc: Global, word: &[u8]) -> Result<bool, NoMemory>
-    ensures { IfOk result (λ b. b ≡ is_address word.now) }
+/// The address that a word spells.
+pub fn ip(alloc: Global, word: &[u8]) -> Result<IpAddr, LineError>
+    ensures { Gives result (ip_of word.now) }
 {
-    if ipv4(word).is_some() {
-        return Ok(true);
+    if let Some(address) = ipv4(word) {
+        return Ok(IpAddr::V4(address));
     }
-    is_ipv6(alloc, word)
-}
-
-/// The words are an address, and a length up to that of its family.
-pub fn is_prefix(alloc: Global, address: &[u8], length: &[u8]) -> Result<bool, NoMemory>
-    ensures { IfOk result (λ b. b ≡ is_prefix address.now length.now) }
-{
-    if ipv4(address).is_some() && number(length, 32).is_some() {
-        return Ok(true);
-    }
-    let groups = is_ipv6(alloc, address)?;
-    Ok(groups && number(length, 128).is_some())
+    let address = ipv6(alloc, word)?;
+    Ok(IpAddr::V6(address))
 }

@@ -3,14 +3,15 @@ ghost use Rattle.std.specs.Prelude.{◌≡◌, Some, None, OnOk, IfOk, if◌then
 ghost use Rattle.recursor_text.specs.declared.reading.lines.Form.TheVariants as form;
 ghost use Rattle.recursor_text.specs.Fields.{Gives};
 ghost use Rattle.recursor_text.specs.Unbuilt.{place_of, moment_of};
-ghost use Rattle.recursor_text.specs.Steps.{Steps, may_head, may_root, may_wait, may_tell, may_reply, may_ask, may_turn, may_end, is_ended, start, put, settle, add, taken, scenario_of, is_settled, rule_of};
+ghost use Rattle.recursor_text.specs.Steps.{Steps, may_head, may_root, may_option, may_wait, may_tell, may_reply, may_ask, may_turn, may_end, is_ended, start, put, settle, add, taken, scenario_of, is_settled, rule_of};
 
-use super::lines::{Form, form_line, record_line};
+use super::lines::{Form, form_line};
+use super::option_form::{OptionLine, last_rank, options_with};
+use super::record_lines::record_line;
 use super::rules::{Counts, OpenRule};
 use super::words::{LineError, pass};
 use crate::scenario::{Scenario, Upstream};
 use dns_core::{Ips, Items, NoMemory, Question, Record, TryClone, Turn};
-use recursor_core::RecursorOptions;
 use recursor_world::{Script, ScriptLine};
 use std::alloc::Global;
 use std::net::IpAddr;
@@ -29,11 +30,12 @@ pub enum Refusal {
     NotBuilt,
 }
 
-/// Where the next line stands: after which kind of line, whether a rule owes it, and not before
-/// which moment.
+/// Where the next line stands: after which kind of line, behind the rank of which option (0 for
+/// none), whether a rule owes it, and not before which moment.
 #[derive(Clone, Copy, Debug, PartialEq, Eq)]
 pub struct Place {
     pub stage: Stage,
+    pub option: u8,
     pub owes: bool,
     pub last: u64,
 }
@@ -44,6 +46,7 @@ pub enum Stage {
     Start,
     Headed,
     Rooted,
+    Optioned,
     Patient,
     Scripted,
     Asked,
@@ -51,11 +54,12 @@ pub enum Stage {
     Ended,
 }
 
-/// What the lines so far say. `pending` is a rule that owes records.
+/// What the lines so far say: `written` are the option lines, `pending` is a rule that owes records.
 #[derive(Drop, Debug)]
 pub struct Draft {
     pub stage: Stage,
     pub roots: Ips,
+    pub written: Items<OptionLine>,
     pub patience: u32,
     pub rules: Items<ScriptLine>,
     pub pending: Option<OpenRule>,
@@ -76,10 +80,16 @@ impl Stage {
         matches!(&self, Stage::Headed | Stage::Rooted)
     }
 
+    fn may_option(self) -> bool
+        ensures { result ≡ may_option self }
+    {
+        matches!(&self, Stage::Rooted | Stage::Optioned)
+    }
+
     fn may_wait(self) -> bool
         ensures { result ≡ may_wait self }
     {
-        matches!(&self, Stage::Rooted)
+        matches!(&self, Stage::Rooted | Stage::Optioned)
     }
 
     fn may_tell(self) -> bool
@@ -124,9 +134,6 @@ fn add(partial: OpenRule, entry: Record) -> Result<OpenRule, LineError>
     ensures { Gives result (add partial entry) }
 {
     let mut open = partial;
-    if open.message.query.query_type.code == 1 && entry.record_type.code == 2 {
-        return Err(LineError::Refused);
-    }
     if open.owed.answers > 0 {
         open.message.answers.push(entry)?;
         open.owed.answers -= 1;
@@ -187,6 +194,7 @@ impl Draft {
         Draft {
             stage: Stage::Start,
             roots: Ips::empty(alloc),
+            written: Items::empty(alloc),
             patience: 0,
             rules: Items::empty(alloc),
             pending: None,
@@ -207,31 +215,33 @@ impl Draft {
     {
         Place {
             stage: self.stage,
+            option: last_rank(self.written.items()),
             owes: self.pending.is_some(),
             last: first_moment(self.turns.items()),
         }
     }
 
-    pub fn into_scenario(self, alloc: Global) -> Scenario
-        ensures { result ≡ scenario_of self }
+    pub fn into_scenario(self, alloc: Global) -> Result<Scenario, NoMemory>
+        ensures { IfOk result (λ scenario. scenario ≡ scenario_of self) }
     {
         let Draft {
             stage: _,
             roots,
+            written,
             patience,
             rules,
             pending: _,
             questions,
             turns,
         } = self;
-        Scenario {
+        Ok(Scenario {
             roots,
-            options: RecursorOptions::standard(alloc),
+            options: options_with(alloc, written)?,
             patience,
             upstream: Upstream::Script(Script { lines: rules }),
             questions,
             turns,
-        }
+        })
     }
 
     fn settle(&mut self, alloc: Global, partial: OpenRule) -> Result<(), NoMemory>
@@ -262,6 +272,15 @@ impl Draft {
         pass(self.stage.may_root() && self.roots.len() < MOST_ROOTS)?;
         self.roots.push(ip)?;
         self.stage = Stage::Rooted;
+        Ok(())
+    }
+
+    fn put_option(&mut self, line: OptionLine) -> Result<(), LineError>
+        ensures { Steps result self.new (put self.old (form.Option line)) }
+    {
+        pass(self.stage.may_option() && last_rank(self.written.items()) < line.rank())?;
+        self.written.push(line)?;
+        self.stage = Stage::Optioned;
         Ok(())
     }
 
@@ -307,6 +326,7 @@ impl Draft {
         match form {
             Form::Head => self.advance(stage.may_head(), Stage::Headed),
             Form::Root(ip) => self.put_root(ip),
+            Form::Option(line) => self.put_option(line),
             Form::Patience(patience) => self.put_patience(patience),
             Form::ToldScript => self.advance(stage.may_tell(), Stage::Scripted),
             Form::Reply(rule) => self.put_reply(alloc, rule),

@@ -1,24 +1,24 @@
-//! The lines of a scenario, each read on its own.
+//! The lines of a scenario that are no record lines, each read on its own.
 ghost use Rattle.std.specs.Prelude.{◌≡◌};
-ghost use Rattle.recursor_text.specs.Fields.{Gives, GivesFields, field, in_table, whole};
-ghost use Rattle.recursor_text.specs.Names.{full_name};
-ghost use Rattle.recursor_text.specs.Numbers.{ipv4_of};
-ghost use Rattle.recursor_text.specs.Lines.{protocols, types, response_codes, flags, asked_types, dnssec_words, a_record, ns_record, record_head, data_of, counts_fields, record_of, head_of, root_of, patience_of, told_of, reply_of, question_of, turn_of, end_line_of, form_of};
+ghost use Rattle.recursor_text.specs.Fields.{Gives, GivesFields, field, in_table};
+ghost use Rattle.recursor_text.specs.Lines.{protocols, response_codes, flags, type_field, dnssec_words, counts_fields, head_of, root_of, option_of, patience_of, told_of, reply_of, question_of, turn_of, end_line_of, form_of};
 
+use super::codes::is_asked_type;
+use super::option_form::{OptionLine, option_line};
 use super::rules::{Counts, OpenRule};
-use super::words::{LineError, Words};
+use super::words::{LineError, Words, pass};
 use dns_core::{
-    DnsClass, Message, Name, Protocol, Query, Question, RData, Record, RecordType, Records,
-    ResponseCode, Turn,
+    DnsClass, Message, Protocol, Query, Question, RecordType, Records, ResponseCode, Turn,
 };
 use std::alloc::Global;
-use std::net::{IpAddr, Ipv4Addr};
+use std::net::IpAddr;
 
 /// What a line says that is no record line.
 #[derive(Drop, Debug)]
 pub enum Form {
     Head,
     Root(IpAddr),
+    Option(OptionLine),
     Patience(u32),
     ToldScript,
     /// A rule, none of whose records is there yet.
@@ -42,21 +42,6 @@ fn protocol(words: &mut Words) -> Result<Protocol, LineError>
     Err(LineError::Refused)
 }
 
-fn record_type(words: &mut Words) -> Result<RecordType, LineError>
-    ensures { GivesFields result words.new (field (in_table types) words.old) }
-{
-    let Some(word) = words.next() else {
-        return Err(LineError::Refused);
-    };
-    if word == b"A".as_slice() {
-        return Ok(RecordType::A);
-    }
-    if word == b"NS".as_slice() {
-        return Ok(RecordType::NS);
-    }
-    Err(LineError::Refused)
-}
-
 fn response_code(words: &mut Words) -> Result<ResponseCode, LineError>
     ensures { GivesFields result words.new (field (in_table response_codes) words.old) }
 {
@@ -65,6 +50,9 @@ fn response_code(words: &mut Words) -> Result<ResponseCode, LineError>
     };
     if word == b"NOERROR".as_slice() {
         return Ok(ResponseCode::NoError);
+    }
+    if word == b"NXDOMAIN".as_slice() {
+        return Ok(ResponseCode::NXDomain);
     }
     Err(LineError::Refused)
 }
@@ -86,15 +74,11 @@ fn flags(words: &mut Words) -> Result<(bool, bool), LineError>
 }
 
 fn asked_type(words: &mut Words) -> Result<RecordType, LineError>
-    ensures { GivesFields result words.new (field (in_table asked_types) words.old) }
+    ensures { GivesFields result words.new (type_field words.old) }
 {
-    let Some(word) = words.next() else {
-        return Err(LineError::Refused);
-    };
-    if word == b"A".as_slice() {
-        return Ok(RecordType::A);
-    }
-    Err(LineError::Refused)
+    let found = words.record_type()?;
+    pass(is_asked_type(found))?;
+    Ok(found)
 }
 
 /// Whether DNSSEC records are asked for.
@@ -110,87 +94,6 @@ fn dnssec_word(words: &mut Words) -> Result<bool, LineError>
     Err(LineError::Refused)
 }
 
-// ---- records
-
-fn a_record(name: Name, ttl: u32, address: Ipv4Addr) -> Record
-    ensures { result ≡ a_record name ttl address }
-{
-    Record {
-        name,
-        ttl,
-        dns_class: DnsClass::IN,
-        record_type: RecordType::A,
-        rdata: RData::A(address),
-    }
-}
-
-fn ns_record(name: Name, ttl: u32, target: Name) -> Record
-    ensures { result ≡ ns_record name ttl target }
-{
-    Record {
-        name,
-        ttl,
-        dns_class: DnsClass::IN,
-        record_type: RecordType::NS,
-        rdata: RData::NS(target),
-    }
-}
-
-fn a_data(words: &mut Words, name: Name, ttl: u32) -> Result<Record, LineError>
-    ensures { Gives result (whole (field ipv4_of) (a_record name ttl) words.old) }
-{
-    let address = words.ipv4()?;
-    words.end()?;
-    let record = a_record(name, ttl, address);
-    Ok(record)
-}
-
-fn ns_data(alloc: Global, words: &mut Words, name: Name, ttl: u32) -> Result<Record, LineError>
-    ensures { Gives result (whole (field full_name) (ns_record name ttl) words.old) }
-{
-    let target = words.full_name(alloc)?;
-    words.end()?;
-    let record = ns_record(name, ttl, target);
-    Ok(record)
-}
-
-fn record_head(alloc: Global, words: &mut Words) -> Result<(Name, (u32, RecordType)), LineError>
-    ensures { GivesFields result words.new (record_head words.old) }
-{
-    let name = words.full_name(alloc)?;
-    let ttl = words.number(0, 4_294_967_295)?;
-    words.literal(b"IN")?;
-    let record_type = record_type(words)?;
-    Ok((name, (ttl as u32, record_type)))
-}
-
-/// The rest of a record line, which is the data of its type.
-fn record_data(
-    alloc: Global,
-    words: &mut Words,
-    name: Name,
-    ttl: u32,
-    record_type: RecordType,
-) -> Result<Record, LineError>
-    ensures { Gives result (data_of name ttl record_type words.old) }
-{
-    if record_type.code == 1 {
-        a_data(words, name, ttl)
-    } else {
-        ns_data(alloc, words, name, ttl)
-    }
-}
-
-/// The record that a line spells.
-#[tactic(auto, unfolding(crate::specs::Lines::records_of))]
-pub fn record_line(alloc: Global, line: &[u8]) -> Result<Record, LineError>
-    ensures { Gives result (record_of line.now) }
-{
-    let mut words = Words::new(line);
-    let (name, (ttl, record_type)) = record_head(alloc, &mut words)?;
-    record_data(alloc, &mut words, name, ttl, record_type)
-}
-
 // ---- the kinds of lines, each after its first word
 
 #[tactic(auto, unfolding(crate::specs::Lines::head_of))]
@@ -203,12 +106,20 @@ fn head_line(words: &mut Words) -> Result<Form, LineError>
 }
 
 #[tactic(auto, unfolding(crate::specs::Lines::root_of))]
-fn root_line(words: &mut Words) -> Result<Form, LineError>
+fn root_line(alloc: Global, words: &mut Words) -> Result<Form, LineError>
     ensures { Gives result (root_of words.old) }
 {
-    let address = words.ipv4()?;
+    let ip = words.ip(alloc)?;
     words.end()?;
-    Ok(Form::Root(IpAddr::V4(address)))
+    Ok(Form::Root(ip))
+}
+
+#[tactic(auto, unfolding(crate::specs::Lines::option_of))]
+fn written_line(alloc: Global, words: &mut Words) -> Result<Form, LineError>
+    ensures { Gives result (option_of words.old) }
+{
+    let line = option_line(alloc, words)?;
+    Ok(Form::Option(line))
 }
 
 #[tactic(auto, unfolding(crate::specs::Lines::patience_of))]
@@ -246,10 +157,10 @@ fn counts(words: &mut Words) -> Result<Counts, LineError>
 fn reply_line(alloc: Global, words: &mut Words) -> Result<Form, LineError>
     ensures { Gives result (reply_of words.old) }
 {
-    let address = words.ipv4()?;
+    let ip = words.ip(alloc)?;
     let protocol = protocol(words)?;
     let name = words.full_name(alloc)?;
-    let query_type = record_type(words)?;
+    let query_type = asked_type(words)?;
     let delay = words.number(0, 0)?;
     words.literal(b"message")?;
     let response_code = response_code(words)?;
@@ -270,7 +181,7 @@ fn reply_line(alloc: Global, words: &mut Words) -> Result<Form, LineError>
         additionals: Records::empty(alloc),
     };
     Ok(Form::Reply(OpenRule {
-        ip: IpAddr::V4(address),
+        ip,
         protocol,
         delay: delay as u32,
         message,
@@ -331,7 +242,10 @@ pub fn form_line(alloc: Global, line: &[u8]) -> Result<Form, LineError>
         return head_line(&mut words);
     }
     if word == b"root".as_slice() {
-        return root_line(&mut words);
+        return root_line(alloc, &mut words);
+    }
+    if word == b"option".as_slice() {
+        return written_line(alloc, &mut words);
     }
     if word == b"patience".as_slice() {
         return patience_line(&mut words);

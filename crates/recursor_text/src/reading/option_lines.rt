@@ -1,55 +1,15 @@
-//! Option lines, none of which is read yet: which values they may have.
+//! Option lines of the whole format, which are not all read yet: which values they may have, and in
+//! which order they stand.
 ghost use Rattle.std.specs.Prelude.{◌≡◌, IfOk};
 ghost use Rattle.std.specs.List.{list_all};
 ghost use Rattle.recursor_text.specs.Fields.{Gives, GivesFields, checked};
 ghost use Rattle.recursor_text.specs.Pieces.{pieces};
-ghost use Rattle.recursor_text.specs.OptionLines.{is_network, are_networks, is_network_list, are_ports_from, is_port_list, is_delay, is_delay_list, number_line, networks_line, ports_line, delays_line, bounds_line, damping_line, encryption_line, is_minimization, minimization_line, is_network_option, is_bounds_option, most_of, listed_line, option_line};
+ghost use Rattle.recursor_text.specs.OptionLines.{are_ports_from, is_port_list, is_delay, is_delay_list, number_line, networks_line, ports_line, delays_line, bounds_line, damping_line, encryption_line, is_minimization, minimization_line, is_network_option, is_bounds_option, most_of, listed_line, value_line, rank_of, option_line};
 
-use super::addresses::is_prefix;
 use super::numbers::number;
 use super::pieces::cut;
 use super::words::{LineError, Words, pass};
-use dns_core::NoMemory;
 use std::alloc::Global;
-
-fn is_network(alloc: Global, word: &[u8]) -> Result<bool, NoMemory>
-    ensures { IfOk result (λ b. b ≡ is_network word.now) }
-{
-    let (address, rest) = cut(word, b'/');
-    let Some(rest) = rest else {
-        return Ok(false);
-    };
-    let (length, more) = cut(rest, b'/');
-    if let Some(_more) = more {
-        return Ok(false);
-    }
-    is_prefix(alloc, address, length)
-}
-
-fn are_networks(alloc: Global, word: &[u8]) -> Result<bool, NoMemory>
-    ensures { IfOk result (λ b. b ≡ are_networks (pieces 44 word.now)) }
-{
-    let mut rest = word;
-    'items: loop {
-        let (item, after) = cut(rest, b',');
-        if !is_network(alloc, item)? {
-            return Ok(false);
-        }
-        let Some(after) = after else {
-            return Ok(true);
-        };
-        rest = after;
-    }
-}
-
-fn is_network_list(alloc: Global, word: &[u8]) -> Result<bool, NoMemory>
-    ensures { IfOk result (λ b. b ≡ is_network_list word.now) }
-{
-    if word == b"-".as_slice() {
-        return Ok(true);
-    }
-    are_networks(alloc, word)
-}
 
 fn are_ports(word: &[u8]) -> bool
     ensures { result ≡ are_ports_from 0 (pieces 44 word.now) }
@@ -106,15 +66,6 @@ fn is_minimization(word: &[u8]) -> bool
     word == b"strict".as_slice() || word == b"relaxed".as_slice()
 }
 
-fn networks(alloc: Global, words: &mut Words) -> Result<(), LineError>
-    ensures { GivesFields result words.new (checked is_network_list words.old) }
-{
-    let Some(word) = words.next() else {
-        return Err(LineError::Refused);
-    };
-    pass(is_network_list(alloc, word)?)
-}
-
 fn ports(words: &mut Words) -> Result<(), LineError>
     ensures { GivesFields result words.new (checked is_port_list words.old) }
 {
@@ -155,7 +106,7 @@ fn number_line(words: &mut Words, most: u64) -> Result<(), LineError>
 fn networks_line(alloc: Global, words: &mut Words) -> Result<(), LineError>
     ensures { Gives result (networks_line words.old) }
 {
-    networks(alloc, words)?;
+    let _nets = words.nets(alloc)?;
     words.end()?;
     Ok(())
 }
@@ -293,16 +244,67 @@ fn listed_line(alloc: Global, word: &[u8], words: &mut Words) -> Result<(), Line
     Err(LineError::Refused)
 }
 
-/// An option and its value.
-#[tactic(auto, unfolding(crate::specs::OptionLines::option_line))]
-pub fn option_line(alloc: Global, words: &mut Words) -> Result<(), LineError>
-    ensures { Gives result (option_line words.old) }
+/// The value of an option.
+#[tactic(auto, unfolding(crate::specs::OptionLines::value_line))]
+fn value_line(alloc: Global, word: &[u8], words: &mut Words) -> Result<(), LineError>
+    ensures { Gives result (value_line word.now words.old) }
 {
-    let Some(word) = words.next() else {
-        return Err(LineError::Refused);
-    };
     match most_of(word) {
         Some(most) => number_line(words, most),
         None => listed_line(alloc, word, words),
     }
+}
+
+/// The place of an option in the order of all options, from 1; 0 for a word that names none.
+#[tactic(auto, unfolding(crate::specs::OptionLines::rank_of))]
+fn rank_of(word: &[u8]) -> u8
+    ensures { result ≡ rank_of word.now }
+{
+    if word == b"ns_cache_size".as_slice() {
+        1
+    } else if word == b"response_cache_size".as_slice() {
+        2
+    } else if word == b"recursion_limit".as_slice() {
+        3
+    } else if word == b"ns_recursion_limit".as_slice() {
+        4
+    } else if word == b"allow_answers".as_slice() {
+        5
+    } else if word == b"deny_answers".as_slice() {
+        6
+    } else if word == b"allow_server".as_slice() {
+        7
+    } else if word == b"deny_server".as_slice() {
+        8
+    } else if word == b"avoid_local_udp_ports".as_slice() {
+        9
+    } else if word == b"positive_ttl".as_slice() {
+        10
+    } else if word == b"negative_ttl".as_slice() {
+        11
+    } else if word == b"case_randomization".as_slice() {
+        12
+    } else if word == b"encryption".as_slice() {
+        13
+    } else if word == b"edns_payload_len".as_slice() {
+        14
+    } else if word == b"qname_minimization".as_slice() {
+        15
+    } else if word == b"first_delays".as_slice() {
+        16
+    } else {
+        0
+    }
+}
+
+/// An option and its value, where its rank is above `low`.
+#[tactic(auto, unfolding(crate::specs::OptionLines::option_line))]
+pub fn option_line(alloc: Global, low: u8, words: &mut Words) -> Result<(), LineError>
+    ensures { Gives result (option_line low words.old) }
+{
+    let Some(word) = words.next() else {
+        return Err(LineError::Refused);
+    };
+    pass(low < rank_of(word))?;
+    value_line(alloc, word, words)
 }

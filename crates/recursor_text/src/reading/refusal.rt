@@ -1,13 +1,10 @@
 //! Lines that are not taken: which of them the format has, though they are not read yet.
 ghost use Rattle.std.specs.Prelude.{◌≡◌, Option, codes, IfOk};
-ghost use Rattle.std.specs.List.{list_all};
-ghost use Rattle.recursor_text.specs.Addresses.{is_address, is_ipv6};
 ghost use Rattle.recursor_text.specs.Fields.{Gives, GivesFields, checked};
-ghost use Rattle.recursor_text.specs.Unbuilt.{is_protocol, is_error_word, is_flags, is_dnssec, number_behind, is_named_type, is_early_type, is_late_type, is_type, is_named_class, is_class, is_named_code, is_code, is_hex_digit, is_bytes, root_line, told_line, refuse_line, error_line, message_line, ok_line, connect_line, reply_line, question_line, turn_line, ipv4_data, ipv6_data, name_data, soa_data, signature_data, bytes_data, data_line, delay_field, any_number, outcome_line, stands, record_line, is_at_roots, is_at_options, is_at_told, is_at_rules, is_at_questions, is_at_turns, rule_line, late_line, other_line, line_at, refusal_at};
+ghost use Rattle.recursor_text.specs.Unbuilt.{is_protocol, is_error_word, is_flags, is_dnssec, is_named_class, is_class, is_named_code, is_code, root_line, told_line, refuse_line, error_line, message_line, ok_line, connect_line, reply_line, question_line, turn_line, ipv4_data, ipv6_data, name_data, soa_data, signature_data, bytes_data, data_line, delay_field, outcome_line, stands, record_line, is_at_roots, is_at_options, is_at_told, is_at_rules, is_at_questions, is_at_turns, rule_line, late_line, other_line, line_at, refusal_at};
 
-use super::addresses::{is_address, is_ipv6};
+use super::codes::{number_behind, record_type};
 use super::draft::{Place, Refusal, Stage};
-use super::numbers::number;
 use super::option_lines::option_line;
 use super::words::{LineError, Words, pass};
 use dns_core::NoMemory;
@@ -57,95 +54,6 @@ fn is_dnssec(word: &[u8]) -> bool
     word == b"plain".as_slice() || word == b"dnssec".as_slice()
 }
 
-/// The number behind a word.
-fn number_behind(word: &[u8], other: &[u8]) -> Option<u64>
-    ensures { result ≡ number_behind other.now word.now }
-{
-    if other.len() < word.len() && &word[..other.len()] == other {
-        number(&word[other.len()..], 65_535)
-    } else {
-        None
-    }
-}
-
-#[tactic(auto, unfolding(crate::specs::Unbuilt::is_named_type))]
-fn is_named_type(n: u64) -> bool
-    ensures { result ≡ is_named_type n }
-{
-    matches!(
-        n,
-        1 | 2
-            | 5
-            | 6
-            | 10
-            | 12
-            | 15
-            | 16
-            | 28
-            | 33
-            | 41
-            | 43
-            | 46
-            | 47
-            | 48
-            | 50
-            | 51
-            | 64
-            | 65
-            | 251
-            | 252
-            | 255
-            | 257
-    )
-}
-
-#[tactic(auto, unfolding(crate::specs::Unbuilt::is_early_type))]
-fn is_early_type(word: &[u8]) -> bool
-    ensures { result ≡ is_early_type word.now }
-{
-    word == b"A".as_slice()
-        || word == b"NS".as_slice()
-        || word == b"CNAME".as_slice()
-        || word == b"SOA".as_slice()
-        || word == b"NULL".as_slice()
-        || word == b"PTR".as_slice()
-        || word == b"MX".as_slice()
-        || word == b"TXT".as_slice()
-        || word == b"AAAA".as_slice()
-        || word == b"SRV".as_slice()
-        || word == b"OPT".as_slice()
-}
-
-#[tactic(auto, unfolding(crate::specs::Unbuilt::is_late_type))]
-fn is_late_type(word: &[u8]) -> bool
-    ensures { result ≡ is_late_type word.now }
-{
-    word == b"DS".as_slice()
-        || word == b"RRSIG".as_slice()
-        || word == b"NSEC".as_slice()
-        || word == b"DNSKEY".as_slice()
-        || word == b"NSEC3".as_slice()
-        || word == b"NSEC3PARAM".as_slice()
-        || word == b"SVCB".as_slice()
-        || word == b"HTTPS".as_slice()
-        || word == b"IXFR".as_slice()
-        || word == b"AXFR".as_slice()
-        || word == b"ANY".as_slice()
-        || word == b"CAA".as_slice()
-}
-
-fn is_type(word: &[u8]) -> bool
-    ensures { result ≡ is_type word.now }
-{
-    if is_early_type(word) || is_late_type(word) {
-        return true;
-    }
-    match number_behind(word, b"TYPE") {
-        Some(n) => !is_named_type(n),
-        None => false,
-    }
-}
-
 #[tactic(auto, unfolding(crate::specs::Unbuilt::is_class))]
 fn is_class(word: &[u8]) -> bool
     ensures { result ≡ is_class word.now }
@@ -178,43 +86,7 @@ fn is_code(word: &[u8]) -> bool
     }
 }
 
-fn is_hex_digit(b: u8) -> bool
-    ensures { result ≡ is_hex_digit b }
-{
-    (48 <= b && b <= 57) || (97 <= b && b <= 102)
-}
-
-fn are_hex_digits(word: &[u8]) -> bool
-    ensures { result ≡ list_all is_hex_digit word.now }
-{
-    word.iter().all(|b| is_hex_digit(*b))
-}
-
-fn is_bytes(word: &[u8]) -> bool
-    ensures { result ≡ is_bytes word.now }
-{
-    word == b"-".as_slice() || (word.len() > 0 && word.len() % 2 == 0 && are_hex_digits(word))
-}
-
 // ---- fields
-
-fn address(alloc: Global, words: &mut Words) -> Result<(), LineError>
-    ensures { GivesFields result words.new (checked is_address words.old) }
-{
-    let Some(word) = words.next() else {
-        return Err(LineError::Refused);
-    };
-    pass(is_address(alloc, word)?)
-}
-
-fn ipv6(alloc: Global, words: &mut Words) -> Result<(), LineError>
-    ensures { GivesFields result words.new (checked is_ipv6 words.old) }
-{
-    let Some(word) = words.next() else {
-        return Err(LineError::Refused);
-    };
-    pass(is_ipv6(alloc, word)?)
-}
 
 fn protocol(words: &mut Words) -> Result<(), LineError>
     ensures { GivesFields result words.new (checked is_protocol words.old) }
@@ -252,15 +124,6 @@ fn dnssec(words: &mut Words) -> Result<(), LineError>
     pass(is_dnssec(word))
 }
 
-fn record_type(words: &mut Words) -> Result<(), LineError>
-    ensures { GivesFields result words.new (checked is_type words.old) }
-{
-    let Some(word) = words.next() else {
-        return Err(LineError::Refused);
-    };
-    pass(is_type(word))
-}
-
 fn class(words: &mut Words) -> Result<(), LineError>
     ensures { GivesFields result words.new (checked is_class words.old) }
 {
@@ -279,25 +142,10 @@ fn response_code(words: &mut Words) -> Result<(), LineError>
     pass(is_code(word))
 }
 
-fn bytes(words: &mut Words) -> Result<(), LineError>
-    ensures { GivesFields result words.new (checked is_bytes words.old) }
-{
-    let Some(word) = words.next() else {
-        return Err(LineError::Refused);
-    };
-    pass(is_bytes(word))
-}
-
 fn delay(words: &mut Words) -> Result<u64, LineError>
     ensures { GivesFields result words.new (delay_field words.old) }
 {
     words.number(0, 1_000_000)
-}
-
-fn any_number(words: &mut Words) -> Result<u64, LineError>
-    ensures { GivesFields result words.new (any_number words.old) }
-{
-    words.number(0, 4_294_967_295)
 }
 
 // ---- lines, each after its first word
@@ -306,7 +154,7 @@ fn any_number(words: &mut Words) -> Result<u64, LineError>
 fn root_line(alloc: Global, words: &mut Words) -> Result<(), LineError>
     ensures { Gives result (root_line words.old) }
 {
-    address(alloc, words)?;
+    words.ip(alloc)?;
     words.end()?;
     Ok(())
 }
@@ -324,7 +172,7 @@ fn told_line(words: &mut Words) -> Result<(), LineError>
 fn refuse_line(alloc: Global, words: &mut Words) -> Result<(), LineError>
     ensures { Gives result (refuse_line words.old) }
 {
-    address(alloc, words)?;
+    words.ip(alloc)?;
     protocol(words)?;
     words.end()?;
     Ok(())
@@ -396,7 +244,7 @@ fn told(words: &mut Words) -> Result<(), LineError>
 fn connect_line(alloc: Global, words: &mut Words) -> Result<(), LineError>
     ensures { Gives result (connect_line words.old) }
 {
-    address(alloc, words)?;
+    words.ip(alloc)?;
     protocol(words)?;
     delay(words)?;
     connected(words)
@@ -406,10 +254,10 @@ fn connect_line(alloc: Global, words: &mut Words) -> Result<(), LineError>
 fn reply_line(alloc: Global, words: &mut Words) -> Result<(), LineError>
     ensures { Gives result (reply_line words.old) }
 {
-    address(alloc, words)?;
+    words.ip(alloc)?;
     protocol(words)?;
     let _name = words.full_name(alloc)?;
-    record_type(words)?;
+    words.record_type()?;
     delay(words)?;
     told(words)
 }
@@ -419,7 +267,7 @@ fn question_line(alloc: Global, words: &mut Words) -> Result<(), LineError>
     ensures { Gives result (question_line words.old) }
 {
     let _name = words.relaxed_name(alloc)?;
-    record_type(words)?;
+    words.record_type()?;
     dnssec(words)?;
     words.end()?;
     Ok(())
@@ -429,7 +277,7 @@ fn question_line(alloc: Global, words: &mut Words) -> Result<(), LineError>
 fn turn_line(words: &mut Words, last: u64) -> Result<(), LineError>
     ensures { Gives result (turn_line last words.old) }
 {
-    any_number(words)?;
+    words.number(0, 4_294_967_295)?;
     words.number(last, 4_611_686_018_427_387_903)?;
     words.end()?;
     Ok(())
@@ -450,7 +298,7 @@ fn ipv4_data(words: &mut Words) -> Result<(), LineError>
 fn ipv6_data(alloc: Global, words: &mut Words) -> Result<(), LineError>
     ensures { Gives result (ipv6_data words.old) }
 {
-    ipv6(alloc, words)?;
+    words.ipv6(alloc)?;
     words.end()?;
     Ok(())
 }
@@ -470,30 +318,30 @@ fn soa_data(alloc: Global, words: &mut Words) -> Result<(), LineError>
 {
     let _mname = words.full_name(alloc)?;
     let _rname = words.full_name(alloc)?;
-    any_number(words)?;
-    any_number(words)?;
-    any_number(words)?;
-    any_number(words)?;
-    any_number(words)?;
+    words.number(0, 4_294_967_295)?;
+    words.number(0, 4_294_967_295)?;
+    words.number(0, 4_294_967_295)?;
+    words.number(0, 4_294_967_295)?;
+    words.number(0, 4_294_967_295)?;
     words.end()?;
     Ok(())
 }
 
 #[tactic(auto, unfolding(crate::specs::Unbuilt::signature_data))]
-fn signature_data(words: &mut Words) -> Result<(), LineError>
+fn signature_data(alloc: Global, words: &mut Words) -> Result<(), LineError>
     ensures { Gives result (signature_data words.old) }
 {
-    record_type(words)?;
-    bytes(words)?;
+    words.record_type()?;
+    let _bytes = words.bytes(alloc)?;
     words.end()?;
     Ok(())
 }
 
 #[tactic(auto, unfolding(crate::specs::Unbuilt::bytes_data))]
-fn bytes_data(words: &mut Words) -> Result<(), LineError>
+fn bytes_data(alloc: Global, words: &mut Words) -> Result<(), LineError>
     ensures { Gives result (bytes_data words.old) }
 {
-    bytes(words)?;
+    let _bytes = words.bytes(alloc)?;
     words.end()?;
     Ok(())
 }
@@ -518,13 +366,13 @@ fn data_line(alloc: Global, words: &mut Words) -> Result<(), LineError>
         return soa_data(alloc, words);
     }
     if word == b"RRSIG".as_slice() {
-        return signature_data(words);
+        return signature_data(alloc, words);
     }
     if word == b"AAAA".as_slice() {
         return ipv6_data(alloc, words);
     }
-    if is_type(word) {
-        return bytes_data(words);
+    if record_type(word).is_some() {
+        return bytes_data(alloc, words);
     }
     Err(LineError::Refused)
 }
@@ -534,7 +382,7 @@ fn record_line(alloc: Global, words: &mut Words) -> Result<(), LineError>
     ensures { Gives result (record_line words.old) }
 {
     let _name = words.full_name(alloc)?;
-    any_number(words)?;
+    words.number(0, 4_294_967_295)?;
     class(words)?;
     data_line(alloc, words)
 }
@@ -550,7 +398,7 @@ fn is_at_roots(stage: Stage) -> bool
 fn is_at_options(stage: Stage) -> bool
     ensures { result ≡ is_at_options stage }
 {
-    matches!(&stage, Stage::Rooted)
+    matches!(&stage, Stage::Rooted | Stage::Optioned)
 }
 
 fn is_at_told(stage: Stage) -> bool
@@ -632,7 +480,10 @@ fn other_line(alloc: Global, place: Place, words: &mut Words) -> Result<(), Line
         return stands(is_at_roots(stage), root_line(alloc, words));
     }
     if word == b"option".as_slice() {
-        return stands(is_at_options(stage), option_line(alloc, words));
+        return stands(
+            is_at_options(stage),
+            option_line(alloc, place.option, words),
+        );
     }
     if word == b"told".as_slice() {
         return stands(is_at_told(stage), told_line(words));

@@ -21,7 +21,7 @@ fn fails_at(line: u32, cause: Cause) -> Result<Scenario, ScenarioError>
 
 /// The end of a text, where `rest` follows its last line feed.
 fn finish(alloc: Global, draft: Draft, line: u32, rest: &[u8]) -> Result<Scenario, ScenarioError>
-    ensures { result ≡ finish draft line rest.now }
+    ensures { GivesScenario result (finish draft line rest.now) }
 {
     if !draft.is_ended() {
         return fails_at(line, Cause::Cut);
@@ -29,7 +29,10 @@ fn finish(alloc: Global, draft: Draft, line: u32, rest: &[u8]) -> Result<Scenari
     if !rest.is_empty() {
         return fails_at(line, Cause::Line);
     }
-    Ok(draft.into_scenario(alloc))
+    match draft.into_scenario(alloc) {
+        Ok(scenario) => Ok(scenario),
+        Err(_) => fails_at(line, Cause::NoMemory),
+    }
 }
 
 /// What a line is told as that is not taken at its place.

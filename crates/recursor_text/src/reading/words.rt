@@ -1,16 +1,25 @@
 //! The words of a line, taken one by one.
 ghost use Rattle.std.specs.Prelude.{◌≡◌, ◌≤◌, ◌∷◌, [], Some, None, MatchOption, IfOk, if◌then◌else◌};
+ghost use Rattle.recursor_text.specs.Addresses.{ipv6_of, ip_of};
+ghost use Rattle.recursor_text.specs.Codes.{type_of};
 ghost use Rattle.recursor_text.specs.Fields.{GivesFields, Ends, Gives, field, literal};
+ghost use Rattle.recursor_text.specs.Hex.{bytes_of};
 ghost use Rattle.recursor_text.specs.Names.{relaxed_name, full_name, short_name};
+ghost use Rattle.recursor_text.specs.Networks.{nets_of};
 ghost use Rattle.recursor_text.specs.Numbers.{number_within, ipv4_of};
 ghost use Rattle.recursor_text.specs.Pieces.{pieces};
 
+use super::addresses::{ip, ipv6};
+use super::codes::record_type;
+use super::hex::bytes;
+use super::networks::nets;
 use super::numbers::{ipv4, number};
 use super::pieces::cut;
-use dns_core::{Name, NameError, NoMemory};
+use dns_core::{Bytes, Name, NameError, NoMemory, RecordType};
+use resolver_settings::Nets;
 use std::alloc::Global;
 use std::marker::Model;
-use std::net::Ipv4Addr;
+use std::net::{IpAddr, Ipv4Addr, Ipv6Addr};
 
 /// Why a line was not taken.
 #[derive(Clone, Copy, Debug, PartialEq, Eq)]
@@ -153,6 +162,59 @@ impl<'a> Words<'a> {
             Some(found) => Ok(found),
             None => Err(LineError::Refused),
         }
+    }
+
+    /// An IPv6 address.
+    pub fn ipv6(&mut self, alloc: Global) -> Result<Ipv6Addr, LineError>
+        ensures { GivesFields result self.new (field ipv6_of self.old) }
+    {
+        let Some(word) = self.next() else {
+            return Err(LineError::Refused);
+        };
+        ipv6(alloc, word)
+    }
+
+    /// An address of either family.
+    pub fn ip(&mut self, alloc: Global) -> Result<IpAddr, LineError>
+        ensures { GivesFields result self.new (field ip_of self.old) }
+    {
+        let Some(word) = self.next() else {
+            return Err(LineError::Refused);
+        };
+        ip(alloc, word)
+    }
+
+    /// Networks, each an address and a length.
+    pub fn nets(&mut self, alloc: Global) -> Result<Nets, LineError>
+        ensures { GivesFields result self.new (field nets_of self.old) }
+    {
+        let Some(word) = self.next() else {
+            return Err(LineError::Refused);
+        };
+        nets(alloc, word)
+    }
+
+    /// A type, by its name or its number.
+    pub fn record_type(&mut self) -> Result<RecordType, LineError>
+        ensures { GivesFields result self.new (field type_of self.old) }
+    {
+        let Some(word) = self.next() else {
+            return Err(LineError::Refused);
+        };
+        match record_type(word) {
+            Some(found) => Ok(found),
+            None => Err(LineError::Refused),
+        }
+    }
+
+    /// Bytes, each as two digits in base 16.
+    pub fn bytes(&mut self, alloc: Global) -> Result<Bytes, LineError>
+        ensures { GivesFields result self.new (field bytes_of self.old) }
+    {
+        let Some(word) = self.next() else {
+            return Err(LineError::Refused);
+        };
+        bytes(alloc, word)
     }
 
     /// A relaxed name.

@@ -1,4 +1,4 @@
-use Rattle.std.proofs.Common.{◌≡◌, ◌++◌, ◌∙◌, ap, take, append_assoc, rules}
+use Rattle.std.proofs.Common.{◌++◌, ◌∙◌, ap, take, append_assoc, rules}
 use Rattle.dns_core.specs.NameText.{dotted, separator}
 use Rattle.dns_core.proofs.Dotted.{dotted_take, kept}
 use Rattle.dns_core.proofs.name_text.push_text.Goals as goal

@@ -1,9 +1,11 @@
-use Rattle.std.proofs.Common.{◌≡◌, ◌≤◌, ◌∙◌, List, [], Contains, arith, subst, max}
+use Rattle.std.proofs.Common.{◌≡◌, ◌≤◌, ◌∙◌, [], Contains, arith, subst, max}
 use Rattle.std.proofs.lemmas.Result.{IfOk-weaker}
-use Rattle.std.specs.declared.net.ip_addr.IpAddr.{IpAddr}
 use Rattle.recursor_core.specs.Carrying.{TellsThat}
 use Rattle.recursor_core.specs.Standing.{RepliesHold, last_moment, run_moments}
+use Rattle.recursor_core.specs.declared.setting.Setting.{Setting}
+use Rattle.recursor_core.specs.Replies.{terms_with}
 use Rattle.recursor_core.proofs.Standing.{holds_derived, moment_later}
+use Rattle.recursor_core.proofs.Patience.{IsPatient-trans}
 use Rattle.recursor_core.proofs.Playing.{plays_wait, replies_hold}
 use Rattle.recursor_core.proofs.Timed.{timely_first, run_first, run_turns, run_last, contains_max, IsTimely-grown}
 use Rattle.recursor_core.proofs.driving.answer.Goals as goal
@@ -13,7 +15,7 @@ finish-requires-clause-holds g c =
     let core = c.play_turns.new.core in
     let new = c.begin_all.new.core in
     let come : core.moment ≤ c.max-now.result = omega (arith, c.max-now.ensures, c.moment-2.ensures) in
-    holds_derived g.P.ConnectionProvider c.args.patience core new c.play_turns.new.carrier c.begin_all.ensures.roots
+    holds_derived g.P.ConnectionProvider c.args.patience core new c.play_turns.new.carrier c.begin_all.ensures.setting
     (moment_later core.moment new.moment c.max-now.result come c.begin_all.ensures.moment) (c.begin_all.ensures.derived c.args.patience) c.play_turns.ensures.holds
 
 pub returns-clause-replies : goal.returns-clause-replies
@@ -41,7 +43,10 @@ returns-clause-replies g c =
     let played = c.play_turns.ensures.plays start (omega arith) waits in
     let begun = c.begin_all.ensures.plays patience (g.P.ConnectionProvider.log c.play_turns.new.carrier.provider) start turns after due played in
     let plays = c.finish.ensures.plays start turns [] questions begun in
-    let roots = c.finish.ensures.roots ∙ (c.begin_all.ensures.roots ∙ c.play_turns.ensures.roots) in
+    let setting = c.finish.ensures.setting ∙ (c.begin_all.ensures.setting ∙ c.play_turns.ensures.setting) in
     IfOk-weaker c.replies.result _ _ (λ v each.
-    subst (λ (ips : List IpAddr). TellsThat told (λ log. RepliesHold (record { roots = ips; patience = patience }) log start turns questions v.items)) roots
+    subst (λ (held : Setting). TellsThat told (λ log. RepliesHold (terms_with patience held) log start turns questions v.items)) setting
     (replies_hold patience c.finish.new.core told start turns [] questions c.finish.new.plays.items v.items timely plays each)) c.replies.ensures.each
+
+pub returns-clause-patient : goal.returns-clause-patient
+returns-clause-patient g c = IsPatient-trans _ _ _ _ c.play_turns.ensures.patient c.finish.ensures.patient

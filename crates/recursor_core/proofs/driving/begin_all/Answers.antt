@@ -9,12 +9,12 @@ loop-q-preserved c =
     let b = c.begin_one.ensures in
     record {
       derived = λ patience log d. b.derived patience log (i.derived patience log d);
-      roots = b.roots ∙ i.roots;
+      setting = b.setting ∙ i.setting;
       moment = moments_then c.args.core.now.moment c.loop-q.core.moment c.begin_one.new.core.moment c.args.now i.moment b.moment;
       begun = λ k begun e. b.begun k begun (i.begun k begun e);
       plays = λ patience told start turns after le h.
           plays_end patience c.loop-q.core c.begin_one.new.core told start turns c.args.questions.now c.loop-q.plays.items c.begin_one.new.plays.items
           c.loop-q.q c.args.now
-          after le b.roots b.begun b.others b.begins (i.plays patience told start turns after le h);
+          after le b.setting b.begun b.others b.begins (i.plays patience told start turns after le h);
       count = b.count ∙ i.count;
     }

@@ -10,7 +10,7 @@ use Rattle.recursor_core.proofs.driving.begin_all.Given as goal
 abbrev pub invariant-loop-q : goal.invariant-loop-q
 invariant-loop-q l = record {
   derived : (patience : ℕ) (log : Log) → Derived patience l.fn.core log → Derived patience l.core log;
-  roots : l.core.roots ≡ l.fn.core.roots;
+  setting : l.core.setting ≡ l.fn.core.setting;
   moment : (l.core.moment ≡ l.fn.core.moment) ⊎ (l.core.moment ≡ l.now);
   begun : (k : ℕ) (b : Begun) → begun_at l.fn.core k ≡ Some b → begun_at l.core k ≡ Some b;
   plays : (patience : ℕ) (told : Option (List LogEntry)) (start : ℕ) (turns : List Turn) → start ≤ l.now → last_moment start turns ≤ l.now

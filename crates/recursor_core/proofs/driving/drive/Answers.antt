@@ -1,7 +1,9 @@
-use Rattle.std.proofs.Common.{◌<◌, ◌∙◌, ℕ, List, length, IfOk, sym, subst}
-use Rattle.std.specs.declared.net.ip_addr.IpAddr.{IpAddr}
+use Rattle.std.proofs.Common.{◌<◌, ◌∙◌, ℕ, length, IfOk, sym, subst}
 use Rattle.recursor_core.specs.Carrying.{TellsThat}
-use Rattle.recursor_core.specs.Standing.{Standing, RepliesHold}
+use Rattle.recursor_core.specs.Standing.{Standing, run_terms, RepliesHold}
+use Rattle.recursor_core.specs.Replies.{terms_with}
+use Rattle.recursor_core.specs.Derived.{terms_of}
+use Rattle.recursor_core.specs.declared.setting.Setting.{Setting}
 use Rattle.recursor_core.proofs.Standing.{rests_holds, holds_rests}
 use Rattle.recursor_core.proofs.driving.drive.Goals as goal
 
@@ -13,8 +15,8 @@ answer-requires g c =
 
 pub invariant_of-recursor : goal.invariant_of-recursor
 invariant_of-recursor g c =
-    let same = c.answer.ensures.roots ∙ c.clear.ensures.same.0 in
-    let some : 0 < length c.answer.new.core.roots = subst (λ (ips : List IpAddr). 0 < length ips) (sym same) c.recursor.invariant.some in
+    let same = c.answer.ensures.setting ∙ c.clear.ensures.same.0 in
+    let some : 0 < length c.answer.new.core.setting.roots = subst (λ (held : Setting). 0 < length held.roots) (sym same) c.recursor.invariant.some in
     holds_rests g.P.ConnectionProvider c.args.patience c.answer.new.core c.answer.new.carrier some c.answer.ensures.holds
 
 pub returns-clause-replies : goal.returns-clause-replies
@@ -23,12 +25,12 @@ returns-clause-replies g c =
     let patience = c.args.patience in
     let was = c.recursor.inside.core in
     let new = c.clear.new.self in
-    let by_roots = subst (λ (ips : List IpAddr). IfOk c.answer.result (λ replies. TellsThat told (λ log.
-    RepliesHold (record { roots = ips; patience = patience }) log new.moment c.args.turns.now c.args.questions.now replies.items))) c.clear.ensures.same.0
+    let by_setting = subst (λ (held : Setting). IfOk c.answer.result (λ replies. TellsThat told (λ log.
+    RepliesHold (terms_with patience held) log new.moment c.args.turns.now c.args.questions.now replies.items))) c.clear.ensures.same.0
     c.answer.ensures.replies in
     let by_moment = subst (λ (m : ℕ). IfOk c.answer.result (λ replies. TellsThat told (λ log.
-    RepliesHold (record { roots = was.roots; patience = patience }) log m c.args.turns.now c.args.questions.now replies.items))) c.clear.ensures.same.2
-    by_roots in
+    RepliesHold (terms_of patience was) log m c.args.turns.now c.args.questions.now replies.items))) c.clear.ensures.same.2
+    by_setting in
     subst (λ (s : Standing _). IfOk c.answer.result (λ replies. TellsThat told (λ log.
-    RepliesHold (record { roots = s.roots; patience = patience }) log s.moment c.args.turns.now c.args.questions.now replies.items))) c.recursor.view_is
+    RepliesHold (run_terms patience s) log s.moment c.args.turns.now c.args.questions.now replies.items))) c.recursor.view_is
     by_moment

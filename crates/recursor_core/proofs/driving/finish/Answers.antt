@@ -1,4 +1,5 @@
 use Rattle.std.proofs.Common.{◌∙◌}
+use Rattle.recursor_core.proofs.Patience.{IsPatient-trans}
 use Rattle.recursor_core.proofs.Standing.{moments_then, Grown-trans}
 use Rattle.recursor_core.proofs.driving.finish.Goals as goal
 
@@ -12,9 +13,13 @@ rounds-preserved g c =
     record {
       vouches = λ es h. i.vouches es (r.vouches es h);
       holds = r.holds;
-      roots = r.roots ∙ i.roots;
+      setting = r.setting ∙ i.setting;
       moment = moments_then c.args.core.now.moment c.rounds.core.moment c.round.new.core.moment c.args.tick.now i.moment r.moment;
       grown = Grown-trans c.args.tick.now _ _ _ i.grown r.grown;
+      patient = IsPatient-trans _ _ _ _ i.patient r.patient;
       plays = λ start turns rest questions h. r.plays start turns rest questions (i.plays start turns rest questions h);
       count = r.count ∙ i.count;
     }
+
+pub returns-then-not-round-clause-patient : goal.returns-then-not-round-clause-patient
+returns-then-not-round-clause-patient g c = IsPatient-trans _ _ _ _ c.rounds.invariant.patient c.round.ensures.patient

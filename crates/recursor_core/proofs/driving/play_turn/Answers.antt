@@ -14,7 +14,7 @@ play-played-requires-clause-holds g c =
     let core = c.args.core.now in
     let new = c.begin_one.new.core in
     let come : core.moment ≤ c.max-now.result = omega (arith, c.max-now.ensures, c.moment.ensures) in
-    holds_derived g.P.ConnectionProvider c.args.patience core new c.args.carrier.now c.begin_one.ensures.roots
+    holds_derived g.P.ConnectionProvider c.args.patience core new c.args.carrier.now c.begin_one.ensures.setting
     (moment_later core.moment new.moment c.max-now.result come c.begin_one.ensures.moment) (c.begin_one.ensures.derived c.args.patience) c.requires
 
 pub returns-clause-timely : goal.returns-clause-timely
@@ -41,4 +41,4 @@ returns-clause-plays g c start turns rest after h =
     let come : start ≤ c.max-now.result = omega (arith, c.max-now.ensures, c.moment.ensures, after) in
     c.play-played.ensures.plays start turns rest c.args.questions.now
     (plays_turn c.args.patience c.args.core.now c.begin_one.new.core (g.P.ConnectionProvider.log c.args.carrier.now.provider) start turns rest t c.args.questions.now
-    c.args.plays.now.items c.begin_one.new.plays.items q c.max-now.result names come due b.roots b.begun b.others b.begins h)
+    c.args.plays.now.items c.begin_one.new.plays.items q c.max-now.result names come due b.setting b.begun b.others b.begins h)

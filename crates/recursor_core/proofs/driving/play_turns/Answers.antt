@@ -3,6 +3,7 @@ use Rattle.std.proofs.Math.ListN.{drop_of_length-le}
 use Rattle.std.proofs.lemmas.List.{drop_more}
 use Rattle.dns_core.specs.declared.request.Turn.{Turn}
 use Rattle.recursor_core.specs.Standing.{PlaysHold}
+use Rattle.recursor_core.proofs.Patience.{IsPatient-trans}
 use Rattle.recursor_core.proofs.driving.play_turns.Goals as goal
 
 pub loop-turn-preserved : goal.loop-turn-preserved
@@ -17,7 +18,8 @@ loop-turn-preserved g c =
     record {
       vouches = λ es h. i.vouches es (e.vouches es h);
       holds = e.holds;
-      roots = e.roots ∙ i.roots;
+      setting = e.setting ∙ i.setting;
+      patient = IsPatient-trans _ _ _ _ i.patient e.patient;
       moment = omega (arith, came, e.moment);
       timely = λ start moments was all told. let t = i.timely start moments was all told in e.timely start moments t.0 (all n _ within) t.1;
       plays = λ start after h. e.plays start turns (drop (n + 1) turns) (omega (arith, after, came))

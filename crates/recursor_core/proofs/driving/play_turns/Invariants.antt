@@ -1,6 +1,7 @@
-use Rattle.std.proofs.Common.{◌≡◌, ◌≤◌, ℕ, List, All, Contains, drop, vec_len}
+use Rattle.std.proofs.Common.{◌≡◌, ◌≤◌, ℕ, max, List, All, Contains, drop, vec_len}
 use Rattle.dns_core.specs.declared.log.LogEntry.{LogEntry}
 use Rattle.recursor_core.specs.Carrying.{TellsThat}
+use Rattle.recursor_core.specs.Patience.{IsPatient}
 use Rattle.recursor_core.specs.Standing.{Holds, IsTimely, PlaysHold}
 use Rattle.recursor_core.proofs.driving.play_turns.Given as goal
 
@@ -8,7 +9,8 @@ abbrev pub invariant-loop-turn : goal.invariant-loop-turn
 invariant-loop-turn g l = record {
   vouches : (es : List LogEntry) → g.P.ConnectionProvider.vouches l.carrier.provider es → g.P.ConnectionProvider.vouches l.fn.carrier.provider es;
   holds : Holds g.P.ConnectionProvider l.patience l.core l.carrier;
-  roots : l.core.roots ≡ l.fn.core.roots;
+  setting : l.core.setting ≡ l.fn.core.setting;
+  patient : IsPatient (max 1 l.patience) (g.P.ConnectionProvider.log l.fn.carrier.provider) (g.P.ConnectionProvider.log l.carrier.provider);
   moment : l.fn.core.moment ≤ l.core.moment;
   timely : (start : ℕ) (moments : List ℕ) → Contains moments l.fn.core.moment → All (λ t. Contains moments t.moment) l.turns
       → TellsThat (g.P.ConnectionProvider.log l.fn.carrier.provider) (IsTimely start moments)

@@ -13,6 +13,6 @@ pub returns-in-Err-clause-moves : goal.returns-in-Err-clause-moves
 returns-in-Err-clause-moves g c =
     let core = c.args.core.now in
     let new = c.reach.new.self in
-    moves_trans g.P.ConnectionProvider c.args.tick.now _ _ _ _ _ _
-    (moves_core g.P.ConnectionProvider c.args.tick.now core new c.args.carrier.now c.reach.ensures.same.0 (λ k. rw c.reach.ensures.same.2 refl))
-    (moves_trans g.P.ConnectionProvider c.args.tick.now _ _ _ _ _ _ c.turn.ensures.moves c.abandon.ensures.moves)
+    moves_trans g.P.ConnectionProvider c.args.tick.patience c.args.tick.now _ _ _ _ _ _
+    (moves_core g.P.ConnectionProvider c.args.tick.patience c.args.tick.now core new c.args.carrier.now c.reach.ensures.same.0 (λ k. rw c.reach.ensures.same.2 refl))
+    (moves_trans g.P.ConnectionProvider c.args.tick.patience c.args.tick.now _ _ _ _ _ _ c.turn.ensures.moves c.abandon.ensures.moves)

@@ -19,7 +19,7 @@ returns-in-Ended-clause-holds g c =
     let later = holds_grown g.P.ConnectionProvider patience core c.args.carrier.now c.give_up.new.self c.args.tick.now c.requires.moment
     c.give_up.ensures.holds c.give_up.ensures.grown
     (c.give_up.ensures.asks (given_of (terms_of patience core))) c.requires.holds in
-    holds_put g.P.ConnectionProvider patience core c.put.new.self c.give_up.new.self c.args.tick.now c.in-Some.outcome c.put.ensures.roots
+    holds_put g.P.ConnectionProvider patience core c.put.new.self c.give_up.new.self c.args.tick.now c.in-Some.outcome c.put.ensures.setting
     (c.put.ensures.moment c.requires.moment)
     (λ log longer. c.put.ensures.derived patience log longer (omega arith)) c.in-Some.ensures.fits c.requires.moment later
 
@@ -30,7 +30,7 @@ returns-in-Kept-clause-holds g c =
     let later = holds_grown g.P.ConnectionProvider patience core c.args.carrier.now c.give_up.new.self c.args.tick.now c.requires.moment
     c.give_up.ensures.holds c.give_up.ensures.grown
     (c.give_up.ensures.asks (given_of (terms_of patience core))) c.requires.holds in
-    holds_put g.P.ConnectionProvider patience core c.put.new.self c.give_up.new.self c.args.tick.now c.in-Some.outcome c.put.ensures.roots
+    holds_put g.P.ConnectionProvider patience core c.put.new.self c.give_up.new.self c.args.tick.now c.in-Some.outcome c.put.ensures.setting
     (c.put.ensures.moment c.requires.moment)
     (λ log longer. c.put.ensures.derived patience log longer (omega arith)) c.in-Some.ensures.fits c.requires.moment later
 
@@ -41,7 +41,7 @@ returns-in-GiveUp-clause-holds g c =
     let later = holds_grown g.P.ConnectionProvider patience core c.args.carrier.now c.give_up.new.self c.args.tick.now c.requires.moment
     c.give_up.ensures.holds c.give_up.ensures.grown
     (c.give_up.ensures.asks (given_of (terms_of patience core))) c.requires.holds in
-    holds_put g.P.ConnectionProvider patience core c.put.new.self c.give_up.new.self c.args.tick.now c.in-Some.outcome c.put.ensures.roots
+    holds_put g.P.ConnectionProvider patience core c.put.new.self c.give_up.new.self c.args.tick.now c.in-Some.outcome c.put.ensures.setting
     (c.put.ensures.moment c.requires.moment)
     (λ log longer. c.put.ensures.derived patience log longer (omega arith)) c.in-Some.ensures.fits c.requires.moment later
 
@@ -52,6 +52,6 @@ returns-in-Late-clause-holds g c =
     let later = holds_grown g.P.ConnectionProvider patience core c.args.carrier.now c.give_up.new.self c.args.tick.now c.requires.moment
     c.give_up.ensures.holds c.give_up.ensures.grown
     (c.give_up.ensures.asks (given_of (terms_of patience core))) c.requires.holds in
-    holds_put g.P.ConnectionProvider patience core c.put.new.self c.give_up.new.self c.args.tick.now c.in-Some.outcome c.put.ensures.roots
+    holds_put g.P.ConnectionProvider patience core c.put.new.self c.give_up.new.self c.args.tick.now c.in-Some.outcome c.put.ensures.setting
     (c.put.ensures.moment c.requires.moment)
     (λ log longer. c.put.ensures.derived patience log longer (omega arith)) c.in-Some.ensures.fits c.requires.moment later

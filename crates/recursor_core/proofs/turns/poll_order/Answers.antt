@@ -19,5 +19,6 @@ settle-requires-clause-holds g c =
 
 pub returns-clause-moves : goal.returns-clause-moves
 returns-clause-moves g c =
-    moves_trans g.P.ConnectionProvider c.args.tick.now _ _ _ _ _ _
-    (moves_grown g.P.ConnectionProvider c.args.tick.now c.args.core.now c.args.carrier.now c.poll.new.self c.poll.ensures.grown) c.settle.ensures.moves
+    moves_trans g.P.ConnectionProvider c.args.tick.patience c.args.tick.now _ _ _ _ _ _
+    (moves_grown g.P.ConnectionProvider c.args.tick.patience c.args.tick.now c.args.core.now c.args.carrier.now c.poll.new.self c.poll.ensures.grown
+    c.poll.ensures.patient) c.settle.ensures.moves

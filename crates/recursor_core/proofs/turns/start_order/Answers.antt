@@ -1,3 +1,4 @@
+use Rattle.std.proofs.Common.{arith}
 use Rattle.recursor_core.specs.Replies.{given_of}
 use Rattle.recursor_core.specs.Derived.{terms_of}
 use Rattle.recursor_core.proofs.Standing.{holds_grown, moves_grown, moves_trans}
@@ -21,5 +22,6 @@ settle-requires-clause-holds g c =
 
 pub returns-clause-moves : goal.returns-clause-moves
 returns-clause-moves g c =
-    moves_trans g.P.ConnectionProvider c.args.tick.now _ _ _ _ _ _
-    (moves_grown g.P.ConnectionProvider c.args.tick.now c.args.core.now c.args.carrier.now c.start.new.self c.start.ensures.grown) c.settle.ensures.moves
+    moves_trans g.P.ConnectionProvider c.args.tick.patience c.args.tick.now _ _ _ _ _ _
+    (moves_grown g.P.ConnectionProvider c.args.tick.patience c.args.tick.now c.args.core.now c.args.carrier.now c.start.new.self c.start.ensures.grown
+    (c.start.ensures.patient _ (omega arith))) c.settle.ensures.moves

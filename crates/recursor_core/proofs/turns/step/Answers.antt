@@ -1,8 +1,9 @@
-use Rattle.std.proofs.Common.{◌≡◌, List, IfOk, arith, subst}
-use Rattle.std.specs.declared.net.ip_addr.IpAddr.{IpAddr}
+use Rattle.std.proofs.Common.{◌≡◌, IfOk, arith, subst}
 use Rattle.recursor_core.specs.Machine.{begun_at, rank, StepFalls}
 use Rattle.recursor_core.specs.Standing.{TurnedTold}
 use Rattle.recursor_core.specs.declared.machine.Step.{Step}
+use Rattle.recursor_core.specs.declared.setting.Setting.{Setting}
+use Rattle.recursor_core.specs.Replies.{terms_with}
 use Rattle.recursor_core.proofs.Standing.{holds_derived, step_goes, step_replies, turn_falls}
 use Rattle.recursor_core.proofs.turns.step.Goals as goal
 
@@ -10,35 +11,35 @@ pub returns-in_err-next-clause-holds : goal.returns-in_err-next-clause-holds
 returns-in_err-next-clause-holds g c =
     let patience = c.args.tick.patience in
     let same : c.next.new.self.moment ≡ c.args.core.now.moment = c.next.ensures.same.moment in
-    holds_derived g.P.ConnectionProvider patience c.args.core.now c.next.new.self c.args.carrier.now c.next.ensures.same.roots (omega (arith, same))
+    holds_derived g.P.ConnectionProvider patience c.args.core.now c.next.new.self c.args.carrier.now c.next.ensures.same.setting (omega (arith, same))
     (λ log d. (c.next.ensures.gives patience log d).0) c.requires.holds
 
 pub start_order-requires-clause-holds : goal.start_order-requires-clause-holds
 start_order-requires-clause-holds g c =
     let patience = c.args.tick.patience in
     let same : c.next.new.self.moment ≡ c.args.core.now.moment = c.next.ensures.same.moment in
-    holds_derived g.P.ConnectionProvider patience c.args.core.now c.next.new.self c.args.carrier.now c.next.ensures.same.roots (omega (arith, same))
+    holds_derived g.P.ConnectionProvider patience c.args.core.now c.next.new.self c.args.carrier.now c.next.ensures.same.setting (omega (arith, same))
     (λ log d. (c.next.ensures.gives patience log d).0) c.requires.holds
 
 pub poll_order-requires-clause-holds : goal.poll_order-requires-clause-holds
 poll_order-requires-clause-holds g c =
     let patience = c.args.tick.patience in
     let same : c.next.new.self.moment ≡ c.args.core.now.moment = c.next.ensures.same.moment in
-    holds_derived g.P.ConnectionProvider patience c.args.core.now c.next.new.self c.args.carrier.now c.next.ensures.same.roots (omega (arith, same))
+    holds_derived g.P.ConnectionProvider patience c.args.core.now c.next.new.self c.args.carrier.now c.next.ensures.same.setting (omega (arith, same))
     (λ log d. (c.next.ensures.gives patience log d).0) c.requires.holds
 
 pub returns-in-Done-clause-holds : goal.returns-in-Done-clause-holds
 returns-in-Done-clause-holds g c =
     let patience = c.args.tick.patience in
     let same : c.next.new.self.moment ≡ c.args.core.now.moment = c.next.ensures.same.moment in
-    holds_derived g.P.ConnectionProvider patience c.args.core.now c.next.new.self c.args.carrier.now c.next.ensures.same.roots (omega (arith, same))
+    holds_derived g.P.ConnectionProvider patience c.args.core.now c.next.new.self c.args.carrier.now c.next.ensures.same.setting (omega (arith, same))
     (λ log d. (c.next.ensures.gives patience log d).0) c.requires.holds
 
 pub returns-in-Ended-clause-holds : goal.returns-in-Ended-clause-holds
 returns-in-Ended-clause-holds g c =
     let patience = c.args.tick.patience in
     let same : c.next.new.self.moment ≡ c.args.core.now.moment = c.next.ensures.same.moment in
-    holds_derived g.P.ConnectionProvider patience c.args.core.now c.next.new.self c.args.carrier.now c.next.ensures.same.roots (omega (arith, same))
+    holds_derived g.P.ConnectionProvider patience c.args.core.now c.next.new.self c.args.carrier.now c.next.ensures.same.setting (omega (arith, same))
     (λ log d. (c.next.ensures.gives patience log d).0) c.requires.holds
 
 pub start_order-requires-clause-goes : goal.start_order-requires-clause-goes
@@ -46,7 +47,7 @@ start_order-requires-clause-goes g c =
     let patience = c.args.tick.patience in
     step_goes patience c.args.core.now c.next.new.self (g.P.ConnectionProvider.log c.args.carrier.now.provider) c.args.r c.in-Order.number c.in_ok-next.next
     c.in-Order.order
-    c.in-Order.is c.next.ensures.same.roots c.requires.holds.derived (c.in_ok-next.ensures.gives patience)
+    c.in-Order.is c.next.ensures.same.setting c.requires.holds.derived (c.in_ok-next.ensures.gives patience)
 
 pub returns-in-Done-clause-told : goal.returns-in-Done-clause-told
 returns-in-Done-clause-told g c =
@@ -58,8 +59,8 @@ pub returns-in-Order-clause-told : goal.returns-in-Order-clause-told
 returns-in-Order-clause-told g c =
     let b = begun_at c.args.core.now c.args.r in
     let told = g.P.ConnectionProvider.log c.start_order.new.carrier.provider in
-    subst (λ (ips : List IpAddr). IfOk c.start_order.result (TurnedTold (record { roots = ips; patience = c.args.tick.patience }) told b))
-    c.next.ensures.same.roots (c.start_order.ensures.told b)
+    subst (λ (held : Setting). IfOk c.start_order.result (TurnedTold (terms_with c.args.tick.patience held) told b))
+    c.next.ensures.same.setting (c.start_order.ensures.told b)
 
 pub returns-in-Order-clause-falls : goal.returns-in-Order-clause-falls
 returns-in-Order-clause-falls g c =
@@ -72,8 +73,8 @@ pub returns-in-Waiting-clause-told : goal.returns-in-Waiting-clause-told
 returns-in-Waiting-clause-told g c =
     let b = begun_at c.args.core.now c.args.r in
     let told = g.P.ConnectionProvider.log c.poll_order.new.carrier.provider in
-    subst (λ (ips : List IpAddr). IfOk c.poll_order.result (TurnedTold (record { roots = ips; patience = c.args.tick.patience }) told b))
-    c.next.ensures.same.roots (c.poll_order.ensures.told b)
+    subst (λ (held : Setting). IfOk c.poll_order.result (TurnedTold (terms_with c.args.tick.patience held) told b))
+    c.next.ensures.same.setting (c.poll_order.ensures.told b)
 
 pub returns-in-Waiting-clause-falls : goal.returns-in-Waiting-clause-falls
 returns-in-Waiting-clause-falls g c =

@@ -1,22 +1,27 @@
-use Rattle.std.proofs.Common.{◌<◌, List, arith, subst}
-use Rattle.std.specs.declared.net.ip_addr.IpAddr.{IpAddr}
+use Rattle.std.proofs.Common.{◌<◌, arith, subst}
 use Rattle.recursor_core.specs.Machine.{begun_at, rank}
 use Rattle.recursor_core.specs.Derived.{terms_of}
 use Rattle.recursor_core.specs.Standing.{ReplyTold}
+use Rattle.recursor_core.specs.declared.setting.Setting.{Setting}
+use Rattle.recursor_core.specs.Replies.{terms_with}
 use Rattle.recursor_core.proofs.Standing.{moves_trans, ReplyTold-later}
 use Rattle.recursor_core.proofs.turns.turn.Goals as goal
 
 pub returns-in_err-step-clause-moves : goal.returns-in_err-step-clause-moves
-returns-in_err-step-clause-moves g c = moves_trans g.P.ConnectionProvider c.args.tick.now _ _ _ _ _ _ c.steps.invariant.moves c.step.ensures.moves
+returns-in_err-step-clause-moves g c =
+    moves_trans g.P.ConnectionProvider c.args.tick.patience c.args.tick.now _ _ _ _ _ _ c.steps.invariant.moves c.step.ensures.moves
 
 pub returns-in-Pending-clause-moves : goal.returns-in-Pending-clause-moves
-returns-in-Pending-clause-moves g c = moves_trans g.P.ConnectionProvider c.args.tick.now _ _ _ _ _ _ c.steps.invariant.moves c.step.ensures.moves
+returns-in-Pending-clause-moves g c =
+    moves_trans g.P.ConnectionProvider c.args.tick.patience c.args.tick.now _ _ _ _ _ _ c.steps.invariant.moves c.step.ensures.moves
 
 pub returns-in-Done-clause-moves : goal.returns-in-Done-clause-moves
-returns-in-Done-clause-moves g c = moves_trans g.P.ConnectionProvider c.args.tick.now _ _ _ _ _ _ c.steps.invariant.moves c.step.ensures.moves
+returns-in-Done-clause-moves g c =
+    moves_trans g.P.ConnectionProvider c.args.tick.patience c.args.tick.now _ _ _ _ _ _ c.steps.invariant.moves c.step.ensures.moves
 
 pub returns-in-Ended-clause-moves : goal.returns-in-Ended-clause-moves
-returns-in-Ended-clause-moves g c = moves_trans g.P.ConnectionProvider c.args.tick.now _ _ _ _ _ _ c.steps.invariant.moves c.step.ensures.moves
+returns-in-Ended-clause-moves g c =
+    moves_trans g.P.ConnectionProvider c.args.tick.patience c.args.tick.now _ _ _ _ _ _ c.steps.invariant.moves c.step.ensures.moves
 
 pub returns-in-Done-clause-told : goal.returns-in-Done-clause-told
 returns-in-Done-clause-told g c =
@@ -24,7 +29,7 @@ returns-in-Done-clause-told g c =
     let patience = c.args.tick.patience in
     let told = g.P.ConnectionProvider.log c.step.new.carrier.provider in
     let given = rw c.in-Done.is at c.in_ok-step.ensures.told in
-    subst (λ (ips : List IpAddr). ReplyTold (record { roots = ips; patience = patience }) told (begun_at c.args.core.now c.args.r) c.in-Done.reply) m.roots
+    subst (λ (held : Setting). ReplyTold (terms_with patience held) told (begun_at c.args.core.now c.args.r) c.in-Done.reply) m.setting
     (ReplyTold-later (terms_of patience c.steps.core) told (begun_at c.args.core.now c.args.r) (begun_at c.steps.core c.args.r) c.in-Done.reply
     (m.begun c.args.r) given)
 
@@ -34,7 +39,7 @@ steps-preserved g c =
     record {
       vouches = λ es h. c.steps.invariant.vouches es (c.step.ensures.vouches es h);
       holds = c.step.ensures.holds;
-      moves = moves_trans g.P.ConnectionProvider c.args.tick.now _ _ _ _ _ _ c.steps.invariant.moves c.step.ensures.moves;
+      moves = moves_trans g.P.ConnectionProvider c.args.tick.patience c.args.tick.now _ _ _ _ _ _ c.steps.invariant.moves c.step.ensures.moves;
       moment = c.step.ensures.moment;
       keeps = omega (arith, falls, c.steps.invariant.keeps);
     }

@@ -8,7 +8,7 @@ abbrev pub invariant-steps : goal.invariant-steps
 invariant-steps g l = record {
   vouches : (es : List LogEntry) → g.P.ConnectionProvider.vouches l.carrier.provider es → g.P.ConnectionProvider.vouches l.fn.carrier.provider es;
   holds : Holds g.P.ConnectionProvider l.tick.patience l.core l.carrier;
-  moves : Moves g.P.ConnectionProvider l.tick.now l.fn.core l.core l.fn.carrier l.carrier;
+  moves : Moves g.P.ConnectionProvider l.tick.patience l.tick.now l.fn.core l.core l.fn.carrier l.carrier;
   moment : l.core.moment ≡ l.tick.now;
   keeps : rank l.tick.patience l.core ≤ rank l.tick.patience l.fn.core;
 }

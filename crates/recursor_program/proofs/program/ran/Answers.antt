@@ -1,12 +1,13 @@
 use Rattle.std.proofs.Common.{◌≡◌, ◌∙◌, List, length, refl, ap, subst, arith}
-use Rattle.dns_core.specs.declared.log.LogEntry.{LogEntry}
 use Rattle.dns_core.specs.declared.request.Question.{Question}
+use Rattle.recursor_core.specs.Setting.{server_filter_of}
+use Rattle.recursor_core.specs.Standing.{run_terms}
 use Rattle.recursor_core.specs.declared.reply.Reply.{Reply}
 use Rattle.recursor_world.specs.Script.{Gives}
 use Rattle.recursor_world.specs.Upstream.{Upstream, told_by}
 use Rattle.recursor_world.specs.declared.script.Script.{Script}
-use Rattle.recursor_program.specs.Program.{script_of}
-use Rattle.recursor_program.proofs.Runs.{asks-of, replies-of}
+use Rattle.recursor_program.specs.Program.{script_of, terms_of}
+use Rattle.recursor_program.proofs.Runs.{terms-are, asks-of, replies-of}
 use Rattle.recursor_program.proofs.Plainly.{gives_plainly}
 use Rattle.recursor_program.proofs.program.ran.Goals as goal
 
@@ -22,11 +23,13 @@ returns c =
     let asked = ap (λ (qs : List Question). length qs) c.items.ensures in
     let answered = c.in_ok-replies.ensures.answered in
     let given = subst (λ (x : Script). Gives x log) (new.0 ∙ c.script_from-script.ensures) gives in
+    let r = c.in_ok-recursor.recursor in
+    let terms : run_terms s.patience r ≡ terms_of s = terms-are s.patience r s.roots (server_filter_of s.options) new.1 new.2 in
     record {
       gives = given;
       plain = gives_plainly (script_of s.upstream) log c.requires.whole given;
       answered = omega (arith, replied, asked, answered);
-      asks = asks-of s.patience s.roots c.in_ok-recursor.recursor.roots log (told_by provider) new.1 is (c.drive.ensures.asks (told_by provider) refl);
-      replies = replies-of s.patience s.roots c.in_ok-recursor.recursor.roots log (told_by provider) c.in_ok-recursor.recursor.moment s.turns c.items-2.result.now s.questions c.items.result.now c.new.result c.in_ok-replies.replies.items
-          new.1 is new.2 c.items-2.ensures c.items.ensures c.new.ensures (c.in_ok-replies.ensures.replies (told_by provider) refl);
+      asks = asks-of (terms_of s) (run_terms s.patience r) log (told_by provider) terms is (c.drive.ensures.asks (told_by provider) refl);
+      replies = replies-of (terms_of s) (run_terms s.patience r) log (told_by provider) r.moment s.turns c.items-2.result.now s.questions c.items.result.now c.new.result c.in_ok-replies.replies.items
+          terms is new.3 c.items-2.ensures c.items.ensures c.new.ensures (c.in_ok-replies.ensures.replies (told_by provider) refl);
     }

@@ -1,11 +1,12 @@
-use Rattle.std.proofs.Common.{◌++◌, List, subst}
+use Rattle.std.proofs.Common.{◌++◌, List, sym, subst}
 use Rattle.std.specs.declared.net.ip_addr.IpAddr.{IpAddr}
 use Rattle.dns_core.specs.Name.{DomainName}
 use Rattle.resolution.specs.Names.{base}
 use Rattle.resolution.specs.Records.{records}
-use Rattle.resolution.specs.Serving.{glue}
+use Rattle.resolution.specs.Serving.{allowed, glue}
+use Rattle.resolver_settings.specs.Access.{denies}
 use Rattle.recursor_walk.specs.Lending.{SameElements, lent_for}
-use Rattle.recursor_walk.proofs.Lending.{same-sections, same-glue, same-trans, lent_for-append}
+use Rattle.recursor_walk.proofs.Lending.{same-sections, same-glue, same-trans, same-allowed, lent_for-append}
 use Rattle.recursor_walk.proofs.glue.addresses.Goals as goal
 
 pub returns : goal.returns
@@ -21,4 +22,6 @@ returns c =
     in
     let at_base : SameElements new (c.new-ips.result.items ++ lent_for rs (base n) rs) = subst (λ (z : DomainName). SameElements new (c.new-ips.result.items ++ lent_for rs z rs)) c.in_ok-base.ensures all in
     let alone : SameElements new (lent_for rs (base n) rs) = subst (λ (l : List IpAddr). SameElements new (l ++ lent_for rs (base n) rs)) c.new-ips.ensures.items at_base in
-    same-trans new (lent_for rs (base n) rs) (glue m n) alone (same-glue m n)
+    let denied = denies c.args.filter.now in
+    let given : SameElements new (glue m n) = same-trans new (lent_for rs (base n) rs) (glue m n) alone (same-glue m n) in
+    subst (λ (l : List IpAddr). SameElements l (allowed denied (glue m n))) (sym c.keep_allowed.ensures) (same-allowed denied new (glue m n) given)

@@ -3,7 +3,8 @@ use Rattle.dns_core.specs.Log.{added}
 use Rattle.dns_core.specs.declared.log.LogEntry.TheVariants.{Told}
 use Rattle.dns_core.specs.declared.log.ToldOutcome.TheVariants.{Error}
 use Rattle.recursor_core.proofs.Growing.{Grown-added, Grown-unless, AsksServers-added, AsksServers-unless}
-use Rattle.recursor_core.proofs.Slots.{holds_added, holds_unless, holds_put, IsWaitedFor-polled, Fits-failed}
+use Rattle.recursor_core.proofs.Patience.{IsPatient-added, IsPatient-unless, IsPatient-waited}
+use Rattle.recursor_core.proofs.Slots.{holds_added, holds_waited, holds_unless, holds_kept, IsAlone-added, IsWaitedFor-polled, Fits-failed}
 use Rattle.recursor_core.proofs.carrier.Carrier.poll_opening.Goals as goal
 
 pub returns-in-Pending-clause-holds : goal.returns-in-Pending-clause-holds
@@ -14,10 +15,14 @@ returns-in-Pending-clause-holds g c =
     let keep = c.keep.ensures in
     let same = c.in-Pending.ensures.same in
     let grew = ap p.log count.same.0 ∙ c.in-Pending.ensures.log in
-    let counted = holds_added p c.args.self.now c.count-entry.new.self _ grew count.counts count.same.1 c.requires.holds in
+    let counted = holds_waited p c.args.self.now c.count-entry.new.self (p.opened o.future) o.sent o.polls grew count.counts count.same.1
+    c.requires.opened.1 c.requires.alone c.requires.holds in
     let more = c.saturating_add-polls in
-    let polled = IsWaitedFor-polled (p.opened o.future) o.sent o.polls more.result _ _ grew (omega (arith, more.ensures)) c.requires.opened.1 in
-    holds_put p c.count-entry.new.self c.keep.new.self _ _ keep.slots keep.same.0 keep.same.1 (c.requires.opened.0, rw same.0 polled) counted
+    let polled = IsWaitedFor-polled (p.opened o.future) o.sent o.polls more.result _ _ grew (omega (arith, more.ensures, c.requires.fewer))
+    c.requires.opened.1 in
+    holds_kept p c.count-entry.new.self c.keep.new.self _ c.args.number o.sent.of _ keep.slots keep.same.0 keep.same.1
+    (c.requires.opened.0, rw same.0 polled) refl
+    (IsAlone-added p _ _ _ c.args.self.now.slots c.count-entry.new.self.slots o.sent.of grew count.same.1 c.requires.alone) counted
 
 pub returns-in-Pending-clause-grown : goal.returns-in-Pending-clause-grown
 returns-in-Pending-clause-grown g c =
@@ -33,7 +38,7 @@ returns-in-Ready-Ok-clause-holds g c =
     let p = g.P.ConnectionProvider in
     let told = rw c.in-Ready-Ok.field-0-is at c.in-Ready-Ok.ensures.log in
     let made = c.connected.ensures in
-    holds_added p c.args.self.now c.connected.new.self _ (ap p.log made.same.0 ∙ told) made.counts made.same.1 c.requires.holds
+    holds_added p c.args.self.now c.connected.new.self _ (ap p.log made.same.0 ∙ told) made.counts made.same.1 (λ of. refl) c.requires.holds
 
 pub returns-in-Ready-Ok-clause-grown : goal.returns-in-Ready-Ok-clause-grown
 returns-in-Ready-Ok-clause-grown g c =
@@ -55,16 +60,17 @@ returns-then-is_memory-clause-holds g c =
     let same = c.in-Ready-Err.ensures.same in
     let keep = c.keep-then-is_memory.ensures in
     let polled = record c.args.self.now { provider = c.poll_connection.new.self } in
-    holds_put p polled c.keep-then-is_memory.new.self _ _ keep.slots keep.same.0 keep.same.1
-    (c.requires.opened.0, λ es told. rw same.0 (c.requires.opened.1 es (sym unchanged ∙ told)))
-    (holds_unless true p c.args.self.now polled e unchanged refl refl c.requires.holds)
+    holds_kept p polled c.keep-then-is_memory.new.self _ c.args.number c.args.opening.sent.of _ keep.slots keep.same.0 keep.same.1
+    (c.requires.opened.0, λ es told. rw same.0 (c.requires.opened.1 es (sym unchanged ∙ told))) refl
+    (λ es told. c.requires.alone es (sym unchanged ∙ told))
+    (holds_unless true p c.args.self.now polled e unchanged refl refl (λ of. refl) c.requires.holds)
 
 pub returns-clause-holds : goal.returns-clause-holds
 returns-clause-holds g c =
     let p = g.P.ConnectionProvider in
     let told = rw c.in-Ready-Err.field-0-is at c.in-Ready-Err.ensures.log in
     let failed = c.failed.ensures in
-    holds_unless _ p c.args.self.now c.failed.new.self _ (ap p.log failed.same.0 ∙ told) failed.counts failed.same.1 c.requires.holds
+    holds_unless _ p c.args.self.now c.failed.new.self _ (ap p.log failed.same.0 ∙ told) failed.counts failed.same.1 (λ of. refl) c.requires.holds
 
 pub returns-clause-grown : goal.returns-clause-grown
 returns-clause-grown g c =
@@ -86,3 +92,25 @@ pub returns-clause-asks : goal.returns-clause-asks
 returns-clause-asks g c given asks =
     let told = rw c.in-Ready-Err.field-0-is at c.in-Ready-Err.ensures.log in
     AsksServers-unless _ given _ _ _ (ap g.P.ConnectionProvider.log c.failed.ensures.same.0 ∙ told) (λ es told. tt) asks
+
+pub returns-in-Pending-clause-patient : goal.returns-in-Pending-clause-patient
+returns-in-Pending-clause-patient g c most fewer =
+    let p = g.P.ConnectionProvider in
+    let o = c.args.opening in
+    IsPatient-waited most (p.opened o.future) o.sent o.polls _ _ (ap p.log (c.keep.ensures.same.0 ∙ c.count-entry.ensures.same.0) ∙ c.in-Pending.ensures.log)
+    c.requires.opened.1 fewer
+
+pub returns-in-Ready-Ok-clause-patient : goal.returns-in-Ready-Ok-clause-patient
+returns-in-Ready-Ok-clause-patient g c most fewer =
+    let told = rw c.in-Ready-Ok.field-0-is at c.in-Ready-Ok.ensures.log in
+    IsPatient-added most _ _ _ (ap g.P.ConnectionProvider.log c.connected.ensures.same.0 ∙ told) (λ of. refl)
+
+pub returns-then-is_memory-clause-patient : goal.returns-then-is_memory-clause-patient
+returns-then-is_memory-clause-patient g c most fewer =
+    let told = rw c.in-Ready-Err.field-0-is at c.in-Ready-Err.ensures.log in
+    IsPatient-unless _ most _ _ _ (ap g.P.ConnectionProvider.log c.keep-then-is_memory.ensures.same.0 ∙ told) (λ of. refl)
+
+pub returns-clause-patient : goal.returns-clause-patient
+returns-clause-patient g c most fewer =
+    let told = rw c.in-Ready-Err.field-0-is at c.in-Ready-Err.ensures.log in
+    IsPatient-unless _ most _ _ _ (ap g.P.ConnectionProvider.log c.failed.ensures.same.0 ∙ told) (λ of. refl)

@@ -35,4 +35,4 @@ returns-clause-same c =
     let f = c.index_mut-resolution.result.now in
     let at = c.index_mut-resolution.ensures.value in
     let within : c.args.r < length xs = may_ask_within c.args.ip xs c.args.r c.requires in
-    record { roots = refl; greatest = refl; moment = refl; begun = begun-set xs c.args.r f c.asks.new.self within at c.asks.ensures.begun }
+    record { setting = refl; greatest = refl; moment = refl; begun = begun-set xs c.args.r f c.asks.new.self within at c.asks.ensures.begun }

@@ -9,4 +9,4 @@ returns-in-Ok-clause-derived c patience log later d =
     let h = rw c.in-Ok.is at (c.begin_walk.ensures.derived patience log later d) in
     let same = c.begin_walk.ensures.same.1 in
     let moment : c.max-self.result ≡ now = omega (arith, c.max-self.ensures, same, later) in
-    derived-is patience _ log mid.roots mid.greatest now mid.resolutions.items refl refl moment refl h.bound h.some h.resolutions
+    derived-is patience _ log mid.setting mid.greatest now mid.resolutions.items refl refl moment refl h.bound h.some h.resolutions

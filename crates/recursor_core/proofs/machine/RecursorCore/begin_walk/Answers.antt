@@ -18,8 +18,8 @@ returns-clause-derived c patience log later d =
     let g = core.greatest in
     let rs = core.resolutions.items in
     let before = resolutions-kept terms log log (same-log log) g g core.moment c.args.now rs (omega arith) later d.resolutions in
-    derived-is patience _ log core.roots g c.args.now (rs ++ r ∷ []) refl refl refl c.in_ok-push.ensures.items d.bound d.some
-    (All-push P rs r before (c.in_ok-resolution.ensures.holds patience g log d.some))
+    derived-is patience _ log core.setting g c.args.now (rs ++ r ∷ []) refl refl refl c.in_ok-push.ensures.items d.bound d.some
+    (All-push P rs r before (c.in_ok-resolution.ensures.holds core.setting.server_filter patience g log d.some))
 
 pub returns-clause-others : goal.returns-clause-others
 returns-clause-others c k within =

@@ -21,7 +21,7 @@ returns-clause-derived c patience log d =
     let at = c.index_mut-resolution.ensures.value in
     let within : c.args.r < length xs = need_within xs c.args.r (λ e. cc) in
     let P = ResolutionHolds terms core.greatest core.moment log in
-    let kept = all-after P xs c.args.r f c.choose.new.self within at (c.choose.ensures.holds terms core.greatest core.moment log) d.resolutions in
+    let kept = all-after P xs c.args.r f c.choose.new.self within at (c.choose.ensures.holds terms core.greatest core.moment log refl) d.resolutions in
     record { bound = d.bound; some = d.some; resolutions = kept }
 
 pub returns-clause-same : goal.returns-clause-same
@@ -30,4 +30,4 @@ returns-clause-same c =
     let f = c.index_mut-resolution.result.now in
     let at = c.index_mut-resolution.ensures.value in
     let within : c.args.r < length xs = need_within xs c.args.r (λ e. cc) in
-    record { roots = refl; greatest = refl; moment = refl; begun = begun-set xs c.args.r f c.choose.new.self within at c.choose.ensures.begun }
+    record { setting = refl; greatest = refl; moment = refl; begun = begun-set xs c.args.r f c.choose.new.self within at c.choose.ensures.begun }

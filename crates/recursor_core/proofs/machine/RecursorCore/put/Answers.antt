@@ -23,5 +23,5 @@ returns-clause-derived c patience log longer bound later d x fits =
     let above : old.greatest < entry_of c.args.outcome = omega (arith, c.if-entry-self.false, entry) in
     let h = c.take-after.ensures.derived patience log longer bound above later d x fits in
     let moment = set.3 ∙ same.moment in
-    derived-is patience _ longer mid.roots (entry_of c.args.outcome) now mid.resolutions.items set.1 entry (omega (arith, c.max-self.ensures, moment, later))
+    derived-is patience _ longer mid.setting (entry_of c.args.outcome) now mid.resolutions.items set.1 entry (omega (arith, c.max-self.ensures, moment, later))
     (ap (λ (rs : Vec Resolution). rs.items) set.0) h.bound h.some h.resolutions

@@ -44,4 +44,4 @@ returns-clause-same c =
     let f = c.index_mut-resolution.result.now in
     let at = c.index_mut-resolution.ensures.value in
     let within : c.args.r < length xs = order_within xs c.args.r c.requires in
-    record { roots = refl; greatest = refl; moment = refl; begun = begun-set xs c.args.r f c.take.new.self within at c.take.ensures.begun }
+    record { setting = refl; greatest = refl; moment = refl; begun = begun-set xs c.args.r f c.take.new.self within at c.take.ensures.begun }

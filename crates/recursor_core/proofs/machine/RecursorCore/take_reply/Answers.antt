@@ -36,4 +36,4 @@ returns-clause-same c =
     let f = c.index_mut-resolution.result.now in
     let at = c.index_mut-resolution.ensures.value in
     let within : c.args.r < length xs = need_within xs c.args.r (λ e. cc) in
-    record { roots = refl; greatest = refl; moment = refl; begun = begun-set xs c.args.r f c.take_reply.new.self within at c.take_reply.ensures.begun }
+    record { setting = refl; greatest = refl; moment = refl; begun = begun-set xs c.args.r f c.take_reply.new.self within at c.take_reply.ensures.begun }

@@ -18,7 +18,7 @@ use Rattle.recursor_core.proofs.walk.Walk.conclude_candidate.Goals.{in-Timeout, 
 use Rattle.recursor_core.proofs.walk.Walk.conclude_candidate.Goals as goal
 
 pub returns-in-Message-clause-holds : goal.returns-in-Message-clause-holds
-returns-in-Message-clause-holds c terms greatest moment t0 log way found = c.hear_candidate.ensures.holds terms greatest moment t0 log way (rw c.in-Message.is at found)
+returns-in-Message-clause-holds c terms greatest moment t0 log filtered way found = c.hear_candidate.ensures.holds terms greatest moment t0 log filtered way (rw c.in-Message.is at found)
 
 -- an error that is none is no timeout
 not-timeout : (e : NetError) → (e ≡ net.Timeout → ⊥) → is_timeout e ≡ false
@@ -33,7 +33,7 @@ comes-as terms greatest moment t0 log asked v w r s e f h =
     (subst (λ (x : Result (Option Reply) NoMemory). IfOk x (WalkComes terms greatest moment t0 log asked v)) (sym f) h)
 
 pub returns-after-error-clause-holds : goal.returns-after-error-clause-holds
-returns-after-error-clause-holds c terms greatest moment t0 log way found =
+returns-after-error-clause-holds c terms greatest moment t0 log filtered way found =
     let w = c.args.self.now in
     let asked = c.args.question.now in
     let failed = rw c.in-Error.is at found in

@@ -3,31 +3,33 @@ use Rattle.std.proofs.lemmas.Bool.Decides.{nat_tests}
 use Rattle.recursor_core.specs.declared.error.RecursorError.TheVariants.{NoNameServer}
 use Rattle.recursor_core.specs.declared.error.WalkCause.TheVariants.{NoAddress}
 use Rattle.resolution.specs.declared.verdict.Verdict.TheVariants.{Pos}
-use Rattle.resolution.specs.Serving.{glue}
+use Rattle.resolution.specs.Serving.{allowed, glue}
+use Rattle.resolver_settings.specs.Access.{Access, denies}
 use Rattle.std.specs.declared.net.ip_addr.IpAddr.{IpAddr}
 use Rattle.recursor_core.proofs.Denials.{glueless-of, stops}
 use Rattle.recursor_core.proofs.Walks.{cut-way, cut-leaves, candidate-asked, candidate-on-the-way, leaves-told}
 use Rattle.recursor_core.proofs.walk.Walk.descend.Goals as goal
 
 pub returns-then-not-is_delegation-clause-holds : goal.returns-then-not-is_delegation-clause-holds
-returns-then-not-is_delegation-clause-holds c terms greatest moment t0 entry log way counts =
+returns-then-not-is_delegation-clause-holds c terms greatest moment t0 entry log filtered way counts =
     c.advance.ensures.holds terms greatest moment t0 log way
     (leaves-told terms greatest log c.args.question.now.query c.args.self.now c.requires way t0 entry (Pos c.args.kept.now) counts
     (sym c.is_delegation.ensures ∙ c.if-not-is_delegation.true))
 
 pub returns-clause-holds : goal.returns-clause-holds
-returns-clause-holds c terms greatest moment t0 entry log way counts =
+returns-clause-holds c terms greatest moment t0 entry log filtered way counts =
     let w = c.args.self.now in
     let filled = sym c.is_empty.ensures ∙ c.if-is_empty.false in
     c.advance-2.ensures.holds terms greatest moment t0 log
     (cut-way terms greatest t0 log c.args.question.now.query w c.args.kept.now entry c.in_ok-self.field-0 c.new.result c.requires way counts
     (sym c.is_delegation.ensures ∙ c.if-not-is_delegation.false) c.in_ok-self.ensures
     (subst (λ (xs : List IpAddr). 0 < length xs) (sym c.new.ensures) (grind (arith, nat_tests)))
-    (λ ip. subst (λ (xs : List IpAddr). Contains xs ip ↔ Contains (glue c.args.kept.now w.lookup.query.name) ip) (sym c.new.ensures) (c.in_ok-ips.ensures ip)))
+    (λ ip. subst (λ (xs : List IpAddr). Contains xs ip ↔ Contains (allowed (denies terms.server_filter) (glue c.args.kept.now w.lookup.query.name)) ip) (sym c.new.ensures)
+    (subst (λ (f : Access). Contains c.in_ok-ips.ips.items ip ↔ Contains (allowed (denies f) (glue c.args.kept.now w.lookup.query.name)) ip) (sym filtered) (c.in_ok-ips.ensures ip))))
     (cut-leaves terms log w c.in_ok-self.field-0 c.new.result c.in_ok-self.ensures)
 
 pub returns-then-is_empty-clause-holds : goal.returns-then-is_empty-clause-holds
-returns-then-is_empty-clause-holds c terms greatest moment t0 entry log way counts =
+returns-then-is_empty-clause-holds c terms greatest moment t0 entry log filtered way counts =
     let w = c.args.self.now in
     let asked = c.args.question.now in
     let name = w.lookup.query.name in
@@ -42,6 +44,6 @@ returns-then-is_empty-clause-holds c terms greatest moment t0 entry log way coun
         glueless = glueless-of terms greatest t0 log w.zone name w.lookup.query entry c.args.kept.now counts
             (candidate-asked terms greatest log asked.query w c.requires way)
             (sym c.is_delegation.ensures ∙ c.if-not-is_delegation.false)
-            (λ ip has. let place = (c.in_ok-ips.ensures ip).1 has in let less = place.1 in grind (arith, nat_tests));
+            (λ ip has. let place = (c.in_ok-ips.ensures ip).1 (subst (λ (f : Access). Contains (allowed (denies f) (glue c.args.kept.now name)) ip) filtered has) in let less = place.1 in grind (arith, nat_tests));
       },
     )

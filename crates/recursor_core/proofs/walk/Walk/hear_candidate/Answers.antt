@@ -13,21 +13,21 @@ use Rattle.recursor_core.proofs.Walks.{candidate-asked, candidate-on-the-way, ca
 use Rattle.recursor_core.proofs.walk.Walk.hear_candidate.Goals as goal
 
 pub returns-in-Ok-Pos-clause-holds : goal.returns-in-Ok-Pos-clause-holds
-returns-in-Ok-Pos-clause-holds c terms greatest moment t0 log way h =
+returns-in-Ok-Pos-clause-holds c terms greatest moment t0 log filtered way h =
     let w = c.args.self.now in
     let found = rw c.in-Ok-Pos.is at c.in_ok-kept.ensures.counts in
-    c.descend.ensures.holds terms greatest moment t0 c.args.entry log way
+    c.descend.ensures.holds terms greatest moment t0 c.args.entry log filtered way
     (counts-of terms greatest t0 log w.zone w.lookup.query c.args.entry c.args.message (Pos c.in-Ok-Pos.kept) h.0 (rw c.in-Ok-Pos.field-0-is at found))
 
 pub returns-in-Ok-Neg-clause-holds : goal.returns-in-Ok-Neg-clause-holds
-returns-in-Ok-Neg-clause-holds c terms greatest moment t0 log way h =
+returns-in-Ok-Neg-clause-holds c terms greatest moment t0 log filtered way h =
     let w = c.args.self.now in
     let found = rw c.in-Ok-Neg.is at c.in_ok-kept.ensures.counts in
     c.deny_candidate.ensures.holds terms greatest moment t0 log way
     (counts-of terms greatest t0 log w.zone w.lookup.query c.args.entry c.args.message (Neg c.in-Ok-Neg.found) h.0 (rw c.in-Ok-Neg.field-0-is at found))
 
 pub returns-clause-holds : goal.returns-clause-holds
-returns-clause-holds c terms greatest moment t0 log way h =
+returns-clause-holds c terms greatest moment t0 log filtered way h =
     let w = c.args.self.now in
     let error = rw c.in-Err.is at c.in_ok-kept.ensures.error in
     let told = error-told c.args.message w.lookup.query c.in-Err.field-0 h.0.asked error in
@@ -36,7 +36,7 @@ returns-clause-holds c terms greatest moment t0 log way h =
     (subst (Concluded terms t0 log w.zone w.lookup.query w.lookup.ends) told.0 h.1) told.1)
 
 pub returns-in-Ok-Made-clause-holds : goal.returns-in-Ok-Made-clause-holds
-returns-in-Ok-Made-clause-holds c terms greatest moment t0 log way h =
+returns-in-Ok-Made-clause-holds c terms greatest moment t0 log filtered way h =
     let w = c.args.self.now in
     let asked = c.args.question.now in
     let cause = c.in-Ok-Made.cause in

@@ -1,0 +1,168 @@
+//! Names: their text, their parents, their zones and their equality.
+
+use crate::{Label, Letter, Name, NameError, NoMemory, TryClone, is_subzone};
+use std::alloc::Global;
+use std::cmp::Ordering;
+use std::hash::{BuildHasher, BuildHasherDefault, FoldHasher};
+use std::test::Fail;
+
+fn subzone(alloc: Global, parent: &str, child: &str) -> Result<bool, NameError> {
+    let parent = Name::parse(alloc, parent)?;
+    let child = Name::parse(alloc, child)?;
+    Ok(is_subzone(&parent, &child))
+}
+
+#[test]
+fn a_child_lies_in_the_zone_of_its_parent_alone(rt: HostRuntime) -> Result<(), Fail> {
+    let alloc = rt.alloc();
+    assert!(rt; subzone(alloc, ".", "com.")?);
+    assert!(rt; subzone(alloc, "example.com.", "www.Example.com.")?);
+    assert!(rt; subzone(alloc, "example.com", "www.example.com")?);
+    assert!(rt; !subzone(alloc, "com.", "example.net.")?);
+    assert!(rt; !subzone(alloc, "example.com.", "www.otherdomain.com.")?);
+    assert!(rt; !subzone(alloc, "example.com", "www.example.com.")?);
+    assert!(rt; !subzone(alloc, "example.com.", "www.example.com")?);
+    assert!(rt; !subzone(alloc, "example.com.", "badexample.com.")?);
+    assert!(rt; !subzone(alloc, "www.example.com.", "example.com.")?);
+    Ok(())
+}
+
+#[test]
+fn the_empty_name_is_no_zone(rt: HostRuntime) -> Result<(), Fail> {
+    let alloc = rt.alloc();
+    let empty = Name::empty(alloc);
+    let root = Name::root(alloc);
+    assert!(rt; empty.is_empty() && !empty.is_root());
+    assert!(rt; root.is_root() && !root.is_empty());
+    assert!(rt; !is_subzone(&empty, &empty));
+    assert!(rt; is_subzone(&root, &root));
+    assert!(rt; empty.zone_of(&root));
+    Ok(())
+}
+
+fn written(alloc: Global, name: &Name) -> Result<Vec<u8>, NoMemory> {
+    let mut out = Vec::new(alloc);
+    name.write_text(&mut out)?;
+    Ok(out)
+}
+
+/// Whether a text is read by all three readers, and written back.
+fn keeps_its_text(alloc: Global, text: &str) -> Result<bool, NameError> {
+    let strict = written(alloc, &Name::parse(alloc, text)?)?;
+    let relaxed = written(alloc, &Name::parse_relaxed(alloc, text)?)?;
+    let bytes = written(alloc, &Name::parse_relaxed_bytes(alloc, text.as_bytes())?)?;
+    Ok(strict.as_slice() == text.as_bytes() && relaxed == strict && bytes == strict)
+}
+
+#[test]
+fn names_keep_their_text(rt: HostRuntime) -> Result<(), Fail> {
+    let alloc = rt.alloc();
+    assert!(rt; keeps_its_text(alloc, ".")?);
+    assert!(rt; keeps_its_text(alloc, "com")?);
+    assert!(rt; keeps_its_text(alloc, "WWW.example.com.")?);
+    assert!(rt; keeps_its_text(alloc, "_dns.*.x-1.example")?);
+    let odd = Name::parse_relaxed_bytes(alloc, b"a!b.~.")?;
+    assert_eq!(rt; written(alloc, &odd)?.as_slice(), b"a!b.~.".as_slice());
+    assert_eq!(rt;
+        written(alloc, &Name::empty(alloc))?.as_slice(),
+        b"".as_slice()
+    );
+    Ok(())
+}
+
+#[test]
+fn parents_of_a_name(rt: HostRuntime) -> Result<(), Fail> {
+    let alloc = rt.alloc();
+    let name = Name::parse(alloc, "WWW.example.com.")?;
+    assert_eq!(rt; name.num_labels(), 3);
+    assert!(rt; name.is_fqdn());
+    let trimmed = name.trim_to(alloc, 2)?;
+    assert_eq!(rt;
+        written(alloc, &trimmed)?.as_slice(),
+        b"example.com.".as_slice()
+    );
+    assert!(rt; name.trim_to(alloc, 4)?.eq_case(&name));
+    assert!(rt; name.trim_to(alloc, 0)?.is_root());
+    let base = trimmed.base_name(alloc)?;
+    assert_eq!(rt; written(alloc, &base)?.as_slice(), b"com.".as_slice());
+    assert!(rt; base.base_name(alloc)?.is_root());
+    assert!(rt; Name::root(alloc).base_name(alloc)?.is_root());
+    let copy = base.try_clone(alloc)?;
+    assert!(rt; copy.eq_case(&base));
+    Ok(())
+}
+
+#[test]
+fn names_are_equal_without_case(rt: HostRuntime) -> Result<(), Fail> {
+    let alloc = rt.alloc();
+    let lower = Name::parse(alloc, "example.com.")?;
+    let upper = Name::parse(alloc, "EXAMPLE.com.")?;
+    assert!(rt; lower == upper);
+    assert!(rt; lower.cmp(&upper) == Ordering::Equal);
+    assert!(rt; !lower.eq_case(&upper));
+    let hasher: BuildHasherDefault<FoldHasher> = BuildHasherDefault::new();
+    assert_eq!(rt; hasher.hash_one(&lower), hasher.hash_one(&upper));
+    let relative = Name::parse(alloc, "example.com")?;
+    assert!(rt; relative != lower);
+    assert!(rt; relative < lower);
+    assert!(rt; Name::parse(alloc, "B.com.")? > Name::parse(alloc, "a.com.")?);
+    Ok(())
+}
+
+#[test]
+fn labels_are_told_apart_by_case_where_it_counts(rt: HostRuntime) -> Result<(), Fail> {
+    let alloc = rt.alloc();
+    let lower = Label::new(vec![in alloc; Letter::new(b'a')]?);
+    let upper = Label::new(vec![in alloc; Letter::new(b'A')]?);
+    assert!(rt; lower == upper);
+    assert!(rt; !lower.identical(&upper));
+    assert!(rt; lower.cmp(&upper) == Ordering::Equal);
+    assert_eq!(rt; upper.letters()[0].byte(), b'A');
+    Ok(())
+}
+
+fn fault(alloc: Global, text: &str) -> Option<NameError> {
+    Name::parse(alloc, text).err()
+}
+
+#[test]
+fn the_first_fault_of_a_name_is_told(rt: HostRuntime) -> Result<(), Fail> {
+    let alloc = rt.alloc();
+    assert_eq!(rt; fault(alloc, ""), Some(NameError::EmptyLabel));
+    assert_eq!(rt; fault(alloc, ".."), Some(NameError::EmptyLabel));
+    assert_eq!(rt; fault(alloc, "a..b"), Some(NameError::EmptyLabel));
+    assert_eq!(rt; fault(alloc, "a!b"), Some(NameError::BadByte));
+    let long = "aaaaaaaaaaaaaaaaaaaaaaaaaaaaaaaaaaaaaaaaaaaaaaaaaaaaaaaaaaaaaaaa.com";
+    assert_eq!(rt; fault(alloc, long), Some(NameError::LongLabel));
+    assert_eq!(rt; fault(alloc, "_dns.*.com"), None);
+    assert_eq!(rt;
+        Name::parse_relaxed(alloc, "a b").err(),
+        Some(NameError::BadByte)
+    );
+    assert!(rt; Name::parse_relaxed(alloc, "a!b").is_ok());
+    Ok(())
+}
+
+/// Three labels of 63 bytes, and one of `last`.
+fn long_text(alloc: Global, last: usize) -> Result<Vec<u8>, Fail> {
+    let mut text = Vec::new(alloc);
+    for length in [63, 63, 63, last] {
+        for _ in 0..length {
+            text.push(b'a')?;
+        }
+        text.push(b'.')?;
+    }
+    Ok(text)
+}
+
+#[test]
+fn a_name_has_at_most_255_bytes_in_wire_form(rt: HostRuntime) -> Result<(), Fail> {
+    let alloc = rt.alloc();
+    let fits = long_text(alloc, 61)?;
+    let name = Name::parse_relaxed_bytes(alloc, fits.as_slice())?;
+    assert_eq!(rt; written(alloc, &name)?.as_slice(), fits.as_slice());
+    let long = long_text(alloc, 62)?;
+    let outcome = Name::parse_relaxed_bytes(alloc, long.as_slice());
+    assert_eq!(rt; outcome.err(), Some(NameError::LongName));
+    Ok(())
+}

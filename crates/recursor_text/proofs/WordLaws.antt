@@ -1,0 +1,146 @@
+-- Words that stand for values: each is read exactly where it is spelled so, in bytes that no line
+-- is cut at.
+use Rattle.std.proofs.Common.{◌≡◌, ℕ, suc, ◌^◌, ◌<◌, ◌≤◌, Bool, true, false, List, [], ◌∷◌, length, Some, refl, sym, ap, subst, arith, lit<, inl, inr}
+use Rattle.std.specs.Prelude.{codes, decimal}
+use Rattle.std.specs.declared.net.ip_addr.IpAddr.{IpAddr}
+use Rattle.std.specs.declared.net.ip_addr.IpAddr.TheVariants.{V4, V6}
+use Rattle.std.specs.declared.net.ipv6_addr.Ipv6Addr.{Ipv6Addr}
+use Rattle.std.specs.Net.Addr.{ipv6_segments, IsIpv6Addr}
+use Rattle.std.specs.Net.Text.{hex_groups_text}
+use Rattle.std.specs.Prelude.{All}
+use Rattle.std.proofs.lemmas.Bool.{lt-ltb}
+use Rattle.std.proofs.NetLemmas.Alphabet.{IsHexOrColon, All-hex_groups_text}
+use Rattle.dns_core.specs.Name.{DomainName}
+use Rattle.dns_core.specs.NameText.{text_of as name_text}
+use Rattle.dns_core.specs.declared.codes.DnsClass.{DnsClass}
+use Rattle.dns_core.specs.declared.codes.ResponseCode.{ResponseCode}
+use Rattle.dns_core.specs.declared.connection.Protocol.{Protocol}
+use Rattle.dns_core.specs.declared.connection.Protocol.TheVariants.{Udp}
+use Rattle.recursor_text.specs.Pieces.{pieces}
+use Rattle.recursor_text.specs.Codes.{type_of, is_record_type, is_asked_type}
+use Rattle.recursor_text.specs.Fields.{field, kept, in_table}
+use Rattle.recursor_text.specs.Names.{full_name}
+use Rattle.recursor_text.specs.RecordLines.{class_in, wide_field}
+use Rattle.recursor_text.specs.Lines.{no_error, no_such_name, protocols, response_codes, flags, dnssec_words}
+use Rattle.recursor_text.specs.Texts.{ip_text, type_text, class_text, response_code_text, protocol_text, flags_text, class_names, code_names}
+use Rattle.recursor_text.specs.Spelling.{dnssec_text, spelled, IsName, IsFullName, IsAddress, IsType, IsRecordType, IsCode}
+use Rattle.recursor_text.proofs.PlainLaws.{AllBytes, AllPlain, pieces_again}
+use Rattle.recursor_text.proofs.NumberLaws.{is_word_byte, decimal_plain, ipv4_plain}
+use Rattle.recursor_text.proofs.NameLaws.{name_plain}
+use Rattle.recursor_text.proofs.FieldLaws.{IsField, IsSeq, one, kept_field, IsWithin, number_field, full_name_field, table_field}
+use Rattle.recursor_text.proofs.CodeLaws.{type_field}
+
+-- ---- each word is read as its value
+
+pub class_in_text : class_text class_in ≡ codes "IN"
+unfolding class_text class_names
+class_in_text = refl
+
+no_error_text : response_code_text no_error ≡ codes "NOERROR"
+unfolding response_code_text code_names
+no_error_text = refl
+
+no_such_name_text : response_code_text no_such_name ≡ codes "NXDOMAIN"
+unfolding response_code_text code_names
+no_such_name_text = refl
+
+pub protocol_field : IsField (in_table protocols) protocol_text (λ p. p ≡ Udp)
+protocol_field = table_field _ _ protocols ((refl, refl), tt) (λ p is. subst (λ (q : Protocol). in_table protocols (protocol_text q) ≡ Some q) (sym is) refl)
+
+pub record_type_field : IsField (kept is_record_type type_of) type_text IsRecordType
+record_type_field = kept_field type_of type_text _ type_field is_record_type
+
+pub asked_type_field : IsField (kept is_asked_type type_of) type_text IsType
+asked_type_field = kept_field type_of type_text _ type_field is_asked_type
+
+coded_response : (t : ResponseCode) (n : ℕ) → t.code ≡ n → record { code = n } ≡ t
+coded_response t n e = ap (λ (k : ℕ). let u : ResponseCode = record { code = k } in u) (sym e)
+
+-- what holds of both codes
+by_code : (P : ResponseCode → Type 0) → P no_error → P no_such_name → (c : ResponseCode) → IsCode c → P c
+by_code P a b c (inl is) = subst P (coded_response c 0 is) a
+by_code P a b c (inr is) = subst P (coded_response c 3 is) b
+
+pub code_field : IsField (in_table response_codes) response_code_text IsCode
+code_field = table_field _ _ response_codes ((sym no_error_text, inl refl), ((sym no_such_name_text, inr refl), tt))
+    (by_code (λ (u : ResponseCode). in_table response_codes (response_code_text u) ≡ Some u) (rw no_error_text refl) (rw no_such_name_text refl))
+
+pub flags_field : IsField (in_table flags) (λ f. flags_text f.0 f.1) (λ f. f.1 ≡ false)
+flags_field = table_field _ _ flags ((refl, refl), ((refl, refl), tt)) again
+  where
+    again : (f : Bool × Bool) → f.1 ≡ false → in_table flags (flags_text f.0 f.1) ≡ Some f
+    again (false, false) is = refl
+    again (true, false) is = refl
+    again (false, true) is = absurd cc
+    again (true, true) is = absurd cc
+
+pub dnssec_field : IsField (in_table dnssec_words) dnssec_text (λ b. b ≡ false)
+dnssec_field = table_field _ _ dnssec_words ((refl, refl), tt) again
+  where
+    again : (b : Bool) → b ≡ false → in_table dnssec_words (dnssec_text b) ≡ Some b
+    again false is = refl
+    again true is = absurd cc
+
+-- ---- names and numbers
+
+pub full_law : IsSeq (field full_name) (λ n. name_text n ∷ []) IsFullName
+full_law = one _ _ _ full_name_field
+
+pub wide_law : IsSeq wide_field (λ n. decimal n ∷ []) (IsWithin 0 4294967295)
+wide_law = one _ _ _ (number_field 0 4294967295 (lit< tt))
+
+pub low : (most n : ℕ) → n ≤ most → IsWithin 0 most n
+low most n le = (omega arith, le)
+
+-- ---- plain bytes
+
+pub class_plain : (c : DnsClass) → c ≡ class_in → AllBytes is_word_byte (class_text c)
+class_plain c is = subst (λ (d : DnsClass). AllBytes is_word_byte (class_text d)) (sym is) (rw class_in_text refl)
+
+pub response_plain : (c : ResponseCode) → IsCode c → AllBytes is_word_byte (response_code_text c)
+response_plain = by_code (λ (u : ResponseCode). AllBytes is_word_byte (response_code_text u)) (rw no_error_text refl) (rw no_such_name_text refl)
+
+pub protocol_plain : (p : Protocol) → p ≡ Udp → AllBytes is_word_byte (protocol_text p)
+protocol_plain p is = subst (λ (q : Protocol). AllBytes is_word_byte (protocol_text q)) (sym is) refl
+
+pub flags_plain : (a t : Bool) → AllBytes is_word_byte (flags_text a t)
+flags_plain false false = refl
+flags_plain false true = refl
+flags_plain true false = refl
+flags_plain true true = refl
+
+pub dnssec_plain : (b : Bool) → AllBytes is_word_byte (dnssec_text b)
+dnssec_plain false = refl
+dnssec_plain true = refl
+
+hex_bytes : (q : ℕ → Bool) → ((c : ℕ) → IsHexOrColon c → q c ≡ true) → (xs : List ℕ) → All IsHexOrColon xs → AllBytes q xs
+hex_bytes q byte [] all = refl
+hex_bytes q byte (x ∷ xs) all = rw (byte x (all 0 0 (omega arith)), hex_bytes q byte xs (λ k d lt. all (suc k) d (omega arith))) refl
+
+-- its bytes pass a test that digits in base 16 and colons pass
+pub ipv6_bytes : (q : ℕ → Bool) → ((c : ℕ) → IsHexOrColon c → q c ≡ true) → (a : Ipv6Addr) → IsIpv6Addr a → AllBytes q (hex_groups_text (ipv6_segments a))
+ipv6_bytes q byte a fits = hex_bytes q byte (hex_groups_text (ipv6_segments a)) (All-hex_groups_text (ipv6_segments a) fits.1)
+
+pub ipv6_plain : (a : Ipv6Addr) → IsIpv6Addr a → AllBytes is_word_byte (hex_groups_text (ipv6_segments a))
+ipv6_plain = ipv6_bytes is_word_byte plain
+  where
+    within : (c : ℕ) → 32 < c → c < 127 → is_word_byte c ≡ true
+    within c above below = rw (lt-ltb 32 c above, lt-ltb c 127 below) refl
+
+    plain : (c : ℕ) → IsHexOrColon c → is_word_byte c ≡ true
+    plain c (inl h) = within c (omega arith) (omega arith)
+    plain c (inr h) = within c (omega arith) (omega arith)
+
+pub address_plain : (ip : IpAddr) → IsAddress ip → AllBytes is_word_byte (ip_text ip)
+address_plain (V4 a) fits = ipv4_plain a fits
+address_plain (V6 a) fits = ipv6_plain a fits
+
+pub named_plain : (n : DomainName) → IsName n → AllBytes is_word_byte (name_text n)
+named_plain n fits = name_plain (name_text n) n fits
+
+pub small : (most n : ℕ) → n ≤ most → most < 2 ^ 64 → AllBytes is_word_byte (decimal n)
+small most n le wide = decimal_plain n (omega arith)
+
+pub words_again : (ws : List (List ℕ)) → 0 < length ws → AllPlain is_word_byte ws → pieces 32 (spelled ws) ≡ ws
+words_again [] lt all = absurd (omega arith)
+words_again (w ∷ ws) lt all = pieces_again is_word_byte 32 w ws refl all

@@ -1,0 +1,241 @@
+use crate::{ConfError, ResolverConfig, ResolverOpts, parse_resolv_conf, read_system_conf};
+use dns_core::{Items, MemorySource, Name, NoMemory, Numbers};
+use std::alloc::Global;
+use std::test::Fail;
+
+type Conf = Result<(ResolverConfig, ResolverOpts), ConfError>;
+
+/// Reads a text, of which each test has a short one.
+fn parsed(alloc: Global, text: &[u8], host: &str) -> Conf {
+    if text.len() > 1000 {
+        return Err(ConfError::TooLong);
+    }
+    parse_resolv_conf(alloc, text, host)
+}
+
+fn error(alloc: Global, text: &[u8]) -> Option<ConfError> {
+    parsed(alloc, text, "").err()
+}
+
+/// The names with a space after each.
+fn spaced(names: &[Name], alloc: Global) -> Result<Vec<u8>, NoMemory> {
+    let mut out = Vec::new(alloc);
+    for name in names {
+        name.write_text(&mut out)?;
+        out.push(b' ')?;
+    }
+    Ok(out)
+}
+
+/// The search list of a text that has a server.
+fn search(alloc: Global, text: &[u8]) -> Result<Vec<u8>, ConfError> {
+    let (config, _) = parsed(alloc, text, "")?;
+    Ok(spaced(config.search(), alloc)?)
+}
+
+/// The addresses of the servers with a space after each.
+fn servers(alloc: Global, text: &[u8]) -> Result<String, ConfError> {
+    let (config, _) = parsed(alloc, text, "")?;
+    let mut out = String::new(alloc);
+    for server in config.name_servers() {
+        let ip = server.ip;
+        let text = format!(in alloc; "{ip} ")?;
+        out.push_str(&text)?;
+    }
+    Ok(out)
+}
+
+/// The domain of a text that has a server, and nothing without one.
+fn domain(alloc: Global, text: &[u8], host: &str) -> Result<Vec<u8>, ConfError> {
+    let (config, _) = parsed(alloc, text, host)?;
+    let mut out = Vec::new(alloc);
+    if let Some(name) = config.domain() {
+        name.write_text(&mut out)?;
+    }
+    Ok(out)
+}
+
+#[test]
+fn a_short_text_says_this(rt: HostRuntime) -> Result<(), Fail> {
+    let alloc = rt.alloc();
+    let text = b"search -- lan\nnameserver 127.0.0.53\n";
+    let (config, options) = parsed(alloc, text, "box")?;
+    assert!(rt; config.domain().is_none());
+    assert_eq!(rt;
+        spaced(config.search(), alloc)?.as_slice(),
+        b"lan ".as_slice()
+    );
+    assert_eq!(rt; servers(alloc, text)?.as_str(), "127.0.0.53 ");
+    for server in config.name_servers() {
+        assert_eq!(rt; server.connections.len(), 2);
+    }
+    assert_eq!(rt; options.ndots, 1);
+    assert_eq!(rt; options.timeout, 5_000_000);
+    assert_eq!(rt; options.attempts, 2);
+    assert!(rt; !options.edns0);
+    Ok(())
+}
+
+#[test]
+fn a_text_without_a_server_is_refused_first(rt: HostRuntime) -> Result<(), Fail> {
+    let alloc = rt.alloc();
+    let none = Some(ConfError::NoNameServers);
+    assert_eq!(rt; error(alloc, b""), none);
+    assert_eq!(rt; error(alloc, b"search lan\n"), none);
+    assert_eq!(rt; error(alloc, b"search a\\b\nnameserver 1.2.3\n"), none);
+    assert_eq!(rt;
+        error(alloc, b"nameserver\nnameserver 10.0.0.1 10.0.0.2\n"),
+        none
+    );
+    Ok(())
+}
+
+#[test]
+fn a_bad_search_word_is_counted_from_one(rt: HostRuntime) -> Result<(), Fail> {
+    let alloc = rt.alloc();
+    let server = b"nameserver 10.0.0.1\nsearch ok -- a\\b worse\\\n";
+    assert_eq!(rt; error(alloc, server), Some(ConfError::BadSearchName(3)));
+    let mut long = b"nameserver 10.0.0.1\nsearch ".to_vec(alloc)?;
+    long.resize(long.len() + 64, b'a')?;
+    assert_eq!(rt; error(alloc, &long), Some(ConfError::BadSearchName(1)));
+    let other = b"nameserver 10.0.0.1\nsearch a\\b\nsearch fine\n";
+    assert_eq!(rt; error(alloc, other), None);
+    let dots = b"nameserver 10.0.0.1\ndomain a..b\n";
+    assert_eq!(rt; error(alloc, dots), Some(ConfError::BadSearchName(1)));
+    Ok(())
+}
+
+#[test]
+fn search_words_are_relaxed_names(rt: HostRuntime) -> Result<(), Fail> {
+    let alloc = rt.alloc();
+    let text = b"nameserver 10.0.0.1\nsearch -- b@d Ok. --x\n";
+    assert_eq!(rt; search(alloc, text)?.as_slice(), b"b@d Ok. --x ".as_slice());
+    Ok(())
+}
+
+#[test]
+fn the_last_list_counts(rt: HostRuntime) -> Result<(), Fail> {
+    let alloc = rt.alloc();
+    let later = b"nameserver 10.0.0.1\ndomain a.b\nsearch c d\n";
+    assert_eq!(rt; search(alloc, later)?.as_slice(), b"c d ".as_slice());
+    assert_eq!(rt; domain(alloc, later, "")?.as_slice(), b"a.b".as_slice());
+    let first = b"nameserver 10.0.0.1\nsearch c d\ndomain a.b\n";
+    assert_eq!(rt; search(alloc, first)?.as_slice(), b"a.b ".as_slice());
+    let empty = b"nameserver 10.0.0.1\nsearch c d\nsearch\ndomain\ndomain a b\n";
+    assert_eq!(rt; search(alloc, empty)?.as_slice(), b"c d ".as_slice());
+    assert_eq!(rt;
+        search(alloc, b"nameserver 10.0.0.1")?.as_slice(),
+        b"".as_slice()
+    );
+    Ok(())
+}
+
+#[test]
+fn the_domain_is_set_or_that_of_the_host(rt: HostRuntime) -> Result<(), Fail> {
+    let alloc = rt.alloc();
+    let plain = b"nameserver 10.0.0.1\n";
+    let host = domain(alloc, plain, "box.example.com")?;
+    assert_eq!(rt; host.as_slice(), b"example.com".as_slice());
+    assert_eq!(rt; domain(alloc, plain, "box")?.as_slice(), b"".as_slice());
+    assert_eq!(rt; domain(alloc, plain, "box.")?.as_slice(), b"".as_slice());
+    let set = b"nameserver 10.0.0.1\ndomain x\ndomain y\n";
+    assert_eq!(rt;
+        domain(alloc, set, "box.example.com")?.as_slice(),
+        b"y".as_slice()
+    );
+    let odd = b"nameserver 10.0.0.1\ndomain b@d\n";
+    assert_eq!(rt;
+        domain(alloc, odd, "box.example.com")?.as_slice(),
+        b"".as_slice()
+    );
+    Ok(())
+}
+
+#[test]
+fn each_server_has_a_line_of_its_own(rt: HostRuntime) -> Result<(), Fail> {
+    let alloc = rt.alloc();
+    let text =
+        b"nameserver 10.0.0.1\r\n\tnameserver \t2001:DB8:0::1 # six\nnameserver 300.0.0.1\nnameserver fe80::1%eth0\nNameserver 10.0.0.2\nnameserver 10.0.0.3;x\nnameserver 10.0.0.1";
+    assert_eq!(rt;
+        servers(alloc, text)?.as_str(),
+        "10.0.0.1 2001:db8::1 10.0.0.3 10.0.0.1 "
+    );
+    Ok(())
+}
+
+#[test]
+fn foreign_bytes_stand_in_comments_alone(rt: HostRuntime) -> Result<(), Fail> {
+    let alloc = rt.alloc();
+    let text =
+        b"nameserver 10.0.0.1 # \xc3\xa9\nnameserver 10.0.0.2 \xc3\xa9\nnameserver 10.0.0.3\x0b\n# nameserver 10.0.0.4\n;\xff\n";
+    assert_eq!(rt; servers(alloc, text)?.as_str(), "10.0.0.1 ");
+    Ok(())
+}
+
+#[test]
+fn the_last_option_of_a_kind_counts(rt: HostRuntime) -> Result<(), Fail> {
+    let alloc = rt.alloc();
+    let text =
+        b"nameserver 10.0.0.1\noptions ndots:3 timeout:7 attempts:0 edns0 unknown ndots:07\n";
+    let (_, options) = parsed(alloc, text, "")?;
+    assert_eq!(rt; options.ndots, 3);
+    assert_eq!(rt; options.timeout, 7_000_000);
+    assert_eq!(rt; options.attempts, 0);
+    assert!(rt; options.edns0);
+    let text =
+        b"options ndots:3 attempts:65535\nnameserver ::1\noptions ndots:0 attempts:65536 timeout: edns0x timeout:+1\n";
+    let (_, options) = parsed(alloc, text, "")?;
+    assert_eq!(rt; options.ndots, 0);
+    assert_eq!(rt; options.timeout, 5_000_000);
+    assert_eq!(rt; options.attempts, 65_535);
+    assert!(rt; !options.edns0);
+    Ok(())
+}
+
+/// A source of a text, whose call of this number fails.
+fn source(alloc: Global, text: Vec<u8>, failing: u64) -> Result<MemorySource, NoMemory> {
+    let mut numbers = Numbers::empty(alloc);
+    numbers.push(failing)?;
+    Ok(MemorySource::new(alloc, Items::new(text), numbers))
+}
+
+#[test]
+fn a_source_is_read_to_its_end(rt: HostRuntime) -> Result<(), Fail> {
+    let alloc = rt.alloc();
+    let text = b"search -- lan\nnameserver 127.0.0.53\n";
+    let mut whole = source(alloc, text.to_vec(alloc)?, 9)?;
+    let (config, options) = read_system_conf(alloc, &mut whole, "box")?;
+    let (same, standard) = parsed(alloc, text, "box")?;
+    assert!(rt; config == same);
+    assert!(rt; options == standard);
+    let mut late = source(alloc, text.to_vec(alloc)?, 2)?;
+    let read = read_system_conf(alloc, &mut late, "box");
+    assert_eq!(rt; read.err(), Some(ConfError::ReadFault));
+    Ok(())
+}
+
+#[test]
+fn a_source_may_be_too_long(rt: HostRuntime) -> Result<(), Fail> {
+    let alloc = rt.alloc();
+    let comments = vec![in alloc; b'#'; 1_048_576]?;
+    let mut fits = source(alloc, comments, 1000)?;
+    let read = read_system_conf(alloc, &mut fits, "");
+    assert_eq!(rt; read.err(), Some(ConfError::NoNameServers));
+    let more = vec![in alloc; b'#'; 1_048_577]?;
+    let mut long = source(alloc, more, 1000)?;
+    let read = read_system_conf(alloc, &mut long, "");
+    assert_eq!(rt; read.err(), Some(ConfError::TooLong));
+    Ok(())
+}
+
+#[test]
+fn errors_have_a_text(rt: HostRuntime) -> Result<(), Fail> {
+    let alloc = rt.alloc();
+    let error = ConfError::BadSearchName(3);
+    let text = format!(in alloc; "{error}")?;
+    assert_eq!(rt;
+        text.as_str(),
+        "word 3 of the search list is no domain name"
+    );
+    Ok(())
+}
