@@ -54,6 +54,24 @@ fn keeps_its_text(alloc: Global, text: &str) -> Result<bool, NameError> {
     Ok(strict.as_slice() == text.as_bytes() && relaxed == strict && bytes == strict)
 }
 
+/// Whether the last labels of `a.b.c.`, so many, are this name.
+fn is_candidate(alloc: Global, count: usize, text: &str) -> Result<bool, NameError> {
+    let name = Name::parse(alloc, "a.b.c.")?;
+    let candidate = name.trim_to(alloc, count)?;
+    Ok(written(alloc, &candidate)?.as_slice() == text.as_bytes())
+}
+
+#[test]
+fn the_last_labels_of_a_name_are_its_candidates(rt: HostRuntime) -> Result<(), Fail> {
+    let alloc = rt.alloc();
+    assert!(rt; is_candidate(alloc, 0, ".")?);
+    assert!(rt; is_candidate(alloc, 1, "c.")?);
+    assert!(rt; is_candidate(alloc, 2, "b.c.")?);
+    assert!(rt; is_candidate(alloc, 3, "a.b.c.")?);
+    assert!(rt; is_candidate(alloc, 4, "a.b.c.")?);
+    Ok(())
+}
+
 #[test]
 fn names_keep_their_text(rt: HostRuntime) -> Result<(), Fail> {
     let alloc = rt.alloc();

@@ -292,7 +292,9 @@ fn holds(alloc: Global, words: &str, record_type: RecordType, rdata: RData) -> R
     let Some(message) = first_told(&scenario) else {
         return Err(Fail::new(format_args!("no message")));
     };
-    let record = &message.authorities.items()[0];
+    let Some(record) = message.authorities.items().first() else {
+        return Err(Fail::new(format_args!("no record")));
+    };
     if record.record_type == record_type && record.rdata == rdata {
         return Ok(());
     }
@@ -308,10 +310,10 @@ fn reads_addresses_of_both_families(rt: HostRuntime) -> Result<(), Fail> {
     let alloc = rt.alloc();
     let scenario = read(alloc, 2, "root 2001:db8::1")?;
     let root = IpAddr::V6(Ipv6Addr::new(0x2001, 0xdb8, 0, 0, 0, 0, 0, 1));
-    assert_eq!(rt; scenario.roots.items()[0], root);
+    assert_eq!(rt; scenario.roots.items(), [root].as_slice());
     let scenario = read(alloc, 2, "root ::")?;
     let root = IpAddr::V6(Ipv6Addr::new(0, 0, 0, 0, 0, 0, 0, 0));
-    assert_eq!(rt; scenario.roots.items()[0], root);
+    assert_eq!(rt; scenario.roots.items(), [root].as_slice());
     read(
         alloc,
         5,
@@ -397,10 +399,10 @@ fn reads_other_types_and_codes(rt: HostRuntime) -> Result<(), Fail> {
         "reply 11.0.0.1 udp com. TYPE0 0 message NOERROR none 0 1 1",
     )?;
     let scenario = read(alloc, 13, "question example.com. MX plain")?;
-    assert_eq!(rt;
-        scenario.questions.items()[0].query.query_type,
-        RecordType::MX
-    );
+    let Some(question) = scenario.questions.items().first() else {
+        return Err(Fail::new(format_args!("no question")));
+    };
+    assert_eq!(rt; question.query.query_type, RecordType::MX);
     read(alloc, 12, "example.com. 300 IN NS ns.example.com.")?;
     Ok(())
 }
@@ -469,7 +471,8 @@ fn optioned(alloc: Global, lines: &[&str]) -> Result<Scenario, Fail> {
 /// The base script with these lines before its third fails at the last of them.
 fn last_fails(alloc: Global, lines: &[&str], cause: Cause) -> Result<(), Fail> {
     let text = with_options(alloc, lines)?;
-    faulty(alloc, text.as_bytes(), 2 + lines.len() as u32, cause)
+    let last = lines.iter().fold(2u32, |line, _| line.saturating_add(1));
+    faulty(alloc, text.as_bytes(), last, cause)
 }
 
 fn bad_option(alloc: Global, line: &str) -> Result<(), Fail> {
