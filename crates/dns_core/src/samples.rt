@@ -8,7 +8,7 @@ use std::alloc::Global;
 use std::net::{Ipv4Addr, Ipv6Addr};
 use std::test::Fail;
 
-pub fn query(alloc: Global) -> Result<Query, NameError> {
+pub(crate) fn query(alloc: Global) -> Result<Query, NameError> {
     Ok(Query {
         name: Name::parse(alloc, "a.")?,
         query_type: RecordType::A,
@@ -16,7 +16,7 @@ pub fn query(alloc: Global) -> Result<Query, NameError> {
     })
 }
 
-pub fn response(alloc: Global, code: ResponseCode) -> Result<Message, NameError> {
+pub(crate) fn response(alloc: Global, code: ResponseCode) -> Result<Message, NameError> {
     Ok(Message {
         query: query(alloc)?,
         response_code: code,
@@ -28,7 +28,7 @@ pub fn response(alloc: Global, code: ResponseCode) -> Result<Message, NameError>
     })
 }
 
-pub fn address(alloc: Global, name: &str) -> Result<Record, NameError> {
+pub(crate) fn address(alloc: Global, name: &str) -> Result<Record, NameError> {
     Ok(Record {
         name: Name::parse(alloc, name)?,
         ttl: 60,
@@ -38,7 +38,7 @@ pub fn address(alloc: Global, name: &str) -> Result<Record, NameError> {
     })
 }
 
-pub fn wide_address(alloc: Global, name: &str) -> Result<Record, NameError> {
+pub(crate) fn wide_address(alloc: Global, name: &str) -> Result<Record, NameError> {
     Ok(Record {
         name: Name::parse(alloc, name)?,
         ttl: 60,
@@ -48,7 +48,7 @@ pub fn wide_address(alloc: Global, name: &str) -> Result<Record, NameError> {
     })
 }
 
-pub fn alias(alloc: Global) -> Result<Record, NameError> {
+pub(crate) fn alias(alloc: Global) -> Result<Record, NameError> {
     Ok(Record {
         name: Name::parse(alloc, "a.")?,
         ttl: 60,
@@ -58,17 +58,7 @@ pub fn alias(alloc: Global) -> Result<Record, NameError> {
     })
 }
 
-pub fn text_record(alloc: Global) -> Result<Record, NameError> {
-    Ok(Record {
-        name: Name::parse(alloc, "a.")?,
-        ttl: 60,
-        dns_class: DnsClass::IN,
-        record_type: RecordType::TXT,
-        rdata: RData::Opaque(Bytes::empty(alloc)),
-    })
-}
-
-pub fn signature(alloc: Global) -> Result<Record, NameError> {
+pub(crate) fn signature(alloc: Global) -> Result<Record, NameError> {
     Ok(Record {
         name: Name::parse(alloc, "a.")?,
         ttl: 60,
@@ -81,7 +71,7 @@ pub fn signature(alloc: Global) -> Result<Record, NameError> {
     })
 }
 
-pub fn server(alloc: Global, target: &str) -> Result<Record, NameError> {
+pub(crate) fn server(alloc: Global, target: &str) -> Result<Record, NameError> {
     Ok(Record {
         name: Name::parse(alloc, "a.")?,
         ttl: 60,
@@ -91,7 +81,7 @@ pub fn server(alloc: Global, target: &str) -> Result<Record, NameError> {
     })
 }
 
-pub fn authority(alloc: Global) -> Result<Record, NameError> {
+pub(crate) fn authority(alloc: Global) -> Result<Record, NameError> {
     Ok(Record {
         name: Name::root(alloc),
         ttl: 60,
@@ -110,7 +100,7 @@ pub fn authority(alloc: Global) -> Result<Record, NameError> {
 }
 
 /// A response without data, with a referral and an SOA.
-pub fn negative(alloc: Global, code: ResponseCode) -> Result<Message, Fail> {
+pub(crate) fn negative(alloc: Global, code: ResponseCode) -> Result<Message, Fail> {
     let mut message = response(alloc, code)?;
     message.authorities.push(server(alloc, "n.")?)?;
     message.authorities.push(authority(alloc)?)?;
@@ -122,7 +112,7 @@ pub fn negative(alloc: Global, code: ResponseCode) -> Result<Message, Fail> {
 }
 
 /// What such a response is.
-pub fn negative_records(alloc: Global, code: ResponseCode) -> Result<NoRecords, Fail> {
+pub(crate) fn negative_records(alloc: Global, code: ResponseCode) -> Result<NoRecords, Fail> {
     let mut glue = Records::empty(alloc);
     glue.push(address(alloc, "n.")?)?;
     glue.push(wide_address(alloc, "n.")?)?;
