@@ -1,0 +1,7 @@
+mod LeastFound
+mod Counted
+mod SameQuestion
+mod LeastThere
+mod Kept
+mod CurrentRead
+mod OneWritten

@@ -1,0 +1,55 @@
+-- A write adds one response alone.
+use Rattle.std.proofs.Common.{◌≡◌, ◌≤◌, ◌+◌, ◌*◌, ◌-◌, ◌^◌, ℕ, min, suc, Bool, true, false, ◌⊎◌, inl, inr, List, [], ◌∷◌, ◌++◌, take, drop, Option, Some, None, Result, All, Contains, refl, arith}
+use Rattle.std.specs.Prelude.{◌==◌, if◌then◌else◌}
+use Rattle.std.proofs.lemmas.List.Elements.{All-append, All-push, All-take, All-drop, All-weaker, All-contains, All-contains_itself}
+use Rattle.dns_core.specs.declared.message.Query.{Query}
+use Rattle.dns_core.specs.declared.message.Message.{Message}
+use Rattle.dns_core.specs.declared.net_error.NetError.{NetError}
+use Rattle.resolver_cache.specs.declared.entry.Entry.{Entry}
+use Rattle.resolver_cache.specs.Entry.{current_for}
+use Rattle.resolver_cache.specs.Life.{life_of, moment_after}
+use Rattle.resolver_cache.specs.Placing.{giving_way, without, with_entry}
+use Rattle.resolver_cache.specs.Cached.{Cached}
+use Rattle.resolver_cache.specs.Cache.{no_later_than, new_expiry, written_with}
+use Rattle.resolver_cache.specs.Laws.{IsJustWritten, WritesNoOther}
+
+-- what holds of each entry holds of those that stay
+All-without : (P : Entry → Type 0) (es : List Entry) (place : Option ℕ) → All P es → All P (without es place)
+All-without P es None all = all
+All-without P es (Some i) all =
+    All-append P (take i es) (drop (suc i) es) (All-take P i es all) (All-drop P (suc i) es all)
+
+All-with : (P : Entry → Type 0) (es : List Entry) (place : Option ℕ) (e : Entry) (b : Bool) → All P es → P e → All P (if b then es else without es place ++ e ∷ [])
+All-with P es place e true all new = all
+All-with P es place e false all new = All-push P (without es place) e (All-without P es place all) new
+
+no_later : (o : Option Entry) (moment : ℕ) → no_later_than o moment ≤ moment
+no_later None moment = omega arith
+no_later (Some e) moment = omega arith
+
+clamped_no_later : (clamp : Bool) (o : Option Entry) (moment : ℕ) → (if clamp then no_later_than o moment else moment) ≤ moment
+clamped_no_later true o moment = no_later o moment
+clamped_no_later false o moment = omega arith
+
+within_its_life : (es : List Entry) (q : Query) (now : ℕ) (clamp : Bool) (life : ℕ) → new_expiry es q now clamp life ≤ now + life * 1000000
+within_its_life es q now clamp life =
+    let clamped = clamped_no_later clamp (current_for q now es) (moment_after now life) in
+    capped _ (now + life * 1000000) clamped
+  where
+    capped : (expiry whole : ℕ) → expiry ≤ min whole (2 ^ 64 - 1) → expiry ≤ whole
+    capped expiry whole h = omega (arith, h)
+
+by_life : (cache : Cached) (q : Query) (response : Result Message NetError) (now : ℕ) (clamp : Bool) (entry : Entry) (o : Option ℕ) → life_of cache.config q.query_type response ≡ o → Contains (written_with cache q response now clamp o).entries entry → Contains cache.entries entry ⊎ IsJustWritten cache q response now entry
+by_life cache q response now clamp entry None lives h = inl h
+by_life cache q response now clamp entry (Some life) lives h =
+    let es = cache.entries in
+    let P : Entry → Type 0 = λ e. Contains es e ⊎ IsJustWritten cache q response now e in
+    let expiry = new_expiry es q now clamp life in
+    let new : Entry = record { query = q; response = response; written = now; expiry = expiry } in
+    let kept : All P es = All-weaker (Contains es) P (λ e there. inl there) es (All-contains_itself es) in
+    let added : IsJustWritten cache q response now new = record { question = refl; answer = refl; written = refl; life = life; lives = lives; no_longer = within_its_life es q now clamp life } in
+    All-contains P (with_entry cache.size new es) entry (All-with P es (giving_way cache.size q es) new (cache.size == 0) kept (inr added)) h
+
+pub writes_no_other : WritesNoOther
+writes_no_other cache q response now clamp entry h =
+    by_life cache q response now clamp entry (life_of cache.config q.query_type response) refl h

@@ -1,0 +1,41 @@
+-- What is read from a cache of responses, and what writing leaves (RFC 2308 section 5).
+use Rattle.std.specs.Prelude.{ℕ, Bool, min, List, Option, Some, None, Result, if◌then◌else◌}
+use Rattle.std.specs.Option.{option_map}
+use Rattle.dns_core.specs.declared.message.Query.{Query}
+use Rattle.dns_core.specs.declared.message.Message.{Message}
+use Rattle.dns_core.specs.declared.net_error.NetError.{NetError}
+use Rattle.resolver_cache.specs.declared.entry.Entry.{Entry}
+use Rattle.resolver_cache.specs.Entry.{current_for}
+use Rattle.resolver_cache.specs.Life.{life_of, moment_after}
+use Rattle.resolver_cache.specs.Lowering.{seconds_between, lowered}
+use Rattle.resolver_cache.specs.Placing.{with_entry}
+use Rattle.resolver_cache.specs.Cached.{Cached, IsWithin}
+
+-- the response of the current entry for a question, its TTLs lowered by the whole seconds since it was written
+abbrev pub read : Cached → Query → ℕ → Option (Result Message NetError)
+read cache q now =
+    option_map (λ e. lowered (seconds_between e.written now) e.response) (current_for q now cache.entries)
+
+abbrev pub no_later_than : Option Entry → ℕ → ℕ
+no_later_than None moment = moment
+no_later_than (Some e) moment = min moment e.expiry
+
+-- so many seconds from now; with a clamp no later than the expiry of an entry for the question that is current
+abbrev pub new_expiry : List Entry → Query → ℕ → Bool → ℕ → ℕ
+new_expiry es q now clamp life =
+    if clamp then no_later_than (current_for q now es) (moment_after now life) else moment_after now life
+
+-- the cache with a response of this life, or as it was where the response has none
+abbrev pub written_with : Cached → Query → Result Message NetError → ℕ → Bool → Option ℕ → Cached
+written_with cache q response now clamp None = cache
+written_with cache q response now clamp (Some life) =
+    record cache { entries = with_entry cache.size (record { query = q; response = response; written = now; expiry = new_expiry cache.entries q now clamp life }) cache.entries }
+
+-- the cache once a response to a question was written
+abbrev pub upserted : Cached → Query → Result Message NetError → ℕ → Bool → Cached
+upserted cache q response now clamp =
+    written_with cache q response now clamp (life_of cache.config q.query_type response)
+
+-- no more entries than the size, and no two for one question
+abbrev pub IsSound : Cached → Type 0
+IsSound cache = IsWithin cache.size cache.entries

@@ -1,0 +1,39 @@
+-- What reading and writing promise whatever was written.
+use Rattle.std.specs.Prelude.{◌≡◌, ◌≤◌, ◌+◌, ◌*◌, ◌⊎◌, ℕ, Bool, Some, All, Contains, IsTrue, Result}
+use Rattle.dns_core.specs.declared.message.Query.{Query}
+use Rattle.dns_core.specs.declared.message.Message.{Message}
+use Rattle.dns_core.specs.declared.net_error.NetError.{NetError}
+use Rattle.resolver_cache.specs.declared.entry.Entry.{Entry}
+use Rattle.resolver_cache.specs.Entry.{is_for}
+use Rattle.resolver_cache.specs.Life.{life_of}
+use Rattle.resolver_cache.specs.Lowering.{seconds_between, lowered}
+use Rattle.resolver_cache.specs.Cached.{Cached}
+use Rattle.resolver_cache.specs.Cache.{read, upserted}
+
+-- an entry of the cache for the question, written no later than now and not expired, reads so
+pub record IsReadFrom (cache : Cached) (q : Query) (now : ℕ) (response : Result Message NetError) : Type 0 where
+  pub entry : Entry
+  pub kept : Contains cache.entries entry
+  pub question : IsTrue (is_for q entry)
+  pub begun : entry.written ≤ now
+  pub current : now ≤ entry.expiry
+  pub reads : response ≡ lowered (seconds_between entry.written now) entry.response
+
+-- where nothing was written later than now, what is read is of such an entry
+abbrev pub ReadIsCurrent : Type 0
+ReadIsCurrent =
+    (cache : Cached) (q : Query) (now : ℕ) (response : Result Message NetError) → All (λ e. e.written ≤ now) cache.entries → read cache q now ≡ Some response → IsReadFrom cache q now response
+
+-- the response that was just written, which expires no later than its life says
+pub record IsJustWritten (cache : Cached) (q : Query) (response : Result Message NetError) (now : ℕ) (entry : Entry) : Type 0 where
+  pub question : entry.query ≡ q
+  pub answer : entry.response ≡ response
+  pub written : entry.written ≡ now
+  pub life : ℕ
+  pub lives : life_of cache.config q.query_type response ≡ Some life
+  pub no_longer : entry.expiry ≤ now + life * 1000000
+
+-- each entry after a write was there before, or is that response
+abbrev pub WritesNoOther : Type 0
+WritesNoOther =
+    (cache : Cached) (q : Query) (response : Result Message NetError) (now : ℕ) (clamp : Bool) (entry : Entry) → Contains (upserted cache q response now clamp).entries entry → Contains cache.entries entry ⊎ IsJustWritten cache q response now entry

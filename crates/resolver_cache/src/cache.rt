@@ -1,0 +1,136 @@
+//! The cache of responses.
+ghost use Rattle.std.specs.Prelude.{◌≡◌, ◌↔◌, [], length, IfOk, OnOk, OnErr, IsErr, false};
+ghost use Rattle.std.specs.List.{list_any};
+ghost use Rattle.resolver_cache.specs.Bounds.{IsReversed};
+ghost use Rattle.resolver_cache.specs.Entry.{is_for};
+ghost use Rattle.resolver_cache.specs.Cache.{read, upserted, new_expiry, IsSound};
+
+use crate::bounds::{ReversedTtl, has_reversed};
+use crate::entry::{Entry, current_for};
+use crate::life::{life_of, moment_after};
+use crate::lowering::{lowered, seconds_between};
+use crate::placing::put;
+use dns_core::{Message, NetError, NoMemory, Query};
+use resolver_settings::TtlConfig;
+use std::alloc::Global;
+use std::marker::Model;
+
+/// Responses under their questions, each until its expiry, and no more of them than the size.
+#[derive(Drop, Debug)]
+pub struct ResponseCache {
+    size: u64,
+    config: TtlConfig,
+    entries: Vec<Entry>,
+}
+
+impl Model for ResponseCache {
+    ghost use Rattle.resolver_cache.specs.Cached.{Cached, IsWithin};
+
+    ghost Value = { Cached };
+
+    ghost view = { λ a. record { size = a.size; config = a.config; entries = a.entries.items } };
+
+    ghost invariant = { λ a. IsWithin a.size a.entries.items };
+}
+
+/// When a new entry for a question expires that lives so many seconds. With `clamp` it is no later
+/// than what is current.
+fn new_expiry(entries: &[Entry], query: &Query, now: u64, clamp: bool, life: u64) -> u64
+    ensures { result ≡ new_expiry entries.now query.now now clamp life }
+{
+    let whole = moment_after(now, life);
+    if !clamp {
+        return whole;
+    }
+    match current_for(entries, query, now) {
+        Some(e) => whole.min(e.expiry),
+        None => whole,
+    }
+}
+
+impl ResponseCache {
+    /// An empty cache for so many responses. It takes no memory.
+    pub fn new(alloc: Global, size: u64, config: TtlConfig) -> Result<Self, ReversedTtl>
+        ensures ok { IfOk result (λ cache. cache ≡ record { size = size; config = config; entries = [] }) }
+        ensures reversed { IsErr result ↔ IsReversed config }
+    {
+        if has_reversed(&config) {
+            return Err(ReversedTtl);
+        }
+        Ok(ResponseCache {
+            size,
+            config,
+            entries: Vec::new(alloc),
+        })
+    }
+
+    /// The response to a question, as it reads at a moment.
+    pub fn get(
+        &self,
+        alloc: Global,
+        query: &Query,
+        now: u64,
+    ) -> Result<Option<Result<Message, NetError>>, NoMemory>
+        ensures { IfOk result (λ found. found ≡ read self.now query.now now) }
+    {
+        match current_for(self.entries.as_slice(), query, now) {
+            Some(e) => {
+                let seconds = seconds_between(e.written, now);
+                Ok(Some(lowered(alloc, &e.response, seconds)?))
+            }
+            None => Ok(None),
+        }
+    }
+
+    /// Writes a response, for as long as it says.
+    pub fn insert(
+        &mut self,
+        query: Query,
+        response: Result<Message, NetError>,
+        now: u64,
+    ) -> Result<(), NoMemory>
+        ensures ok { OnOk result (self.new ≡ upserted self.old query response now false) }
+        ensures err { OnErr result (self.new ≡ self.old) }
+    {
+        self.upsert_clamped_ttl(query, response, now, false)
+    }
+
+    /// Writes a response. With `clamp` a repeated answer does not move the expiry of a current one
+    /// to a later moment.
+    pub fn upsert_clamped_ttl(
+        &mut self,
+        query: Query,
+        response: Result<Message, NetError>,
+        now: u64,
+        clamp: bool,
+    ) -> Result<(), NoMemory>
+        ensures ok { OnOk result (self.new ≡ upserted self.old query response now clamp) }
+        ensures err { OnErr result (self.new ≡ self.old) }
+    {
+        let Some(life) = life_of(&self.config, query.query_type, &response) else {
+            return Ok(());
+        };
+        let expiry = new_expiry(self.entries.as_slice(), &query, now, clamp, life);
+        let entry = Entry {
+            query,
+            response,
+            written: now,
+            expiry,
+        };
+        put(&mut self.entries, self.size, entry)
+    }
+
+    pub fn entry_count(&self) -> u64
+        ensures count { result ≡ length self.now.entries }
+        ensures sound { IsSound self.now }
+    {
+        self.entries.len() as u64
+    }
+
+    /// Whether there is an entry for a question, expired or not.
+    pub fn has(&self, query: &Query) -> bool
+        ensures { result ≡ list_any (is_for query.now) self.now.entries }
+    {
+        self.entries.iter().any(|e| e.is_for(query))
+    }
+}

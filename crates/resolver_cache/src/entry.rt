@@ -1,0 +1,51 @@
+//! What is kept under a question.
+ghost use Rattle.std.specs.Prelude.{◌≡◌, find};
+ghost use Rattle.std.specs.Option.{option_copied};
+ghost use Rattle.resolver_cache.specs.Entry.{is_for, is_current, current_for};
+
+use dns_core::{Message, NetError, Query};
+
+/// A response under its question, when it was written, and the last moment at which it is current.
+/// Moments are in microseconds.
+#[derive(Drop, Debug)]
+pub(crate) struct Entry {
+    pub query: Query,
+    pub response: Result<Message, NetError>,
+    pub written: u64,
+    pub expiry: u64,
+}
+
+impl Entry {
+    pub fn is_for(&self, query: &Query) -> bool
+        ensures { result ≡ is_for query.now self.now }
+    {
+        self.query.query_type == query.query_type
+            && self.query.query_class == query.query_class
+            && self.query.name == query.name
+    }
+
+    pub fn is_current(&self, now: u64) -> bool
+        ensures { result ≡ is_current now self.now }
+    {
+        now <= self.expiry
+    }
+}
+
+/// The entry for a question, expired or not.
+fn entry_for<'e>(entries: &'e [Entry], query: &Query) -> Option<&'e Entry>
+    ensures { option_copied result ≡ find (is_for query.now) entries.now }
+{
+    entries.iter().find(|e| e.is_for(query))
+}
+
+/// The entry for a question, where it is current.
+pub(crate) fn current_for<'e>(entries: &'e [Entry], query: &Query, now: u64) -> Option<&'e Entry>
+    ensures { option_copied result ≡ current_for query.now now entries.now }
+{
+    let found = entry_for(entries, query)?;
+    if found.is_current(now) {
+        Some(found)
+    } else {
+        None
+    }
+}
