@@ -32,8 +32,8 @@ fn told(alloc: Global) -> Result<LogEntry, Fail> {
 
 /// An entry that was refused with a negative response.
 fn refused(alloc: Global) -> Result<LogEntry, Fail> {
-    let found = negative_records(alloc, ResponseCode::NoError)?;
     let query = query(alloc)?;
+    let found = negative_records(alloc, ResponseCode::NoError)?;
     Ok(LogEntry::Asked {
         ip: server_address(),
         protocol: Protocol::Udp,
@@ -43,17 +43,20 @@ fn refused(alloc: Global) -> Result<LogEntry, Fail> {
     })
 }
 
+/// The same of an entry that is not used again: each place that lets an entry go is dear to prove.
+fn is_entry_copied(alloc: Global, entry: LogEntry) -> Result<bool, NoMemory> {
+    is_copied(alloc, &entry)
+}
+
 #[test]
 fn an_entry_with_a_message_is_copied(rt: HostRuntime) -> Result<(), Fail> {
-    let entry = told(rt.alloc())?;
-    assert!(rt; is_copied(rt.alloc(), &entry)?);
+    assert!(rt; is_entry_copied(rt.alloc(), told(rt.alloc())?)?);
     Ok(())
 }
 
 #[test]
 fn an_entry_with_an_error_is_copied(rt: HostRuntime) -> Result<(), Fail> {
-    let entry = refused(rt.alloc())?;
-    assert!(rt; is_copied(rt.alloc(), &entry)?);
+    assert!(rt; is_entry_copied(rt.alloc(), refused(rt.alloc())?)?);
     Ok(())
 }
 

@@ -72,6 +72,12 @@ fn the_last_labels_of_a_name_are_its_candidates(rt: HostRuntime) -> Result<(), F
     Ok(())
 }
 
+/// Whether a name with odd bytes is written back.
+fn odd_is_written(alloc: Global) -> Result<bool, NameError> {
+    let odd = Name::parse_relaxed_bytes(alloc, b"a!b.~.")?;
+    Ok(written(alloc, &odd)?.as_slice() == b"a!b.~.".as_slice())
+}
+
 #[test]
 fn names_keep_their_text(rt: HostRuntime) -> Result<(), Fail> {
     let alloc = rt.alloc();
@@ -79,51 +85,66 @@ fn names_keep_their_text(rt: HostRuntime) -> Result<(), Fail> {
     assert!(rt; keeps_its_text(alloc, "com")?);
     assert!(rt; keeps_its_text(alloc, "WWW.example.com.")?);
     assert!(rt; keeps_its_text(alloc, "_dns.*.x-1.example")?);
-    let odd = Name::parse_relaxed_bytes(alloc, b"a!b.~.")?;
-    assert_eq!(rt; written(alloc, &odd)?.as_slice(), b"a!b.~.".as_slice());
-    assert_eq!(rt;
-        written(alloc, &Name::empty(alloc))?.as_slice(),
-        b"".as_slice()
-    );
+    assert!(rt; odd_is_written(alloc)?);
+    assert!(rt; written(alloc, &Name::empty(alloc))?.is_empty());
     Ok(())
+}
+
+/// Whether the parent of a name has this text.
+fn is_parent(alloc: Global, name: &str, text: &str) -> Result<bool, NameError> {
+    let name = Name::parse(alloc, name)?;
+    let parent = name.base_name(alloc)?;
+    Ok(written(alloc, &parent)?.as_slice() == text.as_bytes())
 }
 
 #[test]
 fn parents_of_a_name(rt: HostRuntime) -> Result<(), Fail> {
     let alloc = rt.alloc();
+    assert!(rt; is_parent(alloc, "WWW.example.com.", "example.com.")?);
+    assert!(rt; is_parent(alloc, "com.", ".")?);
+    assert!(rt; is_parent(alloc, ".", ".")?);
     let name = Name::parse(alloc, "WWW.example.com.")?;
     assert_eq!(rt; name.num_labels(), 3);
     assert!(rt; name.is_fqdn());
-    let trimmed = name.trim_to(alloc, 2)?;
-    assert_eq!(rt;
-        written(alloc, &trimmed)?.as_slice(),
-        b"example.com.".as_slice()
-    );
-    assert!(rt; name.trim_to(alloc, 4)?.eq_case(&name));
-    assert!(rt; name.trim_to(alloc, 0)?.is_root());
-    let base = trimmed.base_name(alloc)?;
-    assert_eq!(rt; written(alloc, &base)?.as_slice(), b"com.".as_slice());
-    assert!(rt; base.base_name(alloc)?.is_root());
-    assert!(rt; Name::root(alloc).base_name(alloc)?.is_root());
-    let copy = base.try_clone(alloc)?;
-    assert!(rt; copy.eq_case(&base));
     Ok(())
 }
 
 #[test]
-fn names_are_equal_without_case(rt: HostRuntime) -> Result<(), Fail> {
+fn a_name_is_copied(rt: HostRuntime) -> Result<(), Fail> {
+    let alloc = rt.alloc();
+    let name = Name::parse(alloc, "Com.")?;
+    let copy = name.try_clone(alloc)?;
+    assert!(rt; copy.eq_case(&name));
+    Ok(())
+}
+
+/// The order of two names, and whether they are equal.
+fn compared(alloc: Global, left: &str, right: &str) -> Result<(Ordering, bool), NameError> {
+    let left = Name::parse(alloc, left)?;
+    let right = Name::parse(alloc, right)?;
+    Ok((left.cmp(&right), left == right))
+}
+
+#[test]
+fn names_are_compared_without_case(rt: HostRuntime) -> Result<(), Fail> {
+    let alloc = rt.alloc();
+    let by_case = compared(alloc, "example.com.", "EXAMPLE.com.")?;
+    assert!(rt; by_case == (Ordering::Equal, true));
+    let relative = compared(alloc, "example.com", "example.com.")?;
+    assert!(rt; relative == (Ordering::Less, false));
+    let greater = compared(alloc, "B.com.", "a.com.")?;
+    assert!(rt; greater == (Ordering::Greater, false));
+    Ok(())
+}
+
+#[test]
+fn names_are_hashed_without_case(rt: HostRuntime) -> Result<(), Fail> {
     let alloc = rt.alloc();
     let lower = Name::parse(alloc, "example.com.")?;
     let upper = Name::parse(alloc, "EXAMPLE.com.")?;
-    assert!(rt; lower == upper);
-    assert!(rt; lower.cmp(&upper) == Ordering::Equal);
     assert!(rt; !lower.eq_case(&upper));
     let hasher: BuildHasherDefault<FoldHasher> = BuildHasherDefault::new();
     assert_eq!(rt; hasher.hash_one(&lower), hasher.hash_one(&upper));
-    let relative = Name::parse(alloc, "example.com")?;
-    assert!(rt; relative != lower);
-    assert!(rt; relative < lower);
-    assert!(rt; Name::parse(alloc, "B.com.")? > Name::parse(alloc, "a.com.")?);
     Ok(())
 }
 
@@ -173,14 +194,16 @@ fn long_text(alloc: Global, last: usize) -> Result<Vec<u8>, Fail> {
     Ok(text)
 }
 
+/// The fault of such a text.
+fn long_fault(alloc: Global, last: usize) -> Result<Option<NameError>, Fail> {
+    let text = long_text(alloc, last)?;
+    Ok(Name::parse_relaxed_bytes(alloc, text.as_slice()).err())
+}
+
 #[test]
 fn a_name_has_at_most_255_bytes_in_wire_form(rt: HostRuntime) -> Result<(), Fail> {
     let alloc = rt.alloc();
-    let fits = long_text(alloc, 61)?;
-    let name = Name::parse_relaxed_bytes(alloc, fits.as_slice())?;
-    assert_eq!(rt; written(alloc, &name)?.as_slice(), fits.as_slice());
-    let long = long_text(alloc, 62)?;
-    let outcome = Name::parse_relaxed_bytes(alloc, long.as_slice());
-    assert_eq!(rt; outcome.err(), Some(NameError::LongName));
+    assert_eq!(rt; long_fault(alloc, 61)?, None);
+    assert_eq!(rt; long_fault(alloc, 62)?, Some(NameError::LongName));
     Ok(())
 }

@@ -6,7 +6,6 @@ use crate::{
 };
 use std::alloc::Global;
 use std::net::{Ipv4Addr, Ipv6Addr};
-use std::test::Fail;
 
 pub(crate) fn query(alloc: Global) -> Result<Query, NameError> {
     Ok(Query {
@@ -99,37 +98,81 @@ pub(crate) fn authority(alloc: Global) -> Result<Record, NameError> {
     })
 }
 
+fn put_servers(alloc: Global, to: &mut Records) -> Result<(), NameError> {
+    to.push(server(alloc, "n.")?)?;
+    to.push(authority(alloc)?)?;
+    to.push(server(alloc, "o.")?)?;
+    Ok(())
+}
+
+fn put_addresses(alloc: Global, to: &mut Records) -> Result<(), NameError> {
+    to.push(address(alloc, "N.")?)?;
+    to.push(address(alloc, "x.")?)?;
+    to.push(wide_address(alloc, "n.")?)?;
+    Ok(())
+}
+
 /// A response without data, with a referral and an SOA.
-pub(crate) fn negative(alloc: Global, code: ResponseCode) -> Result<Message, Fail> {
+pub(crate) fn negative(alloc: Global, code: ResponseCode) -> Result<Message, NameError> {
     let mut message = response(alloc, code)?;
-    message.authorities.push(server(alloc, "n.")?)?;
-    message.authorities.push(authority(alloc)?)?;
-    message.authorities.push(server(alloc, "o.")?)?;
-    message.additionals.push(address(alloc, "N.")?)?;
-    message.additionals.push(address(alloc, "x.")?)?;
-    message.additionals.push(wide_address(alloc, "n.")?)?;
+    put_servers(alloc, &mut message.authorities)?;
+    put_addresses(alloc, &mut message.additionals)?;
     Ok(message)
 }
 
-/// What such a response is.
-pub(crate) fn negative_records(alloc: Global, code: ResponseCode) -> Result<NoRecords, Fail> {
+fn put_glue(alloc: Global, to: &mut Records) -> Result<(), NameError> {
+    to.push(address(alloc, "n.")?)?;
+    to.push(wide_address(alloc, "n.")?)?;
+    Ok(())
+}
+
+fn glued_server(alloc: Global) -> Result<ForwardNsData, NameError> {
+    let ns = server(alloc, "n.")?;
     let mut glue = Records::empty(alloc);
-    glue.push(address(alloc, "n.")?)?;
-    glue.push(wide_address(alloc, "n.")?)?;
-    let mut ns = Items::empty(alloc);
-    ns.push(ForwardNsData {
-        ns: server(alloc, "n.")?,
-        glue,
-    })?;
-    ns.push(ForwardNsData {
+    put_glue(alloc, &mut glue)?;
+    Ok(ForwardNsData { ns, glue })
+}
+
+fn plain_server(alloc: Global) -> Result<ForwardNsData, NameError> {
+    Ok(ForwardNsData {
         ns: server(alloc, "o.")?,
         glue: Records::empty(alloc),
-    })?;
+    })
+}
+
+fn put_forwards(alloc: Global, to: &mut Items<ForwardNsData>) -> Result<(), NameError> {
+    to.push(glued_server(alloc)?)?;
+    to.push(plain_server(alloc)?)?;
+    Ok(())
+}
+
+fn forwards(alloc: Global) -> Result<Items<ForwardNsData>, NameError> {
+    let mut found = Items::empty(alloc);
+    put_forwards(alloc, &mut found)?;
+    Ok(found)
+}
+
+/// What a response without records is.
+pub(crate) fn nothing(alloc: Global, code: ResponseCode) -> Result<NoRecords, NameError> {
     Ok(NoRecords {
         query: query(alloc)?,
-        soa: Some(authority(alloc)?),
-        ns: Some(ns),
+        soa: None,
+        ns: None,
         response_code: code,
-        authorities: negative(alloc, code)?.authorities,
+        authorities: Records::empty(alloc),
     })
+}
+
+fn put_data(alloc: Global, to: &mut NoRecords) -> Result<(), NameError> {
+    put_servers(alloc, &mut to.authorities)?;
+    to.soa = Some(authority(alloc)?);
+    to.ns = Some(forwards(alloc)?);
+    Ok(())
+}
+
+/// What a response without data, with a referral and an SOA, is.
+pub(crate) fn negative_records(alloc: Global, code: ResponseCode) -> Result<NoRecords, NameError> {
+    let mut found = nothing(alloc, code)?;
+    put_data(alloc, &mut found)?;
+    Ok(found)
 }

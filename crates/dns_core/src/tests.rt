@@ -1,11 +1,11 @@
 //! Numbers of the registry, responses, and what they end in.
 
 use crate::samples::{
-    address, alias, authority, negative, negative_records, query, response, signature,
+    address, alias, authority, negative, negative_records, nothing, response, signature,
 };
 use crate::{
-    DnsClass, DnsError, IoKind, Message, Name, NetError, NoMemory, NoRecords, RecordType, Records,
-    ResponseCode, Text, TryClone, classify, strip,
+    DnsClass, DnsError, IoKind, Message, Name, NameError, NetError, NoMemory, NoRecords, Record,
+    RecordType, Records, ResponseCode, Text, TryClone, classify, strip,
 };
 use std::alloc::Global;
 use std::test::Fail;
@@ -65,6 +65,14 @@ fn types_of_questions_alone_are_no_data(rt: HostRuntime) {
     assert!(rt; RecordType::NSEC3PARAM.is_dnssec() && !RecordType::SVCB.is_dnssec());
 }
 
+/// The records of a section that has one.
+fn one(alloc: Global, record: Record) -> Result<Records, NoMemory> {
+    let mut records = Records::empty(alloc);
+    records.push(record)?;
+    Ok(records)
+}
+
+/// Whether a response is itself.
 fn is_kept(alloc: Global, message: Message) -> Result<bool, NoMemory> {
     let copy = message.try_clone(alloc)?;
     match classify(alloc, message)? {
@@ -74,68 +82,134 @@ fn is_kept(alloc: Global, message: Message) -> Result<bool, NoMemory> {
 }
 
 #[test]
-fn a_response_with_data_or_cut_off_is_itself(rt: HostRuntime) -> Result<(), Fail> {
+fn a_response_with_an_answer_is_itself(rt: HostRuntime) -> Result<(), Fail> {
     let alloc = rt.alloc();
+    let answers = one(alloc, alias(alloc)?)?;
     let mut answered = response(alloc, ResponseCode::NoError)?;
-    answered.answers.push(alias(alloc)?)?;
+    answered.answers = answers;
     assert!(rt; is_kept(alloc, answered)?);
+    Ok(())
+}
+
+#[test]
+fn a_response_with_data_aside_is_itself(rt: HostRuntime) -> Result<(), Fail> {
+    let alloc = rt.alloc();
+    let authorities = one(alloc, address(alloc, "A.")?)?;
     let mut aside = response(alloc, ResponseCode::NXDomain)?;
-    aside.authorities.push(address(alloc, "A.")?)?;
+    aside.authorities = authorities;
     assert!(rt; is_kept(alloc, aside)?);
+    Ok(())
+}
+
+#[test]
+fn a_response_with_added_data_is_itself(rt: HostRuntime) -> Result<(), Fail> {
+    let alloc = rt.alloc();
+    let additionals = one(alloc, address(alloc, "a.")?)?;
     let mut added = response(alloc, ResponseCode::NoError)?;
-    added.additionals.push(address(alloc, "a.")?)?;
+    added.additionals = additionals;
     assert!(rt; is_kept(alloc, added)?);
+    Ok(())
+}
+
+#[test]
+fn a_response_cut_off_is_itself(rt: HostRuntime) -> Result<(), Fail> {
+    let alloc = rt.alloc();
     let mut cut = response(alloc, ResponseCode::NoError)?;
     cut.truncation = true;
     assert!(rt; is_kept(alloc, cut)?);
     Ok(())
 }
 
+/// Whether a response is an error that holds these records.
+fn is_negative(alloc: Global, message: Message, want: &NoRecords) -> Result<bool, NoMemory> {
+    match classify(alloc, message)? {
+        Err(DnsError::NoRecordsFound(found)) => Ok(found == *want),
+        _ => Ok(false),
+    }
+}
+
 #[test]
 fn a_response_without_data_is_negative(rt: HostRuntime) -> Result<(), Fail> {
     let alloc = rt.alloc();
     let code = ResponseCode::NXDomain;
-    let want = DnsError::NoRecordsFound(negative_records(alloc, code)?);
-    assert_eq!(rt; classify(alloc, negative(alloc, code)?)?, Err(want));
-    let plain = NoRecords {
-        query: query(alloc)?,
-        soa: None,
-        ns: None,
-        response_code: ResponseCode::NoError,
-        authorities: Records::empty(alloc),
-    };
-    let told = response(alloc, ResponseCode::NoError)?;
-    assert_eq!(rt;
-        classify(alloc, told)?,
-        Err(DnsError::NoRecordsFound(plain))
-    );
+    let want = negative_records(alloc, code)?;
+    assert!(rt; is_negative(alloc, negative(alloc, code)?, &want)?);
     Ok(())
+}
+
+#[test]
+fn a_response_of_nothing_is_negative(rt: HostRuntime) -> Result<(), Fail> {
+    let alloc = rt.alloc();
+    let code = ResponseCode::NoError;
+    let want = nothing(alloc, code)?;
+    assert!(rt; is_negative(alloc, response(alloc, code)?, &want)?);
+    Ok(())
+}
+
+/// The code that a response is the error of.
+fn code_of(alloc: Global, message: Message) -> Result<Option<ResponseCode>, NoMemory> {
+    match classify(alloc, message)? {
+        Err(DnsError::ResponseCode(code)) => Ok(Some(code)),
+        _ => Ok(None),
+    }
 }
 
 #[test]
 fn a_response_with_another_code_is_that_code(rt: HostRuntime) -> Result<(), Fail> {
     let alloc = rt.alloc();
     let code = ResponseCode::ServFail;
+    let answers = one(alloc, address(alloc, "a.")?)?;
     let mut failed = response(alloc, code)?;
     failed.truncation = true;
-    failed.answers.push(address(alloc, "a.")?)?;
-    assert_eq!(rt; classify(alloc, failed)?, Err(DnsError::ResponseCode(code)));
+    failed.answers = answers;
+    assert_eq!(rt; code_of(alloc, failed)?, Some(code));
     Ok(())
+}
+
+/// A response with an address, for a question of this type.
+fn told(alloc: Global, query_type: RecordType) -> Result<Message, NameError> {
+    let answers = one(alloc, address(alloc, "a.")?)?;
+    let mut told = response(alloc, ResponseCode::NoError)?;
+    told.query.query_type = query_type;
+    told.answers = answers;
+    Ok(told)
+}
+
+fn put_signatures(alloc: Global, to: &mut Message) -> Result<(), NameError> {
+    to.answers.push(signature(alloc)?)?;
+    to.authorities.push(signature(alloc)?)?;
+    to.additionals.push(signature(alloc)?)?;
+    Ok(())
+}
+
+/// Such a response, with a signature in each section.
+fn signed(alloc: Global, query_type: RecordType) -> Result<Message, NameError> {
+    let mut signed = told(alloc, query_type)?;
+    put_signatures(alloc, &mut signed)?;
+    Ok(signed)
 }
 
 #[test]
 fn dnssec_records_leave_where_they_were_not_asked_for(rt: HostRuntime) -> Result<(), Fail> {
     let alloc = rt.alloc();
-    let mut told = response(alloc, ResponseCode::NoError)?;
-    told.answers.push(address(alloc, "a.")?)?;
-    let mut signed = told.try_clone(alloc)?;
-    signed.answers.push(signature(alloc)?)?;
-    signed.authorities.push(signature(alloc)?)?;
-    signed.additionals.push(signature(alloc)?)?;
-    assert_eq!(rt; strip(signed.try_clone(alloc)?, true), signed);
-    assert_eq!(rt; strip(signed.try_clone(alloc)?, false), told);
-    signed.query.query_type = RecordType::RRSIG;
-    assert_eq!(rt; strip(signed.try_clone(alloc)?, false), signed);
+    let want = told(alloc, RecordType::A)?;
+    assert!(rt; strip(signed(alloc, RecordType::A)?, false) == want);
+    Ok(())
+}
+
+#[test]
+fn dnssec_records_stay_where_they_were_asked_for(rt: HostRuntime) -> Result<(), Fail> {
+    let alloc = rt.alloc();
+    let want = signed(alloc, RecordType::A)?;
+    assert!(rt; strip(signed(alloc, RecordType::A)?, true) == want);
+    Ok(())
+}
+
+#[test]
+fn records_of_the_type_in_question_stay(rt: HostRuntime) -> Result<(), Fail> {
+    let alloc = rt.alloc();
+    let want = signed(alloc, RecordType::RRSIG)?;
+    assert!(rt; strip(signed(alloc, RecordType::RRSIG)?, false) == want);
     Ok(())
 }
 
@@ -177,21 +251,45 @@ fn other_errors_are_of_no_kind(rt: HostRuntime) -> Result<(), Fail> {
     Ok(())
 }
 
+/// The kinds of an error that has no SOA.
+fn kinds_without_soa(error: NetError) -> Option<[bool; 4]> {
+    let kinds = kinds(&error);
+    if error.into_soa().is_none() {
+        Some(kinds)
+    } else {
+        None
+    }
+}
+
 #[test]
-fn errors_are_told_apart(rt: HostRuntime) -> Result<(), Fail> {
+fn errors_are_told_apart(rt: HostRuntime) {
+    let memory = kinds_without_soa(NetError::NoMemory);
+    assert_eq!(rt; memory, Some([true, false, false, false]));
+    let closed = kinds_without_soa(NetError::Io(IoKind::Closed));
+    assert_eq!(rt; closed, Some([false, true, false, false]));
+}
+
+/// The kinds of an error that holds a response without records.
+fn kinds_of(found: NoRecords) -> [bool; 4] {
+    kinds(&NetError::Dns(DnsError::NoRecordsFound(found)))
+}
+
+#[test]
+fn negative_responses_are_told_apart(rt: HostRuntime) -> Result<(), Fail> {
     let alloc = rt.alloc();
-    let memory = NetError::NoMemory;
-    assert_eq!(rt; kinds(&memory), [true, false, false, false]);
-    assert!(rt; memory.into_soa().is_none());
-    let closed = NetError::Io(IoKind::Closed);
-    assert_eq!(rt; kinds(&closed), [false, true, false, false]);
-    assert!(rt; closed.into_soa().is_none());
-    let found = negative_records(alloc, ResponseCode::NoError)?;
-    let none = NetError::Dns(DnsError::NoRecordsFound(found));
-    assert_eq!(rt; kinds(&none), [false, false, true, false]);
+    let found = nothing(alloc, ResponseCode::NoError)?;
+    assert_eq!(rt; kinds_of(found), [false, false, true, false]);
+    let found = nothing(alloc, ResponseCode::NXDomain)?;
+    assert_eq!(rt; kinds_of(found), [false, false, true, true]);
+    Ok(())
+}
+
+#[test]
+fn a_negative_response_gives_its_soa(rt: HostRuntime) -> Result<(), Fail> {
+    let alloc = rt.alloc();
+    let want = Some(authority(alloc)?);
     let found = negative_records(alloc, ResponseCode::NXDomain)?;
-    let no_name = NetError::Dns(DnsError::NoRecordsFound(found));
-    assert_eq!(rt; kinds(&no_name), [false, false, true, true]);
-    assert_eq!(rt; no_name.into_soa(), Some(authority(alloc)?));
+    let error = NetError::Dns(DnsError::NoRecordsFound(found));
+    assert!(rt; error.into_soa() == want);
     Ok(())
 }

@@ -1,20 +1,20 @@
-//! The texts of the standards, of the tables, and of one whole run.
+//! The texts of the standards, of the tables, and of a short transcript.
 
 use crate::{
     Transcript, has_log_words, has_transcript_words, has_words, print_error, print_log,
     print_message, print_record, print_transcript,
 };
 use dns_core::{
-    DnsClass, DnsError, ForwardNsData, IoKind, Items, Log, LogEntry, Message, Name, NetError,
-    Protocol, Query, RData, Record, RecordType, ResponseCode, Soa, ToldOutcome,
+    DnsClass, DnsError, ForwardNsData, IoKind, Items, Log, LogEntry, Message, Name, NameError,
+    NetError, NoMemory, Protocol, Query, RData, Record, RecordType, Records, ResponseCode, Soa,
+    ToldOutcome,
 };
 use recursor_core::{AuthorityData, MessageKind, RecursorError, Reply, WalkCause};
 use std::alloc::Global;
 use std::net::{IpAddr, Ipv4Addr, Ipv6Addr};
-use std::process::Abort;
 use std::test::Fail;
 
-fn ns_record(alloc: Global, owner: &str, target: &str) -> Result<Record, Fail> {
+fn ns_record(alloc: Global, owner: &str, target: &str) -> Result<Record, NameError> {
     Ok(Record {
         name: Name::parse(alloc, owner)?,
         ttl: 172_800,
@@ -24,7 +24,7 @@ fn ns_record(alloc: Global, owner: &str, target: &str) -> Result<Record, Fail> {
     })
 }
 
-fn a_record(alloc: Global, owner: &str, ttl: u32, ip: Ipv4Addr) -> Result<Record, Fail> {
+fn a_record(alloc: Global, owner: &str, ttl: u32, ip: Ipv4Addr) -> Result<Record, NameError> {
     Ok(Record {
         name: Name::parse(alloc, owner)?,
         ttl,
@@ -34,7 +34,7 @@ fn a_record(alloc: Global, owner: &str, ttl: u32, ip: Ipv4Addr) -> Result<Record
     })
 }
 
-fn query(alloc: Global, name: &str, query_type: RecordType) -> Result<Query, Fail> {
+fn query(alloc: Global, name: &str, query_type: RecordType) -> Result<Query, NameError> {
     Ok(Query {
         name: Name::parse(alloc, name)?,
         query_type,
@@ -42,274 +42,216 @@ fn query(alloc: Global, name: &str, query_type: RecordType) -> Result<Query, Fai
     })
 }
 
-fn referral(alloc: Global, zone: &str, server: &str, ip: Ipv4Addr) -> Result<Message, Fail> {
-    let ns = ns_record(alloc, zone, server)?;
-    let glue = a_record(alloc, server, 172_800, ip)?;
-    Ok(Message {
-        query: query(alloc, zone, RecordType::NS)?,
-        response_code: ResponseCode::NoError,
-        authoritative: false,
-        truncation: false,
-        answers: Items::empty(alloc),
-        authorities: Items::new(vec![in alloc; ns]?),
-        additionals: Items::new(vec![in alloc; glue]?),
-    })
+/// The records of a section that has one.
+fn one(alloc: Global, record: Record) -> Result<Records, NoMemory> {
+    let mut records = Records::empty(alloc);
+    records.push(record)?;
+    Ok(records)
 }
 
-fn answer(alloc: Global) -> Result<Message, Fail> {
-    let address = a_record(alloc, "example.com.", 300, Ipv4Addr::new(93, 184, 215, 14))?;
+fn answer(alloc: Global) -> Result<Message, NameError> {
+    let ip = Ipv4Addr::new(93, 184, 215, 14);
+    let answers = one(alloc, a_record(alloc, "example.com.", 300, ip)?)?;
     Ok(Message {
         query: query(alloc, "example.com.", RecordType::A)?,
         response_code: ResponseCode::NoError,
         authoritative: true,
         truncation: false,
-        answers: Items::new(vec![in alloc; address]?),
+        answers,
         authorities: Items::empty(alloc),
         additionals: Items::empty(alloc),
     })
 }
 
-/// Opens a connection, asks, and is told a message, in four entries.
-fn exchange(
-    log: &mut Log,
-    first: u32,
-    server: Ipv4Addr,
-    asked: Query,
-    m: Message,
-) -> Result<(), Fail> {
-    let ip = IpAddr::V4(server);
-    let first = u64::from(first);
-    log.push(LogEntry::Opened {
+/// A server is opened and asked, and tells the message.
+fn put_exchange(alloc: Global, to: &mut Log) -> Result<(), NameError> {
+    let ip = IpAddr::V4(Ipv4Addr::new(11, 0, 0, 3));
+    to.push(LogEntry::Opened {
         ip,
         protocol: Protocol::Udp,
         moment: 0,
         refused: None,
     })?;
-    log.push(LogEntry::Told {
-        of: first,
+    to.push(LogEntry::Told {
+        of: 1,
         moment: 0,
         outcome: ToldOutcome::Connected,
     })?;
-    log.push(LogEntry::Asked {
+    to.push(LogEntry::Asked {
         ip,
         protocol: Protocol::Udp,
-        query: asked,
+        query: query(alloc, "example.com.", RecordType::A)?,
         moment: 0,
         refused: None,
     })?;
-    log.push(LogEntry::Told {
-        of: first + 2,
+    to.push(LogEntry::Told {
+        of: 3,
         moment: 0,
-        outcome: ToldOutcome::Message(m),
+        outcome: ToldOutcome::Message(answer(alloc)?),
     })?;
     Ok(())
 }
 
-fn base_log(alloc: Global) -> Result<Log, Fail> {
-    let mut log = Log::empty(alloc);
-    let com = referral(alloc, "com.", "a.nic.com.", Ipv4Addr::new(11, 0, 0, 2))?;
-    exchange(
-        &mut log,
-        1,
-        Ipv4Addr::new(11, 0, 0, 1),
-        query(alloc, "com.", RecordType::NS)?,
-        com,
-    )?;
-    let example = referral(
-        alloc,
-        "example.com.",
-        "ns.example.com.",
-        Ipv4Addr::new(11, 0, 0, 3),
-    )?;
-    exchange(
-        &mut log,
-        5,
-        Ipv4Addr::new(11, 0, 0, 2),
-        query(alloc, "example.com.", RecordType::NS)?,
-        example,
-    )?;
-    exchange(
-        &mut log,
-        9,
-        Ipv4Addr::new(11, 0, 0, 3),
-        query(alloc, "example.com.", RecordType::A)?,
-        answer(alloc)?,
-    )?;
-    Ok(log)
+/// A transcript of one reply, with no log so far.
+fn replied(alloc: Global) -> Result<Transcript, NameError> {
+    let mut replies = Items::empty(alloc);
+    replies.push(Reply {
+        outcome: Ok(answer(alloc)?),
+        grounds: Items::empty(alloc),
+    })?;
+    Ok(Transcript {
+        log: Log::empty(alloc),
+        replies,
+    })
 }
 
-const BASE: &str = "log 12
-1 opened 11.0.0.1 udp 0
+fn transcript_text(alloc: Global, transcript: &Transcript) -> Result<Vec<u8>, NoMemory> {
+    let mut out = Vec::new(alloc);
+    if has_transcript_words(transcript) {
+        print_transcript(alloc, transcript, &mut out)?;
+    }
+    Ok(out)
+}
+
+#[test]
+fn prints_a_transcript(rt: HostRuntime) -> Result<(), Fail> {
+    let alloc = rt.alloc();
+    let mut transcript = replied(alloc)?;
+    put_exchange(alloc, &mut transcript.log)?;
+    let text = transcript_text(alloc, &transcript)?;
+    let want = "log 4
+1 opened 11.0.0.3 udp 0
 2 told 1 0 connected
-3 asked 11.0.0.1 udp com. NS 0
-4 told 3 0 message NOERROR none 0 1 1
-com. 172800 IN NS a.nic.com.
-a.nic.com. 172800 IN A 11.0.0.2
-5 opened 11.0.0.2 udp 0
-6 told 5 0 connected
-7 asked 11.0.0.2 udp example.com. NS 0
-8 told 7 0 message NOERROR none 0 1 1
-example.com. 172800 IN NS ns.example.com.
-ns.example.com. 172800 IN A 11.0.0.3
-9 opened 11.0.0.3 udp 0
-10 told 9 0 connected
-11 asked 11.0.0.3 udp example.com. A 0
-12 told 11 0 message NOERROR aa 1 0 0
+3 asked 11.0.0.3 udp example.com. A 0
+4 told 3 0 message NOERROR aa 1 0 0
 example.com. 300 IN A 93.184.215.14
 reply 1 message NOERROR aa 1 0 0
 example.com. 300 IN A 93.184.215.14
 end
 ";
-
-#[test]
-fn prints_the_base_run(rt: HostRuntime) -> Result<(), Fail> {
-    let alloc = rt.alloc();
-    let reply = Reply {
-        outcome: Ok(answer(alloc)?),
-        grounds: Items::empty(alloc),
-    };
-    let transcript = Transcript {
-        log: base_log(alloc)?,
-        replies: Items::new(vec![in alloc; reply]?),
-    };
-    assert!(rt; has_transcript_words(&transcript));
-    let mut out = Vec::new(alloc);
-    print_transcript(alloc, &transcript, &mut out)?;
-    assert_eq!(rt; out.as_slice(), BASE.as_bytes());
+    assert_eq!(rt; text.as_slice(), want.as_bytes());
     Ok(())
+}
+
+fn record_text(alloc: Global, record: &Record) -> Result<Vec<u8>, NoMemory> {
+    let mut out = Vec::new(alloc);
+    print_record(alloc, record, &mut out)?;
+    Ok(out)
+}
+
+/// The line of an AAAA record with this address.
+fn wide_text(alloc: Global, segments: [u16; 8]) -> Result<Vec<u8>, NameError> {
+    let record = Record {
+        name: Name::parse(alloc, "a.")?,
+        ttl: 1,
+        dns_class: DnsClass::IN,
+        record_type: RecordType::AAAA,
+        rdata: RData::AAAA(Ipv6Addr::from_segments(segments)),
+    };
+    Ok(record_text(alloc, &record)?)
+}
+
+/// Whether the line of an AAAA record is this text.
+fn is_line(alloc: Global, segments: [u16; 8], want: &[u8]) -> Result<bool, NameError> {
+    Ok(wide_text(alloc, segments)?.as_slice() == want)
 }
 
 #[test]
 fn compresses_addresses(rt: HostRuntime) -> Result<(), Fail> {
     let alloc = rt.alloc();
-    let cases = [
-        (
-            [0x2001, 0xdb8, 0, 0, 1, 0, 0, 1],
-            "a. 1 IN AAAA 2001:db8::1:0:0:1\n",
-        ),
-        (
-            [0x2001, 0xdb8, 0, 1, 1, 1, 1, 1],
-            "a. 1 IN AAAA 2001:db8:0:1:1:1:1:1\n",
-        ),
-        (
-            [0x2001, 0, 0, 1, 0, 0, 0, 1],
-            "a. 1 IN AAAA 2001:0:0:1::1\n",
-        ),
-        (
-            [0, 0, 0, 0, 0, 0xffff, 0xc000, 0x280],
-            "a. 1 IN AAAA ::ffff:c000:280\n",
-        ),
-        ([0, 0, 0, 0, 0, 0, 0, 1], "a. 1 IN AAAA ::1\n"),
-        ([0xABCD, 0, 0, 0, 0, 0, 0, 0], "a. 1 IN AAAA abcd::\n"),
-    ];
-    for (segments, want) in cases {
-        let [a, b, c, d, e, f, g, h] = segments;
-        let entry = Record {
-            name: Name::parse(alloc, "a.")?,
-            ttl: 1,
-            dns_class: DnsClass::IN,
-            record_type: RecordType::AAAA,
-            rdata: RData::AAAA(Ipv6Addr::new(a, b, c, d, e, f, g, h)),
-        };
-        let mut out = Vec::new(alloc);
-        print_record(alloc, &entry, &mut out)?;
-        assert_eq!(rt; out.as_slice(), want.as_bytes());
-    }
+    let segments = [0x2001, 0xdb8, 0, 0, 1, 0, 0, 1];
+    assert!(rt; is_line(alloc, segments, b"a. 1 IN AAAA 2001:db8::1:0:0:1\n")?);
+    let segments = [0x2001, 0xdb8, 0, 1, 1, 1, 1, 1];
+    assert!(rt; is_line(alloc, segments, b"a. 1 IN AAAA 2001:db8:0:1:1:1:1:1\n")?);
+    let segments = [0x2001, 0, 0, 1, 0, 0, 0, 1];
+    assert!(rt; is_line(alloc, segments, b"a. 1 IN AAAA 2001:0:0:1::1\n")?);
+    let segments = [0, 0, 0, 0, 0, 0xffff, 0xc000, 0x280];
+    assert!(rt; is_line(alloc, segments, b"a. 1 IN AAAA ::ffff:c000:280\n")?);
+    assert!(rt; is_line(alloc, [0, 0, 0, 0, 0, 0, 0, 1], b"a. 1 IN AAAA ::1\n")?);
+    assert!(rt;
+        is_line(
+            alloc,
+            [0xABCD, 0, 0, 0, 0, 0, 0, 0],
+            b"a. 1 IN AAAA abcd::\n"
+        )?
+    );
     Ok(())
 }
 
-fn printed(rt: &impl Abort, alloc: Global, error: &RecursorError, want: &str) -> Result<(), Fail> {
-    assert!(rt; has_words(error));
-    let mut out = Vec::from_slice(alloc, b"before ")?;
-    print_error(alloc, error, &mut out)?;
-    let whole = format!(in alloc; "before {want}")?;
-    assert_eq!(rt; out.as_slice(), whole.as_bytes());
-    Ok(())
+/// Whether an error is printed as this text.
+fn has_text(alloc: Global, error: &RecursorError, want: &[u8]) -> Result<bool, NoMemory> {
+    let mut out = Vec::new(alloc);
+    if has_words(error) {
+        print_error(alloc, error, &mut out)?;
+    }
+    Ok(out.as_slice() == want)
+}
+
+/// The same of an error that is not used again.
+fn is_text(alloc: Global, error: RecursorError, want: &[u8]) -> Result<bool, NoMemory> {
+    has_text(alloc, &error, want)
+}
+
+/// Whether an error of the network is printed as this text.
+fn is_net_text(alloc: Global, error: NetError, want: &[u8]) -> Result<bool, NoMemory> {
+    is_text(alloc, RecursorError::Net(error), want)
 }
 
 #[test]
 fn prints_plain_errors(rt: HostRuntime) -> Result<(), Fail> {
     let alloc = rt.alloc();
-    printed(
-        &rt,
-        alloc,
-        &RecursorError::MaxRecordLimitExceeded {
-            count: 257,
-            record_type: RecordType { code: 999 },
-        },
-        "MaxRecordLimitExceeded 257 TYPE999\n",
-    )?;
-    printed(
-        &rt,
-        alloc,
-        &RecursorError::Message(MessageKind::NotQualified),
-        "Message NotQualified\n",
-    )?;
-    printed(
-        &rt,
-        alloc,
-        &RecursorError::Net(NetError::Timeout),
-        "Net Timeout\n",
-    )?;
-    printed(
-        &rt,
-        alloc,
-        &RecursorError::Net(NetError::NoConnections),
-        "Net NoConnections\n",
-    )?;
-    printed(
-        &rt,
-        alloc,
-        &RecursorError::Net(NetError::Truncated),
-        "Net Truncated\n",
-    )?;
-    printed(
-        &rt,
-        alloc,
-        &RecursorError::Net(NetError::QueryCaseMismatch),
-        "Net QueryCaseMismatch\n",
-    )?;
-    printed(
-        &rt,
-        alloc,
-        &RecursorError::RecursionLimitExceeded { count: 24 },
-        "RecursionLimitExceeded 24\n",
-    )?;
-    printed(
-        &rt,
-        alloc,
-        &RecursorError::QueryBudgetExceeded,
-        "QueryBudgetExceeded\n",
-    )?;
-    printed(&rt, alloc, &RecursorError::NoMemory, "NoMemory\n")?;
+    let error = RecursorError::MaxRecordLimitExceeded {
+        count: 257,
+        record_type: RecordType { code: 999 },
+    };
+    assert!(rt; is_text(alloc, error, b"MaxRecordLimitExceeded 257 TYPE999\n")?);
+    let error = RecursorError::Message(MessageKind::NotQualified);
+    assert!(rt; is_text(alloc, error, b"Message NotQualified\n")?);
+    let error = RecursorError::RecursionLimitExceeded { count: 24 };
+    assert!(rt; is_text(alloc, error, b"RecursionLimitExceeded 24\n")?);
+    let error = RecursorError::QueryBudgetExceeded;
+    assert!(rt; is_text(alloc, error, b"QueryBudgetExceeded\n")?);
+    assert!(rt; is_text(alloc, RecursorError::NoMemory, b"NoMemory\n")?);
+    Ok(())
+}
+
+#[test]
+fn prints_errors_of_the_network(rt: HostRuntime) -> Result<(), Fail> {
+    let alloc = rt.alloc();
+    assert!(rt; is_net_text(alloc, NetError::Timeout, b"Net Timeout\n")?);
+    assert!(rt; is_net_text(alloc, NetError::NoConnections, b"Net NoConnections\n")?);
+    assert!(rt; is_net_text(alloc, NetError::Truncated, b"Net Truncated\n")?);
+    assert!(rt;
+        is_net_text(
+            alloc,
+            NetError::QueryCaseMismatch,
+            b"Net QueryCaseMismatch\n"
+        )?
+    );
+    let code = NetError::Dns(DnsError::ResponseCode(ResponseCode { code: 2 }));
+    assert!(rt; is_net_text(alloc, code, b"Net Code SERVFAIL\n")?);
     Ok(())
 }
 
 #[test]
 fn prints_errors_with_names(rt: HostRuntime) -> Result<(), Fail> {
     let alloc = rt.alloc();
-    let code = NetError::Dns(DnsError::ResponseCode(ResponseCode { code: 2 }));
-    printed(&rt, alloc, &RecursorError::Net(code), "Net Code SERVFAIL\n")?;
     let foreign = NetError::ForeignClassRecord {
         record_name: Name::parse(alloc, "a.b.")?,
         record_class: DnsClass { code: 5 },
         record_type: RecordType::TXT,
     };
-    printed(
-        &rt,
-        alloc,
-        &RecursorError::Net(foreign),
-        "Net ForeignClassRecord a.b. CLASS5 TXT\n",
-    )?;
+    assert!(rt; is_net_text(alloc, foreign, b"Net ForeignClassRecord a.b. CLASS5 TXT\n")?);
     let unserved = RecursorError::NoNameServer {
         zone: Name::root(alloc),
         cause: WalkCause::ZoneEntries,
     };
-    printed(&rt, alloc, &unserved, "NoNameServer . ZoneEntries\n")
+    assert!(rt; is_text(alloc, unserved, b"NoNameServer . ZoneEntries\n")?);
+    Ok(())
 }
 
-fn soa_record(alloc: Global) -> Result<Record, Fail> {
-    let soa = Soa {
+fn authority(alloc: Global) -> Result<Soa, NameError> {
+    Ok(Soa {
         mname: Name::parse(alloc, "ns.com.")?,
         rname: Name::parse(alloc, "me.com.")?,
         serial: 1,
@@ -317,51 +259,67 @@ fn soa_record(alloc: Global) -> Result<Record, Fail> {
         retry: 900,
         expire: 604_800,
         minimum: 300,
-    };
-    Ok(Record {
-        name: Name::parse(alloc, "com.")?,
-        ttl: 3600,
-        dns_class: DnsClass::IN,
-        record_type: RecordType::SOA,
-        rdata: RData::SOA(soa),
     })
 }
 
-#[test]
-fn prints_negatives_and_delegations(rt: HostRuntime) -> Result<(), Fail> {
-    let alloc = rt.alloc();
-    let negative = AuthorityData {
-        query: query(alloc, "x.com.", RecordType::MX)?,
+fn soa_record(alloc: Global) -> Result<Record, NameError> {
+    let name = Name::parse(alloc, "com.")?;
+    Ok(Record {
+        name,
+        ttl: 3600,
+        dns_class: DnsClass::IN,
+        record_type: RecordType::SOA,
+        rdata: RData::SOA(authority(alloc)?),
+    })
+}
+
+fn negative(alloc: Global) -> Result<AuthorityData, NameError> {
+    let query = query(alloc, "x.com.", RecordType::MX)?;
+    Ok(AuthorityData {
+        query,
         soa: Some(soa_record(alloc)?),
         no_records_found: true,
         nx_domain: false,
         authorities: Items::empty(alloc),
-    };
-    printed(
-        &rt,
-        alloc,
-        &RecursorError::Negative(negative),
-        "Negative x.com. MX 1 0 1 0\ncom. 3600 IN SOA ns.com. me.com. 1 1800 900 604800 300\n",
-    )?;
-    let glue = a_record(alloc, "ns.com.", 60, Ipv4Addr::new(11, 0, 0, 2))?;
-    let forward = ForwardNsData {
-        ns: ns_record(alloc, "com.", "ns.com.")?,
-        glue: Items::new(vec![in alloc; glue]?),
-    };
-    printed(
-        &rt,
-        alloc,
-        &RecursorError::ForwardNS(Items::new(vec![in alloc; forward]?)),
-        "ForwardNS 1\nns 1 com. 172800 IN NS ns.com.\nns.com. 60 IN A 11.0.0.2\n",
-    )
+    })
 }
 
 #[test]
-fn prints_other_data(rt: HostRuntime) -> Result<(), Fail> {
+fn prints_negatives(rt: HostRuntime) -> Result<(), Fail> {
     let alloc = rt.alloc();
-    let rest = Items::new(vec![in alloc; 0x0f, 0xa0]?);
-    let signature = Record {
-        name: Name::parse(alloc, "a.")?,
+    let error = RecursorError::Negative(negative(alloc)?);
+    let want =
+        b"Negative x.com. MX 1 0 1 0\ncom. 3600 IN SOA ns.com. me.com. 1 1800 900 604800 300\n";
+    assert!(rt; is_text(alloc, error, want)?);
+    Ok(())
+}
+
+fn delegation(alloc: Global) -> Result<ForwardNsData, NameError> {
+    let ip = Ipv4Addr::new(11, 0, 0, 2);
+    let glue = one(alloc, a_record(alloc, "ns.com.", 60, ip)?)?;
+    Ok(ForwardNsData {
+        ns: ns_record(alloc, "com.", "ns.com.")?,
+        glue,
+    })
+}
+
+#[test]
+fn prints_delegations(rt: HostRuntime) -> Result<(), Fail> {
+    let alloc = rt.alloc();
+    let mut forwards = Items::empty(alloc);
+    forwards.push(delegation(alloc)?)?;
+    let want = b"ForwardNS 1\nns 1 com. 172800 IN NS ns.com.\nns.com. 60 IN A 11.0.0.2\n";
+    assert!(rt; is_text(alloc, RecursorError::ForwardNS(forwards), want)?);
+    Ok(())
+}
+
+fn signature(alloc: Global) -> Result<Record, NameError> {
+    let name = Name::parse(alloc, "a.")?;
+    let mut rest = Items::empty(alloc);
+    rest.push(0x0f)?;
+    rest.push(0xa0)?;
+    Ok(Record {
+        name,
         ttl: 4_294_967_295,
         dns_class: DnsClass::CH,
         record_type: RecordType::RRSIG,
@@ -369,60 +327,92 @@ fn prints_other_data(rt: HostRuntime) -> Result<(), Fail> {
             covered: RecordType::A,
             rest,
         },
-    };
-    let nothing = Record {
+    })
+}
+
+fn put_odd(alloc: Global, to: &mut Records) -> Result<(), NameError> {
+    to.push(signature(alloc)?)?;
+    to.push(Record {
         name: Name::root(alloc),
         ttl: 0,
         dns_class: DnsClass::IN,
         record_type: RecordType { code: 65_535 },
         rdata: RData::Opaque(Items::empty(alloc)),
-    };
-    let m = Message {
+    })?;
+    Ok(())
+}
+
+fn odd_message(alloc: Global) -> Result<Message, NameError> {
+    let mut answers = Records::empty(alloc);
+    put_odd(alloc, &mut answers)?;
+    Ok(Message {
         query: query(alloc, "a.", RecordType::ANY)?,
         response_code: ResponseCode { code: 4095 },
         authoritative: true,
         truncation: true,
-        answers: Items::new(vec![in alloc; signature, nothing]?),
+        answers,
         authorities: Items::empty(alloc),
         additionals: Items::empty(alloc),
-    };
+    })
+}
+
+fn message_text(alloc: Global, message: &Message) -> Result<Vec<u8>, NoMemory> {
     let mut out = Vec::new(alloc);
-    print_message(alloc, &m, &mut out)?;
+    print_message(alloc, message, &mut out)?;
+    Ok(out)
+}
+
+#[test]
+fn prints_other_data(rt: HostRuntime) -> Result<(), Fail> {
+    let alloc = rt.alloc();
+    let message = odd_message(alloc)?;
+    let text = message_text(alloc, &message)?;
     assert_eq!(rt;
-        out.as_slice(),
+        text.as_slice(),
         b"message RCODE4095 aa+tc 2 0 0\na. 4294967295 CH RRSIG A 0fa0\n. 0 IN TYPE65535 -\n".as_slice()
     );
     Ok(())
 }
 
-#[test]
-fn prints_refusals(rt: HostRuntime) -> Result<(), Fail> {
-    let alloc = rt.alloc();
+fn put_refusals(alloc: Global, to: &mut Log) -> Result<(), NameError> {
     let ip = IpAddr::V6(Ipv6Addr::new(0x2001, 0xdb8, 0, 0, 0, 0, 0, 1));
-    let mut log = Log::empty(alloc);
-    log.push(LogEntry::Opened {
+    to.push(LogEntry::Opened {
         ip,
         protocol: Protocol::Quic,
         moment: 7,
         refused: Some(NetError::Io(IoKind::Refused)),
     })?;
-    log.push(LogEntry::Asked {
+    to.push(LogEntry::Asked {
         ip,
         protocol: Protocol::Tcp,
         query: query(alloc, "a.", RecordType::AAAA)?,
         moment: 8,
         refused: Some(NetError::Busy),
     })?;
-    log.push(LogEntry::Waited { of: 2 })?;
-    log.push(LogEntry::Told {
+    to.push(LogEntry::Waited { of: 2 })?;
+    to.push(LogEntry::Told {
         of: 2,
         moment: 9,
         outcome: ToldOutcome::Error(NetError::QueryCaseMismatch),
     })?;
-    log.push(LogEntry::GaveUp { of: 2, moment: 10 })?;
-    assert!(rt; has_log_words(&log));
+    to.push(LogEntry::GaveUp { of: 2, moment: 10 })?;
+    Ok(())
+}
+
+fn log_text(alloc: Global, log: &Log) -> Result<Vec<u8>, NoMemory> {
     let mut out = Vec::new(alloc);
-    print_log(alloc, &log, &mut out)?;
+    if has_log_words(log) {
+        print_log(alloc, log, &mut out)?;
+    }
+    Ok(out)
+}
+
+#[test]
+fn prints_refusals(rt: HostRuntime) -> Result<(), Fail> {
+    let alloc = rt.alloc();
+    let mut log = Log::empty(alloc);
+    put_refusals(alloc, &mut log)?;
+    let text = log_text(alloc, &log)?;
     let want = "log 5
 1 opened 2001:db8::1 quic 7 refused refused
 2 asked 2001:db8::1 tcp a. AAAA 8 refused busy
@@ -430,6 +420,6 @@ fn prints_refusals(rt: HostRuntime) -> Result<(), Fail> {
 4 told 2 9 error mismatch
 5 gaveup 2 10
 ";
-    assert_eq!(rt; out.as_slice(), want.as_bytes());
+    assert_eq!(rt; text.as_slice(), want.as_bytes());
     Ok(())
 }
