@@ -11,7 +11,9 @@ use Rattle.dns_core.specs.declared.request.Question.{Question}
 use Rattle.resolution.specs.Names.{is_above, walk}
 use Rattle.resolution.specs.Serving.{Serves}
 use Rattle.resolution.specs.Asking.{IsServer, IsServerFor}
+use Rattle.resolver_cache.specs.Cached.{Cached}
 use Rattle.recursor_core.specs.Order.{GoesToServer}
+use Rattle.recursor_core.specs.Remembered.{CacheHolds}
 use Rattle.recursor_core.specs.Replies.{Terms, terms_with, given_of, ReplyHolds}
 use Rattle.recursor_core.specs.Tried.{machine_timer}
 use Rattle.recursor_core.specs.Derived.{ResolutionHolds, StateHolds, terms_of, Derived}
@@ -81,12 +83,13 @@ asked-serves terms greatest moment t0 log question (Under w) ip q may is h = by 
     }
 
     by : (s : Send) → w.lookup.send ≡ s → IsServerFor (given_of terms) log (greatest + 1) ip q
+    by send.Fresh e = absurd (rw e at may)
     by send.Ready e = absurd (rw e at may)
     by (send.Chosen to) e = served to (rw e at may) (rw e at h.lookup.send)
     by (send.Opening to order polls) e = absurd (rw e at may)
     by (send.Connected to conn) e = served to (rw e at may) (rw e at h.lookup.send)
     by (send.Asking to order since polls) e = absurd (rw e at may)
-    by (send.Told to entry message) e = absurd (rw e at may)
+    by (send.Told to entry at message) e = absurd (rw e at may)
     by (send.Failed to entry error) e = absurd (rw e at may)
 asked-serves terms greatest moment t0 log question (Done reply) ip q may is h = absurd may
 asked-serves terms greatest moment t0 log question Ended ip q may is h = absurd may
@@ -97,6 +100,7 @@ wanted-serves : (terms : Terms) (greatest moment t0 : ℕ) (log : Log) (question
 wanted-serves terms greatest moment t0 log question (Under w) ip wants h = by w.lookup.send refl
   where
     by : (s : Send) → w.lookup.send ≡ s → IsServer (given_of terms) log (greatest + 1) ip
+    by send.Fresh e = let is = rw e at wants in cc
     by send.Ready e = let is = rw e at wants in cc
     by (send.Chosen to) e =
         let is = rw e at wants in
@@ -105,7 +109,7 @@ wanted-serves terms greatest moment t0 log question (Under w) ip wants h = by w.
     by (send.Opening to order polls) e = let is = rw e at wants in cc
     by (send.Connected to conn) e = let is = rw e at wants in cc
     by (send.Asking to order since polls) e = let is = rw e at wants in cc
-    by (send.Told to entry message) e = let is = rw e at wants in cc
+    by (send.Told to entry at message) e = let is = rw e at wants in cc
     by (send.Failed to entry error) e = let is = rw e at wants in cc
 wanted-serves terms greatest moment t0 log question (Done reply) ip wants h = cc
 wanted-serves terms greatest moment t0 log question Ended ip wants h = cc
@@ -136,27 +140,28 @@ given-some terms log None here b is h = tt
 given-some terms log (Some reply) here b is h = subst (λ (o : Option Begun). ReplyGiven terms log o reply) (sym is) h
 
 -- what a step gives holds by the machine before it too, where the two agree
-pub gives-before : (patience : ℕ) (old mid : RecursorCore) (log : Log) (r : ℕ) (s : Step) → SameCore old mid
-    → StepGives patience mid log r s → StepGives patience old log r s
-gives-before patience old mid log r (step.Order number order) same h =
-    subst (λ (held : Setting). GoesToServer (given_of (terms_with patience held)) log (old.greatest + 1) order) same.setting
-    (subst (λ (g : ℕ). GoesToServer (given_of (terms_of patience mid)) log (g + 1) order) same.greatest h)
-gives-before patience old mid log r (step.Waiting number) same h = tt
-gives-before patience old mid log r (step.Done reply) same h =
-    subst (λ (held : Setting). ReplyGiven (terms_with patience held) log (begun_at old r) reply) same.setting
-    (subst (λ (o : Option Begun). ReplyGiven (terms_of patience mid) log o reply) (same.begun r) h)
-gives-before patience old mid log r step.Ended same h = tt
+pub gives-before : (old mid : RecursorCore) (log : Log) (r : ℕ) (s : Step) → SameCore old mid
+    → StepGives mid log r s → StepGives old log r s
+gives-before old mid log r (step.Order number order) same h =
+    subst (λ (held : Setting). GoesToServer (given_of (terms_with held)) log (old.greatest + 1) order) same.setting
+    (subst (λ (g : ℕ). GoesToServer (given_of (terms_of mid)) log (g + 1) order) same.greatest h)
+gives-before old mid log r (step.Waiting number) same h = tt
+gives-before old mid log r (step.Done reply) same h =
+    subst (λ (held : Setting). ReplyGiven (terms_with held) log (begun_at old r) reply) same.setting
+    (subst (λ (o : Option Begun). ReplyGiven (terms_of mid) log o reply) (same.begun r) h)
+gives-before old mid log r step.Ended same h = tt
 
 -- so with a step inside the machine
-pub progress-before : (patience : ℕ) (old mid : RecursorCore) (log : Log) (r : ℕ) (p : Progress) → SameCore old mid
-    → Gives patience mid log r p → Gives patience old log r p
-progress-before patience old mid log r progress.Again same h = tt
-progress-before patience old mid log r (progress.Step s) same h = gives-before patience old mid log r s same h
+pub progress-before : (old mid : RecursorCore) (log : Log) (r : ℕ) (p : Progress) → SameCore old mid
+    → Gives mid log r p → Gives old log r p
+progress-before old mid log r progress.Again same h = tt
+progress-before old mid log r (progress.Step s) same h = gives-before old mid log r s same h
 
 -- two steps
 pub same-trans : (a b c : RecursorCore) → SameCore a b → SameCore b c → SameCore a c
 same-trans a b c x y = record {
   setting = y.setting ∙ x.setting;
+  cache = y.cache ∙ x.cache;
   greatest = y.greatest ∙ x.greatest;
   moment = y.moment ∙ x.moment;
   begun = λ k. y.begun k ∙ x.begun k;
@@ -166,26 +171,31 @@ same-trans a b c x y = record {
 pub same-set : (a b : RecursorCore) → IsSetAs a b → SameCore a b
 same-set a b h = record {
   setting = h.1;
+  cache = h.4;
   greatest = h.2;
   moment = h.3;
   begun = λ k. ap (λ (rs : Vec Resolution). option_map begun_of (slice_get rs.items k)) h.0;
 }
 
 -- what is derived, by its parts
-pub derived-is : (patience : ℕ) (core : RecursorCore) (log : Log) (setting : Setting) (greatest moment : ℕ) (rs : List Resolution) → core.setting ≡ setting
-    → core.greatest ≡ greatest → core.moment ≡ moment → core.resolutions.items ≡ rs → greatest < log.next → 0 < length setting.roots
-    → All (ResolutionHolds (terms_with patience setting) greatest moment log) rs → Derived patience core log
-derived-is patience core log setting greatest moment rs a b c e bound some all = record {
+pub derived-is : (core : RecursorCore) (log : Log) (setting : Setting) (greatest moment : ℕ) (cache : Cached) (rs : List Resolution) → core.setting ≡ setting
+    → core.greatest ≡ greatest → core.moment ≡ moment → core.cache ≡ cache → core.resolutions.items ≡ rs → greatest < log.next → 0 < length setting.roots
+    → CacheHolds (terms_with setting) greatest log cache
+    → All (ResolutionHolds (terms_with setting) greatest moment log) rs → Derived core log
+derived-is core log setting greatest moment cache rs a b c d e bound some kept all = record {
   bound = subst (λ (g : ℕ). g < log.next) (sym b) bound;
   some = subst (λ (held : Setting). 0 < length held.roots) (sym a) some;
-  resolutions = subst (λ (held : Setting). All (ResolutionHolds (terms_with patience held) core.greatest core.moment log) core.resolutions.items) (sym a)
-      (subst (λ (g : ℕ). All (ResolutionHolds (terms_with patience setting) g core.moment log) core.resolutions.items) (sym b)
-      (subst (λ (m : ℕ). All (ResolutionHolds (terms_with patience setting) greatest m log) core.resolutions.items) (sym c)
-      (subst (All (ResolutionHolds (terms_with patience setting) greatest moment log)) (sym e) all)));
+  cache = subst (λ (held : Setting). CacheHolds (terms_with held) core.greatest log core.cache) (sym a)
+      (subst (λ (g : ℕ). CacheHolds (terms_with setting) g log core.cache) (sym b)
+      (subst (CacheHolds (terms_with setting) greatest log) (sym d) kept));
+  resolutions = subst (λ (held : Setting). All (ResolutionHolds (terms_with held) core.greatest core.moment log) core.resolutions.items) (sym a)
+      (subst (λ (g : ℕ). All (ResolutionHolds (terms_with setting) g core.moment log) core.resolutions.items) (sym b)
+      (subst (λ (m : ℕ). All (ResolutionHolds (terms_with setting) greatest m log) core.resolutions.items) (sym c)
+      (subst (All (ResolutionHolds (terms_with setting) greatest moment log)) (sym e) all)));
 }
 
 -- new numbers and connections leave what is derived
-pub derived-set : (patience : ℕ) (a b : RecursorCore) (log : Log) → IsSetAs a b → Derived patience a log → Derived patience b log
-derived-set patience a b log h d =
-    derived-is patience b log a.setting a.greatest a.moment a.resolutions.items h.1 h.2 h.3 (ap (λ (rs : Vec Resolution). rs.items) h.0)
-    d.bound d.some d.resolutions
+pub derived-set : (a b : RecursorCore) (log : Log) → IsSetAs a b → Derived a log → Derived b log
+derived-set a b log h d =
+    derived-is b log a.setting a.greatest a.moment a.cache a.resolutions.items h.1 h.2 h.3 h.4 (ap (λ (rs : Vec Resolution). rs.items) h.0)
+    d.bound d.some d.cache d.resolutions

@@ -87,14 +87,14 @@ module _ (given : Given) (log : Log) (early late : ℕ) (le : early ≤ late) (k
 
   -- a denial at late is one at early
   denied-earlier : (q : Query) (g : List ℕ) (d : AuthorityData) → IsDenied given log late q g d → IsDenied given log early q g d
-  denied-earlier q _ _ (denial_told b w n) = denial_told (Base-earlier b) w n
+  denied-earlier q _ _ (denial_told b w n s) = denial_told (Base-earlier b) w n s
   denied-earlier q _ _ (denial_made b w) = denial_made (Base-earlier b) w
-  denied-earlier q _ _ (told_on_the_way s c b w e) = told_on_the_way s c (Base-earlier b) w e
+  denied-earlier q _ _ (told_on_the_way s c b w e t) = told_on_the_way s c (Base-earlier b) w e t
   denied-earlier q _ _ (made_on_the_way s c b w) = made_on_the_way s c (Base-earlier b) w
 
   -- a referral at late is one at early
   referred-earlier : (q : Query) (g : List ℕ) (servers : List ForwardNsData) → IsReferred given log late q g servers → IsReferred given log early q g servers
-  referred-earlier q _ servers (referred b w n) = referred (Base-earlier b) w n
+  referred-earlier q _ servers (referred b w n s) = referred (Base-earlier b) w n s
 
   -- a lookup that was finished in time for the late moment was so for the early one
   abbrev Finished-earlier : {q : Query} {z : DomainName} {g : List ℕ} {result : Answered} → Finished given known log late q z g result

@@ -25,12 +25,13 @@ use Rattle.recursor_core.proofs.Pooling.{error_final, end_plain}
 use Rattle.recursor_core.proofs.Pooled.{end_at, tried-more, concluded-spent, concluded-decided}
 
 ready : (s : Send) → send_want s ≡ Choose → s ≡ send.Ready
+ready send.Fresh e = cc
 ready send.Ready e = refl
 ready (send.Chosen ip) e = cc
 ready (send.Opening ip order polls) e = cc
 ready (send.Connected ip conn) e = cc
 ready (send.Asking ip order since polls) e = cc
-ready (send.Told ip entry message) e = cc
+ready (send.Told ip entry at message) e = cc
 ready (send.Failed ip entry error) e = cc
 
 last_is_lookup_error : (b : Bool) → is_lookup_error (last_error b) ≡ true
@@ -80,11 +81,11 @@ module _ (terms : Terms) (greatest moment t0 : ℕ) (log : Log) (zone : DomainNa
       }
 
   -- a message was told
-  pub message-found : (ip : IpAddr) (entry : ℕ) (message : Message) → l.send ≡ send.Told ip entry message
+  pub message-found : (ip : IpAddr) (entry at : ℕ) (message : Message) → l.send ≡ send.Told ip entry at message
       → FoundHolds terms greatest t0 log zone l.query (l.ends ++ entry ∷ []) (found.Message entry message)
-  message-found ip entry message is =
+  message-found ip entry at message is =
       let told = subst (SendHolds terms greatest moment t0 log zone l.query l.ends h.tried.moments) is h.send in
-      (told.0, concluded-decided terms log zone l.query h.pool h.tried told.1 refl (of_pool ip (send.Told ip entry message) is refl) h.above h.listed)
+      (told.0.heard, concluded-decided terms log zone l.query h.pool h.tried told.1 refl (of_pool ip (send.Told ip entry at message) is refl) h.above h.listed)
 
   -- an error was told that leaves the question to no other server
   error-found : (ip : IpAddr) (entry : ℕ) (error : NetError) → l.send ≡ send.Failed ip entry error → is_passing_error error ≡ false

@@ -36,6 +36,7 @@ use Rattle.recursor_core.specs.declared.resolving.State.TheVariants.{Under, Done
 use Rattle.recursor_core.specs.declared.resolving.Resolution.{Resolution}
 use Rattle.recursor_core.specs.declared.machine.RecursorCore.{RecursorCore}
 use Rattle.recursor_core.proofs.KeptLookups.{lookup-kept, pool-kept, began-kept}
+use Rattle.recursor_core.proofs.Remembering.{cache-kept}
 
 -- a log has what it has
 pub same-log : (log : Log) → Extends log log
@@ -102,15 +103,15 @@ module _ (terms : Terms) (log longer : Log) (x : Extends log longer) where
 
   -- a denial
   denied-kept : (t0 : ℕ) (q : Query) (g : List ℕ) (d : AuthorityData) → IsDenied (given_of terms) log t0 q g d → IsDenied (given_of terms) longer t0 q g d
-  denied-kept t0 q _ _ (denial_told {z = z} b w n) = denial_told (based b) (walks-kept q z w) n
+  denied-kept t0 q _ d (denial_told {z = z} b w n s) = denial_told (based b) (walks-kept q z w) n s
   denied-kept t0 q _ _ (denial_made {z = z} b w) = denial_made (based b) (walks-kept q z w)
-  denied-kept t0 q _ _ (told_on_the_way {z = z} {c = c} s on b w e) = told_on_the_way s on (based b) (walks-kept (question_for c 2) z w) e
+  denied-kept t0 q _ _ (told_on_the_way {z = z} {c = c} s on b w e same) = told_on_the_way s on (based b) (walks-kept (question_for c 2) z w) e same
   denied-kept t0 q _ _ (made_on_the_way {z = z} {c = c} s on b w) = made_on_the_way s on (based b) (walks-kept (question_for c 2) z w)
 
   -- a referral
   referred-kept : (t0 : ℕ) (q : Query) (g : List ℕ) (servers : List ForwardNsData)
       → IsReferred (given_of terms) log t0 q g servers → IsReferred (given_of terms) longer t0 q g servers
-  referred-kept t0 q _ servers (referred {z = z} b w n) = referred (based b) (walks-kept q z w) n
+  referred-kept t0 q _ servers (referred {z = z} b w n s) = referred (based b) (walks-kept q z w) n s
 
   -- a failed lookup
   failed-kept : (t0 : ℕ) (q : Query) (g : List ℕ) (e : NetError)
@@ -202,10 +203,11 @@ pub ReplyHolds-extends : (terms : Terms) (log longer : Log) (t0 : ℕ) (question
 ReplyHolds-extends terms log longer t0 question reply x h = reply-kept terms log longer x t0 question reply h
 
 -- what the machine keeps is derived from a longer log
-pub Derived-extends : (patience : ℕ) (core : RecursorCore) (log longer : Log) → Extends log longer → Derived patience core log → Derived patience core longer
-Derived-extends patience core log longer x d = record {
+pub Derived-extends : (core : RecursorCore) (log longer : Log) → Extends log longer → Derived core log → Derived core longer
+Derived-extends core log longer x d = record {
   bound = let b = d.bound in let l = x.later in omega arith;
   some = d.some;
-  resolutions = resolutions-kept (terms_of patience core) log longer x core.greatest core.greatest core.moment core.moment core.resolutions.items
+  cache = cache-kept (terms_of core) log longer x core.greatest core.greatest core.cache (omega arith) d.cache;
+  resolutions = resolutions-kept (terms_of core) log longer x core.greatest core.greatest core.moment core.moment core.resolutions.items
       (omega arith) (omega arith) d.resolutions;
 }

@@ -55,7 +55,7 @@ module _ (terms : Terms) (log longer : Log) (x : Extends log longer) where
   }
 
   -- what was heard was heard
-  pub heard-kept : (g g' t0 : ℕ) (zone : DomainName) (q : Query) (entry : ℕ) (message : Message) → g ≤ g'
+  abbrev pub heard-kept : (g g' t0 : ℕ) (zone : DomainName) (q : Query) (entry : ℕ) (message : Message) → g ≤ g'
       → IsHeard terms g t0 log zone q entry message → IsHeard terms g' t0 longer zone q entry message
   heard-kept g g' t0 zone q entry message le h = record {
     moment = h.moment;
@@ -121,14 +121,15 @@ module _ (terms : Terms) (log longer : Log) (x : Extends log longer) where
   -- the present send
   pub send-kept : (g g' moment moment' t0 : ℕ) (zone : DomainName) (q : Query) (ns moments : List ℕ) (s : Send) → g ≤ g' → moment ≤ moment'
       → SendHolds terms g moment t0 log zone q ns moments s → SendHolds terms g' moment' t0 longer zone q ns moments s
+  send-kept g g' moment moment' t0 zone q ns moments send.Fresh le later h = tt
   send-kept g g' moment moment' t0 zone q ns moments send.Ready le later h = tt
   send-kept g g' moment moment' t0 zone q ns moments (send.Chosen ip) le later h = serves-kept (g + 1) (g' + 1) ip zone (omega arith) h
   send-kept g g' moment moment' t0 zone q ns moments (send.Opening ip order polls) le later h = serves-kept (g + 1) (g' + 1) ip zone (omega arith) h
   send-kept g g' moment moment' t0 zone q ns moments (send.Connected ip conn) le later h = serves-kept (g + 1) (g' + 1) ip zone (omega arith) h
   send-kept g g' moment moment' t0 zone q ns moments (send.Asking ip order after polls) le later h =
       (let e = h.0 in omega arith, serves-kept (after + 1) (after + 1) ip zone (omega arith) h.1)
-  send-kept g g' moment moment' t0 zone q ns moments (send.Told ip entry message) le later h =
-      (heard-kept g g' t0 zone q entry message le h.0, came-kept g g' moment moment' t0 q ns moments ip entry (Ok message) le later h.1)
+  send-kept g g' moment moment' t0 zone q ns moments (send.Told ip entry at message) le later h =
+      (record { heard = heard-kept g g' t0 zone q entry message le h.0.heard; is = h.0.is }, came-kept g g' moment moment' t0 q ns moments ip entry (Ok message) le later h.1)
   send-kept g g' moment moment' t0 zone q ns moments (send.Failed ip entry error) le later h =
       came-kept g g' moment moment' t0 q ns moments ip entry (Err error) le later h
 

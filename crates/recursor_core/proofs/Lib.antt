@@ -18,3 +18,7 @@ pub mod Playing
 pub mod Growing
 pub mod Patience
 pub mod Slots
+pub mod Lowered
+pub mod Recalling
+pub mod Remembering
+pub mod Tellings

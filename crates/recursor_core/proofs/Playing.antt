@@ -120,57 +120,57 @@ work_else true new mid old h le = omega arith
 work_else false new mid old h le = omega arith
 
 -- a question that goes on as it was
-play_on : (patience now : ℕ) (core new : RecursorCore) (told later : Option (List LogEntry)) (start : ℕ) (turns rest left : List Turn) (q : ℕ)
+play_on : (now : ℕ) (core new : RecursorCore) (told later : Option (List LogEntry)) (start : ℕ) (turns rest left : List Turn) (q : ℕ)
     (question : Question) (p : Played)
     → new.setting ≡ core.setting → ((k : ℕ) (b : Begun) → begun_at core k ≡ Some b → begun_at new k ≡ Some b) → Grown now told later
     → (p ≡ played.Waiting → first_moment rest q ≡ first_moment left q)
-    → PlayHolds patience core told start turns rest q question p → PlayHolds patience new later start turns left q question p
-play_on patience now core new told later start turns rest left q question played.Waiting setting begun grown same h = h ∙ same refl
-play_on patience now core new told later start turns rest left q question (played.Begun r) setting begun grown same h =
+    → PlayHolds core told start turns rest q question p → PlayHolds new later start turns left q question p
+play_on now core new told later start turns rest left q question played.Waiting setting begun grown same h = h ∙ same refl
+play_on now core new told later start turns rest left q question (played.Begun r) setting begun grown same h =
     record { begun = h.begun; is = begun r h.begun h.is; question = h.question; late = h.late }
-play_on patience now core new told later start turns rest left q question (played.Answered reply) setting begun grown same h =
-    subst (λ (held : Setting). TellsThat later (λ log. ReplyHolds (terms_with patience held) machine_timer log
+play_on now core new told later start turns rest left q question (played.Answered reply) setting begun grown same h =
+    subst (λ (held : Setting). TellsThat later (λ log. ReplyHolds (terms_with held) machine_timer log
     (begin_moment start turns q) question reply)) (sym setting)
-    (ReplyHolds-grown now (terms_of patience core) (begin_moment start turns q) question reply told later grown h)
+    (ReplyHolds-grown now (terms_of core) (begin_moment start turns q) question reply told later grown h)
 
 -- a question at the place where one begins
-begin_here : (patience : ℕ) (core new : RecursorCore) (told : Option (List LogEntry)) (start : ℕ) (turns rest left : List Turn) (q now : ℕ)
+begin_here : (core new : RecursorCore) (told : Option (List LogEntry)) (start : ℕ) (turns rest left : List Turn) (q now : ℕ)
     (question : Question) (old : Option Played) (p : Played)
     → new.setting ≡ core.setting → ((k : ℕ) (b : Begun) → begun_at core k ≡ Some b → begun_at new k ≡ Some b)
     → (first_moment turns q ≡ first_moment rest q → begin_moment start turns q ≤ now)
-    → BeginsIf (Some question) now new old (Some p) → ((was : Played) → old ≡ Some was → PlayHolds patience core told start turns rest q question was)
-    → PlayHolds patience new told start turns left q question p
-begin_here patience core new told start turns rest left q now question None p setting begun due begins h = cc
-begin_here patience core new told start turns rest left q now question (Some played.Waiting) played.Waiting setting begun due begins h = absurd begins
-begin_here patience core new told start turns rest left q now question (Some played.Waiting) (played.Begun r) setting begun due begins h =
+    → BeginsIf (Some question) now new old (Some p) → ((was : Played) → old ≡ Some was → PlayHolds core told start turns rest q question was)
+    → PlayHolds new told start turns left q question p
+begin_here core new told start turns rest left q now question None p setting begun due begins h = cc
+begin_here core new told start turns rest left q now question (Some played.Waiting) played.Waiting setting begun due begins h = absurd begins
+begin_here core new told start turns rest left q now question (Some played.Waiting) (played.Begun r) setting begun due begins h =
     record { begun = record { question = question; moment = now }; is = begins; question = refl; late = due (h played.Waiting refl) }
-begin_here patience core new told start turns rest left q now question (Some played.Waiting) (played.Answered reply) setting begun due begins h =
-    λ es t. refused_holds (terms_of patience new) machine_timer (log_of es) (begin_moment start turns q) question reply begins
-begin_here patience core new told start turns rest left q now question (Some (played.Begun r)) p setting begun due begins h =
-    subst (λ (x : Played). PlayHolds patience new told start turns left q question x) (sym (same_Some _ _ begins))
-    (play_on patience now core new told told start turns rest left q question (played.Begun r) setting begun (Grown-refl now told) (λ e. cc) (h (played.Begun r) refl))
-begin_here patience core new told start turns rest left q now question (Some (played.Answered reply)) p setting begun due begins h =
-    subst (λ (x : Played). PlayHolds patience new told start turns left q question x) (sym (same_Some _ _ begins))
-    (play_on patience now core new told told start turns rest left q question (played.Answered reply) setting begun (Grown-refl now told) (λ e. cc)
+begin_here core new told start turns rest left q now question (Some played.Waiting) (played.Answered reply) setting begun due begins h =
+    λ es t. refused_holds (terms_of new) machine_timer (log_of es) (begin_moment start turns q) question reply begins
+begin_here core new told start turns rest left q now question (Some (played.Begun r)) p setting begun due begins h =
+    subst (λ (x : Played). PlayHolds new told start turns left q question x) (sym (same_Some _ _ begins))
+    (play_on now core new told told start turns rest left q question (played.Begun r) setting begun (Grown-refl now told) (λ e. cc) (h (played.Begun r) refl))
+begin_here core new told start turns rest left q now question (Some (played.Answered reply)) p setting begun due begins h =
+    subst (λ (x : Played). PlayHolds new told start turns left q question x) (sym (same_Some _ _ begins))
+    (play_on now core new told told start turns rest left q question (played.Answered reply) setting begun (Grown-refl now told) (λ e. cc)
     (h (played.Answered reply) refl))
 
 -- Where a question waits at the place it begins, if its moment has come; the others go on.
-begins_hold : (patience : ℕ) (core new : RecursorCore) (told : Option (List LogEntry)) (start : ℕ) (turns rest left : List Turn) (questions : List Question)
+begins_hold : (core new : RecursorCore) (told : Option (List LogEntry)) (start : ℕ) (turns rest left : List Turn) (questions : List Question)
     (old plays : List Played) (q now : ℕ)
     → new.setting ≡ core.setting → ((k : ℕ) (b : Begun) → begun_at core k ≡ Some b → begun_at new k ≡ Some b)
     → ((k : ℕ) → k ≢ q → slice_get plays k ≡ slice_get old k)
     → BeginsAt questions q now new (slice_get old q) (slice_get plays q)
     → ((k : ℕ) → k ≢ q → first_moment rest k ≡ first_moment left k)
     → (first_moment turns q ≡ first_moment rest q → begin_moment start turns q ≤ now)
-    → PlaysHold patience core told start turns rest questions old → PlaysHold patience new told start turns left questions plays
-begins_hold patience core new told start turns rest left questions old plays q now setting begun others begins after due h k question p asks plays_p = ⊎_elim
+    → PlaysHold core told start turns rest questions old → PlaysHold new told start turns left questions plays
+begins_hold core new told start turns rest left questions old plays q now setting begun others begins after due h k question p asks plays_p = ⊎_elim
     (λ (same : k ≡ q).
     let asks_q : slice_get questions q ≡ Some question = subst (λ i. slice_get questions i ≡ Some question) same asks in
     let plays_q : slice_get plays q ≡ Some p = subst (λ i. slice_get plays i ≡ Some p) same plays_p in
     let at_q : BeginsIf (Some question) now new (slice_get old q) (Some p) = rw (asks_q, plays_q) at begins in
-    subst (λ i. PlayHolds patience new told start turns left i question p) (sym same)
-    (begin_here patience core new told start turns rest left q now question (slice_get old q) p setting begun due at_q (λ was e. h q question was asks_q e)))
-    (λ ne. play_on patience now core new told told start turns rest left k question p setting begun (Grown-refl now told) (λ e. after k ne)
+    subst (λ i. PlayHolds new told start turns left i question p) (sym same)
+    (begin_here core new told start turns rest left q now question (slice_get old q) p setting begun due at_q (λ was e. h q question was asks_q e)))
+    (λ ne. play_on now core new told told start turns rest left k question p setting begun (Grown-refl now told) (λ e. after k ne)
     (h k question p asks (sym (others k ne) ∙ plays_p)))
     (same_or_not k q)
 
@@ -178,16 +178,16 @@ module _ {P C F E : Type 0} (p : Ghosts P C F E) (patience now : ℕ) (core new 
     (moves : Moves p patience now core new c later) where
   -- the questions go on while the machine and the provider do
   pub plays_moved : (start : ℕ) (turns rest : List Turn) (questions : List Question) (plays : List Played)
-      → PlaysHold patience core (p.log c.provider) start turns rest questions plays → PlaysHold patience new (p.log later.provider) start turns rest questions plays
+      → PlaysHold core (p.log c.provider) start turns rest questions plays → PlaysHold new (p.log later.provider) start turns rest questions plays
   plays_moved start turns rest questions plays h q question play asks at =
-      play_on patience now core new (p.log c.provider) (p.log later.provider) start turns rest rest q question play moves.setting moves.begun moves.grown
+      play_on now core new (p.log c.provider) (p.log later.provider) start turns rest rest q question play moves.setting moves.begun moves.grown
       (λ e. refl) (h q question play asks at)
 
   -- one has its reply
   pub plays_answered : (start : ℕ) (turns rest : List Turn) (questions : List Question) (plays : List Played) (q r : ℕ) (reply : Reply)
-      → slice_get plays q ≡ Some (played.Begun r) → ReplyTold (terms_of patience core) (p.log later.provider) (begun_at core r) reply
-      → PlaysHold patience core (p.log c.provider) start turns rest questions plays
-      → PlaysHold patience new (p.log later.provider) start turns rest questions (set plays q (played.Answered reply))
+      → slice_get plays q ≡ Some (played.Begun r) → ReplyTold (terms_of core) (p.log later.provider) (begun_at core r) reply
+      → PlaysHold core (p.log c.provider) start turns rest questions plays
+      → PlaysHold new (p.log later.provider) start turns rest questions (set plays q (played.Answered reply))
   plays_answered start turns rest questions plays q r reply at told h k question play asks play_k = ⊎_elim
       (λ (same : k ≡ q).
       let told_now = p.log later.provider in
@@ -196,78 +196,78 @@ module _ {P C F E : Type 0} (p : Ghosts P C F E) (patience now : ℕ) (core new 
       (ap (slice_get (set plays q (played.Answered reply))) same ∙ slice_get-set_same plays q (played.Answered reply) (slice_get_within plays q _ at))) in
       let f = h q question (played.Begun r) asks_q at in
       let b = f.begun in
-      let holds : TellsThat told_now (λ log. ReplyHolds (terms_of patience core) machine_timer log b.moment b.question reply) = rw f.is at told in
-      let given : PlayHolds patience new told_now start turns rest q question (played.Answered reply) = λ es t.
-      ReplyHolds-earlier (terms_of patience new) (log_of es) (begin_moment start turns q) b.moment question reply f.late
-      (subst (λ (held : Setting). ReplyHolds (terms_with patience held) machine_timer (log_of es) b.moment question reply) (sym moves.setting)
-      (subst (λ (x : Question). ReplyHolds (terms_of patience core) machine_timer (log_of es) b.moment x reply) f.question (holds es t))) in
-      subst (λ i. PlayHolds patience new told_now start turns rest i question play) (sym same)
-      (subst (λ (x : Played). PlayHolds patience new told_now start turns rest q question x) (sym is) given))
+      let holds : TellsThat told_now (λ log. ReplyHolds (terms_of core) machine_timer log b.moment b.question reply) = rw f.is at told in
+      let given : PlayHolds new told_now start turns rest q question (played.Answered reply) = λ es t.
+      ReplyHolds-earlier (terms_of new) (log_of es) (begin_moment start turns q) b.moment question reply f.late
+      (subst (λ (held : Setting). ReplyHolds (terms_with held) machine_timer (log_of es) b.moment question reply) (sym moves.setting)
+      (subst (λ (x : Question). ReplyHolds (terms_of core) machine_timer (log_of es) b.moment x reply) f.question (holds es t))) in
+      subst (λ i. PlayHolds new told_now start turns rest i question play) (sym same)
+      (subst (λ (x : Played). PlayHolds new told_now start turns rest q question x) (sym is) given))
       (λ ne. plays_moved start turns rest questions plays h k question play asks (sym (slice_get-set_other plays q k (played.Answered reply) ne) ∙ play_k))
       (same_or_not k q)
 
 -- the reply that a question is given at last
-reply_of_play : (patience : ℕ) (core : RecursorCore) (told : Option (List LogEntry)) (start : ℕ) (turns rest : List Turn) (q : ℕ) (question : Question)
+reply_of_play : (core : RecursorCore) (told : Option (List LogEntry)) (start : ℕ) (turns rest : List Turn) (q : ℕ) (question : Question)
     (found : Option Played) (reply : Reply) (es : List LogEntry)
     → told ≡ Some es → IsTimely start (run_moments start turns) (log_of es) → ReplyOf found reply
-    → ((p : Played) → found ≡ Some p → PlayHolds patience core told start turns rest q question p)
-    → ReplyHolds (terms_of patience core) (run_timer start turns) (log_of es) (begin_moment start turns q) question reply
-reply_of_play patience core told start turns rest q question None reply es t timely of h =
-    memory_holds (terms_of patience core) (run_timer start turns) (log_of es) (begin_moment start turns q) question reply of.0 of.1
-reply_of_play patience core told start turns rest q question (Some played.Waiting) reply es t timely of h =
-    memory_holds (terms_of patience core) (run_timer start turns) (log_of es) (begin_moment start turns q) question reply of.0 of.1
-reply_of_play patience core told start turns rest q question (Some (played.Begun r)) reply es t timely of h =
-    memory_holds (terms_of patience core) (run_timer start turns) (log_of es) (begin_moment start turns q) question reply of.0 of.1
-reply_of_play patience core told start turns rest q question (Some (played.Answered a)) reply es t timely of h =
-    subst (λ (x : Reply). ReplyHolds (terms_of patience core) (run_timer start turns) (log_of es) (begin_moment start turns q) question x) (sym of)
-    (reply-timed (terms_of patience core) (log_of es) start turns (begin_moment start turns q) question a timely (begins_in_run start turns q)
+    → ((p : Played) → found ≡ Some p → PlayHolds core told start turns rest q question p)
+    → ReplyHolds (terms_of core) (run_timer start turns) (log_of es) (begin_moment start turns q) question reply
+reply_of_play core told start turns rest q question None reply es t timely of h =
+    memory_holds (terms_of core) (run_timer start turns) (log_of es) (begin_moment start turns q) question reply of.0 of.1
+reply_of_play core told start turns rest q question (Some played.Waiting) reply es t timely of h =
+    memory_holds (terms_of core) (run_timer start turns) (log_of es) (begin_moment start turns q) question reply of.0 of.1
+reply_of_play core told start turns rest q question (Some (played.Begun r)) reply es t timely of h =
+    memory_holds (terms_of core) (run_timer start turns) (log_of es) (begin_moment start turns q) question reply of.0 of.1
+reply_of_play core told start turns rest q question (Some (played.Answered a)) reply es t timely of h =
+    subst (λ (x : Reply). ReplyHolds (terms_of core) (run_timer start turns) (log_of es) (begin_moment start turns q) question x) (sym of)
+    (reply-timed (terms_of core) (log_of es) start turns (begin_moment start turns q) question a timely (begins_in_run start turns q)
     (h (played.Answered a) refl es t))
 
 -- the replies that are given hold
-pub replies_hold : (patience : ℕ) (core : RecursorCore) (told : Option (List LogEntry)) (start : ℕ) (turns rest : List Turn) (questions : List Question)
+pub replies_hold : (core : RecursorCore) (told : Option (List LogEntry)) (start : ℕ) (turns rest : List Turn) (questions : List Question)
     (plays : List Played) (replies : List Reply)
     → TellsThat told (IsTimely start (run_moments start turns))
-    → PlaysHold patience core told start turns rest questions plays
+    → PlaysHold core told start turns rest questions plays
     → ((q : ℕ) (reply : Reply) → slice_get replies q ≡ Some reply → ReplyOf (slice_get plays q) reply)
-    → TellsThat told (λ log. RepliesHold (terms_of patience core) log start turns questions replies)
-replies_hold patience core told start turns rest questions plays replies timely h of es t q question reply asks at =
-    reply_of_play patience core told start turns rest q question (slice_get plays q) reply es t (timely es t) (of q reply at) (λ p e. h q question p asks e)
+    → TellsThat told (λ log. RepliesHold (terms_of core) log start turns questions replies)
+replies_hold core told start turns rest questions plays replies timely h of es t q question reply asks at =
+    reply_of_play core told start turns rest q question (slice_get plays q) reply es t (timely es t) (of q reply at) (λ p e. h q question p asks e)
 
 -- before the first turn each question waits
-pub plays_wait : (patience : ℕ) (core : RecursorCore) (told : Option (List LogEntry)) (start : ℕ) (turns : List Turn) (questions : List Question)
+pub plays_wait : (core : RecursorCore) (told : Option (List LogEntry)) (start : ℕ) (turns : List Turn) (questions : List Question)
     (plays : List Played)
-    → All (λ p. p ≡ played.Waiting) plays → PlaysHold patience core told start turns turns questions plays
-plays_wait patience core told start turns questions plays waits q question p asks at =
+    → All (λ p. p ≡ played.Waiting) plays → PlaysHold core told start turns turns questions plays
+plays_wait core told start turns questions plays waits q question p asks at =
     let read = get_or_from_slice_get plays q p p at in
     let is : p ≡ played.Waiting = sym read ∙ All-get_or (λ x. x ≡ played.Waiting) plays q p (slice_get_within plays q p at) waits in
-    subst (λ (x : Played). PlayHolds patience core told start turns turns q question x) (sym is) refl
+    subst (λ (x : Played). PlayHolds core told start turns turns q question x) (sym is) refl
 
 -- a turn that names no question changes none
-pub plays_skip : (patience : ℕ) (core : RecursorCore) (told : Option (List LogEntry)) (start : ℕ) (turns rest : List Turn) (t : Turn)
+pub plays_skip : (core : RecursorCore) (told : Option (List LogEntry)) (start : ℕ) (turns rest : List Turn) (t : Turn)
     (questions : List Question) (plays : List Played) → t.question ≡ 0
-    → PlaysHold patience core told start turns (t ∷ rest) questions plays → PlaysHold patience core told start turns rest questions plays
-plays_skip patience core told start turns rest t questions plays none h q question p asks at =
-    play_on patience 0 core core told told start turns (t ∷ rest) rest q question p refl (λ k b e. e) (Grown-refl 0 told)
+    → PlaysHold core told start turns (t ∷ rest) questions plays → PlaysHold core told start turns rest questions plays
+plays_skip core told start turns rest t questions plays none h q question p asks at =
+    play_on 0 core core told told start turns (t ∷ rest) rest q question p refl (λ k b e. e) (Grown-refl 0 told)
     (λ e. first_other t rest q (λ named. omega arith)) (h q question p asks at)
 
 -- at its turn a question begins, if it waits
-pub plays_turn : (patience : ℕ) (core new : RecursorCore) (told : Option (List LogEntry)) (start : ℕ) (turns rest : List Turn) (t : Turn)
+pub plays_turn : (core new : RecursorCore) (told : Option (List LogEntry)) (start : ℕ) (turns rest : List Turn) (t : Turn)
     (questions : List Question) (old plays : List Played) (q now : ℕ)
     → t.question ≡ q + 1 → start ≤ now → t.moment ≤ now → new.setting ≡ core.setting → ((k : ℕ) (b : Begun) → begun_at core k ≡ Some b → begun_at new k ≡ Some b)
     → ((k : ℕ) → k ≢ q → slice_get plays k ≡ slice_get old k) → BeginsAt questions q now new (slice_get old q) (slice_get plays q)
-    → PlaysHold patience core told start turns (t ∷ rest) questions old → PlaysHold patience new told start turns rest questions plays
-plays_turn patience core new told start turns rest t questions old plays q now names after due setting begun others begins h =
-    begins_hold patience core new told start turns (t ∷ rest) rest questions old plays q now setting begun others begins
+    → PlaysHold core told start turns (t ∷ rest) questions old → PlaysHold new told start turns rest questions plays
+plays_turn core new told start turns rest t questions old plays q now names after due setting begun others begins h =
+    begins_hold core new told start turns (t ∷ rest) rest questions old plays q now setting begun others begins
     (λ k ne. first_other t rest k (λ named. ne (omega arith))) (λ e. let is = begins_now start turns rest t q names e in omega (arith, is, after, due)) h
 
 -- after the turns a question begins that waits still
-pub plays_end : (patience : ℕ) (core new : RecursorCore) (told : Option (List LogEntry)) (start : ℕ) (turns : List Turn) (questions : List Question)
+pub plays_end : (core new : RecursorCore) (told : Option (List LogEntry)) (start : ℕ) (turns : List Turn) (questions : List Question)
     (old plays : List Played) (q now : ℕ)
     → start ≤ now → last_moment start turns ≤ now → new.setting ≡ core.setting → ((k : ℕ) (b : Begun) → begun_at core k ≡ Some b → begun_at new k ≡ Some b)
     → ((k : ℕ) → k ≢ q → slice_get plays k ≡ slice_get old k) → BeginsAt questions q now new (slice_get old q) (slice_get plays q)
-    → PlaysHold patience core told start turns [] questions old → PlaysHold patience new told start turns [] questions plays
-plays_end patience core new told start turns questions old plays q now after due setting begun others begins h =
-    begins_hold patience core new told start turns [] [] questions old plays q now setting begun others begins
+    → PlaysHold core told start turns [] questions old → PlaysHold new told start turns [] questions plays
+plays_end core new told start turns questions old plays q now after due setting begun others begins h =
+    begins_hold core new told start turns [] [] questions old plays q now setting begun others begins
     (λ k ne. refl) (λ e. let is = begins_last start turns q e in omega (arith, is, after, due)) h
 
 -- the last turn is at the last moment

@@ -22,12 +22,13 @@ fewer p s t a b h l = let next : s + 1 ≤ t = omega arith in let m = mul-le-mul
 
 -- no more polls are left than patience allows
 send_polls : (p : ℕ) (s : Send) → polls_left p s ≤ p
+send_polls p send.Fresh = omega arith
 send_polls p send.Ready = omega arith
 send_polls p (send.Chosen ip) = omega arith
 send_polls p (send.Opening ip order polls) = omega arith
 send_polls p (send.Connected ip conn) = omega arith
 send_polls p (send.Asking ip order since polls) = omega arith
-send_polls p (send.Told ip entry message) = omega arith
+send_polls p (send.Told ip entry at message) = omega arith
 send_polls p (send.Failed ip entry error) = omega arith
 
 -- so it is with a state

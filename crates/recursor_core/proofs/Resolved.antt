@@ -1,16 +1,21 @@
 -- A resolution after a step.
-use Rattle.std.proofs.Common.{◌≡◌, ◌≤◌, ℕ, Option, Some, None, sym, subst}
+use Rattle.std.proofs.Common.{◌≡◌, ◌≤◌, ℕ, Option, Some, None, IfSome, sym, subst}
 use Rattle.dns_core.specs.Log.{Log}
 use Rattle.dns_core.specs.declared.message.Query.{Query}
 use Rattle.dns_core.specs.declared.request.Question.{Question}
+use Rattle.resolver_cache.specs.Cached.{Cached}
+use Rattle.recursor_core.specs.Counted.{recalled, IsRecalled}
+use Rattle.recursor_core.specs.Remembered.{CacheHolds}
 use Rattle.recursor_core.specs.Replies.{Terms}
 use Rattle.recursor_core.specs.Resolving.{IsAfter}
 use Rattle.recursor_core.specs.Derived.{StageHolds, LookupHolds, WayHolds, WalkComes, StateHolds, ResolutionHolds}
+use Rattle.recursor_core.specs.declared.counted.Counted.{Counted}
 use Rattle.recursor_core.specs.declared.lookup.Lookup.{Lookup}
 use Rattle.recursor_core.specs.declared.reply.Reply.{Reply}
 use Rattle.recursor_core.specs.declared.resolving.State.{State}
 use Rattle.recursor_core.specs.declared.resolving.State.TheVariants.{Under}
 use Rattle.recursor_core.specs.declared.walk.Walk.{Walk}
+use Rattle.recursor_core.proofs.Recalling.{recalled-stands}
 
 -- a walk whose lookup has gone on is on the same way
 way-goes : (terms : Terms) (greatest : ℕ) (log : Log) (q : Query) (w : Walk) (l : Lookup) → l.query ≡ w.lookup.query
@@ -37,3 +42,9 @@ pub after-holds : (terms : Terms) (greatest moment t0 : ℕ) (log : Log) (questi
     → IsAfter w reply state → WalkComes terms greatest moment t0 log question w reply → StateHolds terms greatest moment t0 log question state
 after-holds terms greatest moment t0 log question w None state is h = subst (StateHolds terms greatest moment t0 log question) (sym is) h
 after-holds terms greatest moment t0 log question w (Some reply) state is h = subst (StateHolds terms greatest moment t0 log question) (sym is) h
+
+-- what was read from the cache stands, if anything was
+pub recalled-for : (terms : Terms) (greatest t0 now : ℕ) (log : Log) (cache : Cached) (q : Query) (found : Option Counted) → t0 ≤ now
+    → CacheHolds terms greatest log cache → found ≡ recalled cache q now → IfSome found (IsRecalled terms greatest t0 log q)
+recalled-for terms greatest t0 now log cache q None begun holds is = tt
+recalled-for terms greatest t0 now log cache q (Some c) begun holds is = recalled-stands terms greatest t0 now log cache q begun holds c (sym is)

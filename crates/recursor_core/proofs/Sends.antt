@@ -35,7 +35,7 @@ use Rattle.recursor_core.specs.Order.{entry_for, IsSent, OutcomeIs, IsFor, IsLos
 use Rattle.recursor_core.specs.Replies.{Terms, given_of}
 use Rattle.recursor_core.specs.Lookup.{present, IsSentBy, MayAsk, send_want, IsOf}
 use Rattle.recursor_core.specs.Tried.{BeganBy, Tried, Came}
-use Rattle.recursor_core.specs.Derived.{ArePool, IsHeard, SendHolds, LookupHolds, servers_of}
+use Rattle.recursor_core.specs.Derived.{ArePool, IsHeardAt, SendHolds, LookupHolds, servers_of}
 use Rattle.recursor_core.specs.declared.order.Sent.{Sent}
 use Rattle.recursor_core.specs.declared.order.Outcome.TheVariants as outcome
 use Rattle.recursor_core.specs.declared.lookup.Send.{Send}
@@ -166,22 +166,24 @@ above-greatest greatest entry lt ns h =
 
 -- it was sent to the present server
 present-sent : (sent : Sent) (q : Query) (s : Send) → IsSentBy sent q s → present s ≡ sent.ip ∷ []
+present-sent sent q send.Fresh h = absurd h
 present-sent sent q send.Ready h = absurd h
 present-sent sent q (send.Chosen ip) h = absurd h
 present-sent sent q (send.Opening ip order polls) h = ap (λ (i : IpAddr). i ∷ []) (sym h.0)
 present-sent sent q (send.Connected ip conn) h = absurd h
 present-sent sent q (send.Asking ip order since polls) h = ap (λ (i : IpAddr). i ∷ []) (sym h.0)
-present-sent sent q (send.Told ip entry message) h = absurd h
+present-sent sent q (send.Told ip entry at message) h = absurd h
 present-sent sent q (send.Failed ip entry error) h = absurd h
 
 -- it was sent for the question
 for-sent : (sent : Sent) (q : Query) (s : Send) → IsSentBy sent q s → IsFor sent.query q
+for-sent sent q send.Fresh h = absurd h
 for-sent sent q send.Ready h = absurd h
 for-sent sent q (send.Chosen ip) h = absurd h
 for-sent sent q (send.Opening ip order polls) h = subst (λ (o : Option Query). IsFor o q) (sym h.1) tt
 for-sent sent q (send.Connected ip conn) h = absurd h
 for-sent sent q (send.Asking ip order since polls) h = subst (λ (o : Option Query). IsFor o q) (sym h.1) refl
-for-sent sent q (send.Told ip entry message) h = absurd h
+for-sent sent q (send.Told ip entry at message) h = absurd h
 for-sent sent q (send.Failed ip entry error) h = absurd h
 
 -- An outcome comes now, by a later entry of a longer log.
@@ -206,17 +208,18 @@ module _ (terms : Terms) (greatest moment begun now : ℕ) (log longer : Log) (z
   -- It is heard for the question by the server that was asked, as served the zone before it was asked, and ends the send.
   abbrev EndsHeard : Query → Sent → ℕ → Message → Type 0
   EndsHeard q sent entry message =
-      IsHeard terms entry begun longer zone q entry message × EndsSend (given_of terms) longer q entry (record { server = sent.ip; outcome = Ok message }) now
+      IsHeardAt terms entry begun longer zone q entry now message × EndsSend (given_of terms) longer q entry (record { server = sent.ip; outcome = Ok message }) now
 
   -- what is told is heard so
   told-heard : (q : Query) (g moments : List ℕ) (s : Send) (sent : Sent) (entry : ℕ) (message : Message)
       → begun ≤ now → IsTrue (is_above zone (walk q)) → Extends log longer → SendHolds terms greatest moment begun log zone q g moments s → IsSentBy sent q s
       → OutcomeIs longer now (outcome.Told entry sent message) → EndsHeard q sent entry message
+  told-heard q g moments send.Fresh sent entry message late above x h by o = absurd by
   told-heard q g moments send.Ready sent entry message late above x h by o = absurd by
   told-heard q g moments (send.Chosen ip) sent entry message late above x h by o = absurd by
   told-heard q g moments (send.Opening ip order polls) sent entry message late above x h by o = let a = by.1 in let b = o.1 in cc
   told-heard q g moments (send.Connected ip conn) sent entry message late above x h by o = absurd by
-  told-heard q g moments (send.Told ip e m) sent entry message late above x h by o = absurd by
+  told-heard q g moments (send.Told ip e at m) sent entry message late above x h by o = absurd by
   told-heard q g moments (send.Failed ip e error) sent entry message late above x h by o = absurd by
   told-heard q g moments (send.Asking ip order since polls) sent entry message late above x h by o =
       let closes = o.0 in
@@ -232,11 +235,14 @@ module _ (terms : Terms) (greatest moment begun now : ℕ) (log longer : Log) (z
       } in
       let served = serves-kept terms log longer x (since + 1) sent.of ip zone (let lt = by.2 in omega arith) h.1 in (
         record {
-          moment = now;
-          early = omega arith;
-          heard = heard tells (subst (λ (to : IpAddr). Serves (given_of terms) longer sent.of to zone) (sym by.0) served) above;
-          late = late;
-          asked = let a : sent.query ≡ Some message.query = o.1 in let b : sent.query ≡ Some q = by.1 in cc;
+          heard = record {
+            moment = now;
+            early = omega arith;
+            heard = heard tells (subst (λ (to : IpAddr). Serves (given_of terms) longer sent.of to zone) (sym by.0) served) above;
+            late = late;
+            asked = let a : sent.query ≡ Some message.query = o.1 in let b : sent.query ≡ Some q = by.1 in cc;
+          };
+          is = refl;
         },
         answered closes.logged asked (same_query-refl q),
       )
@@ -262,7 +268,7 @@ module _ (terms : Terms) (greatest moment begun now : ℕ) (log longer : Log) (z
   -- A lookup that was told a message holds by it.
   pub lookup-told : (l : Lookup) (sent : Sent) (entry : ℕ) (message : Message) → greatest < entry → moment ≤ now
       → LookupHolds terms greatest moment begun log zone l → Extends log longer → IsOf sent begun now l → OutcomeIs longer now (outcome.Told entry sent message)
-      → LookupHolds terms entry now begun longer zone (record l { send = send.Told sent.ip entry message })
+      → LookupHolds terms entry now begun longer zone (record l { send = send.Told sent.ip entry now message })
   lookup-told l sent entry message lt le h x of o =
       let late = of.late in
       let early = of.early in
@@ -270,7 +276,7 @@ module _ (terms : Terms) (greatest moment begun now : ℕ) (log longer : Log) (z
       let is = for-sent sent l.query l.send of.sends in
       let t = told-heard l.query l.ends h.tried.moments l.send sent entry message (omega arith) h.above x h.send of.sends o in
       let came = came-sent l.query h.pool l.ends l.timed_out sent None entry (Ok message) lt le late early o.0.sent is (omega arith) t.1 h.tried in
-      lookup-came l sent entry (send.Told sent.ip entry message) lt le h x of.sends refl (t.0, came)
+      lookup-came l sent entry (send.Told sent.ip entry now message) lt le h x of.sends refl (t.0, came)
 
   -- A lookup whose send was lost holds by that.
   pub lookup-lost : (l : Lookup) (sent : Sent) (entry : ℕ) (error : NetError) → greatest < entry → moment ≤ now
@@ -284,24 +290,37 @@ module _ (terms : Terms) (greatest moment begun now : ℕ) (log longer : Log) (z
 
 -- ---- how a lookup begins and goes on
 
+-- where the cache is to be looked at nothing was done
+fresh-wanted : (s : Send) → send_want s ≡ want.Recall → s ≡ send.Fresh
+fresh-wanted send.Fresh e = refl
+fresh-wanted send.Ready e = cc
+fresh-wanted (send.Chosen to) e = cc
+fresh-wanted (send.Opening to order polls) e = cc
+fresh-wanted (send.Connected to conn) e = cc
+fresh-wanted (send.Asking to order since polls) e = cc
+fresh-wanted (send.Told to entry at message) e = cc
+fresh-wanted (send.Failed to entry error) e = cc
+
 -- the server whose connection is wanted is chosen
 chosen-wanted : (s : Send) (ip : IpAddr) → send_want s ≡ want.Connect ip → s ≡ send.Chosen ip
+chosen-wanted send.Fresh ip e = cc
 chosen-wanted send.Ready ip e = cc
 chosen-wanted (send.Chosen to) ip e = cc
 chosen-wanted (send.Opening to order polls) ip e = cc
 chosen-wanted (send.Connected to conn) ip e = cc
 chosen-wanted (send.Asking to order since polls) ip e = cc
-chosen-wanted (send.Told to entry message) ip e = cc
+chosen-wanted (send.Told to entry at message) ip e = cc
 chosen-wanted (send.Failed to entry error) ip e = cc
 
 -- what may be asked is present
 present-asked : (s : Send) (ip : IpAddr) → MayAsk ip s → present s ≡ ip ∷ []
+present-asked send.Fresh ip h = absurd h
 present-asked send.Ready ip h = absurd h
 present-asked (send.Chosen to) ip h = ap (λ (i : IpAddr). i ∷ []) h
 present-asked (send.Opening to order polls) ip h = absurd h
 present-asked (send.Connected to conn) ip h = ap (λ (i : IpAddr). i ∷ []) h
 present-asked (send.Asking to order since polls) ip h = absurd h
-present-asked (send.Told to entry message) ip h = absurd h
+present-asked (send.Told to entry at message) ip h = absurd h
 present-asked (send.Failed to entry error) ip h = absurd h
 
 module _ (terms : Terms) (greatest moment t0 : ℕ) (log : Log) (zone : DomainName) where
@@ -323,6 +342,13 @@ module _ (terms : Terms) (greatest moment t0 : ℕ) (log : Log) (zone : DomainNa
     send = holds h.tried.moments h.send;
   }
 
+  -- the cache has nothing for it
+  pub lookup-begins : (l : Lookup) → send_want l.send ≡ want.Recall → LookupHolds terms greatest moment t0 log zone l
+      → LookupHolds terms greatest moment t0 log zone (record l { send = send.Ready })
+  lookup-begins l wanted h =
+      let is : l.send ≡ send.Fresh = fresh-wanted l.send wanted in
+      lookup-goes_on l send.Ready h (ap present (sym is)) (λ ms k. tt)
+
   -- what was chosen may be opened
   pub lookup-opens : (l : Lookup) (ip : IpAddr) (order : ℕ) → send_want l.send ≡ want.Connect ip
       → LookupHolds terms greatest moment t0 log zone l → LookupHolds terms greatest moment t0 log zone (record l { send = send.Opening ip order 0 })
@@ -341,12 +367,13 @@ module _ (terms : Terms) (greatest moment t0 : ℕ) (log : Log) (zone : DomainNa
   -- what may be asked serves the zone
   serves-asked : (q : Query) (g moments : List ℕ) (s : Send) (ip : IpAddr) → MayAsk ip s
       → SendHolds terms greatest moment t0 log zone q g moments s → Serves (given_of terms) log (greatest + 1) ip zone
+  serves-asked q g moments send.Fresh ip a h = absurd a
   serves-asked q g moments send.Ready ip a h = absurd a
   serves-asked q g moments (send.Chosen to) ip a h = subst (λ (i : IpAddr). Serves (given_of terms) log (greatest + 1) i zone) a h
   serves-asked q g moments (send.Opening to order polls) ip a h = absurd a
   serves-asked q g moments (send.Connected to conn) ip a h = subst (λ (i : IpAddr). Serves (given_of terms) log (greatest + 1) i zone) a h
   serves-asked q g moments (send.Asking to order since polls) ip a h = absurd a
-  serves-asked q g moments (send.Told to entry message) ip a h = absurd a
+  serves-asked q g moments (send.Told to entry at message) ip a h = absurd a
   serves-asked q g moments (send.Failed to entry error) ip a h = absurd a
 
   -- it is asked, by what was put so far
@@ -359,7 +386,7 @@ module _ (terms : Terms) (greatest moment t0 : ℕ) (log : Log) (zone : DomainNa
   -- a new lookup has its pool before it
   pub lookup-new : (q : Query) (ips : List IpAddr) (left : Vec IpAddr Global) → IsTrue (is_above zone (walk q)) → ArePool terms log (greatest + 1) zone ips
       → left.items ≡ reverse ips
-      → LookupHolds terms greatest moment t0 log zone (record { query = q; servers = left; send = send.Ready; ends = []; timed_out = false })
+      → LookupHolds terms greatest moment t0 log zone (record { query = q; servers = left; send = send.Fresh; ends = []; timed_out = false })
   lookup-new q ips left above pool same =
       let there : IsPermutation ips left.items = subst (λ (xs : List IpAddr). IsPermutation ips xs) (sym same) (IsPermutation-reverse ips) in
       let back = IsPermutation-sym ips left.items there in

@@ -1,5 +1,5 @@
 -- What holds of the machine and its provider goes on holding at each step of the two.
-use Rattle.std.proofs.Common.{◌≡◌, ◌≤◌, ◌<◌, ◌+◌, ◌∙◌, ◌⊎◌, ⊎_elim, inl, inr, ℕ, zero, suc, List, length, Option, Some, None, Result, Ok, Err, OnOk, IfOk, refl, sym, subst, arith, max}
+use Rattle.std.proofs.Common.{◌≡◌, ◌≤◌, ◌<◌, ◌+◌, ◌∙◌, ◌⊎◌, ⊎_elim, inl, inr, ℕ, zero, suc, List, length, Option, Some, None, Result, Ok, Err, OnOk, IfOk, refl, sym, subst, arith, min, max}
 use Rattle.dns_core.specs.Log.{Log, Extends, log_of}
 use Rattle.dns_core.specs.declared.log.LogEntry.{LogEntry}
 use Rattle.dns_core.specs.declared.request.Question.{Question}
@@ -14,6 +14,8 @@ use Rattle.recursor_core.specs.Tried.{machine_timer}
 use Rattle.recursor_core.specs.Carrying.{TellsThat, Grown, CarrierHolds}
 use Rattle.recursor_core.specs.Derived.{terms_of, Derived}
 use Rattle.recursor_core.specs.Patience.{IsPatient}
+use Rattle.recursor_core.specs.Remembered.{CacheHolds}
+use Rattle.recursor_core.specs.Setting.{with_patience as setting_with}
 use Rattle.recursor_core.specs.Machine.{Begun, begun_at, ReplyGiven, StepGives}
 use Rattle.recursor_core.specs.Standing.{IsPast, Holds, Rests, Moves, ReplyTold}
 use Rattle.recursor_core.specs.Turns.{TurnFalls}
@@ -92,9 +94,9 @@ IsPast-grown now old new grown h es t i moment e logged is =
     (entry_sides (log_of l.before) (log_of es) l.extends i e logged)
 
 -- what was derived is derived from a longer log
-Derived-grown : (now patience : ℕ) (core : RecursorCore) (old new : Option (List LogEntry)) → Grown now old new → TellsThat old (Derived patience core)
-    → TellsThat new (Derived patience core)
-Derived-grown now patience core old new grown d es t = let l = grown es t in Derived-extends patience core (log_of l.before) (log_of es) l.extends (d l.before l.was)
+Derived-grown : (now : ℕ) (core : RecursorCore) (old new : Option (List LogEntry)) → Grown now old new → TellsThat old (Derived core)
+    → TellsThat new (Derived core)
+Derived-grown now core old new grown d es t = let l = grown es t in Derived-extends core (log_of l.before) (log_of es) l.extends (d l.before l.was)
 
 -- a reply holds by a longer log
 pub ReplyHolds-grown : (now : ℕ) (terms : Terms) (moment : ℕ) (question : Question) (reply : Reply) (old new : Option (List LogEntry)) → Grown now old new
@@ -121,29 +123,29 @@ GoesToServer-later : (given : Given) (log : Log) (n m : ℕ) (order : Order) →
 GoesToServer-later given log n m (Open ip config) le h = record { zone = h.zone; serves = Serves-later given log le h.serves }
 GoesToServer-later given log n m (Ask conn ip protocol request) le h = record { zone = h.zone; above = h.above; serves = Serves-later given log le h.serves }
 
-module _ (patience : ℕ) (core new : RecursorCore) (told : Option (List LogEntry)) where
+module _ (core new : RecursorCore) (told : Option (List LogEntry)) where
   -- an order that the machine gives goes to a server by all that is told
-  pub step_goes : (r number : ℕ) (next : Step) (order : Order) → next ≡ step.Order number order → new.setting ≡ core.setting → TellsThat told (Derived patience core)
-      → ((log : Log) → Derived patience core log → Derived patience new log × StepGives patience core log r next)
-      → TellsThat told (λ log. GoesToServer (given_of (terms_of patience new)) log log.next order)
+  pub step_goes : (r number : ℕ) (next : Step) (order : Order) → next ≡ step.Order number order → new.setting ≡ core.setting → TellsThat told (Derived core)
+      → ((log : Log) → Derived core log → Derived new log × StepGives core log r next)
+      → TellsThat told (λ log. GoesToServer (given_of (terms_of new)) log log.next order)
   step_goes r number next order is setting d gives es t =
-      let given = subst (λ (s : Step). StepGives patience core (log_of es) r s) is (gives (log_of es) (d es t)).1 in
+      let given = subst (λ (s : Step). StepGives core (log_of es) r s) is (gives (log_of es) (d es t)).1 in
       let b : core.greatest < length es + 1 = (d es t).bound in
-      subst (λ (held : Setting). GoesToServer (given_of (terms_with patience held)) (log_of es) (length es + 1) order) (sym setting)
-      (GoesToServer-later (given_of (terms_of patience core)) (log_of es) (core.greatest + 1) (length es + 1) order (omega arith) given)
+      subst (λ (held : Setting). GoesToServer (given_of (terms_with held)) (log_of es) (length es + 1) order) (sym setting)
+      (GoesToServer-later (given_of (terms_of core)) (log_of es) (core.greatest + 1) (length es + 1) order (omega arith) given)
 
   -- a reply that is given to a question that has begun is told
-  reply_told : (b : Option Begun) (reply : Reply) → TellsThat told (λ log. ReplyGiven (terms_of patience core) log b reply)
-      → ReplyTold (terms_of patience core) told b reply
+  reply_told : (b : Option Begun) (reply : Reply) → TellsThat told (λ log. ReplyGiven (terms_of core) log b reply)
+      → ReplyTold (terms_of core) told b reply
   reply_told None reply h = tt
   reply_told (Some b) reply h = h
 
   -- a reply that it gives is told
-  pub step_replies : (r : ℕ) (next : Step) (reply : Reply) → next ≡ step.Done reply → TellsThat told (Derived patience core)
-      → ((log : Log) → Derived patience core log → Derived patience new log × StepGives patience core log r next)
-      → ReplyTold (terms_of patience core) told (begun_at core r) reply
+  pub step_replies : (r : ℕ) (next : Step) (reply : Reply) → next ≡ step.Done reply → TellsThat told (Derived core)
+      → ((log : Log) → Derived core log → Derived new log × StepGives core log r next)
+      → ReplyTold (terms_of core) told (begun_at core r) reply
   step_replies r next reply is d gives =
-      reply_told (begun_at core r) reply (λ es t. subst (λ (s : Step). StepGives patience core (log_of es) r s) is (gives (log_of es) (d es t)).1)
+      reply_told (begun_at core r) reply (λ es t. subst (λ (s : Step). StepGives core (log_of es) r s) is (gives (log_of es) (d es t)).1)
 
 -- who is a server does not depend on patience
 AsksServers-patience : (given : Given) (patience : ℕ) (log : Log) → AsksServers given log → AsksServers (with_patience patience given) log
@@ -180,34 +182,37 @@ turn_falls new mid old (Err e) h le = tt
 module _ {P C F E : Type 0} (p : Ghosts P C F E) where
   -- a step of the machine alone
   pub holds_derived : (patience : ℕ) (core new : RecursorCore) (c : Carrier P C F E p) → new.setting ≡ core.setting → core.moment ≤ new.moment
-      → ((log : Log) → Derived patience core log → Derived patience new log) → Holds p patience core c → Holds p patience new c
+      → ((log : Log) → Derived core log → Derived new log) → Holds p patience core c → Holds p patience new c
   holds_derived patience core new c setting later derived h = record {
     carrier = h.carrier;
+    patient = subst (λ (held : Setting). held.patience ≤ patience) (sym setting) h.patient;
     derived = λ es t. derived (log_of es) (h.derived es t);
-    asks = subst (λ (held : Setting). TellsThat (p.log c.provider) (AsksServers (given_of (terms_with patience held)))) (sym setting) h.asks;
+    asks = subst (λ (held : Setting). TellsThat (p.log c.provider) (AsksServers (given_of (terms_with held)))) (sym setting) h.asks;
     past = IsPast-later core.moment new.moment (p.log c.provider) later h.past;
   }
 
   -- the machine is fed what the provider told
   pub holds_put : (patience : ℕ) (core new : RecursorCore) (c : Carrier P C F E p) (now : ℕ) (outcome : Outcome) → new.setting ≡ core.setting → new.moment ≡ now
-      → ((log longer : Log) → core.moment ≤ now → Derived patience core log → Extends log longer → Fits longer now outcome → Derived patience new longer)
+      → ((log longer : Log) → core.setting.patience ≤ patience → core.moment ≤ now → Derived core log → Extends log longer → Fits longer now outcome → Derived new longer)
       → TellsThat (p.log c.provider) (λ log. Fits log now outcome) → core.moment ≡ now → Holds p patience core c → Holds p patience new c
   holds_put patience core new c now outcome setting moment derived fits at h = record {
     carrier = h.carrier;
-    derived = λ es t. derived (log_of es) (log_of es) (omega arith) (h.derived es t) (Extends-refl (log_of es)) (fits es t);
-    asks = subst (λ (held : Setting). TellsThat (p.log c.provider) (AsksServers (given_of (terms_with patience held)))) (sym setting) h.asks;
+    patient = subst (λ (held : Setting). held.patience ≤ patience) (sym setting) h.patient;
+    derived = λ es t. derived (log_of es) (log_of es) h.patient (omega arith) (h.derived es t) (Extends-refl (log_of es)) (fits es t);
+    asks = subst (λ (held : Setting). TellsThat (p.log c.provider) (AsksServers (given_of (terms_with held)))) (sym setting) h.asks;
     past = IsPast-later core.moment new.moment (p.log c.provider) (omega arith) h.past;
   }
 
   -- a step of the provider alone, at the moment of the machine
   pub holds_grown : (patience : ℕ) (core : RecursorCore) (c new : Carrier P C F E p) (now : ℕ) → core.moment ≡ now → CarrierHolds p new
       → Grown now (p.log c.provider) (p.log new.provider)
-      → (TellsThat (p.log c.provider) (AsksServers (given_of (terms_of patience core)))
-      → TellsThat (p.log new.provider) (AsksServers (given_of (terms_of patience core))))
+      → (TellsThat (p.log c.provider) (AsksServers (given_of (terms_of core)))
+      → TellsThat (p.log new.provider) (AsksServers (given_of (terms_of core))))
       → Holds p patience core c → Holds p patience core new
   holds_grown patience core c new now at carrier grown asks h = record {
     carrier = carrier;
-    derived = Derived-grown now patience core (p.log c.provider) (p.log new.provider) grown h.derived;
+    patient = h.patient;
+    derived = Derived-grown now core (p.log c.provider) (p.log new.provider) grown h.derived;
     asks = asks h.asks;
     past = subst (λ m. TellsThat (p.log new.provider) (IsPast m)) (sym at)
         (IsPast-grown now (p.log c.provider) (p.log new.provider) grown (subst (λ m. TellsThat (p.log c.provider) (IsPast m)) at h.past));
@@ -238,14 +243,17 @@ module _ {P C F E : Type 0} (p : Ghosts P C F E) where
       → IsPatient (max 1 patience) (p.log c.provider) (p.log new.provider) → Moves p patience now core core c new
   moves_grown patience now core c new grown patient = record { setting = refl; begun = λ k b e. e; grown = grown; patient = patient }
 
-  -- a machine at rest begins a run: its questions are left
-  pub rests_holds : (patience : ℕ) (core new : RecursorCore) (c : Carrier P C F E p) → new.setting ≡ core.setting → new.moment ≡ core.moment
-      → ((log : Log) → core.greatest < log.next → 0 < length core.setting.roots → Derived patience new log) → Rests p core c → Holds p patience new c
+  -- a machine at rest begins a run: its questions are left, and its patience may be less
+  pub rests_holds : (patience : ℕ) (core new : RecursorCore) (c : Carrier P C F E p) → new.setting ≡ setting_with core.setting patience
+      → new.moment ≡ core.moment
+      → ((log : Log) → core.greatest < log.next → 0 < length core.setting.roots → CacheHolds (terms_of core) core.greatest log core.cache → Derived new log)
+      → Rests p core c → Holds p patience new c
   rests_holds patience core new c setting moment derived h = record {
     carrier = h.carrier;
-    derived = λ es t. derived (log_of es) (h.bound es t) h.some;
-    asks = subst (λ (held : Setting). TellsThat (p.log c.provider) (AsksServers (given_of (terms_with patience held)))) (sym setting)
-        (h.asks patience);
+    patient = subst (λ (held : Setting). held.patience ≤ patience) (sym setting) (omega arith);
+    derived = λ es t. derived (log_of es) (h.bound es t) h.some (h.cache es t);
+    asks = subst (λ (held : Setting). TellsThat (p.log c.provider) (AsksServers (given_of (terms_with held)))) (sym setting)
+        (λ es t. AsksServers-patience (given_of (terms_of core)) (min core.setting.patience patience) (log_of es) (h.asks es t));
     past = subst (λ m. TellsThat (p.log c.provider) (IsPast m)) (sym moment) h.past;
   }
 
@@ -255,6 +263,7 @@ module _ {P C F E : Type 0} (p : Ghosts P C F E) where
     some = some;
     carrier = h.carrier;
     bound = λ es t. (h.derived es t).bound;
-    asks = λ other es t. AsksServers-patience (given_of (terms_of patience core)) other (log_of es) (h.asks es t);
+    cache = λ es t. (h.derived es t).cache;
+    asks = h.asks;
     past = h.past;
   }

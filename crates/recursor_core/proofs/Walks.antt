@@ -23,19 +23,24 @@ use Rattle.resolution.specs.Ending.{Finished, is_timeout}
 use Rattle.resolution.specs.Ending.Listed.{of_roots, of_told}
 use Rattle.resolution.specs.Walking.{NoCut, Walked, at_any_time, is_cut}
 use Rattle.resolution.specs.Walking.NoCut.{told_otherwise, not_told}
-use Rattle.resolution.specs.declared.verdict.Verdict.TheVariants.{Pos}
+use Rattle.resolution.specs.Answering.{Base}
+use Rattle.resolution.specs.declared.verdict.Verdict.TheVariants.{Pos, Neg, Made}
 use Rattle.resolution.specs.declared.verdict.Verdict.{Verdict}
+use Rattle.resolution.proofs.SameDelegations.{Same-is_delegation, Same-glue}
 use Rattle.resolution.proofs.Members.{Has-from_Contains, Contains-from_Has, Has-filter, Has-passes}
 use Rattle.recursor_core.specs.Replies.{Terms, given_of}
 use Rattle.recursor_core.specs.Tried.{Concluded, machine_timer}
 use Rattle.recursor_core.specs.Causes.{WalksTo, HasNoServer}
+use Rattle.recursor_core.specs.Counted.{Stands, Answers, IsRecalled, may_answer}
+use Rattle.recursor_core.specs.SameTold.{SameVerdict}
 use Rattle.recursor_core.specs.Walk.{next_stage, query_of, IsCandidate}
-use Rattle.recursor_core.specs.Derived.{ArePool, Counts, LookupHolds, StageHolds, Passed, LeavesBehind, WayHolds, WalkHolds, last_name, reached}
+use Rattle.recursor_core.specs.Derived.{ArePool, LookupHolds, StageHolds, Passed, LeavesBehind, WayHolds, WalkHolds, last_name, reached}
 use Rattle.recursor_core.specs.declared.error.WalkCause.TheVariants as why
+use Rattle.recursor_core.specs.declared.counted.Counted.{Counted}
 use Rattle.recursor_core.specs.declared.lookup.Lookup.{Lookup}
 use Rattle.recursor_core.specs.declared.reply.Reply.{Reply}
 use Rattle.recursor_core.specs.declared.walk.Stage.{Stage}
-use Rattle.recursor_core.specs.declared.walk.Stage.TheVariants.{Candidate, Last}
+use Rattle.recursor_core.specs.declared.walk.Stage.TheVariants.{Start, Candidate, Last}
 use Rattle.recursor_core.specs.declared.walk.Walk.{Walk}
 use Rattle.recursor_core.proofs.Candidates.{above-last, last-above, last-length, root-above, walked-from-passed, walked-at-candidate}
 use Rattle.recursor_core.proofs.Denials.{has-failed}
@@ -76,7 +81,20 @@ at-candidate terms greatest log q w here way = by w.stage refl here
           asked = held.3;
           passed = subst (λ (s : Stage). Passed terms log w.zone w.name (reached w.name s)) is way.passed;
         }
+    by Start is x = absurd x
     by Last is x = absurd x
+
+-- a verdict shows a cut where one does that is the same but for TTLs
+cut-same : (v w : Verdict) (c : DomainName) → SameVerdict v w → is_cut v c ≡ is_cut w c
+cut-same (Pos a) (Pos b) c same = Same-is_delegation a b c same
+cut-same (Pos a) (Neg n) c same = absurd same
+cut-same (Pos a) (Made cause) c same = absurd same
+cut-same (Neg n) (Pos b) c same = absurd same
+cut-same (Neg n) (Neg m) c same = refl
+cut-same (Neg n) (Made cause) c same = absurd same
+cut-same (Made cause) (Pos b) c same = absurd same
+cut-same (Made cause) (Neg m) c same = absurd same
+cut-same (Made cause) (Made other) c same = refl
 
 module _ (terms : Terms) (greatest : ℕ) (log : Log) (q : Query) (w : Walk) (here : IsCandidate w.stage) (way : WayHolds terms greatest log q w) where
   -- the candidate
@@ -118,11 +136,11 @@ module _ (terms : Terms) (greatest : ℕ) (log : Log) (q : Query) (w : Walk) (he
           subst (NoCut (given_of terms) log) (named ∙ ap (λ (j : ℕ). last_name j w.name) same) (leaves plain far)
 
   -- no cut is shown at the candidate by a verdict that is none
-  pub leaves-told : (t0 entry : ℕ) (v : Verdict) → Counts terms greatest t0 log w.zone w.lookup.query entry v → is_cut v w.lookup.query.name ≡ false
+  pub leaves-told : (t0 entry : ℕ) (v : Verdict) → Stands terms greatest t0 log w.lookup.query entry v → is_cut v w.lookup.query.name ≡ false
       → LeavesBehind terms log w
-  leaves-told t0 entry v counts none plain far =
-      let now = subst (λ (p : Query). Counts terms greatest t0 log w.zone p entry v) candidate-asked counts in
-      told_otherwise now.is.heard now.counts none
+  leaves-told t0 entry v stands none plain far =
+      let now = subst (λ (p : Query). Stands terms greatest t0 log p entry v) candidate-asked stands in
+      told_otherwise now.base.heard now.base.counts (sym (cut-same v now.whole w.lookup.query.name now.same) ∙ none)
 
   -- no cut is shown at the candidate by a lookup that failed otherwise than by a timeout
   pub leaves-failed : (t0 : ℕ) (e : NetError) → Concluded terms t0 log w.zone w.lookup.query w.lookup.ends (Err e) → is_timeout e ≡ false
@@ -251,20 +269,42 @@ roots-pool terms n log some = record {
 
 -- a walk that begins at the roots
 pub at-start : (terms : Terms) (greatest moment t0 : ℕ) (log : Log) (q : Query) (name zone : DomainName) (servers items : List IpAddr)
-    (total : ℕ) (stage : Stage) (asked : Query) (l : Lookup)
+    (asked : Query) (l : Lookup)
     → 0 < length terms.roots → q.name.fqdn ≡ true → name ≡ walk q → zone ≡ root → servers ≡ terms.roots → items ≡ terms.roots
-    → total ≡ length name.labels → stage ≡ next_stage total 0 → asked ≡ query_of name q stage → l.query ≡ asked
+    → asked ≡ q → l.query ≡ asked
     → ((z : DomainName) → IsTrue (is_above z (walk asked)) → ArePool terms log (greatest + 1) z items → LookupHolds terms greatest moment t0 log z l)
-    → WalkHolds terms greatest moment t0 log q (record { name = name; zone = zone; servers = servers; stage = stage; lookup = l })
-at-start terms greatest moment t0 log q name zone servers items total stage asked l some f n z s i count next ask query made =
+    → WalkHolds terms greatest moment t0 log q (record { name = name; zone = zone; servers = servers; stage = Start; lookup = l })
+at-start terms greatest moment t0 log q name zone servers items asked l some f n z s i ask query made =
     let qualified : name.fqdn ≡ true = subst (λ (d : DomainName). d.fqdn ≡ true) (sym n) (walk-qualified q f) in
     let above : is_above zone name ≡ true = subst (λ (d : DomainName). is_above d name ≡ true) (sym z) (root-above name qualified) in
     let low : length zone.labels ≤ 0 = subst (λ (d : DomainName). length d.labels ≤ 0) (sym z) (omega arith) in
-    let pool : ArePool terms log (greatest + 1) zone servers =
-    subst (λ (d : DomainName). ArePool terms log (greatest + 1) d servers) (sym z)
-    (subst (ArePool terms log (greatest + 1) root) (sym s) (roots-pool terms (greatest + 1) log some)) in
-    let passed : Passed terms log zone name (0 + 1) = λ plain k longer short. absurd (omega (arith, longer, short)) in
-    at-next terms greatest moment t0 log q name zone servers items 0 total stage asked l n above low pool passed (i ∙ sym s) count next ask query made
+    let pool : (ips : List IpAddr) → ips ≡ terms.roots → ArePool terms log (greatest + 1) zone ips = λ ips is.
+    subst (λ (d : DomainName). ArePool terms log (greatest + 1) d ips) (sym z)
+    (subst (ArePool terms log (greatest + 1) root) (sym is) (roots-pool terms (greatest + 1) log some)) in
+    record {
+      way = record {
+        name = n;
+        above = above;
+        pool = pool servers s;
+        stage = (low, query ∙ ask);
+        passed = λ plain k longer short. absurd (omega (arith, longer, short));
+      };
+      lookup = made zone (subst (λ (d : DomainName). is_above zone d ≡ true) (n ∙ sym (ap walk ask)) above) (pool items i);
+    }
+
+-- a walk that goes on from the start
+pub sets-out : (terms : Terms) (greatest moment t0 : ℕ) (log : Log) (q : Query) (w : Walk) (items : List IpAddr)
+    (total : ℕ) (stage : Stage) (asked : Query) (l : Lookup)
+    → w.stage ≡ Start → WayHolds terms greatest log q w → items ≡ w.servers
+    → total ≡ length w.name.labels → stage ≡ next_stage total 0 → asked ≡ query_of w.name q stage → l.query ≡ asked
+    → ((z : DomainName) → IsTrue (is_above z (walk asked)) → ArePool terms log (greatest + 1) z items → LookupHolds terms greatest moment t0 log z l)
+    → WalkHolds terms greatest moment t0 log q (record { name = w.name; zone = w.zone; servers = w.servers; stage = stage; lookup = l })
+sets-out terms greatest moment t0 log q w items total stage asked l is way same count next ask query made =
+    let held : StageHolds q w.zone w.name w.lookup.query Start = subst (StageHolds q w.zone w.name w.lookup.query) is way.stage in
+    let passed : Passed terms log w.zone w.name (0 + 1) =
+    subst (λ (s : Stage). Passed terms log w.zone w.name (reached w.name s)) is way.passed in
+    at-next terms greatest moment t0 log q w.name w.zone w.servers items 0 total stage asked l
+    way.name way.above held.0 way.pool passed same count next ask query made
 
 -- a walk that goes on from a candidate
 pub goes-on : (terms : Terms) (greatest moment t0 : ℕ) (log : Log) (q : Query) (w : Walk) (items : List IpAddr)
@@ -295,14 +335,30 @@ not-root c h = by (c.fqdn) (length c.labels) h
     by true k h = grind (arith, nat_tests)
     by false k h = refl
 
--- what counts of a delegation delegates
-cut-delegates : (terms : Terms) (greatest t0 : ℕ) (log : Log) (zone c : DomainName) (asked : Query) (entry : ℕ) (kept : Message)
-    → Counts terms greatest t0 log zone asked entry (Pos kept) → asked ≡ question c 2 → is_delegation kept c ≡ true → 1 ≤ length c.labels
-    → Delegates (given_of terms) log (greatest + 1) c kept
-cut-delegates terms greatest t0 log zone c asked entry kept counts is d long =
-    let now = subst (λ (q : Query). Counts terms greatest t0 log zone q entry (Pos kept)) is counts in
-    let early = now.is.early in
-    delegates (omega arith) now.is.heard now.counts d (not-root c long)
+-- A delegation was told that has the same addresses beside it.
+record Cut (terms : Terms) (greatest : ℕ) (log : Log) (c : DomainName) (kept : Message) : Type 0 where
+  told : Message
+  delegates : Delegates (given_of terms) log (greatest + 1) c told
+  beside : glue kept c ≡ glue told c
+
+cut-by : (terms : Terms) (greatest t0 : ℕ) (log : Log) (zone c : DomainName) (entry : ℕ) (kept : Message) (whole : Verdict)
+    → entry ≤ greatest → Base (given_of terms) log t0 (question c 2) entry zone whole → SameVerdict (Pos kept) whole
+    → is_delegation kept c ≡ true → 1 ≤ length c.labels → Cut terms greatest log c kept
+cut-by terms greatest t0 log zone c entry kept (Neg n) early base same d long = absurd same
+cut-by terms greatest t0 log zone c entry kept (Made cause) early base same d long = absurd same
+cut-by terms greatest t0 log zone c entry kept (Pos before) early base same d long = record {
+  told = before;
+  delegates = delegates (omega (arith, early)) base.heard base.counts (sym (Same-is_delegation kept before c same) ∙ d) (not-root c long);
+  beside = Same-glue kept before c same;
+}
+
+-- a delegation that stands delegates
+cut-delegates : (terms : Terms) (greatest t0 : ℕ) (log : Log) (c : DomainName) (asked : Query) (entry : ℕ) (kept : Message)
+    → Stands terms greatest t0 log asked entry (Pos kept) → asked ≡ question c 2 → is_delegation kept c ≡ true → 1 ≤ length c.labels
+    → Cut terms greatest log c kept
+cut-delegates terms greatest t0 log c asked entry kept stands is d long =
+    let now = subst (λ (q : Query). Stands terms greatest t0 log q entry (Pos kept)) is stands in
+    cut-by terms greatest t0 log now.zone c entry kept now.whole now.early now.base now.same d long
 
 -- an address that may be asked is beside the delegation, and is not denied
 may-ask : (denied : IpAddr → Bool) (ips : List IpAddr) (ip : IpAddr) → Contains (allowed denied ips) ip → (denied ip ≡ false) × Contains ips ip
@@ -339,11 +395,11 @@ cut-pool terms greatest log c kept ips told some glued =
 
 -- the way from a zone cut on
 pub cut-way : (terms : Terms) (greatest t0 : ℕ) (log : Log) (q : Query) (w : Walk) (kept : Message) (entry : ℕ) (zone : DomainName) (ips : List IpAddr)
-    → IsCandidate w.stage → WayHolds terms greatest log q w → Counts terms greatest t0 log w.zone w.lookup.query entry (Pos kept)
+    → IsCandidate w.stage → WayHolds terms greatest log q w → Stands terms greatest t0 log w.lookup.query entry (Pos kept)
     → is_delegation kept w.lookup.query.name ≡ true → zone ≡ w.lookup.query.name → 0 < length ips
     → ((ip : IpAddr) → Contains ips ip ↔ Contains (allowed (denies terms.server_filter) (glue kept w.lookup.query.name)) ip)
     → WayHolds terms greatest log q (record w { zone = zone; servers = ips })
-cut-way terms greatest t0 log q w kept entry zone ips here way counts d z some glued =
+cut-way terms greatest t0 log q w kept entry zone ips here way stands d z some glued =
     let now = at terms greatest log q w here way in
     let c : w.lookup.query.name ≡ last_name now.labels w.name = ap (λ (p : Query). p.name) now.asked in
     let there : zone ≡ last_name now.labels w.name = z ∙ c in
@@ -351,13 +407,14 @@ cut-way terms greatest t0 log q w kept entry zone ips here way counts d z some g
     let count : length zone.labels ≡ now.labels = ap (λ (x : DomainName). length x.labels) there ∙ last-length w.name now.labels now.high in
     let low : 1 ≤ now.labels = now.low in
     let long : 1 ≤ length w.lookup.query.name.labels = subst (λ (x : DomainName). 1 ≤ length x.labels) z (omega (arith, count, low)) in
-    let told = cut-delegates terms greatest t0 log w.zone w.lookup.query.name w.lookup.query entry kept counts
+    let cut = cut-delegates terms greatest t0 log w.lookup.query.name w.lookup.query entry kept stands
     (candidate-asked terms greatest log q w here way) d long in
     record {
       name = way.name;
       above = subst (λ (x : DomainName). is_above x w.name ≡ true) (sym there) (last-above w.name now.labels qualified now.high);
       pool = subst (λ (x : DomainName). ArePool terms log (greatest + 1) x ips) (sym z)
-          (cut-pool terms greatest log w.lookup.query.name kept ips told some glued);
+          (cut-pool terms greatest log w.lookup.query.name cut.told ips cut.delegates some
+          (λ ip. subst (λ (xs : List IpAddr). Contains ips ip ↔ Contains (allowed (denies terms.server_filter) xs) ip) cut.beside (glued ip)));
       stage = subst (StageHolds q zone w.name w.lookup.query) (sym now.stage) (now.low, now.high, omega (arith, count), now.asked);
       passed = subst (λ (s : Stage). Passed terms log zone w.name (reached w.name s)) (sym now.stage)
           (λ plain k longer short. absurd (omega (arith, count, longer, short)));
@@ -369,6 +426,22 @@ pub cut-leaves : (terms : Terms) (log : Log) (w : Walk) (zone : DomainName) (ips
 cut-leaves terms log w zone ips z plain far =
     let same = ap (λ (x : DomainName). length x.labels) z in
     absurd (omega (arith, same, far))
+
+-- ---- what was found in the cache
+
+-- at the start and at last the question itself is looked for
+looked-for : (q : Query) (zone name : DomainName) (asked : Query) (stage : Stage) → (IsCandidate stage → ⊥) → StageHolds q zone name asked stage → asked ≡ q
+looked-for q zone name asked Start other held = held.1
+looked-for q zone name asked (Candidate labels) other held = absurd (other tt)
+looked-for q zone name asked Last other held = held
+
+-- what may be answered is the answer of the question
+pub recalled-answers : (terms : Terms) (greatest t0 : ℕ) (log : Log) (q : Query) (w : Walk) (c : Counted)
+    → (IsCandidate w.stage → ⊥) → WayHolds terms greatest log q w → IsRecalled terms greatest t0 log w.lookup.query c → may_answer c.verdict ≡ true
+    → Answers terms greatest t0 log q c.entry c.verdict
+recalled-answers terms greatest t0 log q w c other way recalled may =
+    subst (λ (p : Query). Answers terms greatest t0 log p c.entry c.verdict) (looked-for q w.zone w.name w.lookup.query w.stage other way.stage)
+    (record { stands = recalled.stands; current = recalled.current may })
 
 -- ---- on the same way
 

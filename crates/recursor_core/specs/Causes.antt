@@ -19,6 +19,7 @@ use Rattle.resolution.specs.declared.verdict.Verdict.TheVariants.{Neg, Made}
 use Rattle.resolution.specs.declared.verdict.Cause.{Cause}
 use Rattle.resolution.specs.declared.verdict.Cause.TheVariants.{Filter, Zone}
 use Rattle.recursor_core.specs.Plain.{IsPlainlyTold}
+use Rattle.recursor_core.specs.SameTold.{SameDenial, SameReferrals}
 use Rattle.recursor_core.specs.declared.error.AuthorityData.{AuthorityData}
 use Rattle.recursor_core.specs.declared.error.MessageKind.TheVariants.{NotQualified}
 use Rattle.recursor_core.specs.declared.error.WalkCause.{WalkCause}
@@ -42,25 +43,26 @@ made_data q cause = record { query = q; soa = None; no_records_found = is_filter
 abbrev pub WalksTo : Given → Log → Query → DomainName → Type 0
 WalksTo given log q zone = IsPlainlyTold log → Walked given log q zone
 
--- A denial rests on one entry: of the question; or of a candidate on the way, where a name that is denied ends a walk (RFC 8020).
+-- A denial rests on one entry: of the question; or of a candidate on the way, where a name that is denied ends a walk (RFC 8020). What was told
+-- may read with lower TTLs.
 pub data IsDenied (given : Given) (log : Log) (t0 : ℕ) (q : Query) : List ℕ → AuthorityData → Type 0 where
-  told : {i : ℕ} {z : DomainName} {n : NoRecords}
-      → Base given log t0 q i z (Neg n) → WalksTo given log q z → n.ns ≡ None → IsDenied given log t0 q (i ∷ []) (told_data n)
+  told : {i : ℕ} {z : DomainName} {n : NoRecords} {d : AuthorityData}
+      → Base given log t0 q i z (Neg n) → WalksTo given log q z → n.ns ≡ None → SameDenial d (told_data n) → IsDenied given log t0 q (i ∷ []) d
   made : {i : ℕ} {z : DomainName} {cause : Cause}
       → Base given log t0 q i z (Made cause) → WalksTo given log q z → IsDenied given log t0 q (i ∷ []) (made_data q cause)
-  told_on_the_way : {i : ℕ} {z c : DomainName} {n : NoRecords}
+  told_on_the_way : {i : ℕ} {z c : DomainName} {n : NoRecords} {d : AuthorityData}
       → IsTrue given.strict → Contains (candidates (walk q)) c
       → Base given log t0 (question c 2) i z (Neg n) → WalksTo given log (question c 2) z → IsTrue (ends_walk (Neg n))
-      → IsDenied given log t0 q (i ∷ []) (told_data n)
+      → SameDenial d (told_data n) → IsDenied given log t0 q (i ∷ []) d
   made_on_the_way : {i : ℕ} {z c : DomainName} {cause : Cause}
       → IsTrue given.strict → Contains (candidates (walk q)) c
       → Base given log t0 (question c 2) i z (Made cause) → WalksTo given log (question c 2) z
       → IsDenied given log t0 q (i ∷ []) (made_data (question c 2) cause)
 
--- A referral rests on one entry, a negative of the question that names servers.
+-- A referral rests on one entry, a negative of the question that names servers; it may read with lower TTLs.
 pub data IsReferred (given : Given) (log : Log) (t0 : ℕ) (q : Query) : List ℕ → List ForwardNsData → Type 0 where
-  referred : {i : ℕ} {z : DomainName} {n : NoRecords} {servers : List ForwardNsData}
-      → Base given log t0 q i z (Neg n) → WalksTo given log q z → n.ns ≡ Some servers → IsReferred given log t0 q (i ∷ []) servers
+  referred : {i : ℕ} {z : DomainName} {n : NoRecords} {servers told : List ForwardNsData}
+      → Base given log t0 q i z (Neg n) → WalksTo given log q z → n.ns ≡ Some told → SameReferrals servers told → IsReferred given log t0 q (i ∷ []) servers
 
 -- Of the servers of a zone to which the walk went down, none had more for the question than the error; it ended by these entries.
 pub record HasFailed (given : Given) (known : Known) (log : Log) (t0 : ℕ) (q : Query) (g : List ℕ) (e : NetError) : Type 0 where

@@ -20,6 +20,7 @@ use Rattle.recursor_core.specs.Causes.{is_lookup_error}
 use Rattle.recursor_core.specs.Replies.{Terms, terms_with, given_of, ReplyHolds}
 use Rattle.recursor_core.specs.Tried.{Tried, Came, Concluded, machine_timer}
 use Rattle.recursor_core.specs.Lookup.{present}
+use Rattle.recursor_core.specs.Remembered.{CacheHolds}
 use Rattle.recursor_core.specs.declared.lookup.Send.{Send}
 use Rattle.recursor_core.specs.declared.lookup.Send.TheVariants as send
 use Rattle.recursor_core.specs.declared.lookup.Lookup.{Lookup}
@@ -27,7 +28,7 @@ use Rattle.recursor_core.specs.declared.lookup.Found.{Found}
 use Rattle.recursor_core.specs.declared.lookup.Found.TheVariants as found
 use Rattle.recursor_core.specs.declared.reply.Reply.{Reply}
 use Rattle.recursor_core.specs.declared.walk.Stage.{Stage}
-use Rattle.recursor_core.specs.declared.walk.Stage.TheVariants.{Candidate, Last}
+use Rattle.recursor_core.specs.declared.walk.Stage.TheVariants.{Start, Candidate, Last}
 use Rattle.recursor_core.specs.declared.walk.Walk.{Walk}
 use Rattle.recursor_core.specs.declared.resolving.State.{State}
 use Rattle.recursor_core.specs.declared.resolving.State.TheVariants.{Under, Done, Ended}
@@ -54,6 +55,11 @@ pub record IsHeard (terms : Terms) (greatest t0 : ℕ) (log : Log) (zone : Domai
   pub late : t0 ≤ moment
   pub asked : message.query ≡ q
 
+-- So it is, at this moment.
+pub record IsHeardAt (terms : Terms) (greatest t0 : ℕ) (log : Log) (zone : DomainName) (q : Query) (entry at : ℕ) (message : Message) : Type 0 where
+  pub heard : IsHeard terms greatest t0 log zone q entry message
+  pub is : heard.moment ≡ at
+
 -- That message counts so.
 pub record Counts (terms : Terms) (greatest t0 : ℕ) (log : Log) (zone : DomainName) (q : Query) (entry : ℕ) (v : Verdict) : Type 0 where
   pub message : Message
@@ -62,13 +68,14 @@ pub record Counts (terms : Terms) (greatest t0 : ℕ) (log : Log) (zone : Domain
 
 -- A server that is asked serves the zone, by what was put before; what came was told by such a one, and ended its send after those of g, which ended at the moments.
 abbrev pub SendHolds : Terms → ℕ → ℕ → ℕ → Log → DomainName → Query → List ℕ → List ℕ → Send → Type 0
+SendHolds terms greatest moment t0 log zone q g moments send.Fresh = Unit {0}
 SendHolds terms greatest moment t0 log zone q g moments send.Ready = Unit {0}
 SendHolds terms greatest moment t0 log zone q g moments (send.Chosen ip) = Serves (given_of terms) log (greatest + 1) ip zone
 SendHolds terms greatest moment t0 log zone q g moments (send.Opening ip order polls) = Serves (given_of terms) log (greatest + 1) ip zone
 SendHolds terms greatest moment t0 log zone q g moments (send.Connected ip conn) = Serves (given_of terms) log (greatest + 1) ip zone
 SendHolds terms greatest moment t0 log zone q g moments (send.Asking ip order sent_after polls) = (sent_after ≤ greatest) × Serves (given_of terms) log (sent_after + 1) ip zone
-SendHolds terms greatest moment t0 log zone q g moments (send.Told ip entry message) =
-    IsHeard terms greatest t0 log zone q entry message × Came terms greatest moment t0 log q g moments ip entry (Ok message)
+SendHolds terms greatest moment t0 log zone q g moments (send.Told ip entry at message) =
+    IsHeardAt terms greatest t0 log zone q entry at message × Came terms greatest moment t0 log q g moments ip entry (Ok message)
 SendHolds terms greatest moment t0 log zone q g moments (send.Failed ip entry error) = Came terms greatest moment t0 log q g moments ip entry (Err error)
 
 -- those to whom a send ended
@@ -105,13 +112,16 @@ LookupComes terms greatest moment t0 log zone l (Some f) = FoundHolds terms grea
 abbrev pub last_name : ℕ → DomainName → DomainName
 last_name k n = record { labels = last_labels k n.labels; fqdn = n.fqdn }
 
--- A candidate is longer than the zone and no longer than the name, and its NS records are asked for; at last the question itself.
+-- At the start the question itself is looked for, at the root; then the NS records of a candidate, which is no shorter than the zone and no
+-- longer than the name; at last the question again.
 abbrev pub StageHolds : Query → DomainName → DomainName → Query → Stage → Type 0
+StageHolds q zone name asked Start = (length zone.labels ≤ 0) × (asked ≡ q)
 StageHolds q zone name asked (Candidate labels) = (1 ≤ labels) × (labels ≤ length name.labels) × (length zone.labels ≤ labels) × (asked ≡ question_for (last_name labels name) 2)
 StageHolds q zone name asked Last = asked ≡ q
 
 -- how many labels the candidates have of which the log shows no cut yet, or a cut that was taken: fewer
 abbrev pub reached : DomainName → Stage → ℕ
+reached name Start = 1
 reached name (Candidate labels) = labels
 reached name Last = length name.labels + 1
 
@@ -151,12 +161,13 @@ pub record ResolutionHolds (terms : Terms) (greatest moment : ℕ) (log : Log) (
   pub begun : r.begun ≤ moment
   pub state : StateHolds terms greatest moment r.begun log r.question r.state
 
--- its roots and filter, with this patience
-abbrev pub terms_of : ℕ → RecursorCore → Terms
-terms_of patience core = terms_with patience core.setting
+-- what it is set to
+abbrev pub terms_of : RecursorCore → Terms
+terms_of core = terms_with core.setting
 
--- All that the machine keeps is derived from the log, in which orders were given up at this many polls or more.
-pub record Derived (patience : ℕ) (core : RecursorCore) (log : Log) : Type 0 where
+-- All that the machine keeps is derived from the log.
+pub record Derived (core : RecursorCore) (log : Log) : Type 0 where
   pub bound : core.greatest < log.next
   pub some : 0 < length core.setting.roots
-  pub resolutions : All (ResolutionHolds (terms_of patience core) core.greatest core.moment log) core.resolutions.items
+  pub cache : CacheHolds (terms_of core) core.greatest log core.cache
+  pub resolutions : All (ResolutionHolds (terms_of core) core.greatest core.moment log) core.resolutions.items

@@ -3,10 +3,13 @@ pub mod Lookup
 pub mod Walk
 pub mod Resolving
 pub mod Plain
+pub mod SameTold
 pub mod Causes
 pub mod Setting
 pub mod Replies
 pub mod Tried
+pub mod Counted
+pub mod Remembered
 pub mod Derived
 pub mod Machine
 pub mod Turns

@@ -1,5 +1,5 @@
 -- The machine as a whole.
-use Rattle.std.specs.Prelude.{◌≡◌, ◌≤◌, ◌<◌, ◌+◌, ℕ, Option, Some, None, Result, Ok, Err, slice_get, sum_by, ◌⊎◌}
+use Rattle.std.specs.Prelude.{◌≡◌, ◌≤◌, ◌<◌, ◌+◌, ℕ, List, [], Option, Some, None, Result, Ok, Err, slice_get, sum_by, ◌⊎◌}
 use Rattle.std.specs.Option.{option_map}
 use Rattle.std.specs.declared.net.ip_addr.IpAddr.{IpAddr}
 use Rattle.dns_core.specs.Log.{Log}
@@ -9,9 +9,14 @@ use Rattle.recursor_core.specs.Order.{GoesToServer}
 use Rattle.recursor_core.specs.Replies.{Terms, given_of, ReplyHolds}
 use Rattle.recursor_core.specs.Tried.{machine_timer}
 use Rattle.recursor_core.specs.Derived.{terms_of}
+use Rattle.recursor_core.specs.Remembered.{Telling, telling_of, remembered}
+use Rattle.recursor_core.specs.declared.order.After.{After}
+use Rattle.recursor_core.specs.declared.order.After.TheVariants as after
 use Rattle.recursor_core.specs.declared.reply.Reply.{Reply}
 use Rattle.dns_core.specs.declared.errors.NoMemory.{NoMemory}
 use Rattle.recursor_core.specs.Resolving as one
+use Rattle.recursor_core.specs.Setting.{setting_of}
+use Rattle.recursor_core.specs.declared.options.RecursorOptions.{RecursorOptions}
 use Rattle.recursor_core.specs.declared.error.MessageKind.TheVariants as kind
 use Rattle.recursor_core.specs.declared.error.RecursorError.{RecursorError}
 use Rattle.recursor_core.specs.declared.error.RecursorError.TheVariants as error
@@ -70,11 +75,12 @@ IsBegunAt core r question now = begun_at core r ≡ Some (record { question = qu
 
 -- nothing but the numbers of orders and the connections has changed
 abbrev pub IsSetAs : RecursorCore → RecursorCore → Type 0
-IsSetAs old new = (new.resolutions ≡ old.resolutions) × (new.setting ≡ old.setting) × (new.greatest ≡ old.greatest) × (new.moment ≡ old.moment)
+IsSetAs old new = (new.resolutions ≡ old.resolutions) × (new.setting ≡ old.setting) × (new.greatest ≡ old.greatest) × (new.moment ≡ old.moment) × (new.cache ≡ old.cache)
 
--- The roots and the filter, the greatest entry and moment and the questions are as before.
+-- What it is set to, the cache, the greatest entry and moment and the questions are as before.
 pub record SameCore (old new : RecursorCore) : Type 0 where
   pub setting : new.setting ≡ old.setting
+  pub cache : new.cache ≡ old.cache
   pub greatest : new.greatest ≡ old.greatest
   pub moment : new.moment ≡ old.moment
   pub begun : (k : ℕ) → begun_at new k ≡ begun_at old k
@@ -108,20 +114,38 @@ ReplyGiven terms log None reply = Unit {0}
 ReplyGiven terms log (Some b) reply = ReplyHolds terms machine_timer log b.moment b.question reply
 
 -- what a step gives is derived: an order goes to a server by what was put before, and a reply holds
-abbrev pub StepGives : ℕ → RecursorCore → Log → ℕ → Step → Type 0
-StepGives patience core log r (step.Order number order) = GoesToServer (given_of (terms_of patience core)) log (core.greatest + 1) order
-StepGives patience core log r (step.Waiting number) = Unit {0}
-StepGives patience core log r (step.Done reply) = ReplyGiven (terms_of patience core) log (begun_at core r) reply
-StepGives patience core log r step.Ended = Unit {0}
+abbrev pub StepGives : RecursorCore → Log → ℕ → Step → Type 0
+StepGives core log r (step.Order number order) = GoesToServer (given_of (terms_of core)) log (core.greatest + 1) order
+StepGives core log r (step.Waiting number) = Unit {0}
+StepGives core log r (step.Done reply) = ReplyGiven (terms_of core) log (begun_at core r) reply
+StepGives core log r step.Ended = Unit {0}
 
-abbrev pub Gives : ℕ → RecursorCore → Log → ℕ → Progress → Type 0
-Gives patience core log r progress.Again = Unit {0}
-Gives patience core log r (progress.Step s) = StepGives patience core log r s
+abbrev pub Gives : RecursorCore → Log → ℕ → Progress → Type 0
+Gives core log r progress.Again = Unit {0}
+Gives core log r (progress.Step s) = StepGives core log r s
 
 -- what a new machine is refused for
 abbrev pub IsNewError : RecursorError → Type 0
-IsNewError e = (e ≡ error.Message kind.NoRoots) ⊎ (e ≡ error.NoMemory)
+IsNewError e = (e ≡ error.Message kind.NoRoots) ⊎ (e ≡ error.Message kind.ReversedTtl) ⊎ (e ≡ error.NoMemory)
+
+-- A new machine is set as the roots and the options say; its cache is empty, and nothing has happened.
+pub record IsNewCore (roots : List IpAddr) (options : RecursorOptions) (core : RecursorCore) : Type 0 where
+  pub setting : core.setting ≡ setting_of roots options
+  pub cache : core.cache ≡ record { size = options.response_cache_size; config = options.cache_policy; entries = [] }
+  pub moment : core.moment ≡ 0
+  pub greatest : core.greatest ≡ 0
+  pub resolutions : core.resolutions.items ≡ []
 
 -- what a question is refused for as it begins
 abbrev pub IsBeginError : RecursorError → Type 0
 IsBeginError e = (e ≡ error.Message kind.NotQualified) ⊎ (e ≡ error.NoMemory)
+
+-- what the resolution at a place was just told
+abbrev pub telling_at : RecursorCore → ℕ → Option Telling
+telling_at core r = telling_of (slice_get core.resolutions.items r)
+
+-- An outcome that is not late is put to a resolution that waits for the order, and what this was told by it is in the cache. Nothing else is
+-- written.
+abbrev pub Writes : RecursorCore → RecursorCore → ℕ → After → Type 0
+Writes old new number after.Late = new.cache ≡ old.cache
+Writes old new number _ = (r : ℕ) × (order_at old r ≡ Some number) × (new.cache ≡ remembered old.cache (telling_at new r))

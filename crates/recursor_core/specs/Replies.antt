@@ -8,6 +8,8 @@ use Rattle.dns_core.specs.declared.message.Query.{Query}
 use Rattle.dns_core.specs.declared.message.Message.{Message}
 use Rattle.dns_core.specs.declared.request.Question.{Question}
 use Rattle.resolver_settings.specs.Access.{Access, denies}
+use Rattle.resolver_settings.specs.Ttl.{TtlTable, bounds_of}
+use Rattle.resolver_settings.specs.declared.ttl.TtlBounds.{TtlBounds}
 use Rattle.resolution.specs.Same.{Same}
 use Rattle.resolution.specs.Given.{Given, Bounds, allows_all}
 use Rattle.resolution.specs.Following.{follow}
@@ -20,28 +22,32 @@ use Rattle.recursor_core.specs.declared.reply.Reply.{Reply}
 use Rattle.recursor_core.specs.declared.setting.Setting.{Setting}
 use Rattle.recursor_core.specs.Causes.{WalksTo, ErrorHolds}
 
--- the bounds of lives where none are set: from nothing to a day
-abbrev pub standard_bounds : Bounds
-standard_bounds = record { least = 0; most = 86400 }
+-- the bounds of the lives of answers, and of negatives
+abbrev pub positive_bounds : TtlBounds → Bounds
+positive_bounds b = record { least = b.positive_min; most = b.positive_max }
 
--- the roots, the filter of other servers, and at how many polls an order is given up
+abbrev pub negative_bounds : TtlBounds → Bounds
+negative_bounds b = record { least = b.negative_min; most = b.negative_max }
+
+-- the roots, the filter of other servers, the bounds of lives, and the least number of polls at which an order was given up so far
 pub record Terms : Type 0 where
   pub roots : List IpAddr
   pub server_filter : Access
+  pub lives : TtlTable
   pub patience : ℕ
 
--- the roots and the filter of a machine, with this patience
-abbrev pub terms_with : ℕ → Setting → Terms
-terms_with patience setting = record { roots = setting.roots; server_filter = setting.server_filter; patience = patience }
+-- those of a machine
+abbrev pub terms_with : Setting → Terms
+terms_with setting = record { roots = setting.roots; server_filter = setting.server_filter; lives = setting.lives; patience = setting.patience }
 
--- these roots, this filter and this patience, answers with any address, and the standard bounds and limits
+-- these roots, this filter, these lives and this patience, answers with any address, and the standard limits
 abbrev pub given_of : Terms → Given
 given_of terms = record {
   roots = terms.roots;
   server_denied = denies terms.server_filter;
   answer_denied = allows_all;
-  positive_bounds = λ _. standard_bounds;
-  negative_bounds = λ _. standard_bounds;
+  positive_bounds = λ t. positive_bounds (bounds_of terms.lives t);
+  negative_bounds = λ t. negative_bounds (bounds_of terms.lives t);
   timeout = 5000000;
   strict = true;
   ns_recursion_limit = 24;

@@ -1,9 +1,12 @@
 -- What a resolution needs, and how much of it is left.
-use Rattle.std.specs.Prelude.{◌≡◌, ℕ, ◌+◌, ◌*◌, Option, Some, None}
+use Rattle.std.specs.Prelude.{◌≡◌, ℕ, ◌+◌, ◌*◌, IsTrue, Option, Some, None}
 use Rattle.std.specs.declared.net.ip_addr.IpAddr.{IpAddr}
 use Rattle.dns_core.specs.declared.message.Query.{Query}
+use Rattle.resolver_cache.specs.Cached.{Cached}
+use Rattle.recursor_core.specs.Counted.{recalled, may_answer}
 use Rattle.recursor_core.specs.Lookup as lookup
 use Rattle.recursor_core.specs.Walk as walk
+use Rattle.recursor_core.specs.declared.counted.Counted.{Counted}
 use Rattle.recursor_core.specs.declared.reply.Reply.{Reply}
 use Rattle.recursor_core.specs.declared.walk.Walk.{Walk}
 use Rattle.recursor_core.specs.declared.lookup.Want.TheVariants as want
@@ -22,6 +25,7 @@ abbrev pub want_of : Resolution → Need
 want_of r = state_want r.state
 
 abbrev pub order_of : Need → Option ℕ
+order_of (need.Send want.Recall) = None
 order_of (need.Send want.Choose) = None
 order_of (need.Send (want.Connect ip)) = None
 order_of (need.Send (want.Ask ip conn)) = None
@@ -81,3 +85,24 @@ SameBegun old new = (new.question ≡ old.question) × (new.begun ≡ old.begun)
 abbrev pub IsAfter : Walk → Option Reply → State → Type 0
 IsAfter w None state = state ≡ Under w
 IsAfter w (Some reply) state = state ≡ Done reply
+
+-- what the cache has for the present lookup
+abbrev pub recalled_in : Cached → ℕ → State → Option Counted
+recalled_in cache now (Under w) = recalled cache w.lookup.query now
+recalled_in cache now (Done reply) = None
+recalled_in cache now Ended = None
+
+abbrev pub IsDone : State → Type 0
+IsDone (Under w) = ⊥
+IsDone (Done reply) = Unit {0}
+IsDone Ended = ⊥
+
+abbrev pub IsAtCandidate : State → Type 0
+IsAtCandidate (Under w) = walk.IsCandidate w.stage
+IsAtCandidate (Done reply) = ⊥
+IsAtCandidate Ended = ⊥
+
+-- where the cache has for the question itself what may be answered, it is answered
+abbrev pub HasAnswered : Option Counted → State → State → Type 0
+HasAnswered None old new = Unit {0}
+HasAnswered (Some c) old new = (IsAtCandidate old → ⊥) → IsTrue (may_answer c.verdict) → IsDone new

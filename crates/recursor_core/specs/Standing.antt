@@ -1,5 +1,5 @@
 -- A recursor, as contracts see it, and what holds of its machine and its provider between two calls.
-use Rattle.std.specs.Prelude.{◌≡◌, ◌≤◌, ◌<◌, ℕ, false, max, List, [], ◌∷◌, ◌+◌, ◌==◌, map, length, Contains, if◌then◌else◌, Option, Some, None, slice_get}
+use Rattle.std.specs.Prelude.{◌≡◌, ◌≤◌, ◌<◌, ℕ, false, min, max, List, [], ◌∷◌, ◌+◌, ◌==◌, map, length, Contains, if◌then◌else◌, Option, Some, None, slice_get}
 use Rattle.std.specs.declared.net.ip_addr.IpAddr.{IpAddr}
 use Rattle.dns_core.specs.Log.{Log}
 use Rattle.dns_core.specs.declared.log.LogEntry.{LogEntry}
@@ -7,6 +7,7 @@ use Rattle.dns_core.specs.declared.request.Question.{Question}
 use Rattle.dns_core.specs.declared.request.Turn.{Turn}
 use Rattle.dns_core.specs.declared.provider.ConnectionProvider.{Ghosts}
 use Rattle.resolver_settings.specs.Access.{Access}
+use Rattle.resolver_settings.specs.Ttl.{TtlTable}
 use Rattle.resolution.specs.Telling.{Logged, moment_of}
 use Rattle.resolution.specs.Asking.{AsksServers}
 use Rattle.resolution.specs.Timing.{known_to_drive}
@@ -15,6 +16,7 @@ use Rattle.recursor_core.specs.Tried.{machine_timer}
 use Rattle.recursor_core.specs.Carrying.{TellsThat, Grown, CarrierHolds}
 use Rattle.recursor_core.specs.Derived.{terms_of, Derived}
 use Rattle.recursor_core.specs.Patience.{IsPatient}
+use Rattle.recursor_core.specs.Remembered.{CacheHolds}
 use Rattle.recursor_core.specs.Machine.{Begun, begun_at}
 use Rattle.recursor_core.specs.declared.carrier.Carrier.{Carrier}
 use Rattle.recursor_core.specs.declared.machine.RecursorCore.{RecursorCore}
@@ -24,16 +26,19 @@ use Rattle.recursor_core.specs.declared.turns.Turned.TheVariants as turned
 use Rattle.recursor_core.specs.declared.turns.Played.{Played}
 use Rattle.recursor_core.specs.declared.turns.Played.TheVariants as played
 
--- a recursor: its provider, its roots, the filter of other servers, and the greatest moment handed in so far
+-- a recursor: its provider, its roots, the filter of other servers, the bounds of lives, the least patience of its runs, and the greatest moment
+-- handed in so far
 pub record Standing (P : Type 0) : Type 0 where
   pub provider : P
   pub roots : List IpAddr
   pub server_filter : Access
+  pub lives : TtlTable
+  pub patience : ℕ
   pub moment : ℕ
 
--- the terms of a run: the roots and the filter of the recursor, with this patience
+-- the terms of a run with this patience, or with the least one of the runs before
 abbrev pub run_terms : {P : Type 0} → ℕ → Standing P → Terms
-run_terms patience recursor = record { roots = recursor.roots; server_filter = recursor.server_filter; patience = patience }
+run_terms patience recursor = record { roots = recursor.roots; server_filter = recursor.server_filter; lives = recursor.lives; patience = min recursor.patience patience }
 
 -- no entry carries a later moment
 abbrev pub IsPast : ℕ → Log → Type 0
@@ -43,22 +48,25 @@ IsPast now log = (i moment : ℕ) (e : LogEntry) → Logged log i e → moment_o
 abbrev pub IsTimely : ℕ → List ℕ → Log → Type 0
 IsTimely start moments log = (i moment : ℕ) (e : LogEntry) → Logged log i e → moment_of e ≡ Some moment → start ≤ moment → Contains moments moment
 
--- What the machine keeps is derived from the provider's log, and only servers were asked, none later than its moment.
+-- What the machine keeps is derived from the provider's log, and only servers were asked, none later than its moment. Its least
+-- patience is no greater than this one.
 pub record Holds {P C F E : Type 0} (p : Ghosts P C F E) (patience : ℕ) (core : RecursorCore) (c : Carrier P C F E p) : Type 0 where
   pub carrier : CarrierHolds p c
-  pub derived : TellsThat (p.log c.provider) (Derived patience core)
-  pub asks : TellsThat (p.log c.provider) (AsksServers (given_of (terms_of patience core)))
+  pub patient : core.setting.patience ≤ patience
+  pub derived : TellsThat (p.log c.provider) (Derived core)
+  pub asks : TellsThat (p.log c.provider) (AsksServers (given_of (terms_of core)))
   pub past : TellsThat (p.log c.provider) (IsPast core.moment)
 
--- So it is between two runs, whatever their patience, once the questions of the last run are left.
+-- So it is between two runs, once the questions of the last one are left.
 pub record Rests {P C F E : Type 0} (p : Ghosts P C F E) (core : RecursorCore) (c : Carrier P C F E p) : Type 0 where
   pub some : 0 < length core.setting.roots
   pub carrier : CarrierHolds p c
   pub bound : TellsThat (p.log c.provider) (λ log. core.greatest < log.next)
-  pub asks : (patience : ℕ) → TellsThat (p.log c.provider) (AsksServers (given_of (terms_of patience core)))
+  pub cache : TellsThat (p.log c.provider) (λ log. CacheHolds (terms_of core) core.greatest log core.cache)
+  pub asks : TellsThat (p.log c.provider) (AsksServers (given_of (terms_of core)))
   pub past : TellsThat (p.log c.provider) (IsPast core.moment)
 
--- The roots, the filter and the questions are as before, and the log has only grown, by entries of the moment, none of which waits for an entry beyond patience.
+-- What it is set to and the questions are as before, and the log has only grown, by entries of the moment, none of which waits for an entry beyond patience.
 pub record Moves {P C F E : Type 0} (p : Ghosts P C F E) (patience now : ℕ) (core new_core : RecursorCore) (c new : Carrier P C F E p) : Type 0 where
   pub setting : new_core.setting ≡ core.setting
   pub begun : (k : ℕ) (b : Begun) → begun_at core k ≡ Some b → begun_at new_core k ≡ Some b
@@ -106,16 +114,16 @@ pub record IsBegunFrom (core : RecursorCore) (r : ℕ) (q : Question) (moment : 
   pub late : moment ≤ begun.moment
 
 -- A question that waits is named by no turn so far; one under way has begun at or after its moment; the reply of one that is answered holds.
-abbrev pub PlayHolds : ℕ → RecursorCore → Option (List LogEntry) → ℕ → List Turn → List Turn → ℕ → Question → Played → Type 0
-PlayHolds patience core told start turns rest q question played.Waiting = first_moment turns q ≡ first_moment rest q
-PlayHolds patience core told start turns rest q question (played.Begun r) = IsBegunFrom core r question (begin_moment start turns q)
-PlayHolds patience core told start turns rest q question (played.Answered reply) =
-    TellsThat told (λ log. ReplyHolds (terms_of patience core) machine_timer log (begin_moment start turns q) question reply)
+abbrev pub PlayHolds : RecursorCore → Option (List LogEntry) → ℕ → List Turn → List Turn → ℕ → Question → Played → Type 0
+PlayHolds core told start turns rest q question played.Waiting = first_moment turns q ≡ first_moment rest q
+PlayHolds core told start turns rest q question (played.Begun r) = IsBegunFrom core r question (begin_moment start turns q)
+PlayHolds core told start turns rest q question (played.Answered reply) =
+    TellsThat told (λ log. ReplyHolds (terms_of core) machine_timer log (begin_moment start turns q) question reply)
 
 -- so it is with each question, where `rest` are the turns that are not played yet
-abbrev pub PlaysHold : ℕ → RecursorCore → Option (List LogEntry) → ℕ → List Turn → List Turn → List Question → List Played → Type 0
-PlaysHold patience core told start turns rest questions plays = (q : ℕ) (question : Question) (p : Played)
-    → slice_get questions q ≡ Some question → slice_get plays q ≡ Some p → PlayHolds patience core told start turns rest q question p
+abbrev pub PlaysHold : RecursorCore → Option (List LogEntry) → ℕ → List Turn → List Turn → List Question → List Played → Type 0
+PlaysHold core told start turns rest questions plays = (q : ℕ) (question : Question) (p : Played)
+    → slice_get questions q ≡ Some question → slice_get plays q ≡ Some p → PlayHolds core told start turns rest q question p
 
 -- each reply holds, for the question at its place
 abbrev pub RepliesHold : Terms → Log → ℕ → List Turn → List Question → List Reply → Type 0

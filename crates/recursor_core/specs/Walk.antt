@@ -1,5 +1,5 @@
 -- Where a walk stands, and how much of it is left.
-use Rattle.std.specs.Prelude.{ℕ, Bool, ◌+◌, ◌-◌, ◌*◌, ◌<◌, ◌^◌, ◌==◌, ◌&&◌, nat_lt, if◌then◌else◌, length, Option, Some, None, Result, IfOk, IfNone}
+use Rattle.std.specs.Prelude.{ℕ, Bool, ◌+◌, ◌-◌, ◌*◌, ◌<◌, ◌^◌, ◌==◌, ◌&&◌, nat_lt, if◌then◌else◌, length, Option, Some, None, Result, IfOk, IfNone, IsSome, IsTrue}
 use Rattle.std.specs.Option.{is_none}
 use Rattle.dns_core.specs.Name.{DomainName, last_labels}
 use Rattle.dns_core.specs.declared.message.Query.{Query}
@@ -10,18 +10,22 @@ use Rattle.recursor_core.specs.declared.error.RecursorError.TheVariants.{Negativ
 use Rattle.dns_core.specs.declared.errors.NoMemory.{NoMemory}
 use Rattle.resolution.specs.declared.verdict.Cause.{Cause}
 use Rattle.recursor_core.specs.Causes.{told_data, made_data}
+use Rattle.recursor_core.specs.Counted.{may_answer}
 use Rattle.recursor_core.specs.Lookup as lookup
+use Rattle.recursor_core.specs.declared.counted.Counted.{Counted}
 use Rattle.recursor_core.specs.declared.reply.Reply.{Reply}
 use Rattle.recursor_core.specs.declared.walk.Stage.{Stage}
-use Rattle.recursor_core.specs.declared.walk.Stage.TheVariants.{Candidate, Last}
+use Rattle.recursor_core.specs.declared.walk.Stage.TheVariants.{Start, Candidate, Last}
 use Rattle.recursor_core.specs.declared.walk.Walk.{Walk}
 
 abbrev pub IsCandidate : Stage → Type 0
+IsCandidate Start = ⊥
 IsCandidate (Candidate labels) = Unit {0}
 IsCandidate Last = ⊥
 
 -- how many lookups come after the present one, where the name has so many labels
 abbrev pub lookups_after : ℕ → Stage → ℕ
+lookups_after total Start = total + 1
 lookups_after total (Candidate labels) = total - labels + 1
 lookups_after total Last = 0
 
@@ -29,8 +33,9 @@ lookups_after total Last = 0
 abbrev pub next_stage : ℕ → ℕ → Stage
 next_stage total labels = if nat_lt labels total then Candidate (labels + 1) else Last
 
--- what is asked: the NS records of a candidate, and at last the question itself
+-- what is looked for: the question itself, then the NS records of a candidate, and at last the question again
 abbrev pub query_of : DomainName → Query → Stage → Query
+query_of name q Start = q
 query_of name q (Candidate labels) = question (record { labels = last_labels labels name.labels; fqdn = name.fqdn }) 2
 query_of name q Last = q
 
@@ -56,3 +61,8 @@ steps w = 2 + lookups_after (length w.name.labels) w.stage * 2 ^ 70 + lookup.ste
 -- The walk went on by a step, or has its reply.
 abbrev pub Goes : Walk → Walk → Result (Option Reply) NoMemory → Type 0
 Goes old new result = IfOk result (λ reply. IfNone reply (steps new < steps old))
+
+-- What the cache has for the question itself, and may be answered, is the reply.
+abbrev pub Recalls : Walk → Option Counted → Result (Option Reply) NoMemory → Type 0
+Recalls w None result = Unit {0}
+Recalls w (Some c) result = (IsCandidate w.stage → ⊥) → IsTrue (may_answer c.verdict) → IfOk result IsSome

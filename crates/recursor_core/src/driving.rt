@@ -1,5 +1,5 @@
 //! Answers questions over a provider, whatever it tells.
-ghost use Rattle.std.specs.Prelude.{◌≡◌, ◌≤◌, ◌<◌, ◌⊎◌, ℕ, List, [], ◌∷◌, Option, Some, All, Contains, ◌≢◌, length, max, IfOk, MatchBool, slice_get, vec_len};
+ghost use Rattle.std.specs.Prelude.{◌≡◌, ◌≤◌, ◌<◌, ◌⊎◌, ℕ, List, [], ◌∷◌, Option, Some, All, Contains, ◌≢◌, length, min, max, IfOk, MatchBool, slice_get, vec_len};
 ghost use Rattle.dns_core.specs.Log.{Log};
 ghost use Rattle.dns_core.specs.declared.log.LogEntry.{LogEntry};
 ghost use Rattle.dns_core.specs.declared.request.Turn.{Turn};
@@ -33,7 +33,7 @@ fn begin_one(
     now: u64,
 )
     requires { core.old.moment ≤ now }
-    ensures derived { (patience : ℕ) (log : Log) → Derived patience core.old log → Derived patience core.new log }
+    ensures derived { (log : Log) → Derived core.old log → Derived core.new log }
     ensures setting { core.new.setting ≡ core.old.setting }
     ensures moment { (core.new.moment ≡ core.old.moment) ⊎ (core.new.moment ≡ now) }
     ensures begun { (k : ℕ) (b : Begun) → begun_at core.old k ≡ Some b → begun_at core.new k ≡ Some b }
@@ -49,38 +49,81 @@ fn begin_one(
     }
 }
 
-fn begin_all(
+/// Gives a question turns at this moment until it is no longer under way.
+fn finish<P: ConnectionProvider>(
     alloc: Global,
     core: &mut RecursorCore,
-    questions: &[Question],
+    carrier: &mut Carrier<P>,
     plays: &mut Vec<Played>,
-    now: u64,
+    q: usize,
+    tick: Tick,
 )
-    requires { core.old.moment ≤ now }
-    ensures derived { (patience : ℕ) (log : Log) → Derived patience core.old log → Derived patience core.new log }
+    requires holds { Holds P.ConnectionProvider tick.patience core.old carrier.old }
+    requires moment { core.old.moment ≤ tick.now }
+    ensures vouches { (es : List LogEntry) → P.vouches carrier.new.provider es → P.vouches carrier.old.provider es }
+    ensures holds { Holds P.ConnectionProvider tick.patience core.new carrier.new }
     ensures setting { core.new.setting ≡ core.old.setting }
-    ensures moment { (core.new.moment ≡ core.old.moment) ⊎ (core.new.moment ≡ now) }
-    ensures begun { (k : ℕ) (b : Begun) → begun_at core.old k ≡ Some b → begun_at core.new k ≡ Some b }
+    ensures patient { IsPatient (max 1 tick.patience) (P.log carrier.old.provider) (P.log carrier.new.provider) }
+    ensures moment { (core.new.moment ≡ core.old.moment) ⊎ (core.new.moment ≡ tick.now) }
+    ensures grown { Grown tick.now (P.log carrier.old.provider) (P.log carrier.new.provider) }
+    ensures plays { (start : ℕ) (turns rest : List Turn) (questions : List Question) → PlaysHold core.old (P.log carrier.old.provider) start turns rest questions plays.old.items
+        → PlaysHold core.new (P.log carrier.new.provider) start turns rest questions plays.new.items }
     ensures count { vec_len plays.new ≡ vec_len plays.old }
-    ensures plays { (patience : ℕ) (told : Option (List LogEntry)) (start : ℕ) (turns : List Turn) → start ≤ now → last_moment start turns ≤ now
-        → PlaysHold patience core.old told start turns [] questions.now plays.old.items → PlaysHold patience core.new told start turns [] questions.now plays.new.items }
 {
-    for q in 0..questions.len() {
-        begin_one(alloc, core, questions, plays, q, now);
+    'turns: loop {
+        if !play(alloc, core, carrier, plays, q, tick) {
+            return;
+        }
     }
 }
 
-/// A turn. One that names no question does nothing; one at a moment before the greatest so far
-/// happens at that one.
+fn is_waiting(plays: &[Played], q: usize) -> bool {
+    matches!(plays.get(q), Some(Played::Waiting))
+}
+
+/// Before a question begins, the one that may be under way is gone round to its end, at the greatest
+/// moment so far. It answers which one may be under way after that.
+fn make_way<P: ConnectionProvider>(
+    alloc: Global,
+    core: &mut RecursorCore,
+    carrier: &mut Carrier<P>,
+    plays: &mut Vec<Played>,
+    current: usize,
+    q: usize,
+    patience: u32,
+) -> usize
+    requires { Holds P.ConnectionProvider patience core.old carrier.old }
+    ensures vouches { (es : List LogEntry) → P.vouches carrier.new.provider es → P.vouches carrier.old.provider es }
+    ensures holds { Holds P.ConnectionProvider patience core.new carrier.new }
+    ensures setting { core.new.setting ≡ core.old.setting }
+    ensures patient { IsPatient (max 1 patience) (P.log carrier.old.provider) (P.log carrier.new.provider) }
+    ensures moment { core.new.moment ≡ core.old.moment }
+    ensures grown { Grown core.old.moment (P.log carrier.old.provider) (P.log carrier.new.provider) }
+    ensures plays { (start : ℕ) (turns rest : List Turn) (questions : List Question) → PlaysHold core.old (P.log carrier.old.provider) start turns rest questions plays.old.items
+        → PlaysHold core.new (P.log carrier.new.provider) start turns rest questions plays.new.items }
+    ensures count { vec_len plays.new ≡ vec_len plays.old }
+{
+    if !is_waiting(plays.as_slice(), q) {
+        return current;
+    }
+    let now = core.moment();
+    finish(alloc, core, carrier, plays, current, Tick { now, patience });
+    q
+}
+
+/// A turn, where the question at `current` may be under way; it answers which one may be after it. A
+/// turn that names no question does nothing; one at a moment before the greatest so far happens at
+/// that one.
 fn play_turn<P: ConnectionProvider>(
     alloc: Global,
     core: &mut RecursorCore,
     carrier: &mut Carrier<P>,
     questions: &[Question],
     plays: &mut Vec<Played>,
+    current: usize,
     turn: &Turn,
     patience: u32,
-)
+) -> usize
     requires { Holds P.ConnectionProvider patience core.old carrier.old }
     ensures vouches { (es : List LogEntry) → P.vouches carrier.new.provider es → P.vouches carrier.old.provider es }
     ensures holds { Holds P.ConnectionProvider patience core.new carrier.new }
@@ -89,20 +132,22 @@ fn play_turn<P: ConnectionProvider>(
     ensures moment { core.old.moment ≤ core.new.moment }
     ensures timely { (start : ℕ) (moments : List ℕ) → Contains moments core.old.moment → Contains moments turn.now.moment → TellsThat (P.log carrier.old.provider) (IsTimely start moments)
         → Contains moments core.new.moment × TellsThat (P.log carrier.new.provider) (IsTimely start moments) }
-    ensures plays { (start : ℕ) (turns rest : List Turn) → start ≤ core.old.moment → PlaysHold patience core.old (P.log carrier.old.provider) start turns (turn.now ∷ rest) questions.now plays.old.items
-        → PlaysHold patience core.new (P.log carrier.new.provider) start turns rest questions.now plays.new.items }
+    ensures plays { (start : ℕ) (turns rest : List Turn) → start ≤ core.old.moment → PlaysHold core.old (P.log carrier.old.provider) start turns (turn.now ∷ rest) questions.now plays.old.items
+        → PlaysHold core.new (P.log carrier.new.provider) start turns rest questions.now plays.new.items }
     ensures count { vec_len plays.new ≡ vec_len plays.old }
 {
     if turn.question == 0 {
-        return;
+        return current;
     }
     let q = (turn.question - 1) as usize;
+    let next = make_way(alloc, core, carrier, plays, current, q, patience);
     let now = turn.moment.max(core.moment());
     begin_one(alloc, core, questions, plays, q, now);
     let _played = play(alloc, core, carrier, plays, q, Tick { now, patience });
+    next
 }
 
-/// The turns, in order.
+/// The turns, in order. It answers which question may be under way after them.
 fn play_turns<P: ConnectionProvider>(
     alloc: Global,
     core: &mut RecursorCore,
@@ -111,7 +156,7 @@ fn play_turns<P: ConnectionProvider>(
     plays: &mut Vec<Played>,
     turns: &[Turn],
     patience: u32,
-)
+) -> usize
     requires { Holds P.ConnectionProvider patience core.old carrier.old }
     ensures vouches { (es : List LogEntry) → P.vouches carrier.new.provider es → P.vouches carrier.old.provider es }
     ensures holds { Holds P.ConnectionProvider patience core.new carrier.new }
@@ -120,23 +165,29 @@ fn play_turns<P: ConnectionProvider>(
     ensures moment { core.old.moment ≤ core.new.moment }
     ensures timely { (start : ℕ) (moments : List ℕ) → Contains moments core.old.moment → All (λ t. Contains moments t.moment) turns.now → TellsThat (P.log carrier.old.provider) (IsTimely start moments)
         → Contains moments core.new.moment × TellsThat (P.log carrier.new.provider) (IsTimely start moments) }
-    ensures plays { (start : ℕ) → start ≤ core.old.moment → PlaysHold patience core.old (P.log carrier.old.provider) start turns.now turns.now questions.now plays.old.items
-        → PlaysHold patience core.new (P.log carrier.new.provider) start turns.now [] questions.now plays.new.items }
+    ensures plays { (start : ℕ) → start ≤ core.old.moment → PlaysHold core.old (P.log carrier.old.provider) start turns.now turns.now questions.now plays.old.items
+        → PlaysHold core.new (P.log carrier.new.provider) start turns.now [] questions.now plays.new.items }
     ensures count { vec_len plays.new ≡ vec_len plays.old }
 {
+    let mut current = 0;
     for turn in turns {
-        play_turn(alloc, core, carrier, questions, plays, turn, patience);
+        current = play_turn(
+            alloc, core, carrier, questions, plays, current, turn, patience,
+        );
     }
+    current
 }
 
-/// Gives each question that is under way a turn. It answers whether there was one.
-fn round<P: ConnectionProvider>(
+/// Begins a question that has not begun, and goes it round to its end.
+fn play_one<P: ConnectionProvider>(
     alloc: Global,
     core: &mut RecursorCore,
     carrier: &mut Carrier<P>,
+    questions: &[Question],
     plays: &mut Vec<Played>,
+    q: usize,
     tick: Tick,
-) -> bool
+)
     requires holds { Holds P.ConnectionProvider tick.patience core.old carrier.old }
     requires moment { core.old.moment ≤ tick.now }
     ensures vouches { (es : List LogEntry) → P.vouches carrier.new.provider es → P.vouches carrier.old.provider es }
@@ -145,25 +196,21 @@ fn round<P: ConnectionProvider>(
     ensures patient { IsPatient (max 1 tick.patience) (P.log carrier.old.provider) (P.log carrier.new.provider) }
     ensures moment { (core.new.moment ≡ core.old.moment) ⊎ (core.new.moment ≡ tick.now) }
     ensures grown { Grown tick.now (P.log carrier.old.provider) (P.log carrier.new.provider) }
-    ensures plays { (start : ℕ) (turns rest : List Turn) (questions : List Question) → PlaysHold tick.patience core.old (P.log carrier.old.provider) start turns rest questions plays.old.items
-        → PlaysHold tick.patience core.new (P.log carrier.new.provider) start turns rest questions plays.new.items }
-    ensures falls { MatchBool result (work tick.patience core.new plays.new.items < work tick.patience core.old plays.old.items) (work tick.patience core.new plays.new.items ≤ work tick.patience core.old plays.old.items) }
+    ensures plays { (start : ℕ) (turns : List Turn) → start ≤ tick.now → last_moment start turns ≤ tick.now
+        → PlaysHold core.old (P.log carrier.old.provider) start turns [] questions.now plays.old.items
+        → PlaysHold core.new (P.log carrier.new.provider) start turns [] questions.now plays.new.items }
     ensures count { vec_len plays.new ≡ vec_len plays.old }
 {
-    let mut busy = false;
-    for q in 0..plays.len() {
-        if play(alloc, core, carrier, plays, q, tick) {
-            busy = true;
-        }
-    }
-    busy
+    begin_one(alloc, core, questions, plays, q, tick.now);
+    finish(alloc, core, carrier, plays, q, tick);
 }
 
-/// Goes round the questions until none is under way.
-fn finish<P: ConnectionProvider>(
+/// The questions that have not begun, in order.
+fn play_rest<P: ConnectionProvider>(
     alloc: Global,
     core: &mut RecursorCore,
     carrier: &mut Carrier<P>,
+    questions: &[Question],
     plays: &mut Vec<Played>,
     tick: Tick,
 )
@@ -175,14 +222,13 @@ fn finish<P: ConnectionProvider>(
     ensures patient { IsPatient (max 1 tick.patience) (P.log carrier.old.provider) (P.log carrier.new.provider) }
     ensures moment { (core.new.moment ≡ core.old.moment) ⊎ (core.new.moment ≡ tick.now) }
     ensures grown { Grown tick.now (P.log carrier.old.provider) (P.log carrier.new.provider) }
-    ensures plays { (start : ℕ) (turns rest : List Turn) (questions : List Question) → PlaysHold tick.patience core.old (P.log carrier.old.provider) start turns rest questions plays.old.items
-        → PlaysHold tick.patience core.new (P.log carrier.new.provider) start turns rest questions plays.new.items }
+    ensures plays { (start : ℕ) (turns : List Turn) → start ≤ tick.now → last_moment start turns ≤ tick.now
+        → PlaysHold core.old (P.log carrier.old.provider) start turns [] questions.now plays.old.items
+        → PlaysHold core.new (P.log carrier.new.provider) start turns [] questions.now plays.new.items }
     ensures count { vec_len plays.new ≡ vec_len plays.old }
 {
-    'rounds: loop {
-        if !round(alloc, core, carrier, plays, tick) {
-            return;
-        }
+    for q in 0..questions.len() {
+        play_one(alloc, core, carrier, questions, plays, q, tick);
     }
 }
 
@@ -235,20 +281,23 @@ fn answer<P: ConnectionProvider>(
     ensures patient { IsPatient (max 1 patience) (P.log carrier.old.provider) (P.log carrier.new.provider) }
     ensures answered { IfOk result (λ replies. vec_len replies ≡ length questions.now) }
     ensures replies { IfOk result (λ replies. TellsThat (P.log carrier.new.provider) (λ log.
-        RepliesHold (terms_of patience core.old) log core.old.moment turns.now questions.now replies.items)) }
+        RepliesHold (terms_of core.old) log core.old.moment turns.now questions.now replies.items)) }
 {
     let mut plays = waiting(alloc, questions)?;
     let last = last_moment(core.moment(), turns);
-    play_turns(alloc, core, carrier, questions, &mut plays, turns, patience);
+    let current = play_turns(alloc, core, carrier, questions, &mut plays, turns, patience);
     let now = last.max(core.moment());
-    begin_all(alloc, core, questions, &mut plays, now);
-    finish(alloc, core, carrier, &mut plays, Tick { now, patience });
+    let tick = Tick { now, patience };
+    finish(alloc, core, carrier, &mut plays, current, tick);
+    play_rest(alloc, core, carrier, questions, &mut plays, tick);
     replies(alloc, &mut plays)
 }
 
-/// Answers the questions: the turns are played in order, and then the questions are gone round at
-/// the last moment until all have their replies. Questions are numbered from 1; moments are in
-/// microseconds and do not fall; an order is pending at fewer polls than `patience`.
+/// Answers the questions: the turns are played in order, and then the questions that have not begun
+/// are played at the last moment. Before a question begins, the one under way is gone round to its end,
+/// at the moment of the turn before. Questions are numbered from 1; moments are in microseconds and do
+/// not fall; an order is pending at fewer polls than `patience`. What is kept of lookups, in this run
+/// and those before, is answered again while it lives.
 pub fn drive<P: ConnectionProvider>(
     alloc: Global,
     recursor: &mut Recursor<P>,
@@ -265,24 +314,27 @@ pub fn drive<P: ConnectionProvider>(
     ensures asks { TellsThat (P.log recursor.new.provider) (AsksServers (given_of (run_terms patience recursor.old))) }
 
     // Each message that is answered is what counts of a response that a server of a zone at or above the
-    // name told since the question began; the walk went down to this zone. Each error has its cause: a
-    // name that is not fully qualified, a denial or a referral that such a server told, a delegation
-    // without an address that may be asked, or servers of such a zone of which none answered.
+    // name told: since the question began, or within its life before that, and then it was authoritative.
+    // The walk went down to this zone. Each error has its cause: a name that is not fully qualified, a
+    // denial or a referral that such a server told, and that was as fresh, a delegation without an
+    // address that may be asked, or servers of such a zone of which none answered.
     ensures replies { IfOk result (λ replies. TellsThat (P.log recursor.new.provider) (λ log.
         RepliesHold (run_terms patience recursor.old) log recursor.old.moment turns.now questions.now replies.items)) }
 
     // No entry was waited for more often than patience allows, which is once at least, or than it was before.
     ensures patient { IsPatient (max 1 patience) (P.log recursor.old.provider) (P.log recursor.new.provider) }
 
-    // The roots and the filter stay.
+    // The roots, the filter and the bounds of lives stay, and the least patience is that of the runs so far.
     ensures roots { recursor.new.roots ≡ recursor.old.roots }
     ensures server_filter { recursor.new.server_filter ≡ recursor.old.server_filter }
+    ensures lives { recursor.new.lives ≡ recursor.old.lives }
+    ensures patience { recursor.new.patience ≡ min recursor.old.patience patience }
 
     // What the provider vouches for of its log it vouched for before.
     ensures vouches { (es : List LogEntry) → P.vouches recursor.new.provider es → P.vouches recursor.old.provider es }
 {
     let core = &mut recursor.core;
     let carrier = &mut recursor.carrier;
-    core.clear();
+    core.clear(patience);
     answer(alloc, core, carrier, questions, turns, patience)
 }

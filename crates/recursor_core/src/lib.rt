@@ -2,6 +2,7 @@
 #![tactic(auto)]
 
 mod carrier;
+mod counted;
 mod driving;
 mod error;
 mod lookup;

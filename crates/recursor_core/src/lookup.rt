@@ -18,10 +18,12 @@ use std::alloc::Global;
 use std::mem;
 use std::net::IpAddr;
 
-/// Where the send to one server stands. `polls` counts the polls of its order that found nothing;
-/// `since` is the greatest number of a log entry that was put before the order to ask was given.
+/// Where the send to one server stands. At first the cache was not looked at. `polls` counts the polls
+/// of its order that found nothing; `since` is the greatest number of a log entry that was put before
+/// the order to ask was given; `at` is the moment of the telling.
 #[derive(Drop, Debug)]
 pub enum Send {
+    Fresh,
     Ready,
     Chosen {
         ip: IpAddr,
@@ -44,6 +46,7 @@ pub enum Send {
     Told {
         ip: IpAddr,
         entry: u64,
+        at: u64,
         message: Message,
     },
     Failed {
@@ -53,10 +56,11 @@ pub enum Send {
     },
 }
 
-/// What a send wants next: a server to be chosen, a connection to it, a question over one, an
-/// outcome to be waited for, or one that came to be heard.
+/// What a send wants next: what the cache has, a server to be chosen, a connection to it, a question
+/// over one, an outcome to be waited for, or one that came to be heard.
 #[derive(Clone, Copy, Debug)]
 pub enum Want {
+    Recall,
     Choose,
     Connect { ip: IpAddr },
     Ask { ip: IpAddr, conn: u64 },
@@ -106,6 +110,7 @@ impl Send {
         ensures { result ≡ send_want self.now }
     {
         match self {
+            Send::Fresh => Want::Recall,
             Send::Ready => Want::Choose,
             Send::Chosen { ip } => Want::Connect { ip: *ip },
             Send::Opening { order, .. } => Want::Wait { order: *order },
@@ -155,7 +160,8 @@ impl Send {
 }
 
 impl Lookup {
-    /// A lookup of a question at these servers, the first of them to be asked first.
+    /// A lookup of a question, in the cache and then at these servers, the first of them to be asked
+    /// first.
     pub fn new(alloc: Global, query: Query, servers: &[IpAddr]) -> Result<Lookup, NoMemory>
         ensures steps { IfOk result (λ l. steps l ≤ 6 * 2 ^ 64) }
         ensures holds { (terms : Terms) (greatest moment t0 : ℕ) (log : Log) (zone : DomainName)
@@ -168,10 +174,21 @@ impl Lookup {
         Ok(Lookup {
             query,
             servers: left,
-            send: Send::Ready,
+            send: Send::Fresh,
             ends: Numbers::empty(alloc),
             timed_out: false,
         })
+    }
+
+    /// The cache has nothing for the question.
+    pub fn begin(&mut self)
+        requires { send_want self.old.send ≡ Want.Recall }
+        ensures falls { steps self.new < steps self.old }
+        ensures holds { (terms : Terms) (greatest moment t0 : ℕ) (log : Log) (zone : DomainName)
+            → LookupHolds terms greatest moment t0 log zone self.old → LookupHolds terms greatest moment t0 log zone self.new }
+        ensures query { self.new.query ≡ self.old.query }
+    {
+        self.send = Send::Ready;
     }
 
     /// The next server is chosen. Where none is left, the lookup has failed.
@@ -323,6 +340,7 @@ impl Lookup {
         self.send = Send::Told {
             ip: sent.ip,
             entry,
+            at: now,
             message,
         };
         After::Ended
@@ -399,6 +417,7 @@ impl Lookup {
             Send::Told {
                 ip: _,
                 entry,
+                at: _,
                 message,
             } => {
                 self.ends.push(entry)?;

@@ -1,10 +1,12 @@
 //! The machine: it gives orders and is fed their outcomes, and knows neither a provider nor a log.
-ghost use Rattle.std.specs.Prelude.{◌≡◌, ◌≢◌, ◌≤◌, ◌<◌, ◌+◌, ◌⊎◌, ◌↔◌, ℕ, [], true, false, max, length, None, Some, Ok, Err, IfOk, IfSome, IfNone, IfErr, IsSome};
+ghost use Rattle.std.specs.Prelude.{◌≡◌, ◌≢◌, ◌≤◌, ◌<◌, ◌+◌, ◌⊎◌, ◌↔◌, ℕ, [], true, false, max, length, None, Some, Ok, Err, IfOk, IfSome, IfNone, IfErr, IsSome, OnOk, IsTrue};
 ghost use Rattle.dns_core.specs.Log.{Log, Extends};
 ghost use Rattle.recursor_core.specs.Order.{entry_of, Fits};
-ghost use Rattle.recursor_core.specs.Setting.{server_filter_of};
+ghost use Rattle.resolver_settings.specs.Ttl.{has_reversed};
+ghost use Rattle.recursor_core.specs.Setting.{with_patience};
+ghost use Rattle.recursor_core.specs.Remembered.{CacheHolds, remembered};
 ghost use Rattle.recursor_core.specs.Derived.{terms_of, Derived};
-ghost use Rattle.recursor_core.specs.Machine.{need_at, order_at, asked_at, begun_at, MayAskAt, rank, GoesOn, Steps, Gives, StepGives, IsAwaited, IsNewError, IsBeginError, SameCore, IsSetAs, IsBegunAt};
+ghost use Rattle.recursor_core.specs.Machine.{need_at, order_at, asked_at, begun_at, MayAskAt, rank, GoesOn, Steps, Gives, StepGives, IsAwaited, IsNewError, IsBeginError, IsNewCore, SameCore, IsSetAs, IsBegunAt, telling_at, Writes};
 
 use crate::error::{MessageKind, RecursorError};
 use crate::lookup::Want;
@@ -15,7 +17,9 @@ use crate::resolving::{Need, Resolution, State};
 use crate::setting::Setting;
 use dns_core::{
     ConnectionConfig, DnsRequest, DnsRequestOptions, NoMemory, Protocol, ProtocolConfig, Question,
+    TryClone,
 };
+use resolver_cache::ResponseCache;
 use std::alloc::Global;
 use std::collections::BTreeMap;
 use std::net::IpAddr;
@@ -36,13 +40,14 @@ pub enum Progress {
     Step(Step),
 }
 
-/// The resolutions, in the order of their beginning, and what they share: the numbers of orders, the
-/// connections, each under its address as the number of the order that opened it, the greatest moment
-/// handed in so far, and the greatest number of a log entry.
+/// The resolutions, in the order of their beginning, and what they share: the cache of responses, the
+/// numbers of orders, the connections, each under its address as the number of the order that opened it,
+/// the greatest moment handed in so far, and the greatest number of a log entry.
 #[derive(Drop, Debug)]
 pub struct RecursorCore {
     setting: Setting,
     options: RecursorOptions,
+    cache: ResponseCache,
     resolutions: Vec<Resolution>,
     connections: BTreeMap<IpAddr, u64>,
     next_order: u64,
@@ -60,25 +65,47 @@ fn udp() -> ConnectionConfig {
 }
 
 impl RecursorCore {
-    /// A machine that begins at these roots; refused where there is none.
+    /// A machine that begins at these roots, with an empty cache; refused where there is no root, or a
+    /// minimum TTL is above its maximum.
     pub fn new(
         alloc: Global,
         roots: &[IpAddr],
         options: RecursorOptions,
     ) -> Result<RecursorCore, RecursorError>
         ensures no_roots { (result ≡ Err (RecursorError.Message MessageKind.NoRoots)) ↔ (roots.now ≡ []) }
+        ensures reversed { (result ≡ Err (RecursorError.Message MessageKind.ReversedTtl)) ↔ ((roots.now ≢ []) × IsTrue (has_reversed options.cache_policy)) }
         ensures only { IfErr result IsNewError }
-        ensures new { IfOk result (λ core. (core.setting ≡ record { roots = roots.now; server_filter = server_filter_of options }) × (core.moment ≡ 0) × (core.greatest ≡ 0) × (core.resolutions.items ≡ [])) }
+        ensures new { IfOk result (IsNewCore roots.now options) }
     {
         if roots.is_empty() {
             return Err(RecursorError::Message(MessageKind::NoRoots));
         }
-        let Ok(setting) = Setting::new(alloc, roots, &options) else {
-            return Err(RecursorError::NoMemory);
+        if options.cache_policy.is_reversed() {
+            return Err(RecursorError::Message(MessageKind::ReversedTtl));
+        }
+        match RecursorCore::empty(alloc, roots, options) {
+            Ok(core) => Ok(core),
+            Err(_) => Err(RecursorError::NoMemory),
+        }
+    }
+
+    fn empty(
+        alloc: Global,
+        roots: &[IpAddr],
+        options: RecursorOptions,
+    ) -> Result<RecursorCore, NoMemory>
+        requires { has_reversed options.cache_policy ≡ false }
+        ensures { IfOk result (IsNewCore roots.now options) }
+    {
+        let setting = Setting::new(alloc, roots, &options)?;
+        let policy = options.cache_policy.try_clone(alloc)?;
+        let Ok(cache) = ResponseCache::new(alloc, options.response_cache_size, policy) else {
+            unreachable!()
         };
         Ok(RecursorCore {
             setting,
             options,
+            cache,
             resolutions: Vec::new(alloc),
             connections: BTreeMap::new(alloc),
             next_order: 1,
@@ -97,18 +124,21 @@ impl RecursorCore {
     /// The moment that has come.
     pub fn reach(&mut self, now: u64)
         ensures moment { self.new.moment ≡ max self.old.moment now }
-        ensures derived { (patience : ℕ) (log : Log) → Derived patience self.old log → Derived patience self.new log }
-        ensures same { (self.new.setting ≡ self.old.setting) × (self.new.greatest ≡ self.old.greatest) × (self.new.resolutions ≡ self.old.resolutions) }
+        ensures derived { (log : Log) → Derived self.old log → Derived self.new log }
+        ensures same { (self.new.setting ≡ self.old.setting) × (self.new.greatest ≡ self.old.greatest) × (self.new.resolutions ≡ self.old.resolutions) × (self.new.cache ≡ self.old.cache) }
     {
         self.moment = self.moment.max(now);
     }
 
-    /// Leaves all questions.
-    pub fn clear(&mut self)
-        ensures derived { (patience : ℕ) (log : Log) → self.old.greatest < log.next → 0 < length self.old.setting.roots → Derived patience self.new log }
-        ensures same { (self.new.setting ≡ self.old.setting) × (self.new.greatest ≡ self.old.greatest) × (self.new.moment ≡ self.old.moment) }
+    /// Leaves all questions, for a run of this patience.
+    pub fn clear(&mut self, patience: u32)
+        ensures derived { (log : Log) → self.old.greatest < log.next → 0 < length self.old.setting.roots
+            → CacheHolds (terms_of self.old) self.old.greatest log self.old.cache → Derived self.new log }
+        ensures setting { self.new.setting ≡ with_patience self.old.setting patience }
+        ensures same { (self.new.greatest ≡ self.old.greatest) × (self.new.moment ≡ self.old.moment) × (self.new.cache ≡ self.old.cache) }
     {
         self.resolutions.clear();
+        self.setting.with_patience(patience);
     }
 
     /// Begins a question, and answers its place among the resolutions.
@@ -120,7 +150,7 @@ impl RecursorCore {
     ) -> Result<usize, RecursorError>
         ensures not_qualified { (result ≡ Err (RecursorError.Message MessageKind.NotQualified)) ↔ (question.query.name.fqdn ≡ false) }
         ensures only { IfErr result IsBeginError }
-        ensures derived { (patience : ℕ) (log : Log) → self.old.moment ≤ now → Derived patience self.old log → Derived patience self.new log }
+        ensures derived { (log : Log) → self.old.moment ≤ now → Derived self.old log → Derived self.new log }
         ensures setting { self.new.setting ≡ self.old.setting }
         ensures moment { self.old.moment ≤ now → (self.new.moment ≡ self.old.moment) ⊎ (self.new.moment ≡ now) }
         ensures others { (k : ℕ) → k < length self.old.resolutions.items → begun_at self.new k ≡ begun_at self.old k }
@@ -141,9 +171,9 @@ impl RecursorCore {
 
     fn begin_walk(&mut self, alloc: Global, question: Question, now: u64) -> Result<usize, NoMemory>
         requires { question.query.name.fqdn ≡ true }
-        ensures derived { (patience : ℕ) (log : Log) → self.old.moment ≤ now → Derived patience self.old log
-            → IfOk result (λ r. Derived patience (record self.new { moment = now }) log) }
-        ensures same { (self.new.setting ≡ self.old.setting) × (self.new.moment ≡ self.old.moment) × (self.new.greatest ≡ self.old.greatest) }
+        ensures derived { (log : Log) → self.old.moment ≤ now → Derived self.old log
+            → IfOk result (λ r. Derived (record self.new { moment = now }) log) }
+        ensures same { (self.new.setting ≡ self.old.setting) × (self.new.moment ≡ self.old.moment) × (self.new.greatest ≡ self.old.greatest) × (self.new.cache ≡ self.old.cache) }
         ensures others { (k : ℕ) → k < length self.old.resolutions.items → begun_at self.new k ≡ begun_at self.old k }
         ensures begun { IfOk result (λ r. (r ≡ length self.old.resolutions.items) × IsBegunAt self.new r question now) }
         ensures err { IfErr result (λ e. self.new.resolutions.items ≡ self.old.resolutions.items) }
@@ -164,10 +194,34 @@ impl RecursorCore {
         }
     }
 
+    /// Goes by what the cache has for the present lookup of a resolution.
+    fn recall(&mut self, alloc: Global, r: usize) -> Result<(), NoMemory>
+        requires { need_at self.old r ≡ Need.Send Want.Recall }
+        ensures falls { (p : ℕ) → rank p self.new < rank p self.old }
+        ensures derived { (log : Log) → Derived self.old log → Derived self.new log }
+        ensures same { SameCore self.old self.new }
+    {
+        let now = self.moment;
+        let resolution = &mut self.resolutions[r];
+        resolution.recall(alloc, &self.setting.server_filter, &self.cache, now)
+    }
+
+    /// Writes what a resolution was just told into the cache, where it is kept.
+    fn remember(&mut self, alloc: Global, r: usize) -> Result<(), NoMemory>
+        ensures ok { OnOk result (self.new.cache ≡ remembered self.old.cache (telling_at self.old r)) }
+        ensures derived { (log : Log) → Derived self.old log → Derived self.new log }
+        ensures rest { self.new ≡ record self.old { cache = self.new.cache } }
+    {
+        match self.resolutions.get(r) {
+            Some(resolution) => resolution.remember(alloc, &mut self.cache),
+            None => Ok(()),
+        }
+    }
+
     fn choose(&mut self, alloc: Global, r: usize) -> Result<(), NoMemory>
         requires { need_at self.old r ≡ Need.Send Want.Choose }
         ensures falls { (p : ℕ) → rank p self.new < rank p self.old }
-        ensures derived { (patience : ℕ) (log : Log) → Derived patience self.old log → Derived patience self.new log }
+        ensures derived { (log : Log) → Derived self.old log → Derived self.new log }
         ensures same { SameCore self.old self.new }
     {
         let resolution = &mut self.resolutions[r];
@@ -177,7 +231,7 @@ impl RecursorCore {
     fn hear(&mut self, alloc: Global, r: usize) -> Result<(), NoMemory>
         requires { need_at self.old r ≡ Need.Send Want.Hear }
         ensures falls { (p : ℕ) → rank p self.new < rank p self.old }
-        ensures derived { (patience : ℕ) (log : Log) → Derived patience self.old log → Derived patience self.new log }
+        ensures derived { (log : Log) → Derived self.old log → Derived self.new log }
         ensures same { SameCore self.old self.new }
     {
         let resolution = &mut self.resolutions[r];
@@ -187,7 +241,7 @@ impl RecursorCore {
     fn opens(&mut self, r: usize, ip: IpAddr, order: u64)
         requires { need_at self.old r ≡ Need.Send (Want.Connect ip) }
         ensures falls { (p : ℕ) → rank p self.new < rank p self.old }
-        ensures derived { (patience : ℕ) (log : Log) → Derived patience self.old log → Derived patience self.new log }
+        ensures derived { (log : Log) → Derived self.old log → Derived self.new log }
         ensures same { SameCore self.old self.new }
     {
         let resolution = &mut self.resolutions[r];
@@ -197,7 +251,7 @@ impl RecursorCore {
     fn asks(&mut self, r: usize, ip: IpAddr, order: u64)
         requires { MayAskAt self.old r ip }
         ensures falls { (p : ℕ) → rank p self.new < rank p self.old }
-        ensures derived { (patience : ℕ) (log : Log) → Derived patience self.old log → Derived patience self.new log }
+        ensures derived { (log : Log) → Derived self.old log → Derived self.new log }
         ensures same { SameCore self.old self.new }
     {
         let since = self.greatest;
@@ -209,7 +263,7 @@ impl RecursorCore {
         requires { need_at self.old r ≡ Need.Reply }
         ensures falls { (p : ℕ) → rank p self.new < rank p self.old }
         ensures some { IsSome result }
-        ensures derived { (patience : ℕ) (log : Log) → Derived patience self.old log → Derived patience self.new log × IfSome result (λ reply. StepGives patience self.old log r (Step.Done reply)) }
+        ensures derived { (log : Log) → Derived self.old log → Derived self.new log × IfSome result (λ reply. StepGives self.old log r (Step.Done reply)) }
         ensures same { SameCore self.old self.new }
     {
         let resolution = &mut self.resolutions[r];
@@ -260,7 +314,7 @@ impl RecursorCore {
     fn open(&mut self, r: usize, ip: IpAddr) -> Result<Progress, NoMemory>
         requires { need_at self.old r ≡ Need.Send (Want.Connect ip) }
         ensures goes { GoesOn self.old self.new result }
-        ensures gives { (patience : ℕ) (log : Log) → Derived patience self.old log → Derived patience self.new log × IfOk result (Gives patience self.old log r) }
+        ensures gives { (log : Log) → Derived self.old log → Derived self.new log × IfOk result (Gives self.old log r) }
         ensures same { SameCore self.old self.new }
     {
         let number = self.take_number()?;
@@ -275,7 +329,7 @@ impl RecursorCore {
     fn ask(&mut self, alloc: Global, r: usize, ip: IpAddr, conn: u64) -> Result<Progress, NoMemory>
         requires { MayAskAt self.old r ip }
         ensures goes { GoesOn self.old self.new result }
-        ensures gives { (patience : ℕ) (log : Log) → Derived patience self.old log → Derived patience self.new log × IfOk result (Gives patience self.old log r) }
+        ensures gives { (log : Log) → Derived self.old log → Derived self.new log × IfOk result (Gives self.old log r) }
         ensures same { SameCore self.old self.new }
     {
         let request = self.request(alloc, r)?;
@@ -296,7 +350,7 @@ impl RecursorCore {
     fn connect(&mut self, alloc: Global, r: usize, ip: IpAddr) -> Result<Progress, NoMemory>
         requires { need_at self.old r ≡ Need.Send (Want.Connect ip) }
         ensures goes { GoesOn self.old self.new result }
-        ensures gives { (patience : ℕ) (log : Log) → Derived patience self.old log → Derived patience self.new log × IfOk result (Gives patience self.old log r) }
+        ensures gives { (log : Log) → Derived self.old log → Derived self.new log × IfOk result (Gives self.old log r) }
         ensures same { SameCore self.old self.new }
     {
         match self.connection(ip) {
@@ -315,7 +369,7 @@ impl RecursorCore {
     ) -> Result<Progress, NoMemory>
         requires { need_at self.old r ≡ Need.Send (Want.Ask ip conn) }
         ensures goes { GoesOn self.old self.new result }
-        ensures gives { (patience : ℕ) (log : Log) → Derived patience self.old log → Derived patience self.new log × IfOk result (Gives patience self.old log r) }
+        ensures gives { (log : Log) → Derived self.old log → Derived self.new log × IfOk result (Gives self.old log r) }
         ensures same { SameCore self.old self.new }
     {
         self.keep_connection(ip, conn)?;
@@ -325,7 +379,7 @@ impl RecursorCore {
     fn reply(&mut self, r: usize) -> Progress
         requires { need_at self.old r ≡ Need.Reply }
         ensures goes { GoesOn self.old self.new (Ok result) }
-        ensures gives { (patience : ℕ) (log : Log) → Derived patience self.old log → Derived patience self.new log × Gives patience self.old log r result }
+        ensures gives { (log : Log) → Derived self.old log → Derived self.new log × Gives self.old log r result }
         ensures same { SameCore self.old self.new }
     {
         match self.take_reply(r) {
@@ -338,10 +392,14 @@ impl RecursorCore {
     fn send(&mut self, alloc: Global, r: usize, want: Want) -> Result<Progress, NoMemory>
         requires { need_at self.old r ≡ Need.Send want }
         ensures goes { GoesOn self.old self.new result }
-        ensures gives { (patience : ℕ) (log : Log) → Derived patience self.old log → Derived patience self.new log × IfOk result (Gives patience self.old log r) }
+        ensures gives { (log : Log) → Derived self.old log → Derived self.new log × IfOk result (Gives self.old log r) }
         ensures same { SameCore self.old self.new }
     {
         match want {
+            Want::Recall => {
+                self.recall(alloc, r)?;
+                Ok(Progress::Again)
+            }
             Want::Choose => {
                 self.choose(alloc, r)?;
                 Ok(Progress::Again)
@@ -358,7 +416,7 @@ impl RecursorCore {
 
     fn step(&mut self, alloc: Global, r: usize) -> Result<Progress, NoMemory>
         ensures goes { GoesOn self.old self.new result }
-        ensures gives { (patience : ℕ) (log : Log) → Derived patience self.old log → Derived patience self.new log × IfOk result (Gives patience self.old log r) }
+        ensures gives { (log : Log) → Derived self.old log → Derived self.new log × IfOk result (Gives self.old log r) }
         ensures same { SameCore self.old self.new }
     {
         match self.need(r) {
@@ -371,7 +429,7 @@ impl RecursorCore {
     /// What a resolution has next: an order, one that it waits for, its reply once, or nothing more.
     pub fn next(&mut self, alloc: Global, r: usize) -> Result<Step, NoMemory>
         ensures steps { Steps self.old self.new result }
-        ensures gives { (patience : ℕ) (log : Log) → Derived patience self.old log → Derived patience self.new log × IfOk result (StepGives patience self.old log r) }
+        ensures gives { (log : Log) → Derived self.old log → Derived self.new log × IfOk result (StepGives self.old log r) }
         ensures same { SameCore self.old self.new }
     {
         'steps: loop {
@@ -399,10 +457,11 @@ impl RecursorCore {
         requires { order_at self.old r ≢ None }
         ensures falls { result ≢ After.Late → result ≢ After.GiveUp → rank tick.patience self.new < rank tick.patience self.old }
         ensures keeps { rank tick.patience self.new ≤ rank tick.patience self.old }
-        ensures derived { (patience : ℕ) (log longer : Log) → patience ≤ tick.patience → self.old.greatest < entry_of outcome → self.old.moment ≤ tick.now
-            → Derived patience self.old log → Extends log longer → Fits longer tick.now outcome
-            → Derived patience (record self.new { greatest = entry_of outcome; moment = tick.now }) longer }
+        ensures derived { (log longer : Log) → self.old.setting.patience ≤ tick.patience → self.old.greatest < entry_of outcome → self.old.moment ≤ tick.now
+            → Derived self.old log → Extends log longer → Fits longer tick.now outcome
+            → Derived (record self.new { greatest = entry_of outcome; moment = tick.now }) longer }
         ensures same { SameCore self.old self.new }
+        ensures late { result ≡ After.Late → telling_at self.new r ≡ None }
     {
         let resolution = &mut self.resolutions[r];
         resolution.take(outcome, tick)
@@ -428,26 +487,20 @@ impl RecursorCore {
         }
     }
 
-    /// Takes the outcome of an order. One that nobody waits for is late, and changes nothing; so is one
-    /// that does not fit the order, or whose number is not greater than all before. An order that is to
-    /// be given up goes on until the outcome of the give-up is put.
-    pub fn put(&mut self, number: u64, outcome: Outcome, tick: Tick) -> After
+    /// Takes the outcome for the resolution that waits for its order.
+    fn accept(&mut self, r: usize, outcome: Outcome, tick: Tick) -> After
+        requires { order_at self.old r ≢ None }
         ensures falls { result ≢ After.Late → result ≢ After.GiveUp → rank tick.patience self.new < rank tick.patience self.old }
         ensures keeps { rank tick.patience self.new ≤ rank tick.patience self.old }
-        ensures late { (IsAwaited self.old number → ⊥) → result ≡ After.Late }
-        ensures derived { (patience : ℕ) (log longer : Log) → patience ≤ tick.patience → self.old.moment ≤ tick.now
-            → Derived patience self.old log → Extends log longer → Fits longer tick.now outcome → Derived patience self.new longer }
+        ensures derived { (log longer : Log) → self.old.setting.patience ≤ tick.patience → self.old.greatest < entry_of outcome → self.old.moment ≤ tick.now
+            → Derived self.old log → Extends log longer → Fits longer tick.now outcome → Derived self.new longer }
         ensures setting { self.new.setting ≡ self.old.setting }
+        ensures cache { self.new.cache ≡ self.old.cache }
         ensures moment { self.old.moment ≡ tick.now → self.new.moment ≡ tick.now }
         ensures begun { (k : ℕ) → begun_at self.new k ≡ begun_at self.old k }
+        ensures late { result ≡ After.Late → telling_at self.new r ≡ None }
     {
         let entry = outcome.entry();
-        if entry <= self.greatest {
-            return After::Late;
-        }
-        let Some(r) = self.waiter(number) else {
-            return After::Late;
-        };
         let asked = self.asked_address(r);
         let after = self.take(r, outcome, tick);
         self.forget_given_up(after, asked);
@@ -456,10 +509,42 @@ impl RecursorCore {
         after
     }
 
+    /// Takes the outcome of an order. One that nobody waits for is late, and changes nothing; so is one
+    /// that does not fit the order, or whose number is not greater than all before. An order that is to
+    /// be given up goes on until the outcome of the give-up is put. What counts of a message that was
+    /// told is written into the cache; on want of memory for this the outcome is taken all the same.
+    pub fn put(
+        &mut self,
+        alloc: Global,
+        number: u64,
+        outcome: Outcome,
+        tick: Tick,
+    ) -> Result<After, NoMemory>
+        ensures falls { IfOk result (λ after. after ≢ After.Late → after ≢ After.GiveUp → rank tick.patience self.new < rank tick.patience self.old) }
+        ensures keeps { rank tick.patience self.new ≤ rank tick.patience self.old }
+        ensures late { (IsAwaited self.old number → ⊥) → result ≡ Ok After.Late }
+        ensures derived { (log longer : Log) → self.old.setting.patience ≤ tick.patience → self.old.moment ≤ tick.now
+            → Derived self.old log → Extends log longer → Fits longer tick.now outcome → Derived self.new longer }
+        ensures writes { IfOk result (Writes self.old self.new number) }
+        ensures setting { self.new.setting ≡ self.old.setting }
+        ensures moment { self.old.moment ≡ tick.now → self.new.moment ≡ tick.now }
+        ensures begun { (k : ℕ) → begun_at self.new k ≡ begun_at self.old k }
+    {
+        if outcome.entry() <= self.greatest {
+            return Ok(After::Late);
+        }
+        let Some(r) = self.waiter(number) else {
+            return Ok(After::Late);
+        };
+        let after = self.accept(r, outcome, tick);
+        self.remember(alloc, r)?;
+        Ok(after)
+    }
+
     /// Ends a resolution without a reply, and answers the order that it waited for.
     pub fn cancel(&mut self, r: usize) -> Option<u64>
         ensures keeps { (p : ℕ) → rank p self.new ≤ rank p self.old }
-        ensures derived { (patience : ℕ) (log : Log) → Derived patience self.old log → Derived patience self.new log }
+        ensures derived { (log : Log) → Derived self.old log → Derived self.new log }
         ensures same { SameCore self.old self.new }
     {
         if r >= self.resolutions.len() {

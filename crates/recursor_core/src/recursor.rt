@@ -1,6 +1,7 @@
 //! The recursor: the machine over a provider.
-ghost use Rattle.std.specs.Prelude.{◌≡◌, ◌↔◌, List, [], Some, Err, IfOk, IfErr};
+ghost use Rattle.std.specs.Prelude.{◌≡◌, ◌≢◌, ◌↔◌, IsTrue, List, [], Some, Err, IfOk, IfErr};
 ghost use Rattle.dns_core.specs.declared.log.LogEntry.{LogEntry};
+ghost use Rattle.resolver_settings.specs.Ttl.{has_reversed};
 ghost use Rattle.recursor_core.specs.Machine.{IsNewError};
 ghost use Rattle.recursor_core.specs.Setting.{server_filter_of};
 ghost use Rattle.recursor_core.specs.Standing.{Standing, Rests};
@@ -14,8 +15,9 @@ use std::alloc::Global;
 use std::marker::Model;
 use std::net::IpAddr;
 
-/// A recursor over a provider. Contracts see the provider, the roots, the filter of other servers and
-/// the greatest moment handed in so far. What it keeps is derived from the provider's log.
+/// A recursor over a provider. Contracts see the provider, the roots, the filter of other servers, the
+/// bounds of the lives of responses, the least patience of its runs and the greatest moment handed in so
+/// far. What it keeps, its cache of responses too, is derived from the provider's log.
 #[derive(Drop)]
 pub struct Recursor<P: ConnectionProvider> {
     pub(crate) core: RecursorCore,
@@ -25,7 +27,7 @@ pub struct Recursor<P: ConnectionProvider> {
 impl<P: ConnectionProvider> Model for Recursor<P> {
     ghost Value = { Standing P };
 
-    ghost view = { λ a. record { provider = a.carrier.provider; roots = a.core.setting.roots; server_filter = a.core.setting.server_filter; moment = a.core.moment } };
+    ghost view = { λ a. record { provider = a.carrier.provider; roots = a.core.setting.roots; server_filter = a.core.setting.server_filter; lives = a.core.setting.lives; patience = a.core.setting.patience; moment = a.core.moment } };
 
     ghost invariant = { λ a. Rests P.ConnectionProvider a.core a.carrier };
 }
@@ -43,7 +45,8 @@ fn connect_options(alloc: Global, options: &RecursorOptions) -> Result<ConnectOp
 
 impl<P: ConnectionProvider> Recursor<P> {
     /// A recursor that begins at these roots, over a provider whose log is empty. The filter of the
-    /// options is for other servers: no root is left out for it. It is refused where there is no root.
+    /// options is for other servers: no root is left out for it. It is refused where there is no root,
+    /// else where a minimum TTL is above its maximum.
     pub fn with_options(
         alloc: Global,
         roots: &[IpAddr],
@@ -51,12 +54,16 @@ impl<P: ConnectionProvider> Recursor<P> {
         provider: P,
     ) -> Result<Recursor<P>, RecursorError>
         requires { (es : List LogEntry) → P.log provider ≡ Some es → es ≡ [] }
-        ensures ok { IfOk result (λ recursor. recursor ≡ record { provider = provider; roots = roots.now; server_filter = server_filter_of options; moment = 0 }) }
+        ensures ok { IfOk result (λ recursor. recursor ≡ record { provider = provider; roots = roots.now; server_filter = server_filter_of options; lives = options.cache_policy; patience = 4294967295; moment = 0 }) }
         ensures no_roots { (result ≡ Err (RecursorError.Message MessageKind.NoRoots)) ↔ (roots.now ≡ []) }
+        ensures reversed { (result ≡ Err (RecursorError.Message MessageKind.ReversedTtl)) ↔ ((roots.now ≢ []) × IsTrue (has_reversed options.cache_policy)) }
         ensures only { IfErr result IsNewError }
     {
         if roots.is_empty() {
             return Err(RecursorError::Message(MessageKind::NoRoots));
+        }
+        if options.cache_policy.is_reversed() {
+            return Err(RecursorError::Message(MessageKind::ReversedTtl));
         }
         let Ok(connect) = connect_options(alloc, &options) else {
             return Err(RecursorError::NoMemory);

@@ -1,19 +1,21 @@
 //! One question under way, answered, or ended.
-ghost use Rattle.std.specs.Prelude.{◌≡◌, ◌≢◌, ◌≤◌, ◌<◌, ℕ, true, length, Some, None, IfOk, IfSome, IsSome};
+ghost use Rattle.std.specs.Prelude.{◌≡◌, ◌≢◌, ◌≤◌, ◌<◌, ℕ, true, length, Some, None, IfOk, IfSome, IsSome, OnOk, OnErr};
 ghost use Rattle.std.specs.declared.net.ip_addr.IpAddr.{IpAddr};
 ghost use Rattle.dns_core.specs.Log.{Log, Extends};
-ghost use Rattle.resolver_settings.specs.Access.{Access};
 ghost use Rattle.recursor_core.specs.Order.{entry_of, Fits};
 ghost use Rattle.recursor_core.specs.Replies.{Terms, ReplyHolds};
 ghost use Rattle.recursor_core.specs.Tried.{machine_timer};
+ghost use Rattle.recursor_core.specs.Remembered.{CacheHolds, telling_in, remembered};
 ghost use Rattle.recursor_core.specs.Derived.{ResolutionHolds};
-ghost use Rattle.recursor_core.specs.Resolving.{want_of, waits_for, steps, rank, MayAskNow, IsAfter, SameBegun, asked_of, address_of};
+ghost use Rattle.recursor_core.specs.Resolving.{want_of, waits_for, steps, rank, MayAskNow, IsAfter, SameBegun, asked_of, address_of, recalled_in, HasAnswered};
 
+use crate::counted::recalled;
 use crate::lookup::Want;
 use crate::order::{After, Outcome, Tick};
 use crate::reply::Reply;
 use crate::walk::Walk;
 use dns_core::{Ips, NoMemory, Query, Question, TryClone};
+use resolver_cache::ResponseCache;
 use resolver_settings::AccessControlSet;
 use std::alloc::Global;
 use std::mem;
@@ -61,8 +63,8 @@ impl Resolution {
         now: u64,
     ) -> Result<Resolution, NoMemory>
         requires { question.query.name.fqdn ≡ true }
-        ensures holds { (filter : Access) (patience greatest : ℕ) (log : Log) → 0 < length roots.now
-            → IfOk result (ResolutionHolds (record { roots = roots.now; server_filter = filter; patience = patience }) greatest now log) }
+        ensures holds { (terms : Terms) (greatest : ℕ) (log : Log) → terms.roots ≡ roots.now → 0 < length roots.now
+            → IfOk result (ResolutionHolds terms greatest now log) }
         ensures begun { IfOk result (λ r. (r.question ≡ question) × (r.begun ≡ now)) }
     {
         let walk = Walk::new(alloc, &question, roots)?;
@@ -110,6 +112,41 @@ impl Resolution {
         match &self.state {
             State::Under(walk) => Ok(Some(walk.lookup.query.try_clone(alloc)?)),
             _ => Ok(None),
+        }
+    }
+
+    /// Goes by what the cache has for the present lookup. On want of memory it has ended.
+    pub fn recall(
+        &mut self,
+        alloc: Global,
+        filter: &AccessControlSet,
+        cache: &ResponseCache,
+        now: u64,
+    ) -> Result<(), NoMemory>
+        requires { want_of self.old ≡ Need.Send Want.Recall }
+        ensures falls { steps self.new < steps self.old }
+        ensures begun { SameBegun self.old self.new }
+        ensures holds { (terms : Terms) (greatest : ℕ) (log : Log) → terms.server_filter ≡ filter.now → CacheHolds terms greatest log cache.now
+            → ResolutionHolds terms greatest now log self.old → ResolutionHolds terms greatest now log self.new }
+        ensures answers { IfOk result (λ x. HasAnswered (recalled_in cache.now now self.old.state) self.old.state self.new.state) }
+    {
+        if let State::Under(walk) = mem::replace(&mut self.state, State::Ended) {
+            let mut walk = walk;
+            let counted = recalled(alloc, cache, &walk.lookup.query, now)?;
+            let reply = walk.recall(alloc, &self.question, filter, counted)?;
+            self.state = state_after(walk, reply);
+        }
+        Ok(())
+    }
+
+    /// Writes what it was just told into the cache, where it is kept.
+    pub fn remember(&self, alloc: Global, cache: &mut ResponseCache) -> Result<(), NoMemory>
+        ensures ok { OnOk result (cache.new ≡ remembered cache.old (telling_in self.now.state)) }
+        ensures err { OnErr result (cache.new ≡ cache.old) }
+    {
+        match &self.state {
+            State::Under(walk) => walk.remember(alloc, cache),
+            _ => Ok(()),
         }
     }
 

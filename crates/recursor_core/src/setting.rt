@@ -1,19 +1,22 @@
-//! Which servers a machine may ask.
+//! What a machine is set to.
 ghost use Rattle.std.specs.Prelude.{◌≡◌, IfOk};
-ghost use Rattle.recursor_core.specs.Setting.{server_filter_of};
+ghost use Rattle.recursor_core.specs.Setting.{server_filter_of, setting_of, with_patience};
 
 use crate::options::RecursorOptions;
-use dns_core::{Ips, NoMemory};
-use resolver_settings::{AccessControlSet, AccessControlSetBuilder};
+use dns_core::{Ips, NoMemory, TryClone};
+use resolver_settings::{AccessControlSet, AccessControlSetBuilder, TtlConfig};
 use std::alloc::Global;
 use std::net::IpAddr;
 
-/// The roots, which are asked whatever the filter says, and the filter of the addresses that
-/// delegations give.
+/// The roots, which are asked whatever the filter says, the filter of the addresses that delegations
+/// give, the bounds of the lives of responses, and the least number of polls at which an order is given
+/// up.
 #[derive(Drop, Debug)]
 pub struct Setting {
     pub roots: Ips,
     pub server_filter: AccessControlSet,
+    pub lives: TtlConfig,
+    pub patience: u32,
 }
 
 /// The filter of servers that the options say.
@@ -27,19 +30,30 @@ fn server_filter(alloc: Global, options: &RecursorOptions) -> Result<AccessContr
 }
 
 impl Setting {
-    /// These roots, and the filter of the options. It fails for want of memory alone.
+    /// These roots, and the filter and the bounds of the options; nothing was given up yet. It fails
+    /// for want of memory alone.
     pub fn new(
         alloc: Global,
         roots: &[IpAddr],
         options: &RecursorOptions,
     ) -> Result<Setting, NoMemory>
-        ensures { IfOk result (λ setting. setting ≡ record { roots = roots.now; server_filter = server_filter_of options.now }) }
+        ensures { IfOk result (λ setting. setting ≡ setting_of roots.now options.now) }
     {
         let roots = Vec::from_slice(alloc, roots)?;
         let server_filter = server_filter(alloc, options)?;
+        let lives = options.cache_policy.try_clone(alloc)?;
         Ok(Setting {
             roots: Ips::new(roots),
             server_filter,
+            lives,
+            patience: u32::MAX,
         })
+    }
+
+    /// With this patience, where it is less.
+    pub fn with_patience(&mut self, patience: u32)
+        ensures { self.new ≡ with_patience self.old patience }
+    {
+        self.patience = self.patience.min(patience);
     }
 }

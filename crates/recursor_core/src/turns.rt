@@ -50,6 +50,7 @@ pub fn no_memory(alloc: Global) -> Reply
 
 /// Gives up an order, and feeds the machine that.
 fn give_up_order<P: ConnectionProvider>(
+    alloc: Global,
     core: &mut RecursorCore,
     carrier: &mut Carrier<P>,
     number: u64,
@@ -63,12 +64,12 @@ fn give_up_order<P: ConnectionProvider>(
     ensures moment { core.new.moment ≡ tick.now }
     ensures falls { OnOk result (rank tick.patience core.new < rank tick.patience core.old) }
     ensures keeps { rank tick.patience core.new ≤ rank tick.patience core.old }
-    ensures told { (b : Option Begun) → IfOk result (TurnedTold (terms_of tick.patience core.old) (P.log carrier.new.provider) b) }
+    ensures told { (b : Option Begun) → IfOk result (TurnedTold (terms_of core.old) (P.log carrier.new.provider) b) }
 {
     let Some(outcome) = carrier.give_up(number, tick.now) else {
         return Err(NoMemory);
     };
-    match core.put(number, outcome, tick) {
+    match core.put(alloc, number, outcome, tick)? {
         After::Ended => Ok(Turned::Again),
         After::Kept => Ok(Turned::Pending),
         After::GiveUp => Err(NoMemory),
@@ -77,8 +78,9 @@ fn give_up_order<P: ConnectionProvider>(
 }
 
 /// Feeds an outcome to the machine; an order that it gives up is given up. A late outcome, which no
-/// order that is open has, ends the turn as want of memory does.
+/// order that is open has, ends the turn as want of memory does; so does want of memory for the cache.
 fn settle<P: ConnectionProvider>(
+    alloc: Global,
     core: &mut RecursorCore,
     carrier: &mut Carrier<P>,
     number: u64,
@@ -94,18 +96,19 @@ fn settle<P: ConnectionProvider>(
     ensures moment { core.new.moment ≡ tick.now }
     ensures falls { OnOk result (rank tick.patience core.new < rank tick.patience core.old) }
     ensures keeps { rank tick.patience core.new ≤ rank tick.patience core.old }
-    ensures told { (b : Option Begun) → IfOk result (TurnedTold (terms_of tick.patience core.old) (P.log carrier.new.provider) b) }
+    ensures told { (b : Option Begun) → IfOk result (TurnedTold (terms_of core.old) (P.log carrier.new.provider) b) }
 {
-    match core.put(number, outcome, tick) {
+    match core.put(alloc, number, outcome, tick)? {
         After::Kept => Ok(Turned::Pending),
         After::Ended => Ok(Turned::Again),
-        After::GiveUp => give_up_order(core, carrier, number, tick),
+        After::GiveUp => give_up_order(alloc, core, carrier, number, tick),
         After::Late => Err(NoMemory),
     }
 }
 
 /// Starts an order that the machine gave.
 fn start_order<P: ConnectionProvider>(
+    alloc: Global,
     core: &mut RecursorCore,
     carrier: &mut Carrier<P>,
     number: u64,
@@ -114,21 +117,22 @@ fn start_order<P: ConnectionProvider>(
 ) -> Result<Turned, NoMemory>
     requires holds { Holds P.ConnectionProvider tick.patience core.old carrier.old }
     requires moment { core.old.moment ≡ tick.now }
-    requires goes { TellsThat (P.log carrier.old.provider) (λ log. GoesToServer (given_of (terms_of tick.patience core.old)) log log.next order) }
+    requires goes { TellsThat (P.log carrier.old.provider) (λ log. GoesToServer (given_of (terms_of core.old)) log log.next order) }
     ensures vouches { (es : List LogEntry) → P.vouches carrier.new.provider es → P.vouches carrier.old.provider es }
     ensures holds { Holds P.ConnectionProvider tick.patience core.new carrier.new }
     ensures moves { Moves P.ConnectionProvider tick.patience tick.now core.old core.new carrier.old carrier.new }
     ensures moment { core.new.moment ≡ tick.now }
     ensures falls { OnOk result (rank tick.patience core.new < rank tick.patience core.old) }
     ensures keeps { rank tick.patience core.new ≤ rank tick.patience core.old }
-    ensures told { (b : Option Begun) → IfOk result (TurnedTold (terms_of tick.patience core.old) (P.log carrier.new.provider) b) }
+    ensures told { (b : Option Begun) → IfOk result (TurnedTold (terms_of core.old) (P.log carrier.new.provider) b) }
 {
     let outcome = carrier.start(number, order, tick.now)?;
-    settle(core, carrier, number, outcome, tick)
+    settle(alloc, core, carrier, number, outcome, tick)
 }
 
 /// Polls an order that the machine waits for.
 fn poll_order<P: ConnectionProvider>(
+    alloc: Global,
     core: &mut RecursorCore,
     carrier: &mut Carrier<P>,
     number: u64,
@@ -142,10 +146,10 @@ fn poll_order<P: ConnectionProvider>(
     ensures moment { core.new.moment ≡ tick.now }
     ensures falls { OnOk result (rank tick.patience core.new < rank tick.patience core.old) }
     ensures keeps { rank tick.patience core.new ≤ rank tick.patience core.old }
-    ensures told { (b : Option Begun) → IfOk result (TurnedTold (terms_of tick.patience core.old) (P.log carrier.new.provider) b) }
+    ensures told { (b : Option Begun) → IfOk result (TurnedTold (terms_of core.old) (P.log carrier.new.provider) b) }
 {
     let outcome = carrier.poll(number, tick.now, tick.patience)?;
-    settle(core, carrier, number, outcome, tick)
+    settle(alloc, core, carrier, number, outcome, tick)
 }
 
 /// One step of a question: an order is started, or polled, or its reply given.
@@ -162,14 +166,14 @@ fn step<P: ConnectionProvider>(
     ensures holds { Holds P.ConnectionProvider tick.patience core.new carrier.new }
     ensures moves { Moves P.ConnectionProvider tick.patience tick.now core.old core.new carrier.old carrier.new }
     ensures moment { core.new.moment ≡ tick.now }
-    ensures told { IfOk result (TurnedTold (terms_of tick.patience core.old) (P.log carrier.new.provider) (begun_at core.old r)) }
+    ensures told { IfOk result (TurnedTold (terms_of core.old) (P.log carrier.new.provider) (begun_at core.old r)) }
     ensures falls { IfOk result (TurnFalls (rank tick.patience core.new) (rank tick.patience core.old)) }
     ensures keeps { rank tick.patience core.new ≤ rank tick.patience core.old }
 {
     let next = core.next(alloc, r)?;
     match next {
-        Step::Order { number, order } => start_order(core, carrier, number, order, tick),
-        Step::Waiting { number } => poll_order(core, carrier, number, tick),
+        Step::Order { number, order } => start_order(alloc, core, carrier, number, order, tick),
+        Step::Waiting { number } => poll_order(alloc, core, carrier, number, tick),
         Step::Done(reply) => Ok(Turned::Done(reply)),
         Step::Ended => Ok(Turned::Ended),
     }
@@ -189,7 +193,7 @@ fn turn<P: ConnectionProvider>(
     ensures holds { Holds P.ConnectionProvider tick.patience core.new carrier.new }
     ensures moves { Moves P.ConnectionProvider tick.patience tick.now core.old core.new carrier.old carrier.new }
     ensures moment { core.new.moment ≡ tick.now }
-    ensures told { IfOk result (TurnedTold (terms_of tick.patience core.old) (P.log carrier.new.provider) (begun_at core.old r)) }
+    ensures told { IfOk result (TurnedTold (terms_of core.old) (P.log carrier.new.provider) (begun_at core.old r)) }
     ensures falls { IfOk result (TurnFalls (rank tick.patience core.new) (rank tick.patience core.old)) }
     ensures keeps { rank tick.patience core.new ≤ rank tick.patience core.old }
 {
@@ -238,7 +242,7 @@ fn answer_of<P: ConnectionProvider>(
     ensures holds { Holds P.ConnectionProvider tick.patience core.new carrier.new }
     ensures moves { Moves P.ConnectionProvider tick.patience tick.now core.old core.new carrier.old carrier.new }
     ensures moment { core.new.moment ≡ tick.now }
-    ensures told { IfSome result (ReplyTold (terms_of tick.patience core.old) (P.log carrier.new.provider) (begun_at core.old r)) }
+    ensures told { IfSome result (ReplyTold (terms_of core.old) (P.log carrier.new.provider) (begun_at core.old r)) }
     ensures falls { IfNone result (rank tick.patience core.new < rank tick.patience core.old) }
     ensures keeps { rank tick.patience core.new ≤ rank tick.patience core.old }
 {
@@ -256,7 +260,7 @@ fn answer_of<P: ConnectionProvider>(
 
 /// A question as it begins: under way, or refused.
 pub fn begun(alloc: Global, core: &mut RecursorCore, question: &Question, now: u64) -> Played
-    ensures derived { (patience : ℕ) (log : Log) → core.old.moment ≤ now → Derived patience core.old log → Derived patience core.new log }
+    ensures derived { (log : Log) → core.old.moment ≤ now → Derived core.old log → Derived core.new log }
     ensures setting { core.new.setting ≡ core.old.setting }
     ensures moment { core.old.moment ≤ now → (core.new.moment ≡ core.old.moment) ⊎ (core.new.moment ≡ now) }
     ensures others { (k : ℕ) (b : Begun) → begun_at core.old k ≡ Some b → begun_at core.new k ≡ Some b }
@@ -308,8 +312,8 @@ pub fn play<P: ConnectionProvider>(
     ensures holds { Holds P.ConnectionProvider tick.patience core.new carrier.new }
     ensures moves { Moves P.ConnectionProvider tick.patience tick.now core.old core.new carrier.old carrier.new }
     ensures moment { (core.new.moment ≡ core.old.moment) ⊎ (core.new.moment ≡ tick.now) }
-    ensures plays { (start : ℕ) (turns rest : List Turn) (questions : List Question) → PlaysHold tick.patience core.old (P.log carrier.old.provider) start turns rest questions plays.old.items
-        → PlaysHold tick.patience core.new (P.log carrier.new.provider) start turns rest questions plays.new.items }
+    ensures plays { (start : ℕ) (turns rest : List Turn) (questions : List Question) → PlaysHold core.old (P.log carrier.old.provider) start turns rest questions plays.old.items
+        → PlaysHold core.new (P.log carrier.new.provider) start turns rest questions plays.new.items }
     ensures falls { MatchBool result (work tick.patience core.new plays.new.items < work tick.patience core.old plays.old.items) (work tick.patience core.new plays.new.items ≤ work tick.patience core.old plays.old.items) }
     ensures count { vec_len plays.new ≡ vec_len plays.old }
 {

@@ -1,17 +1,19 @@
 //! The way of one question: from the roots down the zone cuts to the servers of its name, and the
-//! question itself at them (RFC 1034 section 5.3.3).
-ghost use Rattle.std.specs.Prelude.{◌≡◌, ◌<◌, ◌≤◌, ◌+◌, ◌∷◌, [], ℕ, true, length, Ok, Err, Some, None, IfOk, OnOk};
+//! question itself at them; at each step what the cache has comes first (RFC 1034 section 5.3.3).
+ghost use Rattle.std.specs.Prelude.{◌≡◌, ◌<◌, ◌≤◌, ◌+◌, ◌∷◌, [], ℕ, true, length, Ok, Err, Some, None, IfOk, IfSome, IsSome, OnOk, OnErr};
 ghost use Rattle.dns_core.specs.Log.{Log};
-ghost use Rattle.resolver_settings.specs.Access.{Access};
 ghost use Rattle.resolution.specs.Names.{walk};
 ghost use Rattle.recursor_core.specs.Replies.{Terms, ReplyHolds};
 ghost use Rattle.recursor_core.specs.Tried.{machine_timer};
 ghost use Rattle.recursor_core.specs.Lookup.{send_want};
-ghost use Rattle.recursor_core.specs.Walk.{lookups_after, next_stage, query_of, made_negative, told_negative, ends_walk, IsCandidate, steps, Goes};
-ghost use Rattle.recursor_core.specs.Derived.{Counts, FoundHolds, WayHolds, WalkHolds, WalkComes, LeavesBehind};
+ghost use Rattle.recursor_core.specs.Walk.{lookups_after, next_stage, query_of, made_negative, told_negative, ends_walk, IsCandidate, steps, Goes, Recalls};
+ghost use Rattle.recursor_core.specs.Counted.{Stands, Answers, IsRecalled, may_answer};
+ghost use Rattle.recursor_core.specs.Remembered.{response_in, telling_of_walk, remembered};
+ghost use Rattle.recursor_core.specs.Derived.{FoundHolds, WayHolds, WalkHolds, WalkComes, LeavesBehind};
 
+use crate::counted::{Counted, kept_of};
 use crate::error::{AuthorityData, RecursorError, WalkCause};
-use crate::lookup::{Found, Lookup, Want};
+use crate::lookup::{Found, Lookup, Send, Want};
 use crate::reply::Reply;
 use dns_core::{
     DnsClass, Ips, Message, Name, NetError, NoMemory, NoRecords, Numbers, Query, Question,
@@ -19,13 +21,16 @@ use dns_core::{
 };
 use recursor_walk::{addresses, is_delegation, verdict_of};
 use resolution::{Cause, Verdict};
+use resolver_cache::ResponseCache;
 use resolver_settings::AccessControlSet;
 use std::alloc::Global;
 use std::mem;
 
-/// What is asked now: the NS records of the last labels of the name, or the question itself.
+/// What is looked for now: the question itself, in the cache alone; the NS records of the last labels
+/// of the name; or the question itself, at the servers of the zone too.
 #[derive(Clone, Copy, Debug)]
 pub enum Stage {
+    Start,
     Candidate { labels: usize },
     Last,
 }
@@ -65,7 +70,22 @@ fn stage_after(total: usize, labels: usize) -> Stage
     }
 }
 
-/// What is asked at a stage.
+/// As what a message is kept that was told by a server of the zone.
+fn response_in(
+    alloc: Global,
+    message: &Message,
+    zone: &Name,
+) -> Result<Option<Result<Message, NetError>>, NoMemory>
+    ensures { IfOk result (λ response. response ≡ response_in zone.now message.now) }
+{
+    let copy = message.try_clone(alloc)?;
+    match verdict_of(alloc, copy, zone)? {
+        Ok(verdict) => Ok(kept_of(verdict)),
+        Err(_) => Ok(None),
+    }
+}
+
+/// What is looked for at a stage.
 fn query_at(alloc: Global, name: &Name, query: &Query, stage: Stage) -> Result<Query, NoMemory>
     ensures { IfOk result (λ asked. asked ≡ query_of name.now query.now stage) }
 {
@@ -75,6 +95,7 @@ fn query_at(alloc: Global, name: &Name, query: &Query, stage: Stage) -> Result<Q
             query_type: RecordType::NS,
             query_class: DnsClass::IN,
         }),
+        Stage::Start => query.try_clone(alloc),
         Stage::Last => query.try_clone(alloc),
     }
 }
@@ -146,26 +167,148 @@ fn reply_by(
     })
 }
 
+/// Answers a question with what counts for it, less the DNSSEC records that it does not want.
+fn answer_with(alloc: Global, question: &Question, counted: Counted) -> Result<Reply, NoMemory>
+    ensures { (terms : Terms) (greatest t0 : ℕ) (log : Log) → Answers terms greatest t0 log question.now.query counted.entry counted.verdict
+        → IfOk result (ReplyHolds terms machine_timer log t0 question.now) }
+{
+    let Counted { entry, verdict } = counted;
+    match verdict {
+        Verdict::Pos(kept) => reply_by(alloc, entry, Ok(strip(kept, question.dnssec_ok))),
+        Verdict::Neg(found) => reply_by(alloc, entry, Err(told_negative(found))),
+        Verdict::Made(cause) => {
+            let denial = made_negative(alloc, &question.query, cause)?;
+            reply_by(alloc, entry, Err(denial))
+        }
+    }
+}
+
 impl Walk {
     /// A walk from the roots, which no filter denies, to the name of a question, which is fully
     /// qualified.
     pub fn new(alloc: Global, question: &Question, roots: &Ips) -> Result<Walk, NoMemory>
         requires { question.now.query.name.fqdn ≡ true }
-        ensures { (filter : Access) (patience greatest moment t0 : ℕ) (log : Log) → 0 < length roots.now
-            → IfOk result (WalkHolds (record { roots = roots.now; server_filter = filter; patience = patience }) greatest moment t0 log question.now.query) }
+        ensures { (terms : Terms) (greatest moment t0 : ℕ) (log : Log) → terms.roots ≡ roots.now → 0 < length roots.now
+            → IfOk result (WalkHolds terms greatest moment t0 log question.now.query) }
     {
         let name = walked_name(alloc, &question.query)?;
-        let stage = stage_after(name.labels().len(), 0);
-        let query = query_at(alloc, &name, &question.query, stage)?;
+        let query = question.query.try_clone(alloc)?;
         let lookup = Lookup::new(alloc, query, roots.items())?;
         let servers = roots.try_clone(alloc)?;
         Ok(Walk {
             name,
             zone: Name::root(alloc),
             servers,
-            stage,
+            stage: Stage::Start,
             lookup,
         })
+    }
+
+    /// Writes what the present lookup was just told into the cache, where it is kept.
+    pub fn remember(&self, alloc: Global, cache: &mut ResponseCache) -> Result<(), NoMemory>
+        ensures ok { OnOk result (cache.new ≡ remembered cache.old (telling_of_walk self.now)) }
+        ensures err { OnErr result (cache.new ≡ cache.old) }
+    {
+        if matches!(self.stage, Stage::Start) {
+            return Ok(());
+        }
+        let Send::Told {
+            entry,
+            at,
+            message,
+            ..
+        } = &self.lookup.send
+        else {
+            return Ok(());
+        };
+        let Some(response) = response_in(alloc, message, &self.zone)? else {
+            return Ok(());
+        };
+        let query = self.lookup.query.try_clone(alloc)?;
+        let clamp = query.query_type == RecordType::NS;
+        cache.upsert_told(query, response, *entry, *at, clamp)
+    }
+
+    /// Goes by what the cache has for the present lookup; where it has nothing that serves, the servers
+    /// are to be asked, or at the start the way is to be gone. A reply where the walk ends with it.
+    pub fn recall(
+        &mut self,
+        alloc: Global,
+        question: &Question,
+        filter: &AccessControlSet,
+        counted: Option<Counted>,
+    ) -> Result<Option<Reply>, NoMemory>
+        requires { send_want self.old.lookup.send ≡ Want.Recall }
+        ensures falls { Goes self.old self.new result }
+        ensures holds { (terms : Terms) (greatest moment t0 : ℕ) (log : Log) → terms.server_filter ≡ filter.now
+            → IfSome counted (IsRecalled terms greatest t0 log self.old.lookup.query)
+            → WalkHolds terms greatest moment t0 log question.now.query self.old
+            → IfOk result (WalkComes terms greatest moment t0 log question.now self.new) }
+        ensures answers { Recalls self.old counted result }
+    {
+        let Some(counted) = counted else {
+            return self.miss(alloc, question);
+        };
+        match self.stage {
+            Stage::Candidate { .. } => self.heed_candidate(alloc, question, filter, counted),
+            _ => self.recall_answer(alloc, question, counted),
+        }
+    }
+
+    /// Answers with what the cache has for the question itself, where it may.
+    fn recall_answer(
+        &mut self,
+        alloc: Global,
+        question: &Question,
+        counted: Counted,
+    ) -> Result<Option<Reply>, NoMemory>
+        requires want { send_want self.old.lookup.send ≡ Want.Recall }
+        requires stage { IsCandidate self.old.stage → ⊥ }
+        ensures falls { Goes self.old self.new result }
+        ensures holds { (terms : Terms) (greatest moment t0 : ℕ) (log : Log)
+            → IsRecalled terms greatest t0 log self.old.lookup.query counted
+            → WalkHolds terms greatest moment t0 log question.now.query self.old
+            → IfOk result (WalkComes terms greatest moment t0 log question.now self.new) }
+        ensures answers { may_answer counted.verdict ≡ true → IfOk result IsSome }
+    {
+        if !counted.may_answer() {
+            return self.miss(alloc, question);
+        }
+        Ok(Some(answer_with(alloc, question, counted)?))
+    }
+
+    /// The cache has nothing that serves.
+    fn miss(&mut self, alloc: Global, question: &Question) -> Result<Option<Reply>, NoMemory>
+        requires { send_want self.old.lookup.send ≡ Want.Recall }
+        ensures falls { OnOk result (steps self.new < steps self.old) }
+        ensures none { IfOk result (λ reply. reply ≡ None) }
+        ensures holds { (terms : Terms) (greatest moment t0 : ℕ) (log : Log)
+            → WalkHolds terms greatest moment t0 log question.now.query self.old
+            → IfOk result (WalkComes terms greatest moment t0 log question.now self.new) }
+    {
+        match self.stage {
+            Stage::Start => self.set_out(alloc, question),
+            _ => {
+                self.lookup.begin();
+                Ok(None)
+            }
+        }
+    }
+
+    /// Goes from the root on to the first candidate.
+    fn set_out(&mut self, alloc: Global, question: &Question) -> Result<Option<Reply>, NoMemory>
+        requires { self.old.stage ≡ Stage.Start }
+        ensures falls { OnOk result (steps self.new < steps self.old) }
+        ensures none { IfOk result (λ reply. reply ≡ None) }
+        ensures holds { (terms : Terms) (greatest moment t0 : ℕ) (log : Log) → WayHolds terms greatest log question.now.query self.old
+            → IfOk result (WalkComes terms greatest moment t0 log question.now self.new) }
+    {
+        let stage = stage_after(self.name.labels().len(), 0);
+        let query = query_at(alloc, &self.name, &question.query, stage)?;
+        let lookup = Lookup::new(alloc, query, self.servers.items())?;
+        self.stage = stage;
+        self.lookup = lookup;
+        Ok(None)
     }
 
     /// The next server of the lookup is chosen; a reply where the walk ends for want of one.
@@ -206,6 +349,7 @@ impl Walk {
         }
     }
 
+    /// Goes by what a lookup came to. At the start there is none.
     fn conclude(
         &mut self,
         alloc: Global,
@@ -220,6 +364,7 @@ impl Walk {
             → IfOk result (WalkComes terms greatest moment t0 log question.now self.new) }
     {
         match self.stage {
+            Stage::Start => self.set_out(alloc, question),
             Stage::Candidate { .. } => self.conclude_candidate(alloc, question, filter, found),
             Stage::Last => {
                 let reply = self.conclude_last(alloc, question, found)?;
@@ -269,13 +414,37 @@ impl Walk {
             → IfOk result (WalkComes terms greatest moment t0 log question.now self.new) }
     {
         match verdict_of(alloc, message, &self.zone)? {
-            Ok(Verdict::Pos(kept)) => self.descend(alloc, question, filter, &kept),
-            Ok(Verdict::Neg(found)) => self.deny_candidate(alloc, question, entry, found),
-            Ok(Verdict::Made(cause)) => {
+            Ok(verdict) => {
+                let counted = Counted { entry, verdict };
+                self.heed_candidate(alloc, question, filter, counted)
+            }
+            Err(_) => self.advance(alloc, question),
+        }
+    }
+
+    /// Goes by what counts for the NS question of the present candidate.
+    fn heed_candidate(
+        &mut self,
+        alloc: Global,
+        question: &Question,
+        filter: &AccessControlSet,
+        counted: Counted,
+    ) -> Result<Option<Reply>, NoMemory>
+        requires { IsCandidate self.old.stage }
+        ensures falls { Goes self.old self.new result }
+        ensures holds { (terms : Terms) (greatest moment t0 : ℕ) (log : Log) → terms.server_filter ≡ filter.now
+            → WayHolds terms greatest log question.now.query self.old
+            → Stands terms greatest t0 log self.old.lookup.query counted.entry counted.verdict
+            → IfOk result (WalkComes terms greatest moment t0 log question.now self.new) }
+    {
+        let Counted { entry, verdict } = counted;
+        match verdict {
+            Verdict::Pos(kept) => self.descend(alloc, question, filter, &kept),
+            Verdict::Neg(found) => self.deny_candidate(alloc, question, entry, found),
+            Verdict::Made(cause) => {
                 let denial = made_negative(alloc, &self.lookup.query, cause)?;
                 Ok(Some(reply_by(alloc, entry, Err(denial))?))
             }
-            Err(_) => self.advance(alloc, question),
         }
     }
 
@@ -290,7 +459,7 @@ impl Walk {
         requires { IsCandidate self.old.stage }
         ensures falls { Goes self.old self.new result }
         ensures holds { (terms : Terms) (greatest moment t0 : ℕ) (log : Log) → WayHolds terms greatest log question.now.query self.old
-            → Counts terms greatest t0 log self.old.zone self.old.lookup.query entry (Verdict.Neg found)
+            → Stands terms greatest t0 log self.old.lookup.query entry (Verdict.Neg found)
             → IfOk result (WalkComes terms greatest moment t0 log question.now self.new) }
     {
         if ends_walk(&found) {
@@ -311,7 +480,7 @@ impl Walk {
         ensures falls { Goes self.old self.new result }
         ensures holds { (terms : Terms) (greatest moment t0 entry : ℕ) (log : Log) → terms.server_filter ≡ filter.now
             → WayHolds terms greatest log question.now.query self.old
-            → Counts terms greatest t0 log self.old.zone self.old.lookup.query entry (Verdict.Pos kept.now)
+            → Stands terms greatest t0 log self.old.lookup.query entry (Verdict.Pos kept.now)
             → IfOk result (WalkComes terms greatest moment t0 log question.now self.new) }
     {
         if !is_delegation(kept, &self.lookup.query.name) {
@@ -383,12 +552,7 @@ impl Walk {
             → IfOk result (ReplyHolds terms machine_timer log t0 question.now) }
     {
         match verdict_of(alloc, message, &self.zone)? {
-            Ok(Verdict::Pos(kept)) => reply_by(alloc, entry, Ok(strip(kept, question.dnssec_ok))),
-            Ok(Verdict::Neg(found)) => reply_by(alloc, entry, Err(told_negative(found))),
-            Ok(Verdict::Made(cause)) => {
-                let denial = made_negative(alloc, &self.lookup.query, cause)?;
-                reply_by(alloc, entry, Err(denial))
-            }
+            Ok(verdict) => answer_with(alloc, question, Counted { entry, verdict }),
             Err(error) => Ok(self.failed(alloc, error)),
         }
     }

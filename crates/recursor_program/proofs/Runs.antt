@@ -1,20 +1,22 @@
 -- What a run over a script says, once its log is taken from the script.
-use Rattle.std.proofs.Common.{◌≡◌, ℕ, List, sym, subst}
+use Rattle.std.proofs.Common.{◌≡◌, ℕ, min, List, sym, subst}
 use Rattle.std.specs.declared.net.ip_addr.IpAddr.{IpAddr}
 use Rattle.dns_core.specs.Log.{log_of}
 use Rattle.dns_core.specs.declared.log.LogEntry.{LogEntry}
 use Rattle.dns_core.specs.declared.request.Question.{Question}
 use Rattle.dns_core.specs.declared.request.Turn.{Turn}
 use Rattle.resolver_settings.specs.Access.{Access}
+use Rattle.resolver_settings.specs.Ttl.{TtlTable}
 use Rattle.resolution.specs.Asking.{AsksServers}
 use Rattle.recursor_core.specs.Replies.{Terms, given_of}
 use Rattle.recursor_core.specs.Standing.{Standing, run_terms, RepliesHold}
 use Rattle.recursor_core.specs.declared.reply.Reply.{Reply}
 
--- the terms of a run are those of its recursor
-pub terms-are : {P : Type 0} (patience : ℕ) (r : Standing P) (roots : List IpAddr) (filter : Access) → r.roots ≡ roots → r.server_filter ≡ filter
-    → run_terms patience r ≡ record { roots = roots; server_filter = filter; patience = patience }
-terms-are patience r roots filter a b = λ i. record { roots = a i; server_filter = b i; patience = patience }
+-- the terms of a first run are those of its recursor
+pub terms-are : {P : Type 0} (patience least : ℕ) (r : Standing P) (roots : List IpAddr) (filter : Access) (lives : TtlTable) → r.roots ≡ roots
+    → r.server_filter ≡ filter → r.lives ≡ lives → min r.patience patience ≡ least
+    → run_terms patience r ≡ record { roots = roots; server_filter = filter; lives = lives; patience = least }
+terms-are patience least r roots filter lives a b l p = λ i. record { roots = a i; server_filter = b i; lives = l i; patience = p i }
 
 pub asks-of : (terms given : Terms) (log told : List LogEntry) → given ≡ terms → log ≡ told → AsksServers (given_of given) (log_of told) → AsksServers (given_of terms) (log_of log)
 asks-of terms given log told r l h =

@@ -46,7 +46,7 @@ script_of (upstream.Script s) = s
 
 -- a new recursor over a script, with these options
 abbrev pub IsNewOver : List IpAddr → RecursorOptions → Script → Standing Upstream → Type 0
-IsNewOver roots options script r = (r.provider.script ≡ script) × (r.roots ≡ roots) × (r.server_filter ≡ server_filter_of options) × (r.moment ≡ 0)
+IsNewOver roots options script r = (r.provider.script ≡ script) × (r.roots ≡ roots) × (r.server_filter ≡ server_filter_of options) × (r.moment ≡ 0) × (r.lives ≡ options.cache_policy) × (r.patience ≡ 4294967295)
 
 -- the line tells a message, and not a truncated one
 abbrev pub is_whole_line : ScriptLine → Bool
@@ -58,13 +58,13 @@ is_whole_line (line.Refuse ip protocol) = false
 abbrev pub is_whole_script : Script → Bool
 is_whole_script s = list_all is_whole_line s.lines
 
--- the roots of a scenario, the filter of other servers that its options say, and its patience
+-- the roots of a scenario, the filter of other servers and the bounds of lives that its options say, and its patience
 abbrev pub terms_of : Scenario → Terms
-terms_of s = record { roots = s.roots; server_filter = server_filter_of s.options; patience = s.patience }
+terms_of s = record { roots = s.roots; server_filter = server_filter_of s.options; lives = s.options.cache_policy; patience = s.patience }
 
 -- A run of a scenario: its log is one that the script gives, and each question has its reply, in order. Only servers were asked,
 -- by what was told before, each a root or at an address that is not denied. A reply with a message is what counts of a response that a server of a zone at or above the name told since the question
--- began; the walk went down to this zone. Each error has its cause.
+-- began, or within its life before that; the walk went down to this zone. Each error has its cause.
 pub record Ran (s : Scenario) (t : Transcript) : Type 0 where
   pub gives : Gives (script_of s.upstream) t.log
   pub answered : length t.replies ≡ length s.questions

@@ -1,5 +1,5 @@
 //! The program over any source and sink.
-ghost use Rattle.std.specs.Prelude.{◌≡◌, ◌≢◌, false, IfOk, IfErr, IfSome, IsTrue};
+ghost use Rattle.std.specs.Prelude.{min, ◌≡◌, ◌≢◌, false, IfOk, IfErr, IfSome, IsTrue};
 ghost use Rattle.std.specs.Io.KnownBytes.{IsAtEnd, Appends};
 ghost use Rattle.dns_core.specs.Faults.{Rose};
 ghost use Rattle.recursor_world.specs.Script.{Gives, is_qualified_script};
@@ -67,6 +67,14 @@ fn script_from(upstream: Upstream) -> Script
     }
 }
 
+/// A patience, which a new recursor does not lower: it has 32 bits.
+fn first_patience(patience: u32) -> u32
+    ensures same { result ≡ patience }
+    ensures first { min 4294967295 patience ≡ patience }
+{
+    patience
+}
+
 /// Answers the questions of a scenario over its script.
 fn ran(alloc: Global, scenario: Scenario) -> Result<Transcript, NoMemory>
     requires qualified { IsTrue (is_qualified_script (script_of scenario.upstream)) }
@@ -88,7 +96,7 @@ fn ran(alloc: Global, scenario: Scenario) -> Result<Transcript, NoMemory>
         &mut recursor,
         questions.items(),
         turns.items(),
-        patience,
+        first_patience(patience),
     )?;
     let log = log_of(alloc, recursor.into_provider())?;
     Ok(Transcript {

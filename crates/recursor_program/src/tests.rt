@@ -5,7 +5,9 @@ use crate::status::Status;
 use dns_core::{Items, MemorySink, MemorySource, Numbers, Text};
 use recursor_core::{MessageKind, Recursor, RecursorError, RecursorOptions};
 use recursor_world::{Script, ScriptUpstream};
+use resolver_settings::TtlConfig;
 use std::alloc::Global;
+use std::net::{IpAddr, Ipv4Addr};
 use std::test::Fail;
 
 const HEAD: &str = "recursor 1\nroot 11.0.0.1\npatience 3\ntold script\n";
@@ -50,6 +52,15 @@ const ANSWER_OF_SIX: &str =
     "reply 11.0.0.3 udp example.com. AAAA 0 message NOERROR aa 1 0 0\nexample.com. 300 IN AAAA 2001:db8::1\n";
 
 const TAIL: &str = "question example.com. A plain\nturn 1 0\nend\n";
+
+const FOUR_TIMES: &str =
+    "question example.com. A plain\nquestion example.com. A plain\nquestion example.com. A plain\nquestion example.com. A plain\nturn 1 0\nturn 2 1000000\nturn 3 300000000\nturn 4 301000000\nend\n";
+
+const BRIEF: &str =
+    "reply 11.0.0.3 udp example.com. A 0 message NOERROR aa 1 0 0\nexample.com. 0 IN A 93.184.215.14\n";
+
+const THREE_TIMES: &str =
+    "question example.com. A plain\nquestion example.com. A plain\nquestion EXAMPLE.com. A plain\nturn 1 0\nturn 2 0\nturn 3 1\nend\n";
 
 fn text(alloc: Global, parts: &[&str]) -> Result<Text, Fail> {
     let mut whole = String::new(alloc);
@@ -330,6 +341,61 @@ fn a_source_or_a_sink_that_fails_is_told(rt: HostRuntime) -> Result<(), Fail> {
     let mut sink = MemorySink::new(alloc, Items::new(first));
     let status = run(alloc, words.as_slice(), &mut source, &mut sink);
     assert_eq!(rt; status, Status::WriteFault);
+    Ok(())
+}
+
+#[test]
+fn an_answer_is_kept_for_its_life(rt: HostRuntime) -> Result<(), Fail> {
+    let alloc = rt.alloc();
+    let (status, written) = outcome(alloc, &[HEAD, COM, EXAMPLE, ANSWER, FOUR_TIMES])?;
+    assert_eq!(rt; status, Status::Done);
+    assert!(rt; written.starts_with(b"log 14\n1 opened 11.0.0.1 udp 0\n"));
+    let end =
+        "13 asked 11.0.0.3 udp example.com. A 301000000\n14 told 13 301000000 message NOERROR aa 1 0 0\nexample.com. 300 IN A 93.184.215.14\nreply 1 message NOERROR aa 1 0 0\nexample.com. 300 IN A 93.184.215.14\nreply 2 message NOERROR aa 1 0 0\nexample.com. 299 IN A 93.184.215.14\nreply 3 message NOERROR aa 1 0 0\nexample.com. 0 IN A 93.184.215.14\nreply 4 message NOERROR aa 1 0 0\nexample.com. 300 IN A 93.184.215.14\nend\n";
+    assert!(rt; ends_with(&written, end));
+    Ok(())
+}
+
+#[test]
+fn an_answer_of_no_life_is_current_at_its_moment(rt: HostRuntime) -> Result<(), Fail> {
+    let alloc = rt.alloc();
+    let (status, written) = outcome(alloc, &[HEAD, COM, EXAMPLE, BRIEF, THREE_TIMES])?;
+    assert_eq!(rt; status, Status::Done);
+    assert!(rt; written.starts_with(b"log 14\n1 opened 11.0.0.1 udp 0\n"));
+    let end =
+        "13 asked 11.0.0.3 udp EXAMPLE.com. A 1\n14 told 13 1 message NOERROR aa 1 0 0\nexample.com. 0 IN A 93.184.215.14\nreply 1 message NOERROR aa 1 0 0\nexample.com. 0 IN A 93.184.215.14\nreply 2 message NOERROR aa 1 0 0\nexample.com. 0 IN A 93.184.215.14\nreply 3 message NOERROR aa 1 0 0\nexample.com. 0 IN A 93.184.215.14\nend\n";
+    assert!(rt; ends_with(&written, end));
+    Ok(())
+}
+
+#[test]
+fn a_cache_of_size_0_keeps_nothing(rt: HostRuntime) -> Result<(), Fail> {
+    let alloc = rt.alloc();
+    let head = "recursor 1\nroot 11.0.0.1\noption response_cache_size 0\npatience 3\ntold script\n";
+    let (status, written) = outcome(alloc, &[head, COM, EXAMPLE, ANSWER, FOUR_TIMES])?;
+    assert_eq!(rt; status, Status::Done);
+    assert!(rt; written.starts_with(b"log 30\n1 opened 11.0.0.1 udp 0\n"));
+    let end = "reply 4 message NOERROR aa 1 0 0\nexample.com. 300 IN A 93.184.215.14\nend\n";
+    assert!(rt; ends_with(&written, end));
+    Ok(())
+}
+
+#[test]
+fn reversed_bounds_are_refused(rt: HostRuntime) -> Result<(), Fail> {
+    let alloc = rt.alloc();
+    let script = Script {
+        lines: Items::empty(alloc),
+    };
+    let upstream = ScriptUpstream::new(alloc, script)?;
+    let mut options = RecursorOptions::standard(alloc)?;
+    let mut bounds = options.cache_policy.general();
+    bounds.negative_min = 86_401;
+    options.cache_policy = TtlConfig::new(alloc, bounds);
+    let root = IpAddr::V4(Ipv4Addr::new(11, 0, 0, 1));
+    match Recursor::with_options(alloc, &[root], options, upstream) {
+        Err(error) => { assert!(rt; error == RecursorError::Message(MessageKind::ReversedTtl)) }
+        Ok(_) => assert!(rt; false),
+    }
     Ok(())
 }
 

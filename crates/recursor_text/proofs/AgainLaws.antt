@@ -1,7 +1,7 @@
 -- The lines of a scenario are taken again.
-use Rattle.std.proofs.Common.{◌≡◌, ℕ, suc, ◌+◌, ◌-◌, ◌<◌, ◌≤◌, true, false, ltb, List, [], ◌∷◌, ◌++◌, length, map, Option, Some, None, Ok, Err, refl, sym, ap, subst, ◌∙◌, arith, append_assoc}
+use Rattle.std.proofs.Common.{◌≡◌, ℕ, suc, ◌+◌, ◌-◌, ◌<◌, ◌≤◌, true, false, ltb, leb, List, [], ◌∷◌, ◌++◌, length, map, Option, Some, None, Ok, Err, refl, sym, ap, subst, ◌∙◌, arith, append_assoc}
 use Rattle.std.specs.List.{flat_map, AllByRecursion}
-use Rattle.std.proofs.lemmas.Bool.{lt-ltb, ne_eqb}
+use Rattle.std.proofs.lemmas.Bool.{lt-ltb, le-leb, ne_eqb}
 use Rattle.std.proofs.lemmas.List.{append-nil, length_push}
 use Rattle.std.specs.declared.net.ip_addr.IpAddr.{IpAddr}
 use Rattle.dns_core.specs.Name.{DomainName}
@@ -25,12 +25,13 @@ use Rattle.recursor_text.specs.declared.reading.draft.Stage.TheVariants.{Headed,
 use Rattle.recursor_text.specs.declared.reading.draft.Draft.{Draft}
 use Rattle.recursor_text.specs.Numbers.{◌>>=◌}
 use Rattle.recursor_text.specs.RecordLines.{class_in}
-use Rattle.recursor_text.specs.Steps.{start, is_settled, rule_of, settle, add, put, taken_at, taken, scenario_of}
-use Rattle.recursor_text.specs.Spelling.{spelled, record_text, record_texts, script_lines, root_line, option_line, question_line, turn_line, rules_of, to_roots, to_options, to_patience, to_told, to_rules, to_questions, to_turns, scenario_lines, patience_words, told_words, end_words, options_with, option_rank, last_rank, RiseAbove, most_roots, most_questions, most_turns, IsAddress, IsRecord, IsRule, IsScriptLine, IsQuestion, IsTurn, IsOption, IsScenario}
+use Rattle.recursor_text.specs.Steps.{start, may_turn, may_end, is_settled, rule_of, settle, add, put, taken_at, taken, scenario_of}
+use Rattle.recursor_text.specs.Spelling.{spelled, record_text, record_texts, script_lines, root_line, option_line, question_line, turn_line, rules_of, to_roots, to_options, to_patience, to_told, to_rules, to_questions, to_turns, scenario_lines, patience_words, told_words, end_words, options_with, option_rank, last_rank, RiseAbove, most_roots, most_questions, most_turns, IsAddress, IsRecord, IsRule, IsScriptLine, IsQuestion, IsTurn, NoneFalls, last_moment, IsOption, IsScenario}
 use Rattle.recursor_text.proofs.Binds.{bind_some}
 use Rattle.recursor_text.proofs.LineLaws.{form_words, IsBare, IsForm, form_again}
 use Rattle.recursor_text.proofs.OptionLaws.{last_push}
 use Rattle.recursor_text.proofs.RecordLaws.{record_again}
+use Rattle.recursor_text.proofs.TurnLaws.{moment_push}
 
 abbrev pub run : Draft → List (List ℕ) → Option Draft
 run d [] = Some d
@@ -211,43 +212,66 @@ rules_again roots written patience front (r ∷ rules) all =
 
 -- ---- questions and turns
 
-abbrev asking : Stage → List OptionLine → Scenario → List Question → Draft
-asking s written sc questions = record { stage = s; roots = sc.roots; written = written; patience = sc.patience; rules = rules_of sc.upstream; pending = None; questions = questions; turns = [] }
+abbrev stage_asked : List Question → Stage
+stage_asked [] = Scripted
+stage_asked (q ∷ qs) = Asked
 
-asked_again : (written : List OptionLine) (sc : Scenario) (front qs : List Question) → length front + length qs ≤ most_questions → AllByRecursion IsQuestion qs
-    → run (asking Asked written sc front) (map question_line qs) ≡ Some (asking Asked written sc (front ++ qs))
-asked_again written sc front [] few all = ap (λ (l : List Question). Some (asking Asked written sc l)) (sym (append-nil front))
-asked_again written sc front (q ∷ qs) few all =
-    let room : ltb (length front) most_questions ≡ true = lt-ltb _ _ (omega arith) in
-    takes_form (asking Asked written sc front) (asking Asked written sc (front ++ q ∷ [])) (form.Question q) (map question_line qs) refl all.0 (rw room refl)
-    ∙ asked_again written sc (front ++ q ∷ []) qs (omega (arith, length_push front q)) all.1
-    ∙ ap (λ (l : List Question). Some (asking Asked written sc l)) (append_assoc front (q ∷ []) qs)
+abbrev asking : List OptionLine → Scenario → List Question → Draft
+asking written sc questions = record { stage = stage_asked questions; roots = sc.roots; written = written; patience = sc.patience; rules = rules_of sc.upstream; pending = None; questions = questions; turns = [] }
 
-questions_again : (written : List OptionLine) (sc : Scenario) (qs : List Question) → 0 < length qs → length qs ≤ most_questions → AllByRecursion IsQuestion qs
-    → run (asking Scripted written sc []) (map question_line qs) ≡ Some (asking Asked written sc qs)
-questions_again written sc [] some few all = absurd (omega arith)
-questions_again written sc (q ∷ qs) some few all =
-    takes_form (asking Scripted written sc []) (asking Asked written sc (q ∷ [])) (form.Question q) (map question_line qs) refl all.0 refl
-    ∙ asked_again written sc (q ∷ []) qs (omega arith) all.1
+puts_question : (written : List OptionLine) (sc : Scenario) (front : List Question) (q : Question) → length front < most_questions → put (asking written sc front) (form.Question q) ≡ Some (asking written sc (front ++ q ∷ []))
+puts_question written sc [] q lt = refl
+puts_question written sc (p ∷ ps) q lt = let room : ltb (length (p ∷ ps)) most_questions ≡ true = lt-ltb _ _ lt in rw room refl
 
-abbrev turning : Stage → List OptionLine → Scenario → List Turn → Draft
-turning s written sc turns = record { stage = s; roots = sc.roots; written = written; patience = sc.patience; rules = rules_of sc.upstream; pending = None; questions = sc.questions; turns = turns }
+questions_again : (written : List OptionLine) (sc : Scenario) (front qs : List Question) → length front + length qs ≤ most_questions → AllByRecursion IsQuestion qs
+    → run (asking written sc front) (map question_line qs) ≡ Some (asking written sc (front ++ qs))
+questions_again written sc front [] few all = ap (λ (l : List Question). Some (asking written sc l)) (sym (append-nil front))
+questions_again written sc front (q ∷ qs) few all =
+    takes_form (asking written sc front) (asking written sc (front ++ q ∷ [])) (form.Question q) (map question_line qs) refl all.0 (puts_question written sc front q (omega arith))
+    ∙ questions_again written sc (front ++ q ∷ []) qs (omega (arith, length_push front q)) all.1
+    ∙ ap (λ (l : List Question). Some (asking written sc l)) (append_assoc front (q ∷ []) qs)
 
-turned_again : (written : List OptionLine) (sc : Scenario) (front ts : List Turn) → length front + length ts ≤ most_turns → AllByRecursion IsTurn ts
-    → run (turning Turned written sc front) (map turn_line ts) ≡ Some (turning Turned written sc (front ++ ts))
-turned_again written sc front [] few all = ap (λ (l : List Turn). Some (turning Turned written sc l)) (sym (append-nil front))
-turned_again written sc front (t ∷ ts) few all =
-    let room : ltb (length front) most_turns ≡ true = lt-ltb _ _ (omega arith) in
-    takes_form (turning Turned written sc front) (turning Turned written sc (front ++ t ∷ [])) (form.Turn t) (map turn_line ts) refl all.0 (rw room refl)
-    ∙ turned_again written sc (front ++ t ∷ []) ts (omega (arith, length_push front t)) all.1
-    ∙ ap (λ (l : List Turn). Some (turning Turned written sc l)) (append_assoc front (t ∷ []) ts)
+-- the stage after turns that follow a stage
+abbrev stage_turned : Stage → List Turn → Stage
+stage_turned s [] = s
+stage_turned s (t ∷ ts) = Turned
 
-turns_again : (written : List OptionLine) (sc : Scenario) (ts : List Turn) → 0 < length ts → length ts ≤ most_turns → AllByRecursion IsTurn ts
-    → run (turning Asked written sc []) (map turn_line ts) ≡ Some (turning Turned written sc ts)
-turns_again written sc [] some few all = absurd (omega arith)
-turns_again written sc (t ∷ ts) some few all =
-    takes_form (turning Asked written sc []) (turning Turned written sc (t ∷ [])) (form.Turn t) (map turn_line ts) refl all.0 refl
-    ∙ turned_again written sc (t ∷ []) ts (omega arith) all.1
+turned_push : (s : Stage) (ts : List Turn) (t : Turn) → stage_turned s (ts ++ t ∷ []) ≡ Turned
+turned_push s [] t = refl
+turned_push s (u ∷ ts) t = refl
+
+turns_may : (qs : List Question) (ts : List Turn) → may_turn (stage_turned (stage_asked qs) ts) ≡ true
+turns_may [] [] = refl
+turns_may (q ∷ qs) [] = refl
+turns_may qs (t ∷ ts) = refl
+
+end_may : (qs : List Question) (ts : List Turn) → may_end (stage_turned (stage_asked qs) ts) ≡ true
+end_may [] [] = refl
+end_may (q ∷ qs) [] = refl
+end_may qs (t ∷ ts) = refl
+
+abbrev turning_at : Stage → List OptionLine → Scenario → List Turn → Draft
+turning_at s written sc turns = record { stage = s; roots = sc.roots; written = written; patience = sc.patience; rules = rules_of sc.upstream; pending = None; questions = sc.questions; turns = turns }
+
+abbrev turning : List OptionLine → Scenario → List Turn → Draft
+turning written sc turns = turning_at (stage_turned (stage_asked sc.questions) turns) written sc turns
+
+puts_turn : (written : List OptionLine) (sc : Scenario) (front : List Turn) (t : Turn) → length front < most_turns → last_moment 0 front ≤ t.moment → put (turning written sc front) (form.Turn t) ≡ Some (turning written sc (front ++ t ∷ []))
+puts_turn written sc front t lt le =
+    let room : ltb (length front) most_turns ≡ true = lt-ltb _ _ lt in
+    let rises : leb (last_moment 0 front) t.moment ≡ true = le-leb _ _ le in
+    rw (turns_may sc.questions front, room, rises) (ap (λ (s : Stage). Some (turning_at s written sc (front ++ t ∷ []))) (sym (turned_push (stage_asked sc.questions) front t)))
+
+turns_again : (written : List OptionLine) (sc : Scenario) (front ts : List Turn) → length front + length ts ≤ most_turns → AllByRecursion IsTurn ts → NoneFalls (last_moment 0 front) ts
+    → run (turning written sc front) (map turn_line ts) ≡ Some (turning written sc (front ++ ts))
+turns_again written sc front [] few all timed = ap (λ (l : List Turn). Some (turning written sc l)) (sym (append-nil front))
+turns_again written sc front (t ∷ ts) few all timed =
+    takes_form (turning written sc front) (turning written sc (front ++ t ∷ [])) (form.Turn t) (map turn_line ts) refl all.0 (puts_turn written sc front t (omega arith) timed.0)
+    ∙ turns_again written sc (front ++ t ∷ []) ts (omega (arith, length_push front t)) all.1 (subst (λ (n : ℕ). NoneFalls n ts) (sym (moment_push 0 front t)) timed.1)
+    ∙ ap (λ (l : List Turn). Some (turning written sc l)) (append_assoc front (t ∷ []) ts)
+
+puts_end : (written : List OptionLine) (sc : Scenario) → put (turning written sc sc.turns) form.End ≡ Some (turning_at Ended written sc sc.turns)
+puts_end written sc = rw (end_may sc.questions sc.turns) refl
 
 -- ---- all of it
 
@@ -261,7 +285,7 @@ first_root (ip ∷ roots) some few all =
 upstream_is : (u : Upstream) → FromScript (record { lines = rules_of u }) ≡ u
 upstream_is (FromScript s) = refl
 
-scenario_is : (written : List OptionLine) (sc : Scenario) → sc.options ≡ options_with written → scenario_of (turning Ended written sc sc.turns) ≡ sc
+scenario_is : (written : List OptionLine) (sc : Scenario) → sc.options ≡ options_with written → scenario_of (turning_at Ended written sc sc.turns) ≡ sc
 scenario_is written sc is = λ i. record { roots = sc.roots; options = sym is i; patience = sc.patience; upstream = upstream_is sc.upstream i; questions = sc.questions; turns = sc.turns }
 
 pub run_again : (written : List OptionLine) (sc : Scenario) → IsScenario written sc → (d : Draft) × (run start (scenario_lines written sc) ≡ Some d) × (d.stage ≡ Ended) × (scenario_of d ≡ sc)
@@ -276,10 +300,10 @@ run_again written sc fits =
     ∙ takes_form rested (scripted sc.roots written sc.patience []) form.ToldScript [] refl tt refl in
     let r4 : run start (to_rules written sc) ≡ Some (scripted sc.roots written sc.patience (rules_of sc.upstream)) = run_append start (scripted sc.roots written sc.patience []) (to_told sc.roots written sc.patience) (flat_map script_lines (rules_of sc.upstream)) r3
     ∙ rules_again sc.roots written sc.patience [] (rules_of sc.upstream) fits.rules in
-    let r5 : run start (to_questions written sc) ≡ Some (turning Asked written sc []) = run_append start (scripted sc.roots written sc.patience (rules_of sc.upstream)) (to_rules written sc) (map question_line sc.questions) r4
-    ∙ questions_again written sc sc.questions fits.asked fits.few_questions fits.questions in
-    let r6 : run start (to_turns written sc) ≡ Some (turning Turned written sc sc.turns) = run_append start (turning Asked written sc []) (to_questions written sc) (map turn_line sc.turns) r5
-    ∙ turns_again written sc sc.turns fits.played fits.few_turns fits.turns in
-    let r7 : run start (scenario_lines written sc) ≡ Some (turning Ended written sc sc.turns) = run_append start (turning Turned written sc sc.turns) (to_turns written sc) (spelled end_words ∷ []) r6
-    ∙ takes_form (turning Turned written sc sc.turns) (turning Ended written sc sc.turns) form.End [] refl tt refl in
-    (turning Ended written sc sc.turns, r7, refl, scenario_is written sc fits.options)
+    let r5 : run start (to_questions written sc) ≡ Some (turning written sc []) = run_append start (scripted sc.roots written sc.patience (rules_of sc.upstream)) (to_rules written sc) (map question_line sc.questions) r4
+    ∙ questions_again written sc [] sc.questions (omega (arith, fits.few_questions)) fits.questions in
+    let r6 : run start (to_turns written sc) ≡ Some (turning written sc sc.turns) = run_append start (turning written sc []) (to_questions written sc) (map turn_line sc.turns) r5
+    ∙ turns_again written sc [] sc.turns (omega (arith, fits.few_turns)) fits.turns fits.timed in
+    let r7 : run start (scenario_lines written sc) ≡ Some (turning_at Ended written sc sc.turns) = run_append start (turning written sc sc.turns) (to_turns written sc) (spelled end_words ∷ []) r6
+    ∙ takes_form (turning written sc sc.turns) (turning_at Ended written sc sc.turns) form.End [] refl tt (puts_end written sc) in
+    (turning_at Ended written sc sc.turns, r7, refl, scenario_is written sc fits.options)

@@ -1,8 +1,8 @@
 -- What a draft holds is what the lines so far say.
-use Rattle.std.proofs.Common.{◌≡◌, ◌≢◌, ℕ, ◌<◌, ◌≤◌, true, false, ◌&&◌, eqb, ltb, List, [], ◌∷◌, ◌++◌, length, Option, Some, None, refl, sym, ap, subst, ◌∙◌, arith, inl, inr, append_assoc, lit<, lit≤}
+use Rattle.std.proofs.Common.{◌≡◌, ◌≢◌, ℕ, ◌<◌, ◌≤◌, true, false, ◌&&◌, eqb, ltb, leb, List, [], ◌∷◌, ◌++◌, length, Option, Some, None, refl, sym, ap, subst, ◌∙◌, arith, inl, inr, append_assoc, lit<, lit≤}
 use Rattle.std.specs.Prelude.{IfSome}
 use Rattle.std.specs.List.{AllByRecursion}
-use Rattle.std.proofs.lemmas.Bool.{and_parts, ltb-true, eqb-true, cases_Bool}
+use Rattle.std.proofs.lemmas.Bool.{and_parts, ltb-true, leb-true, eqb-true, cases_Bool}
 use Rattle.std.proofs.lemmas.List.{append-nil, map_push, flat_map_more, length_push}
 use Rattle.std.specs.declared.net.ip_addr.IpAddr.{IpAddr}
 use Rattle.dns_core.specs.declared.record.Record.{Record}
@@ -20,12 +20,13 @@ use Rattle.recursor_text.specs.Numbers.{◌>>=◌}
 use Rattle.recursor_text.specs.Lines.{form_of}
 use Rattle.recursor_text.specs.RecordLines.{record_of}
 use Rattle.recursor_text.specs.Steps.{may_head, may_root, may_option, may_wait, may_tell, may_reply, may_ask, may_turn, may_end, is_ended, start, is_settled, rule_of, settle, add, put, taken_at, taken, scenario_of}
-use Rattle.recursor_text.specs.Spelling.{head_words, patience_words, told_words, end_words, spelled, record_text, script_lines, root_line, option_line, question_line, turn_line, to_roots, to_options, to_patience, to_told, to_rules, to_questions, to_turns, scenario_lines, most_roots, most_questions, most_turns, IsAddress, IsScriptLine, IsQuestion, IsTurn, IsOption, option_rank, RiseAbove, last_rank, IsScenario}
+use Rattle.recursor_text.specs.Spelling.{head_words, patience_words, told_words, end_words, spelled, record_text, script_lines, root_line, option_line, question_line, turn_line, to_roots, to_options, to_patience, to_told, to_rules, to_questions, to_turns, scenario_lines, most_roots, most_questions, most_turns, IsAddress, IsScriptLine, IsQuestion, IsTurn, NoneFalls, last_moment, IsOption, option_rank, RiseAbove, last_rank, IsScenario}
 use Rattle.recursor_text.proofs.Binds.{bind_some, guard_some, some_is}
 use Rattle.recursor_text.proofs.LineLaws.{form_words, IsBare, IsForm, form_takes}
 use Rattle.recursor_text.proofs.OptionLaws.{rise_push}
 use Rattle.recursor_text.proofs.OpenRuleLaws.{all_push, mapped_push, IsOpen, open_lines, same_head, add_takes}
 use Rattle.recursor_text.proofs.RecordLaws.{record_takes}
+use Rattle.recursor_text.proofs.TurnLaws.{timed_push}
 
 -- ---- a draft
 
@@ -50,9 +51,7 @@ pub record Good (d : Draft) : Type 0 where
   pub no_rules : rank d.stage < 5 → d.rules ≡ []
   pub no_pending : rank d.stage ≢ 5 → d.pending ≡ None
   pub no_questions : rank d.stage < 6 → d.questions ≡ []
-  pub asked : 6 ≤ rank d.stage → 0 < length d.questions
   pub no_turns : rank d.stage < 7 → d.turns ≡ []
-  pub played : 7 ≤ rank d.stage → 0 < length d.turns
   pub few_roots : length d.roots ≤ most_roots
   pub roots : AllByRecursion IsAddress d.roots
   pub ordered : RiseAbove 0 d.written
@@ -64,6 +63,7 @@ pub record Good (d : Draft) : Type 0 where
   pub questions : AllByRecursion IsQuestion d.questions
   pub few_turns : length d.turns ≤ most_turns
   pub turns : AllByRecursion IsTurn d.turns
+  pub timed : NoneFalls 0 d.turns
 
 abbrev pending_lines : Option OpenRule → List (List ℕ)
 pending_lines None = []
@@ -117,17 +117,6 @@ reply_rank Asked e = absurd cc
 reply_rank Turned e = absurd cc
 reply_rank Ended e = absurd cc
 
-turned_rank : (s : Stage) → may_end s ≡ true → s ≡ Turned
-turned_rank Turned e = refl
-turned_rank Start e = absurd cc
-turned_rank Headed e = absurd cc
-turned_rank Rooted e = absurd cc
-turned_rank Optioned e = absurd cc
-turned_rank Patient e = absurd cc
-turned_rank Scripted e = absurd cc
-turned_rank Asked e = absurd cc
-turned_rank Ended e = absurd cc
-
 end_rank : (s : Stage) → is_ended s ≡ true → s ≡ Ended
 end_rank Ended e = refl
 end_rank Start e = absurd cc
@@ -149,6 +138,17 @@ wait_as Scripted = refl
 wait_as Asked = refl
 wait_as Turned = refl
 wait_as Ended = refl
+
+end_as : (s : Stage) → may_end s ≡ may_turn s
+end_as Start = refl
+end_as Headed = refl
+end_as Rooted = refl
+end_as Optioned = refl
+end_as Patient = refl
+end_as Scripted = refl
+end_as Asked = refl
+end_as Turned = refl
+end_as Ended = refl
 
 abbrev Between : ℕ → ℕ → ℕ → Type 0
 Between low high n = (low ≤ n) × (n ≤ high)
@@ -186,16 +186,16 @@ at_questions Patient d e shut none = absurd cc
 at_questions Turned d e shut none = absurd cc
 at_questions Ended d e shut none = absurd cc
 
-at_turns : (s : Stage) (d : Draft) → may_turn s ≡ true → (rank s < 7 → d.turns ≡ []) → Between 6 7 (rank s) × (so_far_at s d ≡ to_turns d.written (scenario_of d))
-at_turns Asked d e none = ((lit≤ tt, lit≤ tt), rw (none (lit< tt)) (sym (append-nil (to_questions d.written (scenario_of d)))))
-at_turns Turned d e none = ((lit≤ tt, lit≤ tt), refl)
-at_turns Start d e none = absurd cc
-at_turns Headed d e none = absurd cc
-at_turns Rooted d e none = absurd cc
-at_turns Optioned d e none = absurd cc
-at_turns Patient d e none = absurd cc
-at_turns Scripted d e none = absurd cc
-at_turns Ended d e none = absurd cc
+at_turns : (s : Stage) (d : Draft) → may_turn s ≡ true → d.pending ≡ None → (rank s < 6 → d.questions ≡ []) → (rank s < 7 → d.turns ≡ []) → Between 5 7 (rank s) × (so_far_at s d ≡ to_turns d.written (scenario_of d))
+at_turns Scripted d e shut none neither = ((lit≤ tt, lit≤ tt), rw (shut, none (lit< tt), neither (lit< tt)) (sym (append-nil (to_rules d.written (scenario_of d) ++ []))))
+at_turns Asked d e shut none neither = ((lit≤ tt, lit≤ tt), rw (neither (lit< tt)) (sym (append-nil (to_questions d.written (scenario_of d)))))
+at_turns Turned d e shut none neither = ((lit≤ tt, lit≤ tt), refl)
+at_turns Start d e shut none neither = absurd cc
+at_turns Headed d e shut none neither = absurd cc
+at_turns Rooted d e shut none neither = absurd cc
+at_turns Optioned d e shut none neither = absurd cc
+at_turns Patient d e shut none neither = absurd cc
+at_turns Ended d e shut none neither = absurd cc
 
 -- a line more
 abbrev pub Takes : Draft → List ℕ → Draft → Type 0
@@ -213,9 +213,7 @@ headed d g e shut =
         no_rules = λ h. g.no_rules (omega arith);
         no_pending = λ h. shut;
         no_questions = λ h. g.no_questions (omega arith);
-        asked = λ h. absurd (omega arith);
         no_turns = λ h. g.no_turns (omega arith);
-        played = λ h. absurd (omega arith);
         few_roots = g.few_roots;
         roots = g.roots;
         ordered = g.ordered;
@@ -227,6 +225,7 @@ headed d g e shut =
         questions = g.questions;
         few_turns = g.few_turns;
         turns = g.turns;
+        timed = g.timed;
       },
       sym (ap (λ (s : Stage). so_far_at s d ++ spelled head_words ∷ []) is),
     )
@@ -245,9 +244,7 @@ rooted d ip g fits e room shut =
         no_rules = λ h. g.no_rules (omega (arith, at.0.1));
         no_pending = λ h. shut;
         no_questions = λ h. g.no_questions (omega (arith, at.0.1));
-        asked = λ h. absurd (omega arith);
         no_turns = λ h. g.no_turns (omega (arith, at.0.1));
-        played = λ h. absurd (omega arith);
         few_roots = omega (arith, length_push d.roots ip);
         roots = all_push IsAddress d.roots ip g.roots fits;
         ordered = g.ordered;
@@ -259,6 +256,7 @@ rooted d ip g fits e room shut =
         questions = g.questions;
         few_turns = g.few_turns;
         turns = g.turns;
+        timed = g.timed;
       },
       ap (λ (l : List (List ℕ)). spelled head_words ∷ l) (map_push root_line d.roots ip) ∙ sym (ap (λ (l : List (List ℕ)). l ++ root_line ip ∷ []) at.1),
     )
@@ -277,9 +275,7 @@ optioned d o g fits e behind shut =
         no_rules = λ h. g.no_rules (omega (arith, at.0.1));
         no_pending = λ h. shut;
         no_questions = λ h. g.no_questions (omega (arith, at.0.1));
-        asked = λ h. absurd (omega arith);
         no_turns = λ h. g.no_turns (omega (arith, at.0.1));
-        played = λ h. absurd (omega arith);
         few_roots = g.few_roots;
         roots = g.roots;
         ordered = rise_push 0 d.written o g.ordered behind;
@@ -291,6 +287,7 @@ optioned d o g fits e behind shut =
         questions = g.questions;
         few_turns = g.few_turns;
         turns = g.turns;
+        timed = g.timed;
       },
       mapped_push option_line (to_roots d.roots) d.written o ∙ sym (ap (λ (l : List (List ℕ)). l ++ option_line o ∷ []) at.1),
     )
@@ -306,9 +303,7 @@ patient d n g fits e shut =
         no_rules = λ h. g.no_rules (omega (arith, at.0.1));
         no_pending = λ h. shut;
         no_questions = λ h. g.no_questions (omega (arith, at.0.1));
-        asked = λ h. absurd (omega arith);
         no_turns = λ h. g.no_turns (omega (arith, at.0.1));
-        played = λ h. absurd (omega arith);
         few_roots = g.few_roots;
         roots = g.roots;
         ordered = g.ordered;
@@ -320,6 +315,7 @@ patient d n g fits e shut =
         questions = g.questions;
         few_turns = g.few_turns;
         turns = g.turns;
+        timed = g.timed;
       },
       sym (ap (λ (l : List (List ℕ)). l ++ spelled (patience_words n) ∷ []) at.1),
     )
@@ -340,9 +336,7 @@ told d g e shut =
         no_rules = λ h. absurd (omega arith);
         no_pending = λ h. shut;
         no_questions = λ h. g.no_questions (omega arith);
-        asked = λ h. absurd (omega arith);
         no_turns = λ h. g.no_turns (omega arith);
-        played = λ h. absurd (omega arith);
         few_roots = g.few_roots;
         roots = g.roots;
         ordered = g.ordered;
@@ -354,6 +348,7 @@ told d g e shut =
         questions = g.questions;
         few_turns = g.few_turns;
         turns = g.turns;
+        timed = g.timed;
       },
       nothing_told d no_rules shut ∙ sym (ap (λ (s : Stage). so_far_at s d ++ spelled told_words ∷ []) is),
     )
@@ -409,9 +404,7 @@ settled d o line g is fits lines =
               no_rules = λ h. absurd (omega arith);
               no_pending = λ h. refl;
               no_questions = g.no_questions;
-              asked = g.asked;
               no_turns = g.no_turns;
-              played = g.played;
               few_roots = g.few_roots;
               roots = g.roots;
               ordered = g.ordered;
@@ -423,6 +416,7 @@ settled d o line g is fits lines =
               questions = g.questions;
               few_turns = g.few_turns;
               turns = g.turns;
+              timed = g.timed;
             },
             spelt ∙ lines,
           )
@@ -437,9 +431,7 @@ settled d o line g is fits lines =
               no_rules = g.no_rules;
               no_pending = λ h. absurd (h r);
               no_questions = g.no_questions;
-              asked = g.asked;
               no_turns = g.no_turns;
-              played = g.played;
               few_roots = g.few_roots;
               roots = g.roots;
               ordered = g.ordered;
@@ -451,6 +443,7 @@ settled d o line g is fits lines =
               questions = g.questions;
               few_turns = g.few_turns;
               turns = g.turns;
+              timed = g.timed;
             },
             ap (λ (s : Stage). so_far_at s (left_in d o)) is ∙ lines,
           )
@@ -470,9 +463,7 @@ asked d q g fits e room shut =
         no_rules = λ h. absurd (omega arith);
         no_pending = λ h. shut;
         no_questions = λ h. absurd (omega arith);
-        asked = λ h. omega (arith, length_push d.questions q);
         no_turns = λ h. g.no_turns (omega (arith, at.0.1));
-        played = λ h. absurd (omega arith);
         few_roots = g.few_roots;
         roots = g.roots;
         ordered = g.ordered;
@@ -484,6 +475,7 @@ asked d q g fits e room shut =
         questions = all_push IsQuestion d.questions q g.questions fits;
         few_turns = g.few_turns;
         turns = g.turns;
+        timed = g.timed;
       },
       mapped_push question_line (to_rules d.written (scenario_of d)) d.questions q ∙ sym (ap (λ (l : List (List ℕ)). l ++ question_line q ∷ []) at.1),
     )
@@ -491,9 +483,9 @@ asked d q g fits e room shut =
 abbrev with_turn : Draft → Turn → Draft
 with_turn d t = record d { stage = Turned; turns = d.turns ++ t ∷ [] }
 
-turned : (d : Draft) (t : Turn) → Good d → IsTurn t → may_turn d.stage ≡ true → length d.turns < most_turns → d.pending ≡ None → Takes d (turn_line t) (with_turn d t)
-turned d t g fits e room shut =
-    let at = at_turns d.stage d e g.no_turns in (
+turned : (d : Draft) (t : Turn) → Good d → IsTurn t → may_turn d.stage ≡ true → length d.turns < most_turns → last_moment 0 d.turns ≤ t.moment → d.pending ≡ None → Takes d (turn_line t) (with_turn d t)
+turned d t g fits e room rises shut =
+    let at = at_turns d.stage d e shut g.no_questions g.no_turns in (
       record {
         no_roots = λ h. absurd (omega arith);
         rooted = λ h. g.rooted (omega (arith, at.0.0));
@@ -502,9 +494,7 @@ turned d t g fits e room shut =
         no_rules = λ h. absurd (omega arith);
         no_pending = λ h. shut;
         no_questions = λ h. absurd (omega arith);
-        asked = λ h. g.asked (omega (arith, at.0.0));
         no_turns = λ h. absurd (omega arith);
-        played = λ h. omega (arith, length_push d.turns t);
         few_roots = g.few_roots;
         roots = g.roots;
         ordered = g.ordered;
@@ -516,25 +506,23 @@ turned d t g fits e room shut =
         questions = g.questions;
         few_turns = omega (arith, length_push d.turns t);
         turns = all_push IsTurn d.turns t g.turns fits;
+        timed = timed_push 0 d.turns t g.timed rises;
       },
       mapped_push turn_line (to_questions d.written (scenario_of d)) d.turns t ∙ sym (ap (λ (l : List (List ℕ)). l ++ turn_line t ∷ []) at.1),
     )
 
 ended : (d : Draft) → Good d → may_end d.stage ≡ true → d.pending ≡ None → Takes d (spelled end_words) (record d { stage = Ended })
 ended d g e shut =
-    let is : d.stage ≡ Turned = turned_rank d.stage e in
-    let r : rank d.stage ≡ 7 = ap rank is in (
+    let at = at_turns d.stage d (sym (end_as d.stage) ∙ e) shut g.no_questions g.no_turns in (
       record {
         no_roots = λ h. absurd (omega arith);
-        rooted = λ h. g.rooted (omega arith);
+        rooted = λ h. g.rooted (omega (arith, at.0.0));
         no_written = λ h. absurd (omega arith);
-        patient = λ h. g.patient (omega arith);
+        patient = λ h. g.patient (omega (arith, at.0.0));
         no_rules = λ h. absurd (omega arith);
         no_pending = λ h. shut;
         no_questions = λ h. absurd (omega arith);
-        asked = λ h. g.asked (omega arith);
         no_turns = λ h. absurd (omega arith);
-        played = λ h. g.played (omega arith);
         few_roots = g.few_roots;
         roots = g.roots;
         ordered = g.ordered;
@@ -546,8 +534,9 @@ ended d g e shut =
         questions = g.questions;
         few_turns = g.few_turns;
         turns = g.turns;
+        timed = g.timed;
       },
-      sym (ap (λ (s : Stage). so_far_at s d ++ spelled end_words ∷ []) is),
+      sym (ap (λ (l : List (List ℕ)). l ++ spelled end_words ∷ []) at.1),
     )
 
 no_records : (P : Record → Type 0) (rs : List Record) → rs ≡ [] → AllByRecursion P rs
@@ -611,9 +600,10 @@ put_takes d (form.Question q) e g shut fits h =
     let p = and_parts (may_ask d.stage) (ltb (length d.questions) most_questions) k.0 in
     subst (Takes d (question_line q)) (some_is (with_question d q) e k.1) (asked d q g fits p.0 (ltb-true _ _ p.1) shut)
 put_takes d (form.Turn t) e g shut fits h =
-    let k = guard_some (may_turn d.stage && ltb (length d.turns) most_turns) (Some (with_turn d t)) e h in
-    let p = and_parts (may_turn d.stage) (ltb (length d.turns) most_turns) k.0 in
-    subst (Takes d (turn_line t)) (some_is (with_turn d t) e k.1) (turned d t g fits p.0 (ltb-true _ _ p.1) shut)
+    let k = guard_some (may_turn d.stage && ltb (length d.turns) most_turns && leb (last_moment 0 d.turns) t.moment) (Some (with_turn d t)) e h in
+    let p = and_parts (may_turn d.stage && ltb (length d.turns) most_turns) (leb (last_moment 0 d.turns) t.moment) k.0 in
+    let q = and_parts (may_turn d.stage) (ltb (length d.turns) most_turns) p.0 in
+    subst (Takes d (turn_line t)) (some_is (with_turn d t) e k.1) (turned d t g fits q.0 (ltb-true _ _ q.1) (leb-true _ _ p.1) shut)
 put_takes d form.End e g shut fits h =
     let k = guard_some (may_end d.stage) _ e h in
     subst (Takes d (spelled end_words)) (some_is (record d { stage = Ended }) e k.1) (ended d g k.0 shut)
@@ -659,9 +649,7 @@ start_good = record {
   no_rules = λ h. refl;
   no_pending = λ h. refl;
   no_questions = λ h. refl;
-  asked = λ h. absurd (omega arith);
   no_turns = λ h. refl;
-  played = λ h. absurd (omega arith);
   few_roots = lit≤ tt;
   roots = tt;
   ordered = tt;
@@ -673,6 +661,7 @@ start_good = record {
   questions = tt;
   few_turns = lit≤ tt;
   turns = tt;
+  timed = tt;
 }
 
 pub ended_is : (d : Draft) → Good d → is_ended d.stage ≡ true → IsScenario d.written (scenario_of d) × (so_far d ≡ scenario_lines d.written (scenario_of d))
@@ -688,12 +677,11 @@ ended_is d g e =
         options = refl;
         patience = g.patient (omega arith);
         rules = g.rules;
-        asked = g.asked (omega arith);
         few_questions = g.few_questions;
         questions = g.questions;
-        played = g.played (omega arith);
         few_turns = g.few_turns;
         turns = g.turns;
+        timed = g.timed;
       },
       ap (λ (s : Stage). so_far_at s d) is,
     )

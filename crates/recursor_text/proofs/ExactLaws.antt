@@ -1,5 +1,5 @@
 -- The line that is named is the first that cannot stand.
-use Rattle.std.proofs.Common.{◌≡◌, ◌≢◌, ℕ, zero, suc, ◌+◌, ◌-◌, ◌≤◌, true, false, eqb, ltb, List, [], ◌∷◌, ◌++◌, length, Option, Some, None, Result, Ok, Err, refl, sym, ap, subst, ◌∙◌, arith, append_assoc, inl, inr, lit<, lit≤}
+use Rattle.std.proofs.Common.{◌≡◌, ◌≢◌, ℕ, zero, suc, ◌+◌, ◌-◌, ◌≤◌, true, false, eqb, ltb, List, [], ◌∷◌, ◌++◌, length, Option, Some, None, Result, Ok, Err, refl, sym, ap, subst, ◌∙◌, arith, append_assoc, inl, inr, lit≤}
 use Rattle.std.specs.Prelude.{IfSome, IfErr}
 use Rattle.std.proofs.lemmas.Bool.{lt-ltb, le-ltb, ltb-true, ltb-false, eqb-false, cases_Bool, cases_lt}
 use Rattle.std.proofs.lemmas.List.{append-nil, length_push}
@@ -10,8 +10,6 @@ use Rattle.dns_core.specs.Name.{DomainName}
 use Rattle.dns_core.specs.declared.codes.RecordType.{RecordType}
 use Rattle.dns_core.specs.declared.record.RData.TheVariants.{A}
 use Rattle.dns_core.specs.declared.record.Record.{Record}
-use Rattle.dns_core.specs.declared.request.Question.{Question}
-use Rattle.dns_core.specs.declared.request.Turn.{Turn}
 use Rattle.recursor_text.specs.declared.scenario.Scenario.{Scenario}
 use Rattle.recursor_text.specs.declared.scenario.ScenarioError.{ScenarioError}
 use Rattle.recursor_text.specs.declared.scenario.Cause.{Cause}
@@ -28,11 +26,11 @@ use Rattle.recursor_text.specs.declared.reading.draft.Refusal.TheVariants.{Bad, 
 use Rattle.recursor_text.specs.Pieces.{pieces}
 use Rattle.recursor_text.specs.Numbers.{◌>>=◌}
 use Rattle.recursor_text.specs.RecordLines.{class_in}
-use Rattle.recursor_text.specs.Steps.{start, may_wait, settle, rule_of, add, put, taken, is_settled, is_ended, scenario_of}
+use Rattle.recursor_text.specs.Steps.{start, may_wait, may_end, settle, rule_of, add, put, taken, is_settled, is_ended, scenario_of}
 use Rattle.recursor_text.specs.Unbuilt.{refusal_of}
 use Rattle.recursor_text.specs.Reading.{cause_of, step_by, finish, onward, read_from, scenario_in, GivesScenario, FailsBy}
 use Rattle.recursor_text.specs.Faults.{CanStand, IsWhole, IsFirstBad, FaultIn, HasFault}
-use Rattle.recursor_text.specs.Spelling.{spelled, record_text, scenario_lines, IsRecord, IsQuestion}
+use Rattle.recursor_text.specs.Spelling.{spelled, record_text, scenario_lines, IsRecord}
 use Rattle.recursor_text.proofs.Binds.{bind_some}
 use Rattle.recursor_text.proofs.Cuts.{split_cons}
 use Rattle.recursor_text.proofs.NumberLaws.{octet_fits}
@@ -48,16 +46,8 @@ Completes d = (ls : List (List ℕ)) × (e : Draft) × (run d ls ≡ Some e) × 
 by_form : (d e : Draft) (f : Form) → d.pending ≡ None → IsForm f → put d f ≡ Some e → Completes e → Completes d
 by_form d e f shut fits h c = (spelled (form_words f) ∷ c.0, c.1, takes_form d e f c.0 shut fits h ∙ c.2, c.3)
 
-from_turned : (d : Draft) → d.stage ≡ Turned → d.pending ≡ None → Completes d
-from_turned d is shut = by_form d (record d { stage = Ended }) form.End shut tt (rw is refl) ([], record d { stage = Ended }, refl, refl)
-
-abbrev first_turn : Turn
-first_turn = record { question = 1; moment = 0 }
-
-from_asked : (d : Draft) → d.stage ≡ Asked → d.pending ≡ None → d.turns ≡ [] → Completes d
-from_asked d is shut none =
-    by_form d (record d { stage = Turned; turns = d.turns ++ first_turn ∷ [] }) (form.Turn first_turn) shut (refl, lit< tt) (rw (is, none) refl)
-    (from_turned (record d { stage = Turned; turns = d.turns ++ first_turn ∷ [] }) refl shut)
+from_script : (d : Draft) → may_end d.stage ≡ true → d.pending ≡ None → Completes d
+from_script d may shut = by_form d (record d { stage = Ended }) form.End shut tt (rw may refl) ([], record d { stage = Ended }, refl, refl)
 
 abbrev root_name : DomainName
 root_name = record { labels = []; fqdn = true }
@@ -65,22 +55,11 @@ root_name = record { labels = []; fqdn = true }
 abbrev type_a : RecordType
 type_a = record { code = 1 }
 
-abbrev some_question : Question
-some_question = record { query = record { name = root_name; query_type = type_a; query_class = class_in }; dnssec_ok = false }
+from_patient : (d : Draft) → d.stage ≡ Patient → d.pending ≡ None → Completes d
+from_patient d is shut = by_form d (record d { stage = Scripted }) form.ToldScript shut tt (rw is refl) (from_script (record d { stage = Scripted }) refl shut)
 
-is_question : IsQuestion some_question
-is_question = record { named = refl; short = lit≤ tt; typed = (lit≤ tt, refl); class = refl; plain = refl }
-
-from_scripted : (d : Draft) → d.stage ≡ Scripted → d.pending ≡ None → d.questions ≡ [] → d.turns ≡ [] → Completes d
-from_scripted d is shut none neither =
-    by_form d (record d { stage = Asked; questions = d.questions ++ some_question ∷ [] }) (form.Question some_question) shut is_question (rw (is, none) refl)
-    (from_asked (record d { stage = Asked; questions = d.questions ++ some_question ∷ [] }) refl shut neither)
-
-from_patient : (d : Draft) → d.stage ≡ Patient → d.pending ≡ None → d.questions ≡ [] → d.turns ≡ [] → Completes d
-from_patient d is shut none neither = by_form d (record d { stage = Scripted }) form.ToldScript shut tt (rw is refl) (from_scripted (record d { stage = Scripted }) refl shut none neither)
-
-from_options : (d : Draft) → may_wait d.stage ≡ true → d.pending ≡ None → d.questions ≡ [] → d.turns ≡ [] → Completes d
-from_options d may shut none neither = by_form d (record d { stage = Patient; patience = 1 }) (form.Patience 1) shut (lit≤ tt, lit≤ tt) (rw may refl) (from_patient (record d { stage = Patient; patience = 1 }) refl shut none neither)
+from_options : (d : Draft) → may_wait d.stage ≡ true → d.pending ≡ None → Completes d
+from_options d may shut = by_form d (record d { stage = Patient; patience = 1 }) (form.Patience 1) shut (lit≤ tt, lit≤ tt) (rw may refl) (from_patient (record d { stage = Patient; patience = 1 }) refl shut)
 
 abbrev nowhere : Ipv4Addr
 nowhere = record { octets = 0 ∷ 0 ∷ 0 ∷ 0 ∷ [] }
@@ -88,13 +67,13 @@ nowhere = record { octets = 0 ∷ 0 ∷ 0 ∷ 0 ∷ [] }
 is_ipv4 : IsIpv4Addr nowhere
 is_ipv4 = (refl, octet_fits 0 0 0 0 (lit≤ tt) (lit≤ tt) (lit≤ tt) (lit≤ tt))
 
-from_headed : (d : Draft) → d.stage ≡ Headed → d.pending ≡ None → d.roots ≡ [] → d.questions ≡ [] → d.turns ≡ [] → Completes d
-from_headed d is shut rootless none neither =
+from_headed : (d : Draft) → d.stage ≡ Headed → d.pending ≡ None → d.roots ≡ [] → Completes d
+from_headed d is shut rootless =
     by_form d (record d { stage = Rooted; roots = d.roots ++ V4 nowhere ∷ [] }) (form.Root (V4 nowhere)) shut is_ipv4 (rw (is, rootless) refl)
-    (from_options (record d { stage = Rooted; roots = d.roots ++ V4 nowhere ∷ [] }) refl shut none neither)
+    (from_options (record d { stage = Rooted; roots = d.roots ++ V4 nowhere ∷ [] }) refl shut)
 
-from_start : (d : Draft) → d.stage ≡ Start → d.pending ≡ None → d.roots ≡ [] → d.questions ≡ [] → d.turns ≡ [] → Completes d
-from_start d is shut rootless none neither = by_form d (record d { stage = Headed }) form.Head shut tt (rw is refl) (from_headed (record d { stage = Headed }) refl shut rootless none neither)
+from_start : (d : Draft) → d.stage ≡ Start → d.pending ≡ None → d.roots ≡ [] → Completes d
+from_start d is shut rootless = by_form d (record d { stage = Headed }) form.Head shut tt (rw is refl) (from_headed (record d { stage = Headed }) refl shut rootless)
 
 abbrev dummy : Record
 dummy = record { name = root_name; ttl = 0; dns_class = class_in; record_type = type_a; rdata = A nowhere; typed = refl }
@@ -125,37 +104,37 @@ settled_zero c e z =
     let h : is_settled c ≡ true = rw (a, b, d) refl in
     absurd (let t : true ≡ false = sym h ∙ e in cc)
 
-from_open : (k : ℕ) (d : Draft) (o : OpenRule) → d.stage ≡ Scripted → d.pending ≡ Some o → d.questions ≡ [] → d.turns ≡ [] → is_settled o.owed ≡ false → total o.owed ≡ k → Completes d
-from_open zero d o is opened none neither waits e = absurd (settled_zero o.owed waits e)
-from_open (suc k) d o is opened none neither waits e =
+from_open : (k : ℕ) (d : Draft) (o : OpenRule) → d.stage ≡ Scripted → d.pending ≡ Some o → is_settled o.owed ≡ false → total o.owed ≡ k → Completes d
+from_open zero d o is opened waits e = absurd (settled_zero o.owed waits e)
+from_open (suc k) d o is opened waits e =
     let a = adds o k e in
     let p = a.0 in
     let next : Completes (settle d p) = elim (cases_Bool (is_settled p.owed)) [
       | inl whole ↦ let made : settle d p ≡ record d { rules = d.rules ++ rule_of p ∷ []; pending = None } = rw whole refl in
-          subst Completes (sym made) (from_scripted (record d { rules = d.rules ++ rule_of p ∷ []; pending = None }) is refl none neither)
+          subst Completes (sym made) (from_script (record d { rules = d.rules ++ rule_of p ∷ []; pending = None }) (ap may_end is) refl)
       | inr part ↦ let made : settle d p ≡ record d { pending = Some p } = rw part refl in
-          subst Completes (sym made) (from_open k (record d { pending = Some p }) p is refl none neither part a.2)
+          subst Completes (sym made) (from_open k (record d { pending = Some p }) p is refl part a.2)
     ] in
     (record_text dummy ∷ next.0, next.1, takes_record d (settle d p) o dummy next.0 opened is_dummy (ap (λ (x : Option OpenRule). x >>= λ p. Some (settle d p)) a.1) ∙ next.2, next.3)
 
-from_told : (p : Option OpenRule) (d : Draft) → d.pending ≡ p → d.stage ≡ Scripted → d.questions ≡ [] → d.turns ≡ [] → Good d → Completes d
-from_told None d shut is none neither g = from_scripted d is shut none neither
-from_told (Some o) d opened is none neither g =
+from_told : (p : Option OpenRule) (d : Draft) → d.pending ≡ p → d.stage ≡ Scripted → Good d → Completes d
+from_told None d shut is g = from_script d (ap may_end is) shut
+from_told (Some o) d opened is g =
     let waits : is_settled o.owed ≡ false = subst (λ (p : Option OpenRule). IfSome p (λ o. is_settled o.owed ≡ false)) opened g.waits in
-    from_open (total o.owed) d o is opened none neither waits refl
+    from_open (total o.owed) d o is opened waits refl
 
 other : (s : Stage) (d : Draft) → d.stage ≡ s → Good d → rank s ≢ 5 → d.pending ≡ None
 other s d is g ne = g.no_pending (λ e. ne (sym (ap rank is) ∙ e))
 
 completes : (s : Stage) (d : Draft) → d.stage ≡ s → Good d → Completes d
-completes Start d is g = let r : rank d.stage ≡ 0 = ap rank is in from_start d is (other Start d is g (λ e. omega arith)) (g.no_roots (omega arith)) (g.no_questions (omega arith)) (g.no_turns (omega arith))
-completes Headed d is g = let r : rank d.stage ≡ 1 = ap rank is in from_headed d is (other Headed d is g (λ e. omega arith)) (g.no_roots (omega arith)) (g.no_questions (omega arith)) (g.no_turns (omega arith))
-completes Rooted d is g = let r : rank d.stage ≡ 2 = ap rank is in from_options d (ap may_wait is) (other Rooted d is g (λ e. omega arith)) (g.no_questions (omega arith)) (g.no_turns (omega arith))
-completes Optioned d is g = let r : rank d.stage ≡ 3 = ap rank is in from_options d (ap may_wait is) (other Optioned d is g (λ e. omega arith)) (g.no_questions (omega arith)) (g.no_turns (omega arith))
-completes Patient d is g = let r : rank d.stage ≡ 4 = ap rank is in from_patient d is (other Patient d is g (λ e. omega arith)) (g.no_questions (omega arith)) (g.no_turns (omega arith))
-completes Scripted d is g = let r : rank d.stage ≡ 5 = ap rank is in from_told d.pending d refl is (g.no_questions (omega arith)) (g.no_turns (omega arith)) g
-completes Asked d is g = let r : rank d.stage ≡ 6 = ap rank is in from_asked d is (other Asked d is g (λ e. omega arith)) (g.no_turns (omega arith))
-completes Turned d is g = from_turned d is (other Turned d is g (λ e. omega arith))
+completes Start d is g = let r : rank d.stage ≡ 0 = ap rank is in from_start d is (other Start d is g (λ e. omega arith)) (g.no_roots (omega arith))
+completes Headed d is g = let r : rank d.stage ≡ 1 = ap rank is in from_headed d is (other Headed d is g (λ e. omega arith)) (g.no_roots (omega arith))
+completes Rooted d is g = from_options d (ap may_wait is) (other Rooted d is g (λ e. omega arith))
+completes Optioned d is g = from_options d (ap may_wait is) (other Optioned d is g (λ e. omega arith))
+completes Patient d is g = from_patient d is (other Patient d is g (λ e. omega arith))
+completes Scripted d is g = from_told d.pending d refl is g
+completes Asked d is g = from_script d (ap may_end is) (other Asked d is g (λ e. omega arith))
+completes Turned d is g = from_script d (ap may_end is) (other Turned d is g (λ e. omega arith))
 completes Ended d is g = ([], d, refl, is)
 
 -- ---- what a run says

@@ -18,5 +18,6 @@ pub mod OptionLaws
 pub mod OnlyLaws
 pub mod PlainLaws
 pub mod RecordLaws
+pub mod TurnLaws
 pub mod WholeLaws
 pub mod WordLaws

@@ -24,7 +24,7 @@ use Rattle.recursor_text.proofs.PlainLaws.{AllPlain, pieces_take}
 use Rattle.recursor_text.proofs.NumberLaws.{is_word_byte}
 use Rattle.recursor_text.proofs.OptionLaws.{option_takes, option_again, option_plain}
 use Rattle.recursor_text.proofs.FieldLaws.{IsSeq, one, pair_law, skip_law, nothing_law, view_law, whole_takes, whole_again, IsWithin, number_field, IsShort, short_name_field, bytes_same}
-use Rattle.recursor_text.proofs.WordLaws.{protocol_field, asked_type_field, code_field, flags_field, dnssec_field, full_law, low, response_plain, protocol_plain, flags_plain, dnssec_plain, address_plain, named_plain, small, words_again}
+use Rattle.recursor_text.proofs.WordLaws.{protocol_field, asked_type_field, code_field, flags_field, dnssec_field, full_law, wide_law, low, response_plain, protocol_plain, flags_plain, dnssec_plain, address_plain, named_plain, small, words_again}
 
 abbrev any : {A : Type 0} → A → Type 0
 any x = Unit {0}
@@ -70,8 +70,8 @@ reply_law = pair_law _ _ _ _ _ _ ip_law (pair_law _ _ _ _ _ _ (one _ _ _ protoco
 question_law : IsSeq question_fields (λ x. name_text x.0 ∷ type_text x.1.0 ∷ dnssec_text x.1.1 ∷ []) (λ x. IsShort 23 x.0 × (IsType x.1.0 × (x.1.1 ≡ false)))
 question_law = pair_law _ _ _ _ _ _ (one _ _ _ (short_name_field 23)) (pair_law _ _ _ _ _ _ (one _ _ _ asked_type_field) (one _ _ _ dnssec_field))
 
-turn_law : IsSeq turn_fields (λ x. decimal x.0 ∷ decimal x.1 ∷ []) (λ x. IsWithin 1 1 x.0 × IsWithin 0 4611686018427387903 x.1)
-turn_law = pair_law _ _ _ _ _ _ (one _ _ _ (number_field 1 1 (lit< tt))) (one _ _ _ (number_field 0 4611686018427387903 (lit< tt)))
+turn_law : IsSeq turn_fields (λ x. decimal x.0 ∷ decimal x.1 ∷ []) (λ x. IsWithin 0 4294967295 x.0 × IsWithin 0 4611686018427387903 x.1)
+turn_law = pair_law _ _ _ _ _ _ wide_law (one _ _ _ (number_field 0 4611686018427387903 (lit< tt)))
 
 -- ---- all kinds
 
@@ -163,7 +163,7 @@ forms_take (w ∷ ws) z e = elim (chosen (bytes_eq w (codes "reply")) _ _ _ e) [
               | inl h ↦ kind_takes (codes "question") question_fields _ _ question_law (λ x. form.Question (question_from x)) (λ x. refl)
                   (λ x fits. record { named = fits.0.0; short = fits.0.1; typed = fits.1.0; class = refl; plain = fits.1.1 }) w ws z h.0 h.1
               | inr h ↦ elim (chosen (bytes_eq w (codes "turn")) _ _ _ h.1) [
-                | inl h ↦ kind_takes (codes "turn") turn_fields _ _ turn_law (λ x. form.Turn (turn_from x)) (λ x. refl) (λ x fits. (omega (arith, fits.0.0, fits.0.1), omega (arith, fits.1.1))) w ws z h.0 h.1
+                | inl h ↦ kind_takes (codes "turn") turn_fields _ _ turn_law (λ x. form.Turn (turn_from x)) (λ x. refl) (λ x fits. (fits.0.1, omega (arith, fits.1.1))) w ws z h.0 h.1
                 | inr h ↦ let g = guard_some (bytes_eq w (codes "end")) (end_line_of ws) z h.1 in
                     kind_takes (codes "end") nothing _ _ nothing_law (λ x. form.End) (λ x. refl) (λ x fits. fits) w ws z g.0 g.1
               ]
@@ -222,7 +222,7 @@ forms_again (form.Question q) fits =
     whole_again _ _ _ question_law (λ x. form.Question (question_from x)) (q.query.name, (q.query.query_type, q.dnssec_ok)) ((fits.named, fits.short), (fits.typed, fits.plain))
     ∙ ap (λ (p : Question). Some (form.Question p)) (question_is q fits.class)
 forms_again (form.Turn t) fits =
-    whole_again _ _ _ turn_law (λ x. form.Turn (turn_from x)) (t.question, t.moment) ((omega (arith, fits.0), omega (arith, fits.0)), low 4611686018427387903 t.moment (omega (arith, fits.1)))
+    whole_again _ _ _ turn_law (λ x. form.Turn (turn_from x)) (t.question, t.moment) (low 4294967295 t.question fits.0, low 4611686018427387903 t.moment (omega (arith, fits.1)))
 forms_again form.End fits = refl
 
 -- ---- plain bytes
@@ -262,7 +262,7 @@ form_plain (form.Reply o) fits = (
   ),
 )
 form_plain (form.Question q) fits = (refl, (named_plain q.query.name fits.named, (type_plain q.query.query_type fits.typed.0, (dnssec_plain q.dnssec_ok, tt))))
-form_plain (form.Turn t) fits = (refl, (small 1 t.question (omega (arith, fits.0)) (lit< tt), (small 4611686018427387903 t.moment (omega (arith, fits.1)) (lit< tt), tt)))
+form_plain (form.Turn t) fits = (refl, (small 4294967295 t.question fits.0 (lit< tt), (small 4611686018427387903 t.moment (omega (arith, fits.1)) (lit< tt), tt)))
 form_plain form.End fits = (refl, tt)
 
 form_some : (z : Form) → 0 < length (form_words z)

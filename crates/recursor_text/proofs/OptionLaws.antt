@@ -1,53 +1,103 @@
 -- Option lines: each is read exactly where it is spelled so, in bytes that no line is cut at; their
 -- ranks, and what they change.
-use Rattle.std.proofs.Common.{◌≡◌, ℕ, suc, ◌-◌, ◌<◌, true, List, [], ◌∷◌, ◌++◌, length, slice_get, Some, refl, sym, ap, subst, ◌∙◌, arith, inl, inr}
+use Rattle.std.proofs.Common.{◌≡◌, ℕ, suc, ◌-◌, ◌<◌, ◌≤◌, true, List, [], ◌∷◌, ◌++◌, length, slice_get, Some, refl, sym, ap, subst, ◌∙◌, arith, lit<, inl, inr}
 use Rattle.std.proofs.lemmas.Option.{same_Some}
-use Rattle.std.specs.Prelude.{codes}
+use Rattle.std.specs.Prelude.{codes, decimal}
 use Rattle.std.specs.Str.{bytes_eq}
 use Rattle.std.specs.List.{AllByRecursion}
-use Rattle.resolver_settings.specs.Net.{Network}
 use Rattle.recursor_core.specs.declared.options.RecursorOptions.{RecursorOptions}
+use Rattle.recursor_text.specs.declared.reading.option_form.Bounds.{Bounds}
 use Rattle.recursor_text.specs.declared.reading.option_form.OptionLine.{OptionLine}
-use Rattle.recursor_text.specs.declared.reading.option_form.OptionLine.TheVariants.{AllowServer, DenyServer}
-use Rattle.recursor_text.specs.Fields.{whole}
-use Rattle.recursor_text.specs.OptionForm.{nets_field, allow_server_of, deny_server_of, option_line_of}
-use Rattle.recursor_text.specs.Spelling.{nets_text, named_words, IsNet, IsOption, option_rank, RiseAbove, last_rank, changed, changed_by}
-use Rattle.recursor_text.proofs.Binds.{guard_some, chosen}
-use Rattle.recursor_text.proofs.FieldLaws.{IsSeq, one, whole_takes, whole_again, bytes_same}
+use Rattle.recursor_text.specs.declared.reading.option_form.OptionLine.TheVariants.{ResponseCacheSize, AllowServer, DenyServer, PositiveTtl, NegativeTtl}
+use Rattle.recursor_text.specs.Fields.{Fields, field, whole}
+use Rattle.recursor_text.specs.Numbers.{◌>>=◌, number_within}
+use Rattle.recursor_text.specs.OptionForm.{size_field, nets_field, bounds_fields, response_cache_size_of, allow_server_of, deny_server_of, positive_ttl_of, negative_ttl_of, option_line_of}
+use Rattle.recursor_text.specs.RecordLines.{wide_field}
+use Rattle.recursor_text.specs.Spelling.{nets_text, bounds_words, named_words, IsNet, IsBounds, IsOption, option_rank, RiseAbove, last_rank, changed, changed_by}
+use Rattle.recursor_text.proofs.Binds.{bind_some, guard_some, some_is, chosen}
+use Rattle.recursor_text.proofs.FieldLaws.{IsSeq, one, whole_takes, whole_again, IsWithin, number_field, bytes_same}
 use Rattle.recursor_text.proofs.NetLaws.{nets_are, nets_plain}
 use Rattle.recursor_text.proofs.NumberLaws.{is_word_byte}
 use Rattle.recursor_text.proofs.PlainLaws.{AllPlain}
+use Rattle.recursor_text.proofs.WordLaws.{wide_law, low, small}
 
 -- ---- each line
+
+size_law : IsSeq size_field (λ n. decimal n ∷ []) (IsWithin 0 4194304)
+size_law = one _ _ _ (number_field 0 4194304 (lit< tt))
 
 nets_law : IsSeq nets_field (λ ns. nets_text ns ∷ []) (λ ns. AllByRecursion IsNet ns)
 nets_law = one _ _ _ nets_are
 
--- an option whose value is a list of networks
-nets_option : (key : List ℕ) (f : List Network → OptionLine) → ((ns : List Network) → named_words (f ns) ≡ key ∷ nets_text ns ∷ []) → ((ns : List Network) → AllByRecursion IsNet ns → IsOption (f ns))
-    → (w : List ℕ) (ws : List (List ℕ)) (o : OptionLine) → bytes_eq w key ≡ true → whole nets_field f ws ≡ Some o → (w ∷ ws ≡ named_words o) × IsOption o
-nets_option key f words suits w ws o same e =
-    let t = whole_takes nets_field _ _ nets_law f ws o e in
+-- a number from this one on
+above_law : (least : ℕ) → IsSeq (field (number_within least 4294967295)) (λ n. decimal n ∷ []) (IsWithin least 4294967295)
+above_law least = one _ _ _ (number_field least 4294967295 (lit< tt))
+
+abbrev both_bounds : ℕ → ℕ → Bounds
+both_bounds least most = record { least = least; most = most }
+
+bounds_law : IsSeq bounds_fields bounds_words IsBounds
+bounds_law = record {
+  takes = λ ws b rest e.
+      let x = bind_some (wide_field ws) (λ x. field (number_within x.0 4294967295) x.1 >>= λ y. Some (both_bounds x.0 y.0, y.1)) (b, rest) e in
+      let y = bind_some (field (number_within x.0.0 4294967295) x.0.1) (λ y. Some (both_bounds x.0.0 y.0, y.1)) (b, rest) x.2 in
+      let s = wide_law.takes ws x.0.0 x.0.1 x.1 in
+      let t = (above_law x.0.0).takes x.0.1 y.0.0 y.0.1 y.1 in
+      let made : Bounds × List (List ℕ) = (both_bounds x.0.0 y.0.0, y.0.1) in
+      let split : ws ≡ bounds_words made.0 ++ made.1 = s.0 ∙ ap (λ (r : List (List ℕ)). decimal x.0.0 ∷ r) t.0 in
+      subst (λ (z : Bounds × List (List ℕ)). (ws ≡ bounds_words z.0 ++ z.1) × IsBounds z.0) (some_is made (b, rest) y.2) (split, record { ordered = t.1.0; wide = t.1.1 });
+  again = λ b rest fits.
+      let ordered : b.least ≤ b.most = fits.ordered in
+      let wide : b.most ≤ 4294967295 = fits.wide in
+      rw (wide_law.again b.least (decimal b.most ∷ rest) (omega arith, omega arith), (above_law b.least).again b.most rest (ordered, wide)) refl;
+}
+
+-- an option of this name, and its value
+named_takes : {X : Type 0} (key : List ℕ) (p : Fields X) (text : X → List (List ℕ)) (Fits : X → Type 0) → IsSeq p text Fits → (f : X → OptionLine)
+    → ((x : X) → named_words (f x) ≡ key ∷ text x) → ((x : X) → Fits x → IsOption (f x)) → (w : List ℕ) (ws : List (List ℕ)) (o : OptionLine) → bytes_eq w key ≡ true → whole p f ws ≡ Some o → (w ∷ ws ≡ named_words o) × IsOption o
+named_takes key p text Fits law f words suits w ws o same e =
+    let t = whole_takes p text Fits law f ws o e in
     let spelt : w ∷ ws ≡ named_words (f t.0) = ap (λ (v : List ℕ). v ∷ ws) (bytes_same w key same) ∙ ap (λ (r : List (List ℕ)). key ∷ r) t.1 ∙ sym (words t.0) in
     subst (λ (p : OptionLine). (w ∷ ws ≡ named_words p) × IsOption p) t.3 (spelt, suits t.0 t.2)
 
 pub option_takes : (ws : List (List ℕ)) (o : OptionLine) → option_line_of ws ≡ Some o → (ws ≡ named_words o) × IsOption o
-unfolding option_line_of allow_server_of deny_server_of
+unfolding option_line_of response_cache_size_of allow_server_of deny_server_of positive_ttl_of negative_ttl_of
 option_takes [] o e = absurd cc
-option_takes (w ∷ ws) o e = elim (chosen (bytes_eq w (codes "allow_server")) _ _ _ e) [
-  | inl h ↦ nets_option (codes "allow_server") AllowServer (λ ns. refl) (λ ns fits. fits) w ws o h.0 h.1
-  | inr h ↦ let g = guard_some (bytes_eq w (codes "deny_server")) (deny_server_of ws) o h.1 in
-      nets_option (codes "deny_server") DenyServer (λ ns. refl) (λ ns fits. fits) w ws o g.0 g.1
+option_takes (w ∷ ws) o e = elim (chosen (bytes_eq w (codes "response_cache_size")) _ _ _ e) [
+  | inl h ↦ named_takes (codes "response_cache_size") size_field _ _ size_law ResponseCacheSize (λ n. refl) (λ n fits. fits.1) w ws o h.0 h.1
+  | inr h ↦ elim (chosen (bytes_eq w (codes "allow_server")) _ _ _ h.1) [
+    | inl h ↦ named_takes (codes "allow_server") nets_field _ _ nets_law AllowServer (λ ns. refl) (λ ns fits. fits) w ws o h.0 h.1
+    | inr h ↦ elim (chosen (bytes_eq w (codes "deny_server")) _ _ _ h.1) [
+      | inl h ↦ named_takes (codes "deny_server") nets_field _ _ nets_law DenyServer (λ ns. refl) (λ ns fits. fits) w ws o h.0 h.1
+      | inr h ↦ elim (chosen (bytes_eq w (codes "positive_ttl")) _ _ _ h.1) [
+        | inl h ↦ named_takes (codes "positive_ttl") bounds_fields _ _ bounds_law PositiveTtl (λ b. refl) (λ b fits. fits) w ws o h.0 h.1
+        | inr h ↦ let g = guard_some (bytes_eq w (codes "negative_ttl")) (negative_ttl_of ws) o h.1 in
+            named_takes (codes "negative_ttl") bounds_fields _ _ bounds_law NegativeTtl (λ b. refl) (λ b fits. fits) w ws o g.0 g.1
+      ]
+    ]
+  ]
 ]
 
 pub option_again : (o : OptionLine) → IsOption o → option_line_of (named_words o) ≡ Some o
-unfolding option_line_of allow_server_of deny_server_of
+unfolding option_line_of response_cache_size_of allow_server_of deny_server_of positive_ttl_of negative_ttl_of
+option_again (ResponseCacheSize size) fits = whole_again _ _ _ size_law ResponseCacheSize size (low 4194304 size fits)
 option_again (AllowServer nets) fits = whole_again _ _ _ nets_law AllowServer nets fits
 option_again (DenyServer nets) fits = whole_again _ _ _ nets_law DenyServer nets fits
+option_again (PositiveTtl b) fits = whole_again _ _ _ bounds_law PositiveTtl b fits
+option_again (NegativeTtl b) fits = whole_again _ _ _ bounds_law NegativeTtl b fits
+
+bounds_plain : (b : Bounds) → IsBounds b → AllPlain is_word_byte (bounds_words b)
+bounds_plain b fits =
+    let ordered : b.least ≤ b.most = fits.ordered in
+    let wide : b.most ≤ 4294967295 = fits.wide in
+    (small 4294967295 b.least (omega arith) (lit< tt), (small 4294967295 b.most wide (lit< tt), tt))
 
 pub option_plain : (o : OptionLine) → IsOption o → AllPlain is_word_byte (named_words o)
+option_plain (ResponseCacheSize size) fits = (refl, (small 4194304 size fits (lit< tt), tt))
 option_plain (AllowServer nets) fits = (refl, (nets_plain nets fits, tt))
 option_plain (DenyServer nets) fits = (refl, (nets_plain nets fits, tt))
+option_plain (PositiveTtl b) fits = (refl, bounds_plain b fits)
+option_plain (NegativeTtl b) fits = (refl, bounds_plain b fits)
 
 -- ---- one line more
 

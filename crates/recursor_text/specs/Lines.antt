@@ -21,7 +21,7 @@ use Rattle.recursor_text.specs.Names.{full_name, short_name}
 use Rattle.recursor_text.specs.Numbers.{◌>>=◌, number_within}
 use Rattle.recursor_text.specs.OptionForm.{option_line_of}
 use Rattle.recursor_text.specs.Pieces.{pieces}
-use Rattle.recursor_text.specs.RecordLines.{class_in}
+use Rattle.recursor_text.specs.RecordLines.{class_in, wide_field}
 
 -- ---- words that stand for values
 
@@ -108,7 +108,7 @@ abbrev pub question_from : DomainName × (RecordType × Bool) → Question
 question_from x = record { query = record { name = x.0; query_type = x.1.0; query_class = class_in }; dnssec_ok = x.1.1 }
 
 abbrev pub turn_fields : Fields (ℕ × ℕ)
-turn_fields = both (field (number_within 1 1)) (field (number_within 0 4611686018427387903))
+turn_fields = both wide_field (field (number_within 0 4611686018427387903))
 
 abbrev pub turn_from : ℕ × ℕ → Turn
 turn_from x = record { question = x.0; moment = x.1 }

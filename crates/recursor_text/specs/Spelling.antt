@@ -20,11 +20,13 @@ use Rattle.dns_core.specs.declared.request.Question.{Question}
 use Rattle.dns_core.specs.declared.request.Turn.{Turn}
 use Rattle.resolver_settings.specs.Net.{Network, width_of}
 use Rattle.resolver_settings.specs.Recommended.{special_nets}
+use Rattle.resolver_settings.specs.Ttl.{TtlTable, one_day}
 use Rattle.recursor_core.specs.declared.options.RecursorOptions.{RecursorOptions}
 use Rattle.recursor_world.specs.declared.script.ScriptLine.{ScriptLine}
 use Rattle.recursor_world.specs.declared.script.ScriptLine.TheVariants.{Connect, Refuse, Reply}
+use Rattle.recursor_text.specs.declared.reading.option_form.Bounds.{Bounds}
 use Rattle.recursor_text.specs.declared.reading.option_form.OptionLine.{OptionLine}
-use Rattle.recursor_text.specs.declared.reading.option_form.OptionLine.TheVariants.{AllowServer, DenyServer}
+use Rattle.recursor_text.specs.declared.reading.option_form.OptionLine.TheVariants.{ResponseCacheSize, AllowServer, DenyServer, PositiveTtl, NegativeTtl}
 use Rattle.recursor_text.specs.declared.scenario.Scenario.{Scenario}
 use Rattle.recursor_text.specs.declared.scenario.Upstream.{Upstream}
 use Rattle.recursor_text.specs.declared.scenario.Upstream.TheVariants.{Script as FromScript}
@@ -53,10 +55,17 @@ abbrev pub nets_text : List Network → List ℕ
 nets_text [] = codes "-"
 nets_text (n ∷ ns) = join_with_byte 44 (map net_text (n ∷ ns))
 
+-- the least and the greatest
+abbrev pub bounds_words : Bounds → List (List ℕ)
+bounds_words b = decimal b.least ∷ decimal b.most ∷ []
+
 -- the name of an option, and its value
 abbrev pub named_words : OptionLine → List (List ℕ)
+named_words (ResponseCacheSize size) = codes "response_cache_size" ∷ decimal size ∷ []
 named_words (AllowServer nets) = codes "allow_server" ∷ nets_text nets ∷ []
 named_words (DenyServer nets) = codes "deny_server" ∷ nets_text nets ∷ []
+named_words (PositiveTtl b) = codes "positive_ttl" ∷ bounds_words b
+named_words (NegativeTtl b) = codes "negative_ttl" ∷ bounds_words b
 
 abbrev pub option_words : OptionLine → List (List ℕ)
 option_words o = codes "option" ∷ named_words o
@@ -229,9 +238,19 @@ pub record IsQuestion (q : Question) : Type 0 where
   pub class : q.query.query_class ≡ class_in
   pub plain : q.dnssec_ok ≡ false
 
--- a turn of the first question
+-- a turn of any question, also of one that there is not
 abbrev pub IsTurn : Turn → Type 0
-IsTurn t = (t.question ≡ 1) × (t.moment < 4611686018427387904)
+IsTurn t = (t.question ≤ 4294967295) × (t.moment < 4611686018427387904)
+
+-- no turn comes before the one ahead of it, nor before this moment
+abbrev pub NoneFalls : ℕ → List Turn → Type 0
+NoneFalls low [] = Unit {0}
+NoneFalls low (t ∷ ts) = (low ≤ t.moment) × NoneFalls t.moment ts
+
+-- the moment of the last turn, and this one where there is none
+abbrev pub last_moment : ℕ → List Turn → ℕ
+last_moment low [] = low
+last_moment low (t ∷ ts) = last_moment t.moment ts
 
 -- ---- option lines
 
@@ -240,14 +259,25 @@ pub record IsNet (n : Network) : Type 0 where
   pub address : IsAddress n.addr
   pub short : n.prefix ≤ width_of n.addr
 
+-- seconds of 32 bits, the least first
+pub record IsBounds (b : Bounds) : Type 0 where
+  pub ordered : b.least ≤ b.most
+  pub wide : b.most ≤ 4294967295
+
 abbrev pub IsOption : OptionLine → Type 0
+IsOption (ResponseCacheSize size) = size ≤ 4194304
 IsOption (AllowServer nets) = AllByRecursion IsNet nets
 IsOption (DenyServer nets) = AllByRecursion IsNet nets
+IsOption (PositiveTtl b) = IsBounds b
+IsOption (NegativeTtl b) = IsBounds b
 
 -- the place of an option in the order of all options of the format, from 1
 abbrev pub option_rank : OptionLine → ℕ
+option_rank (ResponseCacheSize size) = 2
 option_rank (AllowServer nets) = 7
 option_rank (DenyServer nets) = 8
+option_rank (PositiveTtl b) = 10
+option_rank (NegativeTtl b) = 11
 
 -- the lines stand in the order of the options, none of them twice, each behind this rank
 abbrev pub RiseAbove : ℕ → List OptionLine → Type 0
@@ -261,12 +291,31 @@ last_rank low (o ∷ os) = last_rank (option_rank o) os
 
 -- the options that a recursor has where no line says otherwise
 abbrev pub standard_options : RecursorOptions
-standard_options = record { allow_server = []; deny_server = special_nets; avoid_local_udp_ports = []; case_randomization = false; edns_payload_len = 1232 }
+standard_options = record {
+  response_cache_size = 1048576;
+  allow_server = [];
+  deny_server = special_nets;
+  avoid_local_udp_ports = [];
+  cache_policy = record { general = one_day; own = [] };
+  case_randomization = false;
+  edns_payload_len = 1232;
+}
+
+-- other bounds of positive answers, the same for every type
+abbrev pub with_positive : TtlTable → Bounds → TtlTable
+with_positive policy b = record { general = record policy.general { positive_min = b.least; positive_max = b.most }; own = [] }
+
+-- other bounds of negative answers, the same for every type
+abbrev pub with_negative : TtlTable → Bounds → TtlTable
+with_negative policy b = record { general = record policy.general { negative_min = b.least; negative_max = b.most }; own = [] }
 
 -- what a line says takes the place of what was, whole
 abbrev pub changed : RecursorOptions → OptionLine → RecursorOptions
+changed options (ResponseCacheSize size) = record options { response_cache_size = size }
 changed options (AllowServer nets) = record options { allow_server = nets }
 changed options (DenyServer nets) = record options { deny_server = nets }
+changed options (PositiveTtl b) = record options { cache_policy = with_positive options.cache_policy b }
+changed options (NegativeTtl b) = record options { cache_policy = with_negative options.cache_policy b }
 
 -- the same of several lines, one after the other
 abbrev pub changed_by : RecursorOptions → List OptionLine → RecursorOptions
@@ -284,10 +333,10 @@ abbrev pub most_roots : ℕ
 most_roots = 1
 
 abbrev pub most_questions : ℕ
-most_questions = 1
+most_questions = 10000
 
 abbrev pub most_turns : ℕ
-most_turns = 1
+most_turns = 100000
 
 -- the scenario has the options that these lines say
 pub record IsScenario (written : List OptionLine) (s : Scenario) : Type 0 where
@@ -299,12 +348,11 @@ pub record IsScenario (written : List OptionLine) (s : Scenario) : Type 0 where
   pub options : s.options ≡ options_with written
   pub patience : (1 ≤ s.patience) × (s.patience ≤ 1000)
   pub rules : AllByRecursion IsScriptLine (rules_of s.upstream)
-  pub asked : 0 < length s.questions
   pub few_questions : length s.questions ≤ most_questions
   pub questions : AllByRecursion IsQuestion s.questions
-  pub played : 0 < length s.turns
   pub few_turns : length s.turns ≤ most_turns
   pub turns : AllByRecursion IsTurn s.turns
+  pub timed : NoneFalls 0 s.turns
 
 -- The bytes are the text of the scenario, its options said by some option lines.
 pub record Reads (bytes : List ℕ) (s : Scenario) : Type 0 where

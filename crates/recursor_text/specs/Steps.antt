@@ -1,5 +1,5 @@
 -- What the lines so far say, and what the next may say.
-use Rattle.std.specs.Prelude.{◌≡◌, ℕ, ◌-◌, List, [], ◌∷◌, ◌++◌, length, ◌&&◌, ◌==◌, nat_lt, Bool, true, false, Option, Some, None, Result, Ok, Err, if◌then◌else◌}
+use Rattle.std.specs.Prelude.{◌≡◌, ℕ, ◌-◌, List, [], ◌∷◌, ◌++◌, length, ◌&&◌, ◌==◌, nat_lt, nat_le, Bool, true, false, Option, Some, None, Result, Ok, Err, if◌then◌else◌}
 use Rattle.dns_core.specs.declared.record.Record.{Record}
 use Rattle.recursor_world.specs.declared.script.ScriptLine.{ScriptLine}
 use Rattle.recursor_world.specs.declared.script.ScriptLine.TheVariants.{Reply}
@@ -17,7 +17,7 @@ use Rattle.recursor_text.specs.declared.reading.draft.Draft.{Draft}
 use Rattle.recursor_text.specs.Numbers.{◌>>=◌}
 use Rattle.recursor_text.specs.Lines.{form_of}
 use Rattle.recursor_text.specs.RecordLines.{record_of}
-use Rattle.recursor_text.specs.Spelling.{option_rank, last_rank, options_with, most_roots, most_questions, most_turns}
+use Rattle.recursor_text.specs.Spelling.{option_rank, last_rank, last_moment, options_with, most_roots, most_questions, most_turns}
 
 -- What a step did is what it should do, unless memory ran out.
 abbrev pub Steps : {X : Type 0} → Result X LineError → Draft → Option Draft → Type 0
@@ -58,11 +58,14 @@ may_ask Asked = true
 may_ask _ = false
 
 abbrev pub may_turn : Stage → Bool
+may_turn Scripted = true
 may_turn Asked = true
 may_turn Turned = true
 may_turn _ = false
 
 abbrev pub may_end : Stage → Bool
+may_end Scripted = true
+may_end Asked = true
 may_end Turned = true
 may_end _ = false
 
@@ -100,7 +103,7 @@ put d (form.Patience n) = if may_wait d.stage then Some (record d { stage = Pati
 put d form.ToldScript = if may_tell d.stage then Some (record d { stage = Scripted }) else None
 put d (form.Reply o) = if may_reply d.stage then Some (settle d o) else None
 put d (form.Question q) = if may_ask d.stage && nat_lt (length d.questions) most_questions then Some (record d { stage = Asked; questions = d.questions ++ q ∷ [] }) else None
-put d (form.Turn t) = if may_turn d.stage && nat_lt (length d.turns) most_turns then Some (record d { stage = Turned; turns = d.turns ++ t ∷ [] }) else None
+put d (form.Turn t) = if may_turn d.stage && nat_lt (length d.turns) most_turns && nat_le (last_moment 0 d.turns) t.moment then Some (record d { stage = Turned; turns = d.turns ++ t ∷ [] }) else None
 put d form.End = if may_end d.stage then Some (record d { stage = Ended }) else None
 
 abbrev pub add_line : Draft → OpenRule → List ℕ → Option Draft

@@ -1,10 +1,10 @@
--- Lines that the format has and that are not read yet.
-use Rattle.std.specs.Prelude.{ℕ, Bool, true, false, not, ◌||◌, ◌==◌, nat_le, List, [], ◌∷◌, Option, Some, None, is_some, if◌then◌else◌, codes}
+-- Lines that the format has and that are not read yet. A turn and the end are read wherever the
+-- format has them.
+use Rattle.std.specs.Prelude.{ℕ, Bool, true, false, not, ◌&&◌, ◌||◌, ◌==◌, nat_le, nat_lt, List, [], ◌∷◌, length, Option, Some, None, is_some, if◌then◌else◌, codes}
 use Rattle.std.specs.Str.{bytes_eq}
-use Rattle.dns_core.specs.declared.request.Turn.{Turn}
 use Rattle.recursor_text.specs.declared.reading.draft.Draft.{Draft}
 use Rattle.recursor_text.specs.declared.reading.draft.Stage.{Stage}
-use Rattle.recursor_text.specs.declared.reading.draft.Stage.TheVariants.{Headed, Rooted, Optioned, Patient, Scripted, Asked, Turned}
+use Rattle.recursor_text.specs.declared.reading.draft.Stage.TheVariants.{Headed, Rooted, Optioned, Patient, Scripted, Asked}
 use Rattle.recursor_text.specs.declared.reading.draft.Place.{Place}
 use Rattle.recursor_text.specs.declared.reading.draft.Refusal.{Refusal}
 use Rattle.recursor_text.specs.declared.reading.draft.Refusal.TheVariants.{Bad, NotBuilt}
@@ -17,7 +17,7 @@ use Rattle.recursor_text.specs.Numbers.{◌>>=◌, number_within, ipv4_of}
 use Rattle.recursor_text.specs.OptionLines.{Line, option_line}
 use Rattle.recursor_text.specs.Pieces.{pieces}
 use Rattle.recursor_text.specs.RecordLines.{wide_field}
-use Rattle.recursor_text.specs.Spelling.{last_rank}
+use Rattle.recursor_text.specs.Spelling.{last_rank, most_questions}
 
 -- ---- words
 
@@ -91,10 +91,6 @@ reply_line ws = both (field ip_of) (both (checked is_protocol) (both (field full
 unfoldable pub question_line : Line
 question_line = whole (both (field relaxed_name) (both (field type_of) (checked is_dnssec))) (λ x. tt)
 
--- a turn at a moment that is not below this one
-unfoldable pub turn_line : ℕ → Line
-turn_line last = whole (both wide_field (field (number_within last 4611686018427387903))) (λ x. tt)
-
 -- ---- record lines
 
 unfoldable pub ipv4_data : Line
@@ -156,12 +152,6 @@ is_at_questions Scripted = true
 is_at_questions Asked = true
 is_at_questions _ = false
 
-abbrev pub is_at_turns : Stage → Bool
-is_at_turns Scripted = true
-is_at_turns Asked = true
-is_at_turns Turned = true
-is_at_turns _ = false
-
 abbrev pub stands : Bool → Option (Unit {0}) → Option (Unit {0})
 stands may read = if may then read else None
 
@@ -173,12 +163,10 @@ rule_line w ws =
     else if bytes_eq w (codes "reply") then reply_line ws
     else None
 
--- a line of a script, or one that follows it
+-- a line of a script, or a question, where there is room for one more
 unfoldable pub late_line : Place → List ℕ → Line
 late_line place w ws =
-    if bytes_eq w (codes "question") then stands (is_at_questions place.stage) (question_line ws)
-    else if bytes_eq w (codes "turn") then stands (is_at_turns place.stage) (turn_line place.last ws)
-    else if bytes_eq w (codes "end") then stands (is_at_turns place.stage) (ok_line ws)
+    if bytes_eq w (codes "question") then stands (is_at_questions place.stage && place.room) (question_line ws)
     else stands (is_at_rules place.stage) (rule_line w ws)
 
 -- a line that is no record line
@@ -196,13 +184,8 @@ line_at place line = if place.owes then record_line (pieces 32 line) else other_
 
 -- ---- refusals
 
--- the moment of the first turn, which is the only one yet
-abbrev pub moment_of : List Turn → ℕ
-moment_of [] = 0
-moment_of (t ∷ ts) = t.moment
-
 abbrev pub place_of : Draft → Place
-place_of d = record { stage = d.stage; option = last_rank 0 d.written; owes = is_some d.pending; last = moment_of d.turns }
+place_of d = record { stage = d.stage; option = last_rank 0 d.written; owes = is_some d.pending; room = nat_lt (length d.questions) most_questions }
 
 abbrev pub refusal_at : Place → List ℕ → Refusal
 refusal_at place line = if is_some (line_at place line) then NotBuilt else Bad

@@ -1,9 +1,9 @@
 //! Scenarios of the worked example, and texts that are none.
 
 use crate::{Cause, Scenario, ScenarioError, Upstream, read_scenario};
-use dns_core::{Items, Message, Name, Protocol, RData, RecordType, ResponseCode, Soa};
+use dns_core::{Items, Message, Name, Protocol, RData, RecordType, ResponseCode, Soa, Turn};
 use recursor_world::ScriptLine;
-use resolver_settings::IpNet;
+use resolver_settings::{IpNet, TtlBounds};
 use std::alloc::Global;
 use std::net::{IpAddr, Ipv4Addr, Ipv6Addr};
 use std::process::Abort;
@@ -138,9 +138,11 @@ fn reads_other_questions_and_moments(rt: HostRuntime) -> Result<(), Fail> {
     let alloc = rt.alloc();
     let text = with_line(alloc, 13, "question example.com A plain")?;
     let scenario = read_scenario(alloc, text.as_bytes())?;
+    assert_eq!(rt; scenario.questions.len(), 1);
     assert!(rt; !scenario.questions.items()[0].query.name.is_fqdn());
     let text = with_line(alloc, 14, "turn 1 4611686018427387903")?;
     let scenario = read_scenario(alloc, text.as_bytes())?;
+    assert_eq!(rt; scenario.turns.len(), 1);
     assert_eq!(rt; scenario.turns.items()[0].moment, 4_611_686_018_427_387_903);
     Ok(())
 }
@@ -211,7 +213,6 @@ fn lines_that_are_not_built_are_told_so(rt: HostRuntime) -> Result<(), Fail> {
     not_built(alloc, 3, "root 11.0.0.9")?;
     not_built(alloc, 3, "option recursion_limit 255")?;
     not_built(alloc, 3, "option allow_answers 11.0.0.3/32,10.0.0.0/8")?;
-    not_built(alloc, 3, "option negative_ttl 1 1")?;
     not_built(alloc, 3, "option encryption on 300 300 10")?;
     not_built(alloc, 3, "option first_delays 1,31")?;
     not_built(alloc, 3, "option avoid_local_udp_ports -")?;
@@ -246,12 +247,6 @@ fn lines_that_are_not_built_are_told_so(rt: HostRuntime) -> Result<(), Fail> {
     not_built(alloc, 13, "question example.com. CNAME plain")?;
     not_built(alloc, 13, "question example.com. NSEC3 plain")?;
     not_built(alloc, 13, MANY_LABELS)?;
-    not_built(alloc, 13, "turn 1 0")?;
-    not_built(alloc, 13, "end")?;
-    not_built(alloc, 14, "question example.com. A plain")?;
-    not_built(alloc, 14, "turn 2 0")?;
-    not_built(alloc, 14, "end")?;
-    not_built(alloc, 15, "turn 1 0")?;
     Ok(())
 }
 
@@ -566,12 +561,19 @@ fn options_out_of_order_are_bad(rt: HostRuntime) -> Result<(), Fail> {
     let allow = "option allow_server -";
     let deny = "option deny_server -";
     let size = "option ns_cache_size 5";
+    let cache = "option response_cache_size 5";
+    let positive = "option positive_ttl 1 2";
+    let negative = "option negative_ttl 1 2";
     last_fails(alloc, &[deny, allow], Cause::Line)?;
     last_fails(alloc, &[deny, deny], Cause::Line)?;
     last_fails(alloc, &[allow, allow], Cause::Line)?;
     last_fails(alloc, &[allow, deny, allow], Cause::Line)?;
     last_fails(alloc, &[deny, size], Cause::Line)?;
     last_fails(alloc, &[allow, size], Cause::Line)?;
+    last_fails(alloc, &[allow, cache], Cause::Line)?;
+    last_fails(alloc, &[positive, deny], Cause::Line)?;
+    last_fails(alloc, &[negative, positive], Cause::Line)?;
+    last_fails(alloc, &[negative, negative], Cause::Line)?;
     last_fails(alloc, &[size], Cause::NotBuilt)?;
     last_fails(alloc, &[deny, "option first_delays 1"], Cause::NotBuilt)?;
     last_fails(alloc, &[allow, "option first_delays 32"], Cause::Line)?;
@@ -583,5 +585,166 @@ fn options_out_of_order_are_bad(rt: HostRuntime) -> Result<(), Fail> {
     bad(alloc, 2, deny)?;
     bad(alloc, 4, deny)?;
     bad(alloc, 5, deny)?;
+    Ok(())
+}
+
+#[test]
+fn reads_how_the_cache_is_set(rt: HostRuntime) -> Result<(), Fail> {
+    let alloc = rt.alloc();
+    let lines = [
+        "option response_cache_size 4194304",
+        "option deny_server -",
+        "option positive_ttl 5 4294967295",
+        "option negative_ttl 7 7",
+    ];
+    let options = optioned(alloc, &lines)?.options;
+    assert_eq!(rt; options.response_cache_size, 4_194_304);
+    let bounds = TtlBounds {
+        positive_min: 5,
+        positive_max: 4_294_967_295,
+        negative_min: 7,
+        negative_max: 7,
+    };
+    assert_eq!(rt; options.cache_policy.general(), bounds);
+    let options = optioned(alloc, &["option negative_ttl 0 1"])?.options;
+    assert_eq!(rt; options.response_cache_size, 1_048_576);
+    let bounds = TtlBounds {
+        positive_min: 0,
+        positive_max: 86_400,
+        negative_min: 0,
+        negative_max: 1,
+    };
+    assert_eq!(rt; options.cache_policy.general(), bounds);
+    Ok(())
+}
+
+#[test]
+fn other_values_of_the_cache_are_bad(rt: HostRuntime) -> Result<(), Fail> {
+    let alloc = rt.alloc();
+    bad_option(alloc, "option response_cache_size 4194305")?;
+    bad_option(alloc, "option response_cache_size 05")?;
+    bad_option(alloc, "option response_cache_size")?;
+    bad_option(alloc, "option response_cache_size 5 5")?;
+    bad_option(alloc, "option positive_ttl 2 1")?;
+    bad_option(alloc, "option negative_ttl 1 0")?;
+    bad_option(alloc, "option positive_ttl 0 4294967296")?;
+    bad_option(alloc, "option negative_ttl 01 1")?;
+    bad_option(alloc, "option negative_ttl 1")?;
+    bad_option(alloc, "option positive_ttl 1 1 1")?;
+    Ok(())
+}
+
+/// A script without rules, and these lines after it.
+fn without_rules(alloc: Global, lines: &[&str]) -> Result<String, Fail> {
+    let mut text = String::from_str(alloc, "recursor 1\nroot ::\npatience 3\ntold script\n")?;
+    for line in lines {
+        text.push_str(line)?;
+        text.push_str("\n")?;
+    }
+    Ok(text)
+}
+
+/// A script without rules is read with these lines after it.
+fn asked(alloc: Global, lines: &[&str]) -> Result<Scenario, Fail> {
+    let text = without_rules(alloc, lines)?;
+    Ok(read_scenario(alloc, text.as_bytes())?)
+}
+
+/// A script without rules fails at the last of these lines after it.
+fn last_is_bad(alloc: Global, lines: &[&str]) -> Result<(), Fail> {
+    let text = without_rules(alloc, lines)?;
+    let last = lines.iter().fold(4u32, |line, _| line.saturating_add(1));
+    faulty(alloc, text.as_bytes(), last, Cause::Line)
+}
+
+fn turn(question: u32, moment: u64) -> Turn {
+    Turn { question, moment }
+}
+
+#[test]
+fn reads_several_questions_and_turns(rt: HostRuntime) -> Result<(), Fail> {
+    let alloc = rt.alloc();
+    let lines = [
+        "question a. A plain",
+        "question b. MX plain",
+        "question a. A plain",
+        "question c TXT plain",
+        "turn 4 0",
+        "turn 1 7",
+        "turn 1 7",
+        "turn 2 4611686018427387903",
+        "end",
+    ];
+    let scenario = asked(alloc, &lines)?;
+    assert_eq!(rt; scenario.questions.len(), 4);
+    let last = &scenario.questions.items()[3];
+    assert_eq!(rt; last.query.query_type, RecordType::TXT);
+    let turns = [
+        turn(4, 0),
+        turn(1, 7),
+        turn(1, 7),
+        turn(2, 4_611_686_018_427_387_903),
+    ];
+    assert_eq!(rt; scenario.turns.items(), turns.as_slice());
+    Ok(())
+}
+
+/// Questions and turns may be wanting, and a turn may be of a question that there is not.
+#[test]
+fn reads_turns_of_no_question(rt: HostRuntime) -> Result<(), Fail> {
+    let alloc = rt.alloc();
+    let scenario = asked(alloc, &["end"])?;
+    assert_eq!(rt; scenario.questions.len(), 0);
+    assert_eq!(rt; scenario.turns.len(), 0);
+    let scenario = asked(alloc, &["question a. A plain", "end"])?;
+    assert_eq!(rt; scenario.questions.len(), 1);
+    assert_eq!(rt; scenario.turns.len(), 0);
+    let scenario = asked(alloc, &["turn 0 0", "turn 4294967295 0", "end"])?;
+    let turns = [turn(0, 0), turn(4_294_967_295, 0)];
+    assert_eq!(rt; scenario.turns.items(), turns.as_slice());
+    Ok(())
+}
+
+#[test]
+fn turns_that_go_back_are_bad(rt: HostRuntime) -> Result<(), Fail> {
+    let alloc = rt.alloc();
+    last_is_bad(alloc, &["turn 1 5", "turn 1 4"])?;
+    last_is_bad(alloc, &["turn 1 0", "turn 2 7", "turn 1 6"])?;
+    last_is_bad(alloc, &["turn 1 4611686018427387904"])?;
+    last_is_bad(alloc, &["turn 4294967296 0"])?;
+    last_is_bad(alloc, &["turn 01 0"])?;
+    last_is_bad(alloc, &["turn 1 0", "question a. A plain"])?;
+    last_is_bad(alloc, &["turn 1 0", "question a. A dnssec"])?;
+    last_is_bad(alloc, &["end", "turn 1 0"])?;
+    bad(alloc, 5, "turn 1 0 0")?;
+    bad(alloc, 6, "turn 1 0")?;
+    bad(alloc, 4, "end")?;
+    Ok(())
+}
+
+/// A script without rules, and a line after it so often.
+fn with_many(alloc: Global, line: &str, times: u32) -> Result<String, Fail> {
+    let mut text = without_rules(alloc, &[])?;
+    for _ in 0..times {
+        text.push_str(line)?;
+    }
+    Ok(text)
+}
+
+/// There is no room for a question or a turn more, also for one that is not read yet.
+#[test]
+fn a_line_too_many_is_bad(rt: HostRuntime) -> Result<(), Fail> {
+    let alloc = rt.alloc();
+    let text = with_many(alloc, "question a. A plain\n", 10_001)?;
+    faulty(alloc, text.as_bytes(), 10_005, Cause::Line)?;
+    let mut text = with_many(alloc, "question a. A plain\n", 10_000)?;
+    text.push_str("question a. A dnssec\n")?;
+    faulty(alloc, text.as_bytes(), 10_005, Cause::Line)?;
+    let text = with_many(alloc, "turn 1 0\n", 100_001)?;
+    faulty(alloc, text.as_bytes(), 100_005, Cause::Line)?;
+    let mut text = with_many(alloc, "turn 1 0\n", 100_000)?;
+    text.push_str("end\n")?;
+    let scenario = read_scenario(alloc, text.as_bytes())?;
+    assert_eq!(rt; scenario.turns.len(), 100_000);
     Ok(())
 }

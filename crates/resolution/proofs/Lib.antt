@@ -15,3 +15,5 @@ pub mod PlainServed
 pub mod RootsTried
 pub mod KeptErrors
 pub mod PlainBased
+pub mod WalksCaseless
+pub mod SameDelegations

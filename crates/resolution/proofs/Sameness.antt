@@ -7,7 +7,7 @@ use Rattle.resolution.specs.Same.{SameRecord, SameRecords, Same}
 SameRecord-trans : (a b c : Record) → SameRecord a b → SameRecord b c → SameRecord a c
 SameRecord-trans a b c g h = record { life = omega arith; rest = g.rest ∙ ap (λ (r : Record). record r { ttl = a.ttl }) h.rest }
 
-SameRecords-trans : (xs ys zs : List Record) → SameRecords xs ys → SameRecords ys zs → SameRecords xs zs
+pub SameRecords-trans : (xs ys zs : List Record) → SameRecords xs ys → SameRecords ys zs → SameRecords xs zs
 SameRecords-trans [] [] [] g h = tt
 SameRecords-trans [] [] (z ∷ zs) g h = elim h [ ]
 SameRecords-trans [] (y ∷ ys) zs g h = elim g [ ]

@@ -88,7 +88,7 @@ module _ (c d : DomainName) (e : same_names c d ≡ true) where
   targets-same : (k : Message) → targets k c ≡ targets k d
   targets-same k = ap (λ (f : Record → Option DomainName). filter_map f (records k)) target_below-same
 
-  is_delegation-same : (k : Message) → is_delegation k c ≡ is_delegation k d
+  pub is_delegation-same : (k : Message) → is_delegation k c ≡ is_delegation k d
   is_delegation-same k =
       let tests : (λ (r : Record). is_ns r && same_names r.name c) ≡ (λ (r : Record). is_ns r && same_names r.name d) = λ i r. is_ns r && alike same_names same_names_equiv c d r.name e i in
       ap (λ (p : Record → Bool). list_any p (records k)) tests
@@ -98,7 +98,7 @@ module _ (c d : DomainName) (e : same_names c d ≡ true) where
       ap (λ (f : Bool). f && length c.labels == 0) (flags c d e)
       ∙ ap (λ (n : ℕ). d.fqdn && n == 0) (length-same (pointwise same_letter) c.labels d.labels (labels_same c d e))
 
-  ns_question : same_query (question c 2) (question d 2) ≡ true
+  pub ns_question : same_query (question c 2) (question d 2) ≡ true
   ns_question = both (same_names c d && true) true (both (same_names c d) true e refl) refl
 
   pub Delegates-zone : {given : Given} {log : Log} {n : ℕ} {k : Message} → Delegates given log n c k → Delegates given log n d k

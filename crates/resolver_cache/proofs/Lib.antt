@@ -4,4 +4,5 @@ mod SameQuestion
 mod LeastThere
 mod Kept
 mod CurrentRead
-mod OneWritten
+pub mod FoundThere
+pub mod OneWritten

@@ -10,7 +10,7 @@ use Rattle.resolver_cache.specs.Entry.{current_for}
 use Rattle.resolver_cache.specs.Life.{life_of, moment_after}
 use Rattle.resolver_cache.specs.Placing.{giving_way, without, with_entry}
 use Rattle.resolver_cache.specs.Cached.{Cached}
-use Rattle.resolver_cache.specs.Cache.{no_later_than, new_expiry, written_with}
+use Rattle.resolver_cache.specs.Cache.{no_later_than, new_expiry, written_with, upserted}
 use Rattle.resolver_cache.specs.Laws.{IsJustWritten, WritesNoOther}
 
 -- what holds of each entry holds of those that stay
@@ -39,17 +39,39 @@ within_its_life es q now clamp life =
     capped : (expiry whole : ℕ) → expiry ≤ min whole (2 ^ 64 - 1) → expiry ≤ whole
     capped expiry whole h = omega (arith, h)
 
-by_life : (cache : Cached) (q : Query) (response : Result Message NetError) (now : ℕ) (clamp : Bool) (entry : Entry) (o : Option ℕ) → life_of cache.config q.query_type response ≡ o → Contains (written_with cache q response now clamp o).entries entry → Contains cache.entries entry ⊎ IsJustWritten cache q response now entry
-by_life cache q response now clamp entry None lives h = inl h
-by_life cache q response now clamp entry (Some life) lives h =
+by_life : (cache : Cached) (q : Query) (response : Result Message NetError) (source : ℕ) (now : ℕ) (clamp : Bool) (entry : Entry) (o : Option ℕ) → life_of cache.config q.query_type response ≡ o → Contains (written_with cache q response source now clamp o).entries entry → Contains cache.entries entry ⊎ IsJustWritten cache q response source now entry
+by_life cache q response source now clamp entry None lives h = inl h
+by_life cache q response source now clamp entry (Some life) lives h =
     let es = cache.entries in
-    let P : Entry → Type 0 = λ e. Contains es e ⊎ IsJustWritten cache q response now e in
+    let P : Entry → Type 0 = λ e. Contains es e ⊎ IsJustWritten cache q response source now e in
     let expiry = new_expiry es q now clamp life in
-    let new : Entry = record { query = q; response = response; written = now; expiry = expiry } in
+    let new : Entry = record { query = q; response = response; written = now; expiry = expiry; source = source } in
     let kept : All P es = All-weaker (Contains es) P (λ e there. inl there) es (All-contains_itself es) in
-    let added : IsJustWritten cache q response now new = record { question = refl; answer = refl; written = refl; life = life; lives = lives; no_longer = within_its_life es q now clamp life } in
+    let added : IsJustWritten cache q response source now new = record { question = refl; answer = refl; source = refl; written = refl; life = life; lives = lives; no_longer = within_its_life es q now clamp life } in
     All-contains P (with_entry cache.size new es) entry (All-with P es (giving_way cache.size q es) new (cache.size == 0) kept (inr added)) h
 
+config_of_written : (cache : Cached) (q : Query) (response : Result Message NetError) (source : ℕ) (now : ℕ) (clamp : Bool) (o : Option ℕ) → (written_with cache q response source now clamp o).config ≡ cache.config
+config_of_written cache q response source now clamp None = refl
+config_of_written cache q response source now clamp (Some life) = refl
+
+size_of_written : (cache : Cached) (q : Query) (response : Result Message NetError) (source : ℕ) (now : ℕ) (clamp : Bool) (o : Option ℕ) → (written_with cache q response source now clamp o).size ≡ cache.size
+size_of_written cache q response source now clamp None = refl
+size_of_written cache q response source now clamp (Some life) = refl
+
+-- a write leaves the bounds of TTLs
+pub upserted-config : (cache : Cached) (q : Query) (response : Result Message NetError) (source : ℕ) (now : ℕ) (clamp : Bool) → (upserted cache q response source now clamp).config ≡ cache.config
+upserted-config cache q response source now clamp =
+    config_of_written cache q response source now clamp (life_of cache.config q.query_type response)
+
+-- and the size
+pub upserted-size : (cache : Cached) (q : Query) (response : Result Message NetError) (source : ℕ) (now : ℕ) (clamp : Bool) → (upserted cache q response source now clamp).size ≡ cache.size
+upserted-size cache q response source now clamp =
+    size_of_written cache q response source now clamp (life_of cache.config q.query_type response)
+
+-- each entry after a write was there before, or is what was written
+pub one_written : (cache : Cached) (q : Query) (response : Result Message NetError) (source : ℕ) (now : ℕ) (clamp : Bool) (entry : Entry) → Contains (upserted cache q response source now clamp).entries entry → Contains cache.entries entry ⊎ IsJustWritten cache q response source now entry
+one_written cache q response source now clamp entry h =
+    by_life cache q response source now clamp entry (life_of cache.config q.query_type response) refl h
+
 pub writes_no_other : WritesNoOther
-writes_no_other cache q response now clamp entry h =
-    by_life cache q response now clamp entry (life_of cache.config q.query_type response) refl h
+writes_no_other = one_written

@@ -5,6 +5,7 @@ use Rattle.dns_core.specs.declared.message.Query.{Query}
 use Rattle.dns_core.specs.declared.message.Message.{Message}
 use Rattle.dns_core.specs.declared.net_error.NetError.{NetError}
 use Rattle.resolver_cache.specs.declared.entry.Entry.{Entry}
+use Rattle.resolver_cache.specs.declared.entry.CachedResponse.{CachedResponse}
 use Rattle.resolver_cache.specs.Entry.{current_for}
 use Rattle.resolver_cache.specs.Life.{life_of, moment_after}
 use Rattle.resolver_cache.specs.Lowering.{seconds_between, lowered}
@@ -16,6 +17,11 @@ abbrev pub read : Cached → Query → ℕ → Option (Result Message NetError)
 read cache q now =
     option_map (λ e. lowered (seconds_between e.written now) e.response) (current_for q now cache.entries)
 
+-- the same response, and what told it
+abbrev pub found_for : Cached → Query → ℕ → Option CachedResponse
+found_for cache q now =
+    option_map (λ e. record { response = lowered (seconds_between e.written now) e.response; source = e.source }) (current_for q now cache.entries)
+
 abbrev pub no_later_than : Option Entry → ℕ → ℕ
 no_later_than None moment = moment
 no_later_than (Some e) moment = min moment e.expiry
@@ -25,16 +31,16 @@ abbrev pub new_expiry : List Entry → Query → ℕ → Bool → ℕ → ℕ
 new_expiry es q now clamp life =
     if clamp then no_later_than (current_for q now es) (moment_after now life) else moment_after now life
 
--- the cache with a response of this life, or as it was where the response has none
-abbrev pub written_with : Cached → Query → Result Message NetError → ℕ → Bool → Option ℕ → Cached
-written_with cache q response now clamp None = cache
-written_with cache q response now clamp (Some life) =
-    record cache { entries = with_entry cache.size (record { query = q; response = response; written = now; expiry = new_expiry cache.entries q now clamp life }) cache.entries }
+-- the cache with a response of this life and source, or as it was where the response has none
+abbrev pub written_with : Cached → Query → Result Message NetError → ℕ → ℕ → Bool → Option ℕ → Cached
+written_with cache q response source now clamp None = cache
+written_with cache q response source now clamp (Some life) =
+    record cache { entries = with_entry cache.size (record { query = q; response = response; written = now; expiry = new_expiry cache.entries q now clamp life; source = source }) cache.entries }
 
--- the cache once a response to a question was written
-abbrev pub upserted : Cached → Query → Result Message NetError → ℕ → Bool → Cached
-upserted cache q response now clamp =
-    written_with cache q response now clamp (life_of cache.config q.query_type response)
+-- the cache once a response to a question was written that the log entry of this number told
+abbrev pub upserted : Cached → Query → Result Message NetError → ℕ → ℕ → Bool → Cached
+upserted cache q response source now clamp =
+    written_with cache q response source now clamp (life_of cache.config q.query_type response)
 
 -- no more entries than the size, and no two for one question
 abbrev pub IsSound : Cached → Type 0

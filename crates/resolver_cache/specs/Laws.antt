@@ -4,6 +4,7 @@ use Rattle.dns_core.specs.declared.message.Query.{Query}
 use Rattle.dns_core.specs.declared.message.Message.{Message}
 use Rattle.dns_core.specs.declared.net_error.NetError.{NetError}
 use Rattle.resolver_cache.specs.declared.entry.Entry.{Entry}
+use Rattle.resolver_cache.specs.declared.entry.CachedResponse.{CachedResponse}
 use Rattle.resolver_cache.specs.Entry.{is_for}
 use Rattle.resolver_cache.specs.Life.{life_of}
 use Rattle.resolver_cache.specs.Lowering.{seconds_between, lowered}
@@ -24,10 +25,20 @@ abbrev pub ReadIsCurrent : Type 0
 ReadIsCurrent =
     (cache : Cached) (q : Query) (now : ℕ) (response : Result Message NetError) → All (λ e. e.written ≤ now) cache.entries → read cache q now ≡ Some response → IsReadFrom cache q now response
 
--- the response that was just written, which expires no later than its life says
-pub record IsJustWritten (cache : Cached) (q : Query) (response : Result Message NetError) (now : ℕ) (entry : Entry) : Type 0 where
+-- an entry of the cache for the question that has not expired reads so, and has this source
+pub record IsFoundIn (cache : Cached) (q : Query) (now : ℕ) (f : CachedResponse) : Type 0 where
+  pub entry : Entry
+  pub kept : Contains cache.entries entry
+  pub question : IsTrue (is_for q entry)
+  pub current : now ≤ entry.expiry
+  pub reads : f.response ≡ lowered (seconds_between entry.written now) entry.response
+  pub source : f.source ≡ entry.source
+
+-- the response that was just written, from this source, which expires no later than its life says
+pub record IsJustWritten (cache : Cached) (q : Query) (response : Result Message NetError) (told : ℕ) (now : ℕ) (entry : Entry) : Type 0 where
   pub question : entry.query ≡ q
   pub answer : entry.response ≡ response
+  pub source : entry.source ≡ told
   pub written : entry.written ≡ now
   pub life : ℕ
   pub lives : life_of cache.config q.query_type response ≡ Some life
@@ -36,4 +47,4 @@ pub record IsJustWritten (cache : Cached) (q : Query) (response : Result Message
 -- each entry after a write was there before, or is that response
 abbrev pub WritesNoOther : Type 0
 WritesNoOther =
-    (cache : Cached) (q : Query) (response : Result Message NetError) (now : ℕ) (clamp : Bool) (entry : Entry) → Contains (upserted cache q response now clamp).entries entry → Contains cache.entries entry ⊎ IsJustWritten cache q response now entry
+    (cache : Cached) (q : Query) (response : Result Message NetError) (source : ℕ) (now : ℕ) (clamp : Bool) (entry : Entry) → Contains (upserted cache q response source now clamp).entries entry → Contains cache.entries entry ⊎ IsJustWritten cache q response source now entry

@@ -1,4 +1,3 @@
-pub mod Bounds
 pub mod Entry
 pub mod Life
 pub mod Lowering

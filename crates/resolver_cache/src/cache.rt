@@ -1,12 +1,12 @@
 //! The cache of responses.
-ghost use Rattle.std.specs.Prelude.{◌≡◌, ◌↔◌, [], length, IfOk, OnOk, OnErr, IsErr, false};
+ghost use Rattle.std.specs.Prelude.{◌≡◌, ◌↔◌, [], length, IfOk, OnOk, OnErr, IsErr, IsTrue, false};
 ghost use Rattle.std.specs.List.{list_any};
-ghost use Rattle.resolver_cache.specs.Bounds.{IsReversed};
+ghost use Rattle.resolver_settings.specs.Ttl.{has_reversed};
 ghost use Rattle.resolver_cache.specs.Entry.{is_for};
-ghost use Rattle.resolver_cache.specs.Cache.{read, upserted, new_expiry, IsSound};
+ghost use Rattle.resolver_cache.specs.Cache.{read, found_for, upserted, new_expiry, IsSound};
 
-use crate::bounds::{ReversedTtl, has_reversed};
-use crate::entry::{Entry, current_for};
+use crate::bounds::ReversedTtl;
+use crate::entry::{CachedResponse, Entry, current_for};
 use crate::life::{life_of, moment_after};
 use crate::lowering::{lowered, seconds_between};
 use crate::placing::put;
@@ -52,9 +52,9 @@ impl ResponseCache {
     /// An empty cache for so many responses. It takes no memory.
     pub fn new(alloc: Global, size: u64, config: TtlConfig) -> Result<Self, ReversedTtl>
         ensures ok { IfOk result (λ cache. cache ≡ record { size = size; config = config; entries = [] }) }
-        ensures reversed { IsErr result ↔ IsReversed config }
+        ensures reversed { IsErr result ↔ IsTrue (has_reversed config) }
     {
-        if has_reversed(&config) {
+        if config.is_reversed() {
             return Err(ReversedTtl);
         }
         Ok(ResponseCache {
@@ -73,10 +73,28 @@ impl ResponseCache {
     ) -> Result<Option<Result<Message, NetError>>, NoMemory>
         ensures { IfOk result (λ found. found ≡ read self.now query.now now) }
     {
+        match self.find(alloc, query, now)? {
+            Some(found) => Ok(Some(found.response)),
+            None => Ok(None),
+        }
+    }
+
+    /// The response to a question, as it reads at a moment, with its source.
+    pub fn find(
+        &self,
+        alloc: Global,
+        query: &Query,
+        now: u64,
+    ) -> Result<Option<CachedResponse>, NoMemory>
+        ensures { IfOk result (λ found. found ≡ found_for self.now query.now now) }
+    {
         match current_for(self.entries.as_slice(), query, now) {
             Some(e) => {
                 let seconds = seconds_between(e.written, now);
-                Ok(Some(lowered(alloc, &e.response, seconds)?))
+                Ok(Some(CachedResponse {
+                    response: lowered(alloc, &e.response, seconds)?,
+                    source: e.source,
+                }))
             }
             None => Ok(None),
         }
@@ -89,7 +107,7 @@ impl ResponseCache {
         response: Result<Message, NetError>,
         now: u64,
     ) -> Result<(), NoMemory>
-        ensures ok { OnOk result (self.new ≡ upserted self.old query response now false) }
+        ensures ok { OnOk result (self.new ≡ upserted self.old query response 0 now false) }
         ensures err { OnErr result (self.new ≡ self.old) }
     {
         self.upsert_clamped_ttl(query, response, now, false)
@@ -104,7 +122,22 @@ impl ResponseCache {
         now: u64,
         clamp: bool,
     ) -> Result<(), NoMemory>
-        ensures ok { OnOk result (self.new ≡ upserted self.old query response now clamp) }
+        ensures ok { OnOk result (self.new ≡ upserted self.old query response 0 now clamp) }
+        ensures err { OnErr result (self.new ≡ self.old) }
+    {
+        self.upsert_told(query, response, 0, now, clamp)
+    }
+
+    /// The same for a response that the log entry of this number told.
+    pub fn upsert_told(
+        &mut self,
+        query: Query,
+        response: Result<Message, NetError>,
+        source: u64,
+        now: u64,
+        clamp: bool,
+    ) -> Result<(), NoMemory>
+        ensures ok { OnOk result (self.new ≡ upserted self.old query response source now clamp) }
         ensures err { OnErr result (self.new ≡ self.old) }
     {
         let Some(life) = life_of(&self.config, query.query_type, &response) else {
@@ -116,6 +149,7 @@ impl ResponseCache {
             response,
             written: now,
             expiry,
+            source,
         };
         put(&mut self.entries, self.size, entry)
     }

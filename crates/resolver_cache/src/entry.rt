@@ -5,14 +5,23 @@ ghost use Rattle.resolver_cache.specs.Entry.{is_for, is_current, current_for};
 
 use dns_core::{Message, NetError, Query};
 
-/// A response under its question, when it was written, and the last moment at which it is current.
-/// Moments are in microseconds.
+/// A response under its question, when it was written, the last moment at which it is current, and
+/// the number of the log entry that told it, 0 where none is known. Moments are in microseconds.
 #[derive(Drop, Debug)]
 pub(crate) struct Entry {
     pub query: Query,
     pub response: Result<Message, NetError>,
     pub written: u64,
     pub expiry: u64,
+    pub source: u64,
+}
+
+/// A response as it reads at a moment, and the number of the log entry that told it, 0 where none
+/// is known.
+#[derive(Drop, Debug)]
+pub struct CachedResponse {
+    pub response: Result<Message, NetError>,
+    pub source: u64,
 }
 
 impl Entry {

@@ -15,6 +15,7 @@ mod placing;
 
 pub use bounds::ReversedTtl;
 pub use cache::ResponseCache;
+pub use entry::CachedResponse;
 pub use laws::{a_write_adds_one_response_alone, what_is_read_is_current};
 
 #[cfg(test)]

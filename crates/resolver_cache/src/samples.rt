@@ -127,6 +127,32 @@ pub fn write(
     Ok(())
 }
 
+/// Writes an answer to a question for addresses that the log entry of this number told.
+pub fn write_told(
+    alloc: Global,
+    cache: &mut ResponseCache,
+    name: &str,
+    ttl: u32,
+    source: u64,
+    now: u64,
+) -> Result<(), Fail> {
+    let query = question(alloc, name, RecordType::A)?;
+    cache.upsert_told(query, Ok(answer(alloc, ttl)?), source, now, true)?;
+    Ok(())
+}
+
+/// The source of the response to a question for addresses.
+pub fn source_of(
+    alloc: Global,
+    cache: &ResponseCache,
+    name: &str,
+    now: u64,
+) -> Result<Option<u64>, Fail> {
+    let query = question(alloc, name, RecordType::A)?;
+    let found = cache.find(alloc, &query, now)?;
+    Ok(found.map(|f| f.source))
+}
+
 /// The TTL of the first answer that the cache gives.
 pub fn first_ttl(
     alloc: Global,

@@ -1,4 +1,6 @@
-use crate::samples::{answer, cache_of, denied, deny, first_ttl, question, read, write};
+use crate::samples::{
+    answer, cache_of, denied, deny, first_ttl, question, read, source_of, write, write_told,
+};
 use crate::{ResponseCache, ReversedTtl};
 use dns_core::{DnsClass, DnsError, NetError, NoRecords, Query, RecordType, ResponseCode};
 use resolver_settings::{TtlBounds, TtlConfig};
@@ -48,6 +50,33 @@ fn a_repeated_answer_lives_no_longer(rt: HostRuntime) -> Result<(), Fail> {
     assert_eq!(rt; first_ttl(alloc, &cache, &query, 10_000_000)?, Some(95));
     assert_eq!(rt; first_ttl(alloc, &cache, &query, 10_000_001)?, None);
     assert!(rt; cache.has(&query));
+    Ok(())
+}
+
+#[test]
+fn a_response_is_found_with_its_source(rt: HostRuntime) -> Result<(), Fail> {
+    let alloc = rt.alloc();
+    let mut cache = cache_of(alloc, 8)?;
+    write_told(alloc, &mut cache, "a.", 60, 7, 0)?;
+    write(alloc, &mut cache, "b.", 60, 0)?;
+    let query = question(alloc, "a.", RecordType::A)?;
+    let found = cache.find(alloc, &query, 2_000_000)?.ok_or("not found")?;
+    assert_eq!(rt; found.source, 7);
+    let message = found.response.ok().ok_or("no answer")?;
+    assert_eq!(rt; message.answers.items().first().map(|r| r.ttl), Some(58));
+    assert_eq!(rt; source_of(alloc, &cache, "b.", 0)?, Some(0));
+    assert_eq!(rt; source_of(alloc, &cache, "a.", 60_000_001)?, None);
+    Ok(())
+}
+
+#[test]
+fn a_repeated_write_brings_its_source(rt: HostRuntime) -> Result<(), Fail> {
+    let alloc = rt.alloc();
+    let mut cache = cache_of(alloc, 8)?;
+    write_told(alloc, &mut cache, "a.", 60, 7, 0)?;
+    write_told(alloc, &mut cache, "a.", 60, 9, 1_000_000)?;
+    assert_eq!(rt; source_of(alloc, &cache, "a.", 1_000_000)?, Some(9));
+    assert_eq!(rt; cache.entry_count(), 1);
     Ok(())
 }
 

@@ -1,5 +1,6 @@
 -- The bounds of the time to live of answers, by their types (RFC 1035 section 3.2.1, RFC 2308 section 5).
-use Rattle.std.specs.Prelude.{List, Option, Bool, ◌&&◌, ◌==◌}
+use Rattle.std.specs.Prelude.{List, Option, Bool, ◌&&◌, ◌||◌, ◌==◌, nat_lt}
+use Rattle.std.specs.List.{list_any}
 use Rattle.std.specs.Option.{unwrap_or}
 use Rattle.std.specs.Map.{lookup}
 use Rattle.std.specs.BTreeMap.{insert_entry}
@@ -37,6 +38,14 @@ with_own table t bounds = record table { own = insert_entry type_order.ghosts.cm
 -- from 0 to the seconds of a day
 abbrev pub one_day : TtlBounds
 one_day = record { positive_min = 0; positive_max = 86400; negative_min = 0; negative_max = 86400 }
+
+-- a least time is above its greatest, of positive or of negative answers
+abbrev pub is_reversed : TtlBounds → Bool
+is_reversed b = nat_lt b.positive_max b.positive_min || nat_lt b.negative_max b.negative_min
+
+-- so are the general bounds, or those of a type
+abbrev pub has_reversed : TtlTable → Bool
+has_reversed table = is_reversed table.general || list_any (λ e. is_reversed e.1) table.own
 
 -- the same general bounds, and the same types with the same bounds
 abbrev pub same_tables : TtlTable → TtlTable → Bool

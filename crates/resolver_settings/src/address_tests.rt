@@ -1,8 +1,7 @@
 //! Texts of addresses: the examples of RFC 5952 and of RFC 4291, and words that are none.
-use crate::NameServerConfig;
 use crate::address_text::{address_in, text_of_address};
 use crate::number_text::number_in;
-use dns_core::{NoMemory, ProtocolConfig};
+use dns_core::NoMemory;
 use std::alloc::Global;
 use std::net::{IpAddr, Ipv4Addr, Ipv6Addr};
 use std::test::Fail;
@@ -119,13 +118,6 @@ fn a_mapped_address_has_no_dots(rt: HostRuntime) -> Result<(), Fail> {
     let alloc = rt.alloc();
     assert!(rt; is_printed(alloc, "0:0:0:0:0:ffff:102:304", "::ffff:102:304")?);
     assert!(rt; is_printed(alloc, "1.2.3.4", "1.2.3.4")?);
-    let mapped = Ipv6Addr::new(0, 0, 0, 0, 0, 0xffff, 0x102, 0x304);
-    let server = NameServerConfig::opportunistic_encryption(alloc, IpAddr::V6(mapped))?;
-    assert_eq!(rt; server.connections.len(), 4);
-    let ProtocolConfig::Tls { server_name } = &server.connections[2].protocol else {
-        return Err(Fail::new("the third connection is not over TLS"));
-    };
-    assert_eq!(rt; server_name.items(), "::ffff:102:304");
     Ok(())
 }
 

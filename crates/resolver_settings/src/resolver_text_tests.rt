@@ -18,7 +18,7 @@ fn error(alloc: Global, text: &[u8]) -> Option<ConfError> {
 }
 
 /// The names with a space after each.
-fn spaced(names: &[Name], alloc: Global) -> Result<Vec<u8>, NoMemory> {
+pub(crate) fn spaced(names: &[Name], alloc: Global) -> Result<Vec<u8>, NoMemory> {
     let mut out = Vec::new(alloc);
     for name in names {
         name.write_text(&mut out)?;
@@ -31,6 +31,10 @@ fn spaced(names: &[Name], alloc: Global) -> Result<Vec<u8>, NoMemory> {
 fn search(alloc: Global, text: &[u8]) -> Result<Vec<u8>, ConfError> {
     let (config, _) = parsed(alloc, text, "")?;
     Ok(spaced(config.search(), alloc)?)
+}
+
+fn is_search(alloc: Global, text: &[u8], want: &[u8]) -> Result<bool, ConfError> {
+    Ok(search(alloc, text)?.as_slice() == want)
 }
 
 /// The addresses of the servers with a space after each.
@@ -55,24 +59,39 @@ fn domain(alloc: Global, text: &[u8], host: &str) -> Result<Vec<u8>, ConfError> 
     Ok(out)
 }
 
+fn is_domain(alloc: Global, text: &[u8], host: &str, want: &[u8]) -> Result<bool, ConfError> {
+    Ok(domain(alloc, text, host)?.as_slice() == want)
+}
+
+/// The options `ndots`, `timeout`, `attempts` and `edns0` of a text that has a server.
+fn options(alloc: Global, text: &[u8]) -> Result<(usize, u64, usize, bool), ConfError> {
+    let (_, options) = parsed(alloc, text, "")?;
+    Ok((
+        options.ndots,
+        options.timeout,
+        options.attempts,
+        options.edns0,
+    ))
+}
+
+/// The number of connections to the only server of a text.
+fn connections(alloc: Global, text: &[u8]) -> Result<Option<usize>, ConfError> {
+    let (config, _) = parsed(alloc, text, "")?;
+    match config.name_servers() {
+        [server] => Ok(Some(server.connections.len())),
+        _ => Ok(None),
+    }
+}
+
 #[test]
 fn a_short_text_says_this(rt: HostRuntime) -> Result<(), Fail> {
     let alloc = rt.alloc();
     let text = b"search -- lan\nnameserver 127.0.0.53\n";
-    let (config, options) = parsed(alloc, text, "box")?;
-    assert!(rt; config.domain().is_none());
-    assert_eq!(rt;
-        spaced(config.search(), alloc)?.as_slice(),
-        b"lan ".as_slice()
-    );
+    assert!(rt; is_domain(alloc, text, "box", b"")?);
+    assert!(rt; is_search(alloc, text, b"lan ")?);
     assert_eq!(rt; servers(alloc, text)?.as_str(), "127.0.0.53 ");
-    for server in config.name_servers() {
-        assert_eq!(rt; server.connections.len(), 2);
-    }
-    assert_eq!(rt; options.ndots, 1);
-    assert_eq!(rt; options.timeout, 5_000_000);
-    assert_eq!(rt; options.attempts, 2);
-    assert!(rt; !options.edns0);
+    assert_eq!(rt; connections(alloc, text)?, Some(2));
+    assert_eq!(rt; options(alloc, text)?, (1, 5_000_000, 2, false));
     Ok(())
 }
 
@@ -109,7 +128,7 @@ fn a_bad_search_word_is_counted_from_one(rt: HostRuntime) -> Result<(), Fail> {
 fn search_words_are_relaxed_names(rt: HostRuntime) -> Result<(), Fail> {
     let alloc = rt.alloc();
     let text = b"nameserver 10.0.0.1\nsearch -- b@d Ok. --x\n";
-    assert_eq!(rt; search(alloc, text)?.as_slice(), b"b@d Ok. --x ".as_slice());
+    assert!(rt; is_search(alloc, text, b"b@d Ok. --x ")?);
     Ok(())
 }
 
@@ -117,16 +136,13 @@ fn search_words_are_relaxed_names(rt: HostRuntime) -> Result<(), Fail> {
 fn the_last_list_counts(rt: HostRuntime) -> Result<(), Fail> {
     let alloc = rt.alloc();
     let later = b"nameserver 10.0.0.1\ndomain a.b\nsearch c d\n";
-    assert_eq!(rt; search(alloc, later)?.as_slice(), b"c d ".as_slice());
-    assert_eq!(rt; domain(alloc, later, "")?.as_slice(), b"a.b".as_slice());
+    assert!(rt; is_search(alloc, later, b"c d ")?);
+    assert!(rt; is_domain(alloc, later, "", b"a.b")?);
     let first = b"nameserver 10.0.0.1\nsearch c d\ndomain a.b\n";
-    assert_eq!(rt; search(alloc, first)?.as_slice(), b"a.b ".as_slice());
+    assert!(rt; is_search(alloc, first, b"a.b ")?);
     let empty = b"nameserver 10.0.0.1\nsearch c d\nsearch\ndomain\ndomain a b\n";
-    assert_eq!(rt; search(alloc, empty)?.as_slice(), b"c d ".as_slice());
-    assert_eq!(rt;
-        search(alloc, b"nameserver 10.0.0.1")?.as_slice(),
-        b"".as_slice()
-    );
+    assert!(rt; is_search(alloc, empty, b"c d ")?);
+    assert!(rt; is_search(alloc, b"nameserver 10.0.0.1", b"")?);
     Ok(())
 }
 
@@ -134,20 +150,13 @@ fn the_last_list_counts(rt: HostRuntime) -> Result<(), Fail> {
 fn the_domain_is_set_or_that_of_the_host(rt: HostRuntime) -> Result<(), Fail> {
     let alloc = rt.alloc();
     let plain = b"nameserver 10.0.0.1\n";
-    let host = domain(alloc, plain, "box.example.com")?;
-    assert_eq!(rt; host.as_slice(), b"example.com".as_slice());
-    assert_eq!(rt; domain(alloc, plain, "box")?.as_slice(), b"".as_slice());
-    assert_eq!(rt; domain(alloc, plain, "box.")?.as_slice(), b"".as_slice());
+    assert!(rt; is_domain(alloc, plain, "box.example.com", b"example.com")?);
+    assert!(rt; is_domain(alloc, plain, "box", b"")?);
+    assert!(rt; is_domain(alloc, plain, "box.", b"")?);
     let set = b"nameserver 10.0.0.1\ndomain x\ndomain y\n";
-    assert_eq!(rt;
-        domain(alloc, set, "box.example.com")?.as_slice(),
-        b"y".as_slice()
-    );
+    assert!(rt; is_domain(alloc, set, "box.example.com", b"y")?);
     let odd = b"nameserver 10.0.0.1\ndomain b@d\n";
-    assert_eq!(rt;
-        domain(alloc, odd, "box.example.com")?.as_slice(),
-        b"".as_slice()
-    );
+    assert!(rt; is_domain(alloc, odd, "box.example.com", b"")?);
     Ok(())
 }
 
@@ -177,18 +186,10 @@ fn the_last_option_of_a_kind_counts(rt: HostRuntime) -> Result<(), Fail> {
     let alloc = rt.alloc();
     let text =
         b"nameserver 10.0.0.1\noptions ndots:3 timeout:7 attempts:0 edns0 unknown ndots:07\n";
-    let (_, options) = parsed(alloc, text, "")?;
-    assert_eq!(rt; options.ndots, 3);
-    assert_eq!(rt; options.timeout, 7_000_000);
-    assert_eq!(rt; options.attempts, 0);
-    assert!(rt; options.edns0);
+    assert_eq!(rt; options(alloc, text)?, (3, 7_000_000, 0, true));
     let text =
         b"options ndots:3 attempts:65535\nnameserver ::1\noptions ndots:0 attempts:65536 timeout: edns0x timeout:+1\n";
-    let (_, options) = parsed(alloc, text, "")?;
-    assert_eq!(rt; options.ndots, 0);
-    assert_eq!(rt; options.timeout, 5_000_000);
-    assert_eq!(rt; options.attempts, 65_535);
-    assert!(rt; !options.edns0);
+    assert_eq!(rt; options(alloc, text)?, (0, 5_000_000, 65_535, false));
     Ok(())
 }
 
@@ -199,32 +200,43 @@ fn source(alloc: Global, text: Vec<u8>, failing: u64) -> Result<MemorySource, No
     Ok(MemorySource::new(alloc, Items::new(text), numbers))
 }
 
+/// What is read from a source of a text, whose call of this number fails.
+fn read(alloc: Global, text: Vec<u8>, failing: u64) -> Conf {
+    let mut source = source(alloc, text, failing)?;
+    read_system_conf(alloc, &mut source, "box")
+}
+
 #[test]
 fn a_source_is_read_to_its_end(rt: HostRuntime) -> Result<(), Fail> {
     let alloc = rt.alloc();
     let text = b"search -- lan\nnameserver 127.0.0.53\n";
-    let mut whole = source(alloc, text.to_vec(alloc)?, 9)?;
-    let (config, options) = read_system_conf(alloc, &mut whole, "box")?;
-    let (same, standard) = parsed(alloc, text, "box")?;
-    assert!(rt; config == same);
-    assert!(rt; options == standard);
-    let mut late = source(alloc, text.to_vec(alloc)?, 2)?;
-    let read = read_system_conf(alloc, &mut late, "box");
-    assert_eq!(rt; read.err(), Some(ConfError::ReadFault));
+    let whole = read(alloc, text.to_vec(alloc)?, 9);
+    assert!(rt; whole.is_ok());
+    assert!(rt; whole == parsed(alloc, text, "box"));
     Ok(())
 }
 
 #[test]
-fn a_source_may_be_too_long(rt: HostRuntime) -> Result<(), Fail> {
+fn a_source_may_fail(rt: HostRuntime) -> Result<(), Fail> {
     let alloc = rt.alloc();
-    let comments = vec![in alloc; b'#'; 1_048_576]?;
-    let mut fits = source(alloc, comments, 1000)?;
-    let read = read_system_conf(alloc, &mut fits, "");
-    assert_eq!(rt; read.err(), Some(ConfError::NoNameServers));
-    let more = vec![in alloc; b'#'; 1_048_577]?;
-    let mut long = source(alloc, more, 1000)?;
-    let read = read_system_conf(alloc, &mut long, "");
-    assert_eq!(rt; read.err(), Some(ConfError::TooLong));
+    let text = b"search -- lan\nnameserver 127.0.0.53\n";
+    let late = read(alloc, text.to_vec(alloc)?, 2);
+    assert_eq!(rt; late.err(), Some(ConfError::ReadFault));
+    Ok(())
+}
+
+/// The fault of a source of so many bytes, all of them a comment.
+fn comment_fault(alloc: Global, size: usize) -> Result<Option<ConfError>, NoMemory> {
+    let comments = vec![in alloc; b'#'; size]?;
+    Ok(read(alloc, comments, 1000).err())
+}
+
+#[test]
+fn a_source_may_be_too_long(rt: HostRuntime) -> Result<(), Fail> {
+    let fits = comment_fault(rt.alloc(), 1_048_576)?;
+    assert_eq!(rt; fits, Some(ConfError::NoNameServers));
+    let long = comment_fault(rt.alloc(), 1_048_577)?;
+    assert_eq!(rt; long, Some(ConfError::TooLong));
     Ok(())
 }
 

@@ -1,22 +1,14 @@
 //! Search domains as text.
 use crate::parse_search_domains;
-use dns_core::{Name, NameError, NoMemory};
+use crate::resolver_text_tests::spaced;
+use dns_core::NameError;
 use std::alloc::Global;
 use std::test::Fail;
 
-fn is_written(name: &Name, alloc: Global, text: &str) -> Result<bool, NoMemory> {
-    let mut bytes = Vec::new(alloc);
-    name.write_text(&mut bytes)?;
-    Ok(bytes.as_slice() == text.as_bytes())
-}
-
-/// The text gives two names, of these texts.
-fn are_two(alloc: Global, raw: &str, first: &str, second: &str) -> Result<bool, NameError> {
+/// The text gives names of these texts, which have a space after each here.
+fn gives(alloc: Global, raw: &str, want: &str) -> Result<bool, NameError> {
     let names = parse_search_domains(alloc, raw)?;
-    let [a, b] = names.items() else {
-        return Ok(false);
-    };
-    Ok(is_written(a, alloc, first)? && is_written(b, alloc, second)?)
+    Ok(spaced(names.items(), alloc)?.as_slice() == want.as_bytes())
 }
 
 fn is_empty(alloc: Global, raw: &str) -> Result<bool, NameError> {
@@ -31,40 +23,27 @@ fn fault(alloc: Global, raw: &str) -> Option<NameError> {
 #[test]
 fn white_space_and_nul_stand_between_domains(rt: HostRuntime) -> Result<(), Fail> {
     let alloc = rt.alloc();
-    let names = parse_search_domains(alloc, "a.com\tb.com\r\nc.com")?;
-    assert_eq!(rt; names.len(), 3);
-    let [a, b, c] = names.items() else {
-        return Err(Fail::new("three names"));
-    };
-    assert!(rt; is_written(a, alloc, "a.com")? && !a.is_fqdn());
-    assert!(rt; is_written(b, alloc, "b.com")? && !b.is_fqdn());
-    assert!(rt; is_written(c, alloc, "c.com")? && !c.is_fqdn());
-    assert!(rt;
-        are_two(
-            alloc,
-            "test.com\0something.net",
-            "test.com",
-            "something.net"
-        )?
-    );
-    assert!(rt; are_two(alloc, "\0 a.com \0\u{b}\u{c}b.com\0", "a.com", "b.com")?);
-    assert!(rt; are_two(alloc, "a\u{85}b", "a", "b")?);
-    assert!(rt; are_two(alloc, "a\u{a0}b", "a", "b")?);
-    assert!(rt; are_two(alloc, "a\u{2003}b", "a", "b")?);
-    assert!(rt; are_two(alloc, "a\u{3000}b", "a", "b")?);
+    assert!(rt; gives(alloc, "a.com\tb.com\r\nc.com", "a.com b.com c.com ")?);
+    assert!(rt; gives(alloc, "test.com\0something.net", "test.com something.net ")?);
+    assert!(rt; gives(alloc, "\0 a.com \0\u{b}\u{c}b.com\0", "a.com b.com ")?);
+    assert!(rt; gives(alloc, "a\u{85}b", "a b ")?);
+    assert!(rt; gives(alloc, "a\u{a0}b", "a b ")?);
+    assert!(rt; gives(alloc, "a\u{2003}b", "a b ")?);
+    assert!(rt; gives(alloc, "a\u{3000}b", "a b ")?);
     Ok(())
 }
 
 #[test]
 fn a_final_dot_makes_a_domain_fully_qualified(rt: HostRuntime) -> Result<(), Fail> {
     let alloc = rt.alloc();
-    let names = parse_search_domains(alloc, "example.com. example.net")?;
-    let [first, second] = names.items() else {
-        return Err(Fail::new("two names"));
-    };
-    assert!(rt; is_written(first, alloc, "example.com.")? && first.is_fqdn());
-    assert!(rt; is_written(second, alloc, "example.net")? && !second.is_fqdn());
-    assert!(rt; are_two(alloc, ". Example.COM", ".", "Example.COM")?);
+    assert!(rt;
+        gives(
+            alloc,
+            "example.com. example.net",
+            "example.com. example.net "
+        )?
+    );
+    assert!(rt; gives(alloc, ". Example.COM", ". Example.COM ")?);
     Ok(())
 }
 

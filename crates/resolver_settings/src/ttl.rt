@@ -1,6 +1,6 @@
 //! The bounds of the time for which an answer is kept.
 ghost use Rattle.std.specs.Prelude.{◌≡◌, [], IfOk, OnErr, None, false};
-ghost use Rattle.resolver_settings.specs.Ttl.{bounds_of, own_bounds, with_own, one_day, same_type, same_tables, same_tables_per, same_tables_equiv};
+ghost use Rattle.resolver_settings.specs.Ttl.{bounds_of, own_bounds, with_own, one_day, is_reversed, has_reversed, same_type, same_tables, same_tables_per, same_tables_equiv};
 
 use dns_core::{NoMemory, RecordType, TryClone};
 use std::alloc::Global;
@@ -15,6 +15,16 @@ pub struct TtlBounds {
     pub positive_max: u64,
     pub negative_min: u64,
     pub negative_max: u64,
+}
+
+impl TtlBounds {
+    /// Whether a least time is above its greatest, of positive or of negative answers, so that no
+    /// time is within these bounds.
+    pub fn is_reversed(&self) -> bool
+        ensures { result ≡ is_reversed self.now }
+    {
+        self.positive_max < self.positive_min || self.negative_max < self.negative_min
+    }
 }
 
 /// The bounds of each type: its own, or else the general ones.
@@ -69,6 +79,20 @@ impl TtlConfig {
         let mut config = self;
         config.by_type.insert(query_type, bounds)?;
         Ok(config)
+    }
+
+    /// The bounds of the types that have none of their own.
+    pub fn general(&self) -> TtlBounds
+        ensures { result ≡ self.now.general }
+    {
+        self.general
+    }
+
+    /// Whether the general bounds or those of some type are reversed.
+    pub fn is_reversed(&self) -> bool
+        ensures { result ≡ has_reversed self.now }
+    {
+        self.general.is_reversed() || self.by_type.iter().any(|(_, bounds)| bounds.is_reversed())
     }
 
     fn bounds(&self, record_type: RecordType) -> TtlBounds

@@ -2,7 +2,8 @@
 ghost use Rattle.std.specs.Prelude.{◌≡◌, Some, None, OnOk, IfOk, if◌then◌else◌};
 ghost use Rattle.recursor_text.specs.declared.reading.lines.Form.TheVariants as form;
 ghost use Rattle.recursor_text.specs.Fields.{Gives};
-ghost use Rattle.recursor_text.specs.Unbuilt.{place_of, moment_of};
+ghost use Rattle.recursor_text.specs.Spelling.{last_moment};
+ghost use Rattle.recursor_text.specs.Unbuilt.{place_of};
 ghost use Rattle.recursor_text.specs.Steps.{Steps, may_head, may_root, may_option, may_wait, may_tell, may_reply, may_ask, may_turn, may_end, is_ended, start, put, settle, add, taken, scenario_of, is_settled, rule_of};
 
 use super::lines::{Form, form_line};
@@ -19,9 +20,9 @@ use std::net::IpAddr;
 /// How many roots, questions and turns a scenario may have.
 const MOST_ROOTS: usize = 1;
 
-const MOST_QUESTIONS: usize = 1;
+const MOST_QUESTIONS: usize = 10_000;
 
-const MOST_TURNS: usize = 1;
+const MOST_TURNS: usize = 100_000;
 
 /// Why a line that a draft does not take is refused.
 #[derive(Clone, Copy, Debug, PartialEq, Eq)]
@@ -31,13 +32,13 @@ pub enum Refusal {
 }
 
 /// Where the next line stands: after which kind of line, behind the rank of which option (0 for
-/// none), whether a rule owes it, and not before which moment.
+/// none), whether a rule owes it, and whether there is room for a question more.
 #[derive(Clone, Copy, Debug, PartialEq, Eq)]
 pub struct Place {
     pub stage: Stage,
     pub option: u8,
     pub owes: bool,
-    pub last: u64,
+    pub room: bool,
 }
 
 /// The last kind of line that was taken.
@@ -113,13 +114,13 @@ impl Stage {
     fn may_turn(self) -> bool
         ensures { result ≡ may_turn self }
     {
-        matches!(&self, Stage::Asked | Stage::Turned)
+        matches!(&self, Stage::Scripted | Stage::Asked | Stage::Turned)
     }
 
     fn may_end(self) -> bool
         ensures { result ≡ may_end self }
     {
-        matches!(&self, Stage::Turned)
+        matches!(&self, Stage::Scripted | Stage::Asked | Stage::Turned)
     }
 
     fn is_ended(self) -> bool
@@ -177,13 +178,13 @@ fn rule_of(alloc: Global, whole: OpenRule) -> Result<ScriptLine, NoMemory>
     })
 }
 
-/// The moment of the first turn, which is the only one yet.
-fn first_moment(turns: &[Turn]) -> u64
-    ensures { result ≡ moment_of turns.now }
+/// The moment of the last turn, and 0 where there is none.
+fn last_moment(turns: &[Turn]) -> u64
+    ensures { result ≡ last_moment 0 turns.now }
 {
-    match turns {
-        [turn, ..] => turn.moment,
-        [] => 0,
+    match turns.last() {
+        Some(turn) => turn.moment,
+        None => 0,
     }
 }
 
@@ -217,7 +218,7 @@ impl Draft {
             stage: self.stage,
             option: last_rank(self.written.items()),
             owes: self.pending.is_some(),
-            last: first_moment(self.turns.items()),
+            room: self.questions.len() < MOST_QUESTIONS,
         }
     }
 
@@ -313,7 +314,11 @@ impl Draft {
     fn put_turn(&mut self, turn: Turn) -> Result<(), LineError>
         ensures { Steps result self.new (put self.old (form.Turn turn)) }
     {
-        pass(self.stage.may_turn() && self.turns.len() < MOST_TURNS)?;
+        pass(
+            self.stage.may_turn()
+                && self.turns.len() < MOST_TURNS
+                && last_moment(self.turns.items()) <= turn.moment,
+        )?;
         self.turns.push(turn)?;
         self.stage = Stage::Turned;
         Ok(())

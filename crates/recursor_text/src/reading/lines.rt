@@ -209,7 +209,7 @@ fn question_line(alloc: Global, words: &mut Words) -> Result<Form, LineError>
 fn turn_line(words: &mut Words) -> Result<Form, LineError>
     ensures { Gives result (turn_of words.old) }
 {
-    let question = words.number(1, 1)?;
+    let question = words.number(0, 4_294_967_295)?;
     let moment = words.number(0, 4_611_686_018_427_387_903)?;
     words.end()?;
     Ok(Form::Turn(Turn {

@@ -1,20 +1,30 @@
 //! Option lines that are read, and the options that they say.
 ghost use Rattle.std.specs.Prelude.{◌≡◌, IfOk};
-ghost use Rattle.recursor_text.specs.Fields.{Gives};
-ghost use Rattle.recursor_text.specs.OptionForm.{allow_server_of, deny_server_of, option_line_of};
-ghost use Rattle.recursor_text.specs.Spelling.{option_rank, last_rank, changed, options_with};
+ghost use Rattle.recursor_text.specs.Fields.{Gives, GivesFields};
+ghost use Rattle.recursor_text.specs.OptionForm.{bounds_fields, response_cache_size_of, allow_server_of, deny_server_of, positive_ttl_of, negative_ttl_of, option_line_of};
+ghost use Rattle.recursor_text.specs.Spelling.{option_rank, last_rank, with_positive, with_negative, changed, options_with};
 
 use super::words::{LineError, Words};
 use dns_core::{Items, NoMemory};
 use recursor_core::RecursorOptions;
-use resolver_settings::Nets;
+use resolver_settings::{Nets, TtlBounds, TtlConfig};
 use std::alloc::Global;
+
+/// The least and the greatest time to live, in seconds.
+#[derive(Clone, Copy, Debug, PartialEq, Eq)]
+pub struct Bounds {
+    pub least: u64,
+    pub most: u64,
+}
 
 /// An option that a line sets. A further option has a variant here, its rank, and what it changes.
 #[derive(Drop, Debug)]
 pub enum OptionLine {
+    ResponseCacheSize(u64),
     AllowServer(Nets),
     DenyServer(Nets),
+    PositiveTtl(Bounds),
+    NegativeTtl(Bounds),
 }
 
 impl OptionLine {
@@ -23,19 +33,53 @@ impl OptionLine {
         ensures { result ≡ option_rank self.now }
     {
         match self {
+            OptionLine::ResponseCacheSize(_) => 2,
             OptionLine::AllowServer(_) => 7,
             OptionLine::DenyServer(_) => 8,
+            OptionLine::PositiveTtl(_) => 10,
+            OptionLine::NegativeTtl(_) => 11,
         }
     }
 
-    fn change(self, options: &mut RecursorOptions)
+    fn change(self, alloc: Global, options: &mut RecursorOptions)
         ensures { options.new ≡ changed options.old self }
     {
         match self {
+            OptionLine::ResponseCacheSize(size) => options.response_cache_size = size,
             OptionLine::AllowServer(nets) => options.allow_server = nets,
             OptionLine::DenyServer(nets) => options.deny_server = nets,
+            OptionLine::PositiveTtl(bounds) => {
+                options.cache_policy = with_positive(alloc, &options.cache_policy, bounds);
+            }
+            OptionLine::NegativeTtl(bounds) => {
+                options.cache_policy = with_negative(alloc, &options.cache_policy, bounds);
+            }
         }
     }
+}
+
+/// Other bounds of positive answers, the same for every type.
+fn with_positive(alloc: Global, policy: &TtlConfig, bounds: Bounds) -> TtlConfig
+    ensures { result ≡ with_positive policy.now bounds }
+{
+    let general = TtlBounds {
+        positive_min: bounds.least,
+        positive_max: bounds.most,
+        ..policy.general()
+    };
+    TtlConfig::new(alloc, general)
+}
+
+/// Other bounds of negative answers, the same for every type.
+fn with_negative(alloc: Global, policy: &TtlConfig, bounds: Bounds) -> TtlConfig
+    ensures { result ≡ with_negative policy.now bounds }
+{
+    let general = TtlBounds {
+        negative_min: bounds.least,
+        negative_max: bounds.most,
+        ..policy.general()
+    };
+    TtlConfig::new(alloc, general)
 }
 
 /// The rank of the last line, and 0 where there is none.
@@ -54,9 +98,27 @@ pub fn options_with(alloc: Global, written: Items<OptionLine>) -> Result<Recurso
 {
     let mut options = RecursorOptions::standard(alloc)?;
     'lines: for line in written.into_vec() {
-        line.change(&mut options);
+        line.change(alloc, &mut options);
     }
     Ok(options)
+}
+
+/// The least number of seconds, and the greatest, which is no smaller.
+fn ttl_bounds(words: &mut Words) -> Result<Bounds, LineError>
+    ensures { GivesFields result words.new (bounds_fields words.old) }
+{
+    let least = words.number(0, 4_294_967_295)?;
+    let most = words.number(least, 4_294_967_295)?;
+    Ok(Bounds { least, most })
+}
+
+#[tactic(auto, unfolding(crate::specs::OptionForm::response_cache_size_of))]
+fn response_cache_size_line(words: &mut Words) -> Result<OptionLine, LineError>
+    ensures { Gives result (response_cache_size_of words.old) }
+{
+    let size = words.number(0, 4_194_304)?;
+    words.end()?;
+    Ok(OptionLine::ResponseCacheSize(size))
 }
 
 #[tactic(auto, unfolding(crate::specs::OptionForm::allow_server_of))]
@@ -77,6 +139,24 @@ fn deny_server_line(alloc: Global, words: &mut Words) -> Result<OptionLine, Line
     Ok(OptionLine::DenyServer(nets))
 }
 
+#[tactic(auto, unfolding(crate::specs::OptionForm::positive_ttl_of))]
+fn positive_ttl_line(words: &mut Words) -> Result<OptionLine, LineError>
+    ensures { Gives result (positive_ttl_of words.old) }
+{
+    let bounds = ttl_bounds(words)?;
+    words.end()?;
+    Ok(OptionLine::PositiveTtl(bounds))
+}
+
+#[tactic(auto, unfolding(crate::specs::OptionForm::negative_ttl_of))]
+fn negative_ttl_line(words: &mut Words) -> Result<OptionLine, LineError>
+    ensures { Gives result (negative_ttl_of words.old) }
+{
+    let bounds = ttl_bounds(words)?;
+    words.end()?;
+    Ok(OptionLine::NegativeTtl(bounds))
+}
+
 /// The name of an option, and its value.
 #[tactic(auto, unfolding(crate::specs::OptionForm::option_line_of))]
 pub fn option_line(alloc: Global, words: &mut Words) -> Result<OptionLine, LineError>
@@ -85,11 +165,20 @@ pub fn option_line(alloc: Global, words: &mut Words) -> Result<OptionLine, LineE
     let Some(word) = words.next() else {
         return Err(LineError::Refused);
     };
+    if word == b"response_cache_size".as_slice() {
+        return response_cache_size_line(words);
+    }
     if word == b"allow_server".as_slice() {
         return allow_server_line(alloc, words);
     }
     if word == b"deny_server".as_slice() {
         return deny_server_line(alloc, words);
+    }
+    if word == b"positive_ttl".as_slice() {
+        return positive_ttl_line(words);
+    }
+    if word == b"negative_ttl".as_slice() {
+        return negative_ttl_line(words);
     }
     Err(LineError::Refused)
 }

@@ -1,7 +1,7 @@
 //! Lines that are not taken: which of them the format has, though they are not read yet.
 ghost use Rattle.std.specs.Prelude.{◌≡◌, Option, codes, IfOk};
 ghost use Rattle.recursor_text.specs.Fields.{Gives, GivesFields, checked};
-ghost use Rattle.recursor_text.specs.Unbuilt.{is_protocol, is_error_word, is_flags, is_dnssec, is_named_class, is_class, is_named_code, is_code, root_line, told_line, refuse_line, error_line, message_line, ok_line, connect_line, reply_line, question_line, turn_line, ipv4_data, ipv6_data, name_data, soa_data, signature_data, bytes_data, data_line, delay_field, outcome_line, stands, record_line, is_at_roots, is_at_options, is_at_told, is_at_rules, is_at_questions, is_at_turns, rule_line, late_line, other_line, line_at, refusal_at};
+ghost use Rattle.recursor_text.specs.Unbuilt.{is_protocol, is_error_word, is_flags, is_dnssec, is_named_class, is_class, is_named_code, is_code, root_line, told_line, refuse_line, error_line, message_line, ok_line, connect_line, reply_line, question_line, ipv4_data, ipv6_data, name_data, soa_data, signature_data, bytes_data, data_line, delay_field, outcome_line, stands, record_line, is_at_roots, is_at_options, is_at_told, is_at_rules, is_at_questions, rule_line, late_line, other_line, line_at, refusal_at};
 
 use super::codes::{number_behind, record_type};
 use super::draft::{Place, Refusal, Stage};
@@ -273,16 +273,6 @@ fn question_line(alloc: Global, words: &mut Words) -> Result<(), LineError>
     Ok(())
 }
 
-#[tactic(auto, unfolding(crate::specs::Unbuilt::turn_line))]
-fn turn_line(words: &mut Words, last: u64) -> Result<(), LineError>
-    ensures { Gives result (turn_line last words.old) }
-{
-    words.number(0, 4_294_967_295)?;
-    words.number(last, 4_611_686_018_427_387_903)?;
-    words.end()?;
-    Ok(())
-}
-
 // ---- record lines
 
 #[tactic(auto, unfolding(crate::specs::Unbuilt::ipv4_data))]
@@ -419,12 +409,6 @@ fn is_at_questions(stage: Stage) -> bool
     matches!(&stage, Stage::Scripted | Stage::Asked)
 }
 
-fn is_at_turns(stage: Stage) -> bool
-    ensures { result ≡ is_at_turns stage }
-{
-    matches!(&stage, Stage::Scripted | Stage::Asked | Stage::Turned)
-}
-
 /// What was read, where it may stand.
 fn stands(may: bool, read: Result<(), LineError>) -> Result<(), LineError>
     ensures { (spec : Option (Unit {0})) → Gives read spec → Gives result (stands may spec) }
@@ -449,20 +433,17 @@ fn rule_line(alloc: Global, word: &[u8], words: &mut Words) -> Result<(), LineEr
     Err(LineError::Refused)
 }
 
-/// A line of a script, or one that follows it, by its first word.
+/// A line of a script, or a question, where there is room for one more.
 #[tactic(auto, unfolding(crate::specs::Unbuilt::late_line))]
 fn late_line(alloc: Global, place: Place, word: &[u8], words: &mut Words) -> Result<(), LineError>
     ensures { Gives result (late_line place word.now words.old) }
 {
     let stage = place.stage;
     if word == b"question".as_slice() {
-        return stands(is_at_questions(stage), question_line(alloc, words));
-    }
-    if word == b"turn".as_slice() {
-        return stands(is_at_turns(stage), turn_line(words, place.last));
-    }
-    if word == b"end".as_slice() {
-        return stands(is_at_turns(stage), ok_line(words));
+        return stands(
+            is_at_questions(stage) && place.room,
+            question_line(alloc, words),
+        );
     }
     stands(is_at_rules(stage), rule_line(alloc, word, words))
 }

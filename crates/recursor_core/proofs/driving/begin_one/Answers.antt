@@ -5,7 +5,7 @@ use Rattle.recursor_core.proofs.driving.begin_one.Goals.{in-Waiting, in_default}
 use Rattle.recursor_core.proofs.driving.begin_one.Goals as goal
 
 pub returns-then-matches-clause-derived : goal.returns-then-matches-clause-derived
-returns-then-matches-clause-derived c patience log d = c.begun.ensures.derived patience log c.requires d
+returns-then-matches-clause-derived c log d = c.begun.ensures.derived log c.requires d
 
 pub returns-then-matches-clause-others : goal.returns-then-matches-clause-others
 returns-then-matches-clause-others c k ne = slice_get-set_other c.args.plays.now.items c.args.q k c.begun.result ne

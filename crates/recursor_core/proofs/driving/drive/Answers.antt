@@ -2,7 +2,7 @@ use Rattle.std.proofs.Common.{◌<◌, ◌∙◌, ℕ, length, IfOk, sym, subst}
 use Rattle.recursor_core.specs.Carrying.{TellsThat}
 use Rattle.recursor_core.specs.Standing.{Standing, run_terms, RepliesHold}
 use Rattle.recursor_core.specs.Replies.{terms_with}
-use Rattle.recursor_core.specs.Derived.{terms_of}
+use Rattle.recursor_core.specs.Setting.{with_patience}
 use Rattle.recursor_core.specs.declared.setting.Setting.{Setting}
 use Rattle.recursor_core.proofs.Standing.{rests_holds, holds_rests}
 use Rattle.recursor_core.proofs.driving.drive.Goals as goal
@@ -10,12 +10,12 @@ use Rattle.recursor_core.proofs.driving.drive.Goals as goal
 pub answer-requires : goal.answer-requires
 answer-requires g c =
     let was = c.recursor.inside in
-    rests_holds g.P.ConnectionProvider c.args.patience was.core c.clear.new.self was.carrier c.clear.ensures.same.0 c.clear.ensures.same.2
-    (c.clear.ensures.derived c.args.patience) c.recursor.invariant
+    rests_holds g.P.ConnectionProvider c.args.patience was.core c.clear.new.self was.carrier c.clear.ensures.setting c.clear.ensures.same.1
+    c.clear.ensures.derived c.recursor.invariant
 
 pub invariant_of-recursor : goal.invariant_of-recursor
 invariant_of-recursor g c =
-    let same = c.answer.ensures.setting ∙ c.clear.ensures.same.0 in
+    let same = c.answer.ensures.setting ∙ c.clear.ensures.setting in
     let some : 0 < length c.answer.new.core.setting.roots = subst (λ (held : Setting). 0 < length held.roots) (sym same) c.recursor.invariant.some in
     holds_rests g.P.ConnectionProvider c.args.patience c.answer.new.core c.answer.new.carrier some c.answer.ensures.holds
 
@@ -26,10 +26,10 @@ returns-clause-replies g c =
     let was = c.recursor.inside.core in
     let new = c.clear.new.self in
     let by_setting = subst (λ (held : Setting). IfOk c.answer.result (λ replies. TellsThat told (λ log.
-    RepliesHold (terms_with patience held) log new.moment c.args.turns.now c.args.questions.now replies.items))) c.clear.ensures.same.0
+    RepliesHold (terms_with held) log new.moment c.args.turns.now c.args.questions.now replies.items))) c.clear.ensures.setting
     c.answer.ensures.replies in
     let by_moment = subst (λ (m : ℕ). IfOk c.answer.result (λ replies. TellsThat told (λ log.
-    RepliesHold (terms_of patience was) log m c.args.turns.now c.args.questions.now replies.items))) c.clear.ensures.same.2
+    RepliesHold (terms_with (with_patience was.setting patience)) log m c.args.turns.now c.args.questions.now replies.items))) c.clear.ensures.same.1
     by_setting in
     subst (λ (s : Standing _). IfOk c.answer.result (λ replies. TellsThat told (λ log.
     RepliesHold (run_terms patience s) log s.moment c.args.turns.now c.args.questions.now replies.items))) c.recursor.view_is

@@ -3,23 +3,23 @@ use Rattle.recursor_core.proofs.Patience.{IsPatient-trans}
 use Rattle.recursor_core.proofs.Standing.{moments_then, Grown-trans}
 use Rattle.recursor_core.proofs.driving.finish.Goals as goal
 
-pub returns-then-not-round-clause-grown : goal.returns-then-not-round-clause-grown
-returns-then-not-round-clause-grown g c = Grown-trans c.args.tick.now _ _ _ c.rounds.invariant.grown c.round.ensures.grown
+pub returns-then-not-play-clause-grown : goal.returns-then-not-play-clause-grown
+returns-then-not-play-clause-grown g c = Grown-trans c.args.tick.now _ _ _ c.turns.invariant.grown c.play.ensures.moves.grown
 
-pub rounds-preserved : goal.rounds-preserved
-rounds-preserved g c =
-    let i = c.rounds.invariant in
-    let r = c.round.ensures in
+pub turns-preserved : goal.turns-preserved
+turns-preserved g c =
+    let i = c.turns.invariant in
+    let p = c.play.ensures in
     record {
-      vouches = λ es h. i.vouches es (r.vouches es h);
-      holds = r.holds;
-      setting = r.setting ∙ i.setting;
-      moment = moments_then c.args.core.now.moment c.rounds.core.moment c.round.new.core.moment c.args.tick.now i.moment r.moment;
-      grown = Grown-trans c.args.tick.now _ _ _ i.grown r.grown;
-      patient = IsPatient-trans _ _ _ _ i.patient r.patient;
-      plays = λ start turns rest questions h. r.plays start turns rest questions (i.plays start turns rest questions h);
-      count = r.count ∙ i.count;
+      vouches = λ es h. i.vouches es (p.vouches es h);
+      holds = p.holds;
+      setting = p.moves.setting ∙ i.setting;
+      moment = moments_then c.args.core.now.moment c.turns.core.moment c.play.new.core.moment c.args.tick.now i.moment p.moment;
+      grown = Grown-trans c.args.tick.now _ _ _ i.grown p.moves.grown;
+      patient = IsPatient-trans _ _ _ _ i.patient p.moves.patient;
+      plays = λ start turns rest questions h. p.plays start turns rest questions (i.plays start turns rest questions h);
+      count = p.count ∙ i.count;
     }
 
-pub returns-then-not-round-clause-patient : goal.returns-then-not-round-clause-patient
-returns-then-not-round-clause-patient g c = IsPatient-trans _ _ _ _ c.rounds.invariant.patient c.round.ensures.patient
+pub returns-then-not-play-clause-patient : goal.returns-then-not-play-clause-patient
+returns-then-not-play-clause-patient g c = IsPatient-trans _ _ _ _ c.turns.invariant.patient c.play.ensures.moves.patient

@@ -8,8 +8,8 @@ use Rattle.recursor_core.specs.Standing.{Holds, PlaysHold}
 use Rattle.recursor_core.specs.Turns.{work}
 use Rattle.recursor_core.proofs.driving.finish.Given as goal
 
-abbrev pub invariant-rounds : goal.invariant-rounds
-invariant-rounds g l = record {
+abbrev pub invariant-turns : goal.invariant-turns
+invariant-turns g l = record {
   vouches : (es : List LogEntry) → g.P.ConnectionProvider.vouches l.carrier.provider es → g.P.ConnectionProvider.vouches l.fn.carrier.provider es;
   holds : Holds g.P.ConnectionProvider l.tick.patience l.core l.carrier;
   setting : l.core.setting ≡ l.fn.core.setting;
@@ -17,10 +17,10 @@ invariant-rounds g l = record {
   grown : Grown l.tick.now (g.P.ConnectionProvider.log l.fn.carrier.provider) (g.P.ConnectionProvider.log l.carrier.provider);
   patient : IsPatient (max 1 l.tick.patience) (g.P.ConnectionProvider.log l.fn.carrier.provider) (g.P.ConnectionProvider.log l.carrier.provider);
   plays : (start : ℕ) (turns rest : List Turn) (questions : List Question)
-      → PlaysHold l.tick.patience l.fn.core (g.P.ConnectionProvider.log l.fn.carrier.provider) start turns rest questions l.fn.plays.items
-      → PlaysHold l.tick.patience l.core (g.P.ConnectionProvider.log l.carrier.provider) start turns rest questions l.plays.items;
+      → PlaysHold l.fn.core (g.P.ConnectionProvider.log l.fn.carrier.provider) start turns rest questions l.fn.plays.items
+      → PlaysHold l.core (g.P.ConnectionProvider.log l.carrier.provider) start turns rest questions l.plays.items;
   count : vec_len l.plays ≡ vec_len l.fn.plays;
 }
 
-abbrev pub decreases-rounds : goal.decreases-rounds
-decreases-rounds g l = work l.tick.patience l.core l.plays.items
+abbrev pub decreases-turns : goal.decreases-turns
+decreases-turns g l = work l.tick.patience l.core l.plays.items

@@ -1,4 +1,5 @@
-use Rattle.std.proofs.Common.{◌≡◌, ◌≤◌, ◌+◌, ◌-◌, ℕ, Contains, arith, max, subst}
+use Rattle.std.proofs.Common.{◌≡◌, ◌≤◌, ◌+◌, ◌-◌, ◌∷◌, ℕ, Contains, arith, max, subst, sym}
+use Rattle.recursor_core.proofs.Patience.{IsPatient-trans}
 use Rattle.recursor_core.proofs.Standing.{holds_derived, moment_later}
 use Rattle.recursor_core.proofs.Playing.{plays_skip, plays_turn}
 use Rattle.recursor_core.proofs.Timed.{IsTimely-grown, contains_max, contains_moment}
@@ -6,29 +7,32 @@ use Rattle.recursor_core.proofs.driving.play_turn.Goals as goal
 
 pub returns-then-turn-eq0-clause-plays : goal.returns-then-turn-eq0-clause-plays
 returns-then-turn-eq0-clause-plays g c start turns rest after h =
-    plays_skip c.args.patience c.args.core.now (g.P.ConnectionProvider.log c.args.carrier.now.provider) start turns rest c.args.turn.now c.args.questions.now
+    plays_skip c.args.core.now (g.P.ConnectionProvider.log c.args.carrier.now.provider) start turns rest c.args.turn.now c.args.questions.now
     c.args.plays.now.items c.if-turn-eq0.true h
 
 pub play-played-requires-clause-holds : goal.play-played-requires-clause-holds
 play-played-requires-clause-holds g c =
-    let core = c.args.core.now in
+    let core = c.make_way-next.new.core in
     let new = c.begin_one.new.core in
     let come : core.moment ≤ c.max-now.result = omega (arith, c.max-now.ensures, c.moment.ensures) in
-    holds_derived g.P.ConnectionProvider c.args.patience core new c.args.carrier.now c.begin_one.ensures.setting
-    (moment_later core.moment new.moment c.max-now.result come c.begin_one.ensures.moment) (c.begin_one.ensures.derived c.args.patience) c.requires
+    holds_derived g.P.ConnectionProvider c.args.patience core new c.make_way-next.new.carrier c.begin_one.ensures.setting
+    (moment_later core.moment new.moment c.max-now.result come c.begin_one.ensures.moment) c.begin_one.ensures.derived c.make_way-next.ensures.holds
 
 pub returns-clause-timely : goal.returns-clause-timely
 returns-clause-timely g c start moments was here told =
-    let core = c.args.core.now in
+    let core = c.make_way-next.new.core in
     let begun = c.begin_one.new.core in
     let new = c.play-played.new.core in
     let now = c.max-now.result in
+    let still : Contains moments core.moment = subst (Contains moments) (sym c.make_way-next.ensures.moment) was in
+    let way = IsTimely-grown c.args.core.now.moment start moments (g.P.ConnectionProvider.log c.args.carrier.now.provider)
+    (g.P.ConnectionProvider.log c.make_way-next.new.carrier.provider) c.make_way-next.ensures.grown was told in
     let is : max c.args.turn.now.moment core.moment ≡ now = omega (arith, c.max-now.ensures, c.moment.ensures) in
-    let one : Contains moments now = subst (Contains moments) is (contains_max moments c.args.turn.now.moment core.moment here was) in (
+    let one : Contains moments now = subst (Contains moments) is (contains_max moments c.args.turn.now.moment core.moment here still) in (
       contains_moment moments begun.moment new.moment now c.play-played.ensures.moment
-          (contains_moment moments core.moment begun.moment now c.begin_one.ensures.moment was one) one,
-      IsTimely-grown now start moments (g.P.ConnectionProvider.log c.args.carrier.now.provider) (g.P.ConnectionProvider.log c.play-played.new.carrier.provider)
-          c.play-played.ensures.moves.grown one told,
+          (contains_moment moments core.moment begun.moment now c.begin_one.ensures.moment still one) one,
+      IsTimely-grown now start moments (g.P.ConnectionProvider.log c.make_way-next.new.carrier.provider)
+          (g.P.ConnectionProvider.log c.play-played.new.carrier.provider) c.play-played.ensures.moves.grown one way,
     )
 
 pub returns-clause-plays : goal.returns-clause-plays
@@ -38,7 +42,12 @@ returns-clause-plays g c start turns rest after h =
     let q : ℕ = t.question - 1 in
     let names : t.question ≡ q + 1 = omega (arith, c.if-turn-eq0.false) in
     let due : t.moment ≤ c.max-now.result = omega (arith, c.max-now.ensures) in
-    let come : start ≤ c.max-now.result = omega (arith, c.max-now.ensures, c.moment.ensures, after) in
+    let come : start ≤ c.max-now.result = omega (arith, c.max-now.ensures, c.moment.ensures, c.make_way-next.ensures.moment, after) in
+    let way = c.make_way-next.ensures.plays start turns (t ∷ rest) c.args.questions.now h in
     c.play-played.ensures.plays start turns rest c.args.questions.now
-    (plays_turn c.args.patience c.args.core.now c.begin_one.new.core (g.P.ConnectionProvider.log c.args.carrier.now.provider) start turns rest t c.args.questions.now
-    c.args.plays.now.items c.begin_one.new.plays.items q c.max-now.result names come due b.setting b.begun b.others b.begins h)
+    (plays_turn c.make_way-next.new.core c.begin_one.new.core (g.P.ConnectionProvider.log c.make_way-next.new.carrier.provider) start turns rest t
+    c.args.questions.now
+    c.make_way-next.new.plays.items c.begin_one.new.plays.items q c.max-now.result names come due b.setting b.begun b.others b.begins way)
+
+pub returns-clause-patient : goal.returns-clause-patient
+returns-clause-patient g c = IsPatient-trans _ _ _ _ c.make_way-next.ensures.patient c.play-played.ensures.moves.patient

@@ -9,7 +9,7 @@ use Rattle.recursor_core.proofs.driving.play_turns.Goals as goal
 pub loop-turn-preserved : goal.loop-turn-preserved
 loop-turn-preserved g c =
     let i = c.loop-turn.invariant in
-    let e = c.play_turn.ensures in
+    let e = c.play_turn-current.ensures in
     let n = c.loop-turn.turn-index in
     let turns = c.args.turns.now in
     let told = g.P.ConnectionProvider.log c.loop-turn.carrier.provider in
@@ -23,7 +23,7 @@ loop-turn-preserved g c =
       moment = omega (arith, came, e.moment);
       timely = λ start moments was all told. let t = i.timely start moments was all told in e.timely start moments t.0 (all n _ within) t.1;
       plays = λ start after h. e.plays start turns (drop (n + 1) turns) (omega (arith, after, came))
-          (subst (λ (ts : List Turn). PlaysHold c.args.patience c.loop-turn.core told start turns ts c.args.questions.now c.loop-turn.plays.items)
+          (subst (λ (ts : List Turn). PlaysHold c.loop-turn.core told start turns ts c.args.questions.now c.loop-turn.plays.items)
           (drop_more turns n _ within) (i.plays start after h));
       count = e.count ∙ i.count;
     }
@@ -34,5 +34,5 @@ returns-clause-plays g c start after h =
     let turns = c.args.turns.now in
     let told = g.P.ConnectionProvider.log c.loop-turn.carrier.provider in
     let past : length turns ≤ n = omega (arith, c.loop-turn-test.false) in
-    subst (λ (ts : List Turn). PlaysHold c.args.patience c.loop-turn.core told start turns ts c.args.questions.now c.loop-turn.plays.items)
+    subst (λ (ts : List Turn). PlaysHold c.loop-turn.core told start turns ts c.args.questions.now c.loop-turn.plays.items)
     (drop_of_length-le turns past) (c.loop-turn.invariant.plays start after h)

@@ -16,7 +16,7 @@ invariant-loop-turn g l = record {
       → TellsThat (g.P.ConnectionProvider.log l.fn.carrier.provider) (IsTimely start moments)
       → Contains moments l.core.moment × TellsThat (g.P.ConnectionProvider.log l.carrier.provider) (IsTimely start moments);
   plays : (start : ℕ) → start ≤ l.fn.core.moment
-      → PlaysHold l.patience l.fn.core (g.P.ConnectionProvider.log l.fn.carrier.provider) start l.turns l.turns l.questions l.fn.plays.items
-      → PlaysHold l.patience l.core (g.P.ConnectionProvider.log l.carrier.provider) start l.turns (drop l.turn-index l.turns) l.questions l.plays.items;
+      → PlaysHold l.fn.core (g.P.ConnectionProvider.log l.fn.carrier.provider) start l.turns l.turns l.questions l.fn.plays.items
+      → PlaysHold l.core (g.P.ConnectionProvider.log l.carrier.provider) start l.turns (drop l.turn-index l.turns) l.questions l.plays.items;
   count : vec_len l.plays ≡ vec_len l.fn.plays;
 }

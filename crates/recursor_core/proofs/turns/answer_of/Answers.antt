@@ -7,7 +7,7 @@ turn-requires-clause-holds g c =
     let core = c.args.core.now in
     let new = c.reach.new.self in
     holds_derived g.P.ConnectionProvider c.args.tick.patience core new c.args.carrier.now c.reach.ensures.same.0 (omega (arith, c.reach.ensures.moment))
-    (c.reach.ensures.derived c.args.tick.patience) c.requires.holds
+    c.reach.ensures.derived c.requires.holds
 
 pub returns-in-Err-clause-moves : goal.returns-in-Err-clause-moves
 returns-in-Err-clause-moves g c =

@@ -8,14 +8,14 @@ returns-in_err-outcome-clause-holds g c =
     let core = c.args.core.now in
     let patience = c.args.tick.patience in
     holds_grown g.P.ConnectionProvider patience core c.args.carrier.now c.poll.new.self c.args.tick.now c.requires.moment c.poll.ensures.holds c.poll.ensures.grown
-    (c.poll.ensures.asks (given_of (terms_of patience core))) c.requires.holds
+    (c.poll.ensures.asks (given_of (terms_of core))) c.requires.holds
 
 pub settle-requires-clause-holds : goal.settle-requires-clause-holds
 settle-requires-clause-holds g c =
     let core = c.args.core.now in
     let patience = c.args.tick.patience in
     holds_grown g.P.ConnectionProvider patience core c.args.carrier.now c.poll.new.self c.args.tick.now c.requires.moment c.poll.ensures.holds c.poll.ensures.grown
-    (c.poll.ensures.asks (given_of (terms_of patience core))) c.requires.holds
+    (c.poll.ensures.asks (given_of (terms_of core))) c.requires.holds
 
 pub returns-clause-moves : goal.returns-clause-moves
 returns-clause-moves g c =

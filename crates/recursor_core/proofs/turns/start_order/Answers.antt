@@ -10,7 +10,7 @@ returns-in_err-outcome-clause-holds g c =
     let patience = c.args.tick.patience in
     holds_grown g.P.ConnectionProvider patience core c.args.carrier.now c.start.new.self c.args.tick.now c.requires.moment c.start.ensures.holds
     c.start.ensures.grown
-    (c.start.ensures.asks (given_of (terms_of patience core)) c.requires.goes) c.requires.holds
+    (c.start.ensures.asks (given_of (terms_of core)) c.requires.goes) c.requires.holds
 
 pub settle-requires-clause-holds : goal.settle-requires-clause-holds
 settle-requires-clause-holds g c =
@@ -18,7 +18,7 @@ settle-requires-clause-holds g c =
     let patience = c.args.tick.patience in
     holds_grown g.P.ConnectionProvider patience core c.args.carrier.now c.start.new.self c.args.tick.now c.requires.moment c.start.ensures.holds
     c.start.ensures.grown
-    (c.start.ensures.asks (given_of (terms_of patience core)) c.requires.goes) c.requires.holds
+    (c.start.ensures.asks (given_of (terms_of core)) c.requires.goes) c.requires.holds
 
 pub returns-clause-moves : goal.returns-clause-moves
 returns-clause-moves g c =

@@ -12,54 +12,54 @@ returns-in_err-next-clause-holds g c =
     let patience = c.args.tick.patience in
     let same : c.next.new.self.moment ≡ c.args.core.now.moment = c.next.ensures.same.moment in
     holds_derived g.P.ConnectionProvider patience c.args.core.now c.next.new.self c.args.carrier.now c.next.ensures.same.setting (omega (arith, same))
-    (λ log d. (c.next.ensures.gives patience log d).0) c.requires.holds
+    (λ log d. (c.next.ensures.gives log d).0) c.requires.holds
 
 pub start_order-requires-clause-holds : goal.start_order-requires-clause-holds
 start_order-requires-clause-holds g c =
     let patience = c.args.tick.patience in
     let same : c.next.new.self.moment ≡ c.args.core.now.moment = c.next.ensures.same.moment in
     holds_derived g.P.ConnectionProvider patience c.args.core.now c.next.new.self c.args.carrier.now c.next.ensures.same.setting (omega (arith, same))
-    (λ log d. (c.next.ensures.gives patience log d).0) c.requires.holds
+    (λ log d. (c.next.ensures.gives log d).0) c.requires.holds
 
 pub poll_order-requires-clause-holds : goal.poll_order-requires-clause-holds
 poll_order-requires-clause-holds g c =
     let patience = c.args.tick.patience in
     let same : c.next.new.self.moment ≡ c.args.core.now.moment = c.next.ensures.same.moment in
     holds_derived g.P.ConnectionProvider patience c.args.core.now c.next.new.self c.args.carrier.now c.next.ensures.same.setting (omega (arith, same))
-    (λ log d. (c.next.ensures.gives patience log d).0) c.requires.holds
+    (λ log d. (c.next.ensures.gives log d).0) c.requires.holds
 
 pub returns-in-Done-clause-holds : goal.returns-in-Done-clause-holds
 returns-in-Done-clause-holds g c =
     let patience = c.args.tick.patience in
     let same : c.next.new.self.moment ≡ c.args.core.now.moment = c.next.ensures.same.moment in
     holds_derived g.P.ConnectionProvider patience c.args.core.now c.next.new.self c.args.carrier.now c.next.ensures.same.setting (omega (arith, same))
-    (λ log d. (c.next.ensures.gives patience log d).0) c.requires.holds
+    (λ log d. (c.next.ensures.gives log d).0) c.requires.holds
 
 pub returns-in-Ended-clause-holds : goal.returns-in-Ended-clause-holds
 returns-in-Ended-clause-holds g c =
     let patience = c.args.tick.patience in
     let same : c.next.new.self.moment ≡ c.args.core.now.moment = c.next.ensures.same.moment in
     holds_derived g.P.ConnectionProvider patience c.args.core.now c.next.new.self c.args.carrier.now c.next.ensures.same.setting (omega (arith, same))
-    (λ log d. (c.next.ensures.gives patience log d).0) c.requires.holds
+    (λ log d. (c.next.ensures.gives log d).0) c.requires.holds
 
 pub start_order-requires-clause-goes : goal.start_order-requires-clause-goes
 start_order-requires-clause-goes g c =
     let patience = c.args.tick.patience in
-    step_goes patience c.args.core.now c.next.new.self (g.P.ConnectionProvider.log c.args.carrier.now.provider) c.args.r c.in-Order.number c.in_ok-next.next
+    step_goes c.args.core.now c.next.new.self (g.P.ConnectionProvider.log c.args.carrier.now.provider) c.args.r c.in-Order.number c.in_ok-next.next
     c.in-Order.order
-    c.in-Order.is c.next.ensures.same.setting c.requires.holds.derived (c.in_ok-next.ensures.gives patience)
+    c.in-Order.is c.next.ensures.same.setting c.requires.holds.derived c.in_ok-next.ensures.gives
 
 pub returns-in-Done-clause-told : goal.returns-in-Done-clause-told
 returns-in-Done-clause-told g c =
     let patience = c.args.tick.patience in
-    step_replies patience c.args.core.now c.next.new.self (g.P.ConnectionProvider.log c.args.carrier.now.provider) c.args.r c.in_ok-next.next c.in-Done.reply
-    c.in-Done.is c.requires.holds.derived (c.in_ok-next.ensures.gives patience)
+    step_replies c.args.core.now c.next.new.self (g.P.ConnectionProvider.log c.args.carrier.now.provider) c.args.r c.in_ok-next.next c.in-Done.reply
+    c.in-Done.is c.requires.holds.derived c.in_ok-next.ensures.gives
 
 pub returns-in-Order-clause-told : goal.returns-in-Order-clause-told
 returns-in-Order-clause-told g c =
     let b = begun_at c.args.core.now c.args.r in
     let told = g.P.ConnectionProvider.log c.start_order.new.carrier.provider in
-    subst (λ (held : Setting). IfOk c.start_order.result (TurnedTold (terms_with c.args.tick.patience held) told b))
+    subst (λ (held : Setting). IfOk c.start_order.result (TurnedTold (terms_with held) told b))
     c.next.ensures.same.setting (c.start_order.ensures.told b)
 
 pub returns-in-Order-clause-falls : goal.returns-in-Order-clause-falls
@@ -73,7 +73,7 @@ pub returns-in-Waiting-clause-told : goal.returns-in-Waiting-clause-told
 returns-in-Waiting-clause-told g c =
     let b = begun_at c.args.core.now c.args.r in
     let told = g.P.ConnectionProvider.log c.poll_order.new.carrier.provider in
-    subst (λ (held : Setting). IfOk c.poll_order.result (TurnedTold (terms_with c.args.tick.patience held) told b))
+    subst (λ (held : Setting). IfOk c.poll_order.result (TurnedTold (terms_with held) told b))
     c.next.ensures.same.setting (c.poll_order.ensures.told b)
 
 pub returns-in-Waiting-clause-falls : goal.returns-in-Waiting-clause-falls

@@ -1,4 +1,4 @@
-use Rattle.std.proofs.Common.{◌≡◌, ◌∙◌, List, length, refl, ap, subst, arith}
+use Rattle.std.proofs.Common.{◌≡◌, ◌∙◌, min, List, length, refl, ap, subst, arith}
 use Rattle.dns_core.specs.declared.request.Question.{Question}
 use Rattle.recursor_core.specs.Setting.{server_filter_of}
 use Rattle.recursor_core.specs.Standing.{run_terms}
@@ -24,12 +24,14 @@ returns c =
     let answered = c.in_ok-replies.ensures.answered in
     let given = subst (λ (x : Script). Gives x log) (new.0 ∙ c.script_from-script.ensures) gives in
     let r = c.in_ok-recursor.recursor in
-    let terms : run_terms s.patience r ≡ terms_of s = terms-are s.patience r s.roots (server_filter_of s.options) new.1 new.2 in
+    let p = c.first_patience.result in
+    let first : min r.patience p ≡ s.patience = rw (new.5, c.first_patience.ensures.same) c.first_patience.ensures.first in
+    let terms : run_terms p r ≡ terms_of s = terms-are p s.patience r s.roots (server_filter_of s.options) s.options.cache_policy new.1 new.2 new.4 first in
     record {
       gives = given;
       plain = gives_plainly (script_of s.upstream) log c.requires.whole given;
       answered = omega (arith, replied, asked, answered);
-      asks = asks-of (terms_of s) (run_terms s.patience r) log (told_by provider) terms is (c.drive.ensures.asks (told_by provider) refl);
-      replies = replies-of (terms_of s) (run_terms s.patience r) log (told_by provider) r.moment s.turns c.items-2.result.now s.questions c.items.result.now c.new.result c.in_ok-replies.replies.items
+      asks = asks-of (terms_of s) (run_terms p r) log (told_by provider) terms is (c.drive.ensures.asks (told_by provider) refl);
+      replies = replies-of (terms_of s) (run_terms p r) log (told_by provider) r.moment s.turns c.items-2.result.now s.questions c.items.result.now c.new.result c.in_ok-replies.replies.items
           terms is new.3 c.items-2.ensures c.items.ensures c.new.ensures (c.in_ok-replies.ensures.replies (told_by provider) refl);
     }

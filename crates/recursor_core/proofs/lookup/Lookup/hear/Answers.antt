@@ -8,7 +8,7 @@ pub returns-in_ok-push-in-Told-clause-holds : goal.returns-in_ok-push-in-Told-cl
 returns-in_ok-push-in-Told-clause-holds c terms greatest moment t0 log zone h =
     subst (λ g. FoundHolds terms greatest t0 log zone c.args.self.now.query g (found.Message c.in-Told.entry c.in-Told.message))
     (sym c.in_ok-push-in-Told.ensures.ok)
-    (message-found terms greatest moment t0 log zone c.args.self.now h c.in-Told.ip c.in-Told.entry c.in-Told.message (sym c.in-Told.ensures.value))
+    (message-found terms greatest moment t0 log zone c.args.self.now h c.in-Told.ip c.in-Told.entry c.in-Told.at c.in-Told.message (sym c.in-Told.ensures.value))
 
 pub returns-in_ok-push-in-Failed-clause-holds : goal.returns-in_ok-push-in-Failed-clause-holds
 returns-in_ok-push-in-Failed-clause-holds c terms greatest moment t0 log zone h =

@@ -10,16 +10,16 @@ use Rattle.recursor_core.proofs.Cores.{derived-is, begun-push, begun-last}
 use Rattle.recursor_core.proofs.machine.RecursorCore.begin_walk.Goals as goal
 
 pub returns-clause-derived : goal.returns-clause-derived
-returns-clause-derived c patience log later d =
+returns-clause-derived c log later d =
     let core = c.args.self.now in
     let r = c.in_ok-resolution.resolution in
-    let terms = terms_of patience core in
+    let terms = terms_of core in
     let P = ResolutionHolds terms core.greatest c.args.now log in
     let g = core.greatest in
     let rs = core.resolutions.items in
     let before = resolutions-kept terms log log (same-log log) g g core.moment c.args.now rs (omega arith) later d.resolutions in
-    derived-is patience _ log core.setting g c.args.now (rs ++ r ∷ []) refl refl refl c.in_ok-push.ensures.items d.bound d.some
-    (All-push P rs r before (c.in_ok-resolution.ensures.holds core.setting.server_filter patience g log d.some))
+    derived-is _ log core.setting g c.args.now core.cache (rs ++ r ∷ []) refl refl refl refl c.in_ok-push.ensures.items d.bound d.some d.cache
+    (All-push P rs r before (c.in_ok-resolution.ensures.holds terms g log refl d.some))
 
 pub returns-clause-others : goal.returns-clause-others
 returns-clause-others c k within =

@@ -13,16 +13,16 @@ returns-clause-falls c p =
     sum_falls p xs c.args.r f c.choose.new.self within at (rank_falls p f c.choose.new.self c.choose.ensures.falls)
 
 pub returns-clause-derived : goal.returns-clause-derived
-returns-clause-derived c patience log d =
+returns-clause-derived c log d =
     let core = c.args.self.now in
-    let terms = terms_of patience core in
+    let terms = terms_of core in
     let xs = c.args.self.now.resolutions.items in
     let f = c.index_mut-resolution.result.now in
     let at = c.index_mut-resolution.ensures.value in
     let within : c.args.r < length xs = need_within xs c.args.r (λ e. cc) in
     let P = ResolutionHolds terms core.greatest core.moment log in
     let kept = all-after P xs c.args.r f c.choose.new.self within at (c.choose.ensures.holds terms core.greatest core.moment log refl) d.resolutions in
-    record { bound = d.bound; some = d.some; resolutions = kept }
+    record { bound = d.bound; some = d.some; cache = d.cache; resolutions = kept }
 
 pub returns-clause-same : goal.returns-clause-same
 returns-clause-same c =
@@ -30,4 +30,4 @@ returns-clause-same c =
     let f = c.index_mut-resolution.result.now in
     let at = c.index_mut-resolution.ensures.value in
     let within : c.args.r < length xs = need_within xs c.args.r (λ e. cc) in
-    record { setting = refl; greatest = refl; moment = refl; begun = begun-set xs c.args.r f c.choose.new.self within at c.choose.ensures.begun }
+    record { setting = refl; cache = refl; greatest = refl; moment = refl; begun = begun-set xs c.args.r f c.choose.new.self within at c.choose.ensures.begun }

@@ -7,7 +7,7 @@ use Rattle.recursor_core.proofs.machine.RecursorCore.next.Given as goal
 abbrev pub invariant-steps : goal.invariant-steps
 invariant-steps l = record {
   rank : (p : ℕ) → rank p l.self ≤ rank p l.fn.self;
-  derived : (patience : ℕ) (log : Log) → Derived patience l.fn.self log → Derived patience l.self log;
+  derived : (log : Log) → Derived l.fn.self log → Derived l.self log;
   same : SameCore l.fn.self l.self;
 }
 

@@ -3,6 +3,8 @@ use Rattle.std.proofs.lemmas.List.Elements.{All-set}
 use Rattle.recursor_core.specs.Order.{entry_of}
 use Rattle.recursor_core.specs.Derived.{terms_of, ResolutionHolds}
 use Rattle.recursor_core.proofs.Kept.{resolutions-kept}
+use Rattle.recursor_core.proofs.Remembering.{cache-kept}
+use Rattle.recursor_core.proofs.Tellings.{late-untold}
 use Rattle.recursor_core.proofs.Ranks.{sum_falls, order_within, sum_keeps}
 use Rattle.recursor_core.proofs.Cores.{held-at, begun-set}
 use Rattle.recursor_core.proofs.machine.RecursorCore.take.Goals as goal
@@ -24,9 +26,9 @@ returns-clause-keeps c =
     sum_keeps c.args.tick.patience xs c.args.r f c.take.new.self within at c.take.ensures.keeps
 
 pub returns-clause-derived : goal.returns-clause-derived
-returns-clause-derived c patience log longer bound above later d x fits =
+returns-clause-derived c log longer bound above later d x fits =
     let core = c.args.self.now in
-    let terms = terms_of patience core in
+    let terms = terms_of core in
     let xs = c.args.self.now.resolutions.items in
     let f = c.index_mut-resolution.result.now in
     let at = c.index_mut-resolution.ensures.value in
@@ -36,7 +38,8 @@ returns-clause-derived c patience log longer bound above later d x fits =
     let held = held-at (ResolutionHolds terms core.greatest core.moment log) xs c.args.r f within at d.resolutions in
     let new = c.take.ensures.holds terms core.greatest core.moment log longer bound above later held x fits in
     let others = resolutions-kept terms log longer x core.greatest entry core.moment now xs (omega (arith, above)) later d.resolutions in
-    record { bound = fits.within; some = d.some; resolutions = All-set (ResolutionHolds terms entry now longer) xs c.args.r c.take.new.self new others }
+    let cache = cache-kept terms log longer x core.greatest entry core.cache (omega (arith, above)) d.cache in
+    record { bound = fits.within; some = d.some; cache = cache; resolutions = All-set (ResolutionHolds terms entry now longer) xs c.args.r c.take.new.self new others }
 
 pub returns-clause-same : goal.returns-clause-same
 returns-clause-same c =
@@ -44,4 +47,12 @@ returns-clause-same c =
     let f = c.index_mut-resolution.result.now in
     let at = c.index_mut-resolution.ensures.value in
     let within : c.args.r < length xs = order_within xs c.args.r c.requires in
-    record { setting = refl; greatest = refl; moment = refl; begun = begun-set xs c.args.r f c.take.new.self within at c.take.ensures.begun }
+    record { setting = refl; cache = refl; greatest = refl; moment = refl; begun = begun-set xs c.args.r f c.take.new.self within at c.take.ensures.begun }
+
+pub returns-clause-late : goal.returns-clause-late
+returns-clause-late c late =
+    let xs = c.args.self.now.resolutions.items in
+    let f = c.index_mut-resolution.result.now in
+    let at = c.index_mut-resolution.ensures.value in
+    let within : c.args.r < length xs = order_within xs c.args.r c.requires in
+    late-untold xs c.args.r f c.take.new.self within at c.requires (c.take.ensures.late late)

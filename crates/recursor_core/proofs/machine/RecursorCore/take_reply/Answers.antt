@@ -16,17 +16,17 @@ returns-clause-falls c p =
     sum_falls p xs c.args.r f c.take_reply.new.self within at (rank_falls p f c.take_reply.new.self c.take_reply.ensures.falls)
 
 pub returns-clause-derived : goal.returns-clause-derived
-returns-clause-derived c patience log d =
+returns-clause-derived c log d =
     let core = c.args.self.now in
     let xs = c.args.self.now.resolutions.items in
     let f = c.index_mut-resolution.result.now in
     let at = c.index_mut-resolution.ensures.value in
     let within : c.args.r < length xs = need_within xs c.args.r (λ e. cc) in
-    let terms = terms_of patience core in
+    let terms = terms_of core in
     let P = ResolutionHolds terms core.greatest core.moment log in
     let read = read_at xs c.args.r f within at in
     let taken = c.take_reply.ensures.holds terms core.greatest core.moment log (held-at P xs c.args.r f within at d.resolutions) in (
-      record { bound = d.bound; some = d.some; resolutions = All-set P xs c.args.r c.take_reply.new.self taken.0 d.resolutions },
+      record { bound = d.bound; some = d.some; cache = d.cache; resolutions = All-set P xs c.args.r c.take_reply.new.self taken.0 d.resolutions },
       given-some terms log c.take_reply.result _ (begun_of f) (ap (option_map begun_of) read) taken.1,
     )
 
@@ -36,4 +36,4 @@ returns-clause-same c =
     let f = c.index_mut-resolution.result.now in
     let at = c.index_mut-resolution.ensures.value in
     let within : c.args.r < length xs = need_within xs c.args.r (λ e. cc) in
-    record { setting = refl; greatest = refl; moment = refl; begun = begun-set xs c.args.r f c.take_reply.new.self within at c.take_reply.ensures.begun }
+    record { setting = refl; cache = refl; greatest = refl; moment = refl; begun = begun-set xs c.args.r f c.take_reply.new.self within at c.take_reply.ensures.begun }

@@ -1,30 +1,28 @@
 use Rattle.std.proofs.Common.{sym, subst, ◌∙◌, [], ◌∷◌, refl}
 use Rattle.dns_core.specs.declared.message.Query.{Query}
-use Rattle.resolution.specs.Names.{question}
 use Rattle.resolution.specs.declared.verdict.Verdict.TheVariants.{Neg}
 use Rattle.recursor_core.specs.Causes.{ErrorHolds}
+use Rattle.recursor_core.specs.Counted.{Stands}
 use Rattle.recursor_core.specs.Replies.{given_of}
 use Rattle.recursor_core.specs.Tried.{machine_timer}
-use Rattle.recursor_core.specs.Derived.{Counts}
-use Rattle.recursor_core.proofs.Denials.{base-of, answers-on-the-way, denied}
-use Rattle.recursor_core.proofs.Walks.{candidate-asked, candidate-on-the-way, candidate-walked, leaves-told}
+use Rattle.recursor_core.proofs.Denials.{answers-on-the-way, denied}
+use Rattle.recursor_core.proofs.Walks.{candidate-asked, candidate-on-the-way, leaves-told}
 use Rattle.recursor_core.proofs.walk.Walk.deny_candidate.Goals as goal
 
 pub returns-then-ends_walk-clause-holds : goal.returns-then-ends_walk-clause-holds
-returns-then-ends_walk-clause-holds c terms greatest moment t0 log way counts =
+returns-then-ends_walk-clause-holds c terms greatest moment t0 log way stands =
     let w = c.args.self.now in
     let asked = c.args.question.now in
     let q = asked.query in
     let n = c.args.found in
     let name = w.lookup.query.name in
-    let here = subst (λ (p : Query). Counts terms greatest t0 log w.zone p c.args.entry (Neg n)) (candidate-asked terms greatest log q w c.requires way) counts in
-    let cause = answers-on-the-way terms t0 log q c.args.entry w.zone name n (candidate-on-the-way terms greatest log q w c.requires way)
-    (base-of terms greatest t0 log w.zone (question name 2) c.args.entry (Neg n) here)
-    (candidate-walked terms greatest log q w c.requires way) (sym c.ends_walk.ensures ∙ c.if-ends_walk.true) in
+    let here = subst (λ (p : Query). Stands terms greatest t0 log p c.args.entry (Neg n)) (candidate-asked terms greatest log q w c.requires way) stands in
+    let cause = answers-on-the-way terms greatest t0 log q c.args.entry name n (candidate-on-the-way terms greatest log q w c.requires way) here
+    (sym c.ends_walk.ensures ∙ c.if-ends_walk.true) in
     denied terms t0 log asked c.in_ok-reply_by.field-0 c.told_negative.result (c.args.entry ∷ []) c.in_ok-reply_by.ensures
     (subst (ErrorHolds (given_of terms) (machine_timer log t0) log t0 q (c.args.entry ∷ [])) (sym c.told_negative.ensures) cause)
 
 pub returns-clause-holds : goal.returns-clause-holds
-returns-clause-holds c terms greatest moment t0 log way counts =
+returns-clause-holds c terms greatest moment t0 log way stands =
     c.advance.ensures.holds terms greatest moment t0 log way
-    (leaves-told terms greatest log c.args.question.now.query c.args.self.now c.requires way t0 c.args.entry (Neg c.args.found) counts refl)
+    (leaves-told terms greatest log c.args.question.now.query c.args.self.now c.requires way t0 c.args.entry (Neg c.args.found) stands refl)

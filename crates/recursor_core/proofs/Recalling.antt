@@ -1,0 +1,118 @@
+-- What is read from the cache stands for the question that reads it.
+use Rattle.std.proofs.Common.{◌≡◌, ℕ, ◌+◌, ◌*◌, ◌≤◌, true, ◌&&◌, Option, Some, None, Result, Ok, Err, IsTrue, refl, sym, subst, inl, inr, arith}
+use Rattle.std.specs.Prelude.{◌==◌, IsSomeAnd, option_and_then}
+use Rattle.std.specs.Option.{option_map}
+use Rattle.std.specs.Cmp.{first_so, second_so}
+use Rattle.std.proofs.lemmas.Option.{same_Some}
+use Rattle.std.proofs.lemmas.List.Elements.{All-contains}
+use Rattle.dns_core.specs.Name.{same_names}
+use Rattle.dns_core.specs.Log.{Log}
+use Rattle.dns_core.specs.declared.message.Query.{Query}
+use Rattle.dns_core.specs.declared.message.Message.{Message}
+use Rattle.dns_core.specs.declared.net_error.NetError.{NetError}
+use Rattle.dns_core.specs.declared.net_error.NetError.TheVariants as net
+use Rattle.dns_core.specs.declared.net_error.DnsError.TheVariants as dns
+use Rattle.resolver_cache.specs.Cached.{Cached}
+use Rattle.resolver_cache.specs.Cache.{found_for}
+use Rattle.resolver_cache.specs.Entry.{is_same_question}
+use Rattle.resolver_cache.specs.Laws.{IsFoundIn}
+use Rattle.resolver_cache.specs.Lowering.{seconds_between, lowered, lowered_message, lowered_denial}
+use Rattle.resolver_cache.specs.declared.entry.Entry.{Entry}
+use Rattle.resolver_cache.specs.declared.entry.CachedResponse.{CachedResponse}
+use Rattle.resolver_cache.proofs.FoundThere.{found_there}
+use Rattle.resolution.specs.Names.{same_query}
+use Rattle.resolution.specs.Life.{Fresh, life_in_seconds}
+use Rattle.resolution.specs.Answering.{Base}
+use Rattle.resolution.specs.declared.verdict.Verdict.{Verdict}
+use Rattle.resolution.specs.declared.verdict.Verdict.TheVariants.{Pos, Neg, Made}
+use Rattle.resolution.proofs.Caseless.{Base-same, both}
+use Rattle.resolution.proofs.WalksCaseless.{Walked-same}
+use Rattle.recursor_core.specs.Counted.{kept_of, verdict_kept, counted_for, recalled, may_answer, IsCurrentVerdict, Stands, IsRecalled}
+use Rattle.recursor_core.specs.Remembered.{EntryHolds, CacheHolds}
+use Rattle.recursor_core.specs.Replies.{Terms, given_of}
+use Rattle.recursor_core.specs.SameTold.{SameVerdict}
+use Rattle.recursor_core.specs.declared.counted.Counted.{Counted}
+use Rattle.recursor_core.proofs.Lowered.{lower_message, lower_denial}
+
+-- the same question for the cache is the same question
+same_question : (a b : Query) → is_same_question a b ≡ true → same_query a b ≡ true
+same_question a b h =
+    let first = first_so (a.query_type.code == b.query_type.code && a.query_class.code == b.query_class.code) _ (regroup a b h) in
+    let names = second_so (a.query_type.code == b.query_type.code && a.query_class.code == b.query_class.code) _ (regroup a b h) in
+    let types = first_so (a.query_type.code == b.query_type.code) _ first in
+    let classes = second_so (a.query_type.code == b.query_type.code) _ first in
+    both (same_names a.name b.name && a.query_type.code == b.query_type.code) _ (both (same_names a.name b.name) _ names types) classes
+  where
+    regroup : (a b : Query) → is_same_question a b ≡ true
+        → ((a.query_type.code == b.query_type.code && a.query_class.code == b.query_class.code) && same_names a.name b.name) ≡ true
+    regroup a b h = h
+
+-- what is read of a verdict that was kept is the same but for TTLs, and answers only where that one may
+record ReadsAs (n : ℕ) (whole v : Verdict) : Type 0 where
+  same : SameVerdict v whole
+  current : (t0 moment : ℕ) → IsTrue (may_answer v) → IsCurrentVerdict t0 moment whole
+
+reads_as : (n : ℕ) (whole v : Verdict) (response : Result Message NetError) → kept_of whole ≡ Some response
+    → verdict_kept (lowered n response) ≡ Some v → ReadsAs n whole v
+reads_as n (Pos k) v response kept h =
+    let is : response ≡ Ok k = sym (same_Some _ _ kept) in
+    let read : Some (Pos (lowered_message n k)) ≡ Some v = subst (λ (r : Result Message NetError). verdict_kept (lowered n r) ≡ Some v) is h in
+    subst (ReadsAs n (Pos k)) (same_Some _ _ read) (record { same = lower_message n k; current = λ t0 moment may. inl may })
+reads_as n (Neg d) v response kept h =
+    let is : response ≡ Err (net.Dns (dns.NoRecordsFound d)) = sym (same_Some _ _ kept) in
+    let read : Some (Neg (lowered_denial n d)) ≡ Some v = subst (λ (r : Result Message NetError). verdict_kept (lowered n r) ≡ Some v) is h in
+    subst (ReadsAs n (Neg d)) (same_Some _ _ read) (record { same = lower_denial n d; current = λ t0 moment may. tt })
+reads_as n (Made cause) v response kept h = cc
+
+module _ (terms : Terms) (greatest t0 now : ℕ) (log : Log) (cache : Cached) (q : Query) (begun : t0 ≤ now) (holds : CacheHolds terms greatest log cache) where
+  -- an entry that is current was told within its life
+  fresh-of : (e : Entry) (moment : ℕ) (whole : Verdict) → now ≤ e.expiry
+      → IsSomeAnd (life_in_seconds (given_of terms) e.query.query_type whole) (λ life. e.expiry ≤ moment + 1000000 * life)
+      → Fresh (given_of terms) t0 moment e.query whole
+  fresh-of e moment whole current expires = inr (later (life_in_seconds (given_of terms) e.query.query_type whole) expires)
+    where
+      later : (o : Option ℕ) → IsSomeAnd o (λ life. e.expiry ≤ moment + 1000000 * life) → IsSomeAnd o (λ life. t0 ≤ moment + 1000000 * life)
+      later (Some life) h = omega (arith, begun, current, h)
+      later None h = absurd h
+
+  -- what an entry for the question tells
+  by-entry : (f : CachedResponse) (v : Verdict) → IsFoundIn cache q now f → verdict_kept f.response ≡ Some v
+      → IsRecalled terms greatest t0 log q (record { entry = f.source; verdict = v })
+  by-entry f v found h =
+      let e = found.entry in
+      let held : EntryHolds terms greatest log e = All-contains (EntryHolds terms greatest log) cache.entries e holds.entries found.kept in
+      let same : same_query e.query q ≡ true = same_question e.query q found.question in
+      let base : Base (given_of terms) log t0 e.query e.source held.zone held.whole = record {
+        told = held.told;
+        moment = held.moment;
+        heard = held.heard;
+        counts = held.counts;
+        fresh = fresh-of e held.moment held.whole found.current held.expires;
+      } in
+      let reads = reads_as (seconds_between e.written now) held.whole v e.response held.kept
+      (subst (λ (r : Result Message NetError). verdict_kept r ≡ Some v) found.reads h) in
+      let stands : Stands terms greatest t0 log q e.source v = record {
+        zone = held.zone;
+        whole = held.whole;
+        early = held.early;
+        base = Base-same e.query q same base;
+        walked = λ plain. Walked-same (given_of terms) log e.query q held.zone same (held.walked plain);
+        same = reads.same;
+      } in
+      subst (λ (s : ℕ). IsRecalled terms greatest t0 log q (record { entry = s; verdict = v })) (sym found.source)
+      (record { stands = stands; current = reads.current t0 stands.base.moment })
+
+  -- what was found, if anything
+  by-found : (o : Option CachedResponse) → found_for cache q now ≡ o → (c : Counted) → option_and_then counted_for o ≡ Some c
+      → IsRecalled terms greatest t0 log q c
+  by-found None is c h = cc
+  by-found (Some f) is c h = by-verdict (verdict_kept f.response) refl h
+    where
+      by-verdict : (v : Option Verdict) → verdict_kept f.response ≡ v
+          → option_map (λ (x : Verdict). let made : Counted = record { entry = f.source; verdict = x } in made) v ≡ Some c → IsRecalled terms greatest t0 log q c
+      by-verdict None e k = cc
+      by-verdict (Some x) e k = subst (IsRecalled terms greatest t0 log q) (same_Some _ _ k) (by-entry f x (found_there cache q now f is) e)
+
+  -- what the cache has for a question stands
+  pub recalled-stands : (c : Counted) → recalled cache q now ≡ Some c → IsRecalled terms greatest t0 log q c
+  recalled-stands c h = by-found (found_for cache q now) refl c h

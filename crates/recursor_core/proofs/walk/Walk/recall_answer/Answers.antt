@@ -1,0 +1,12 @@
+use Rattle.std.proofs.Common.{◌∙◌, sym}
+use Rattle.recursor_core.proofs.Walks.{recalled-answers}
+use Rattle.recursor_core.proofs.walk.Walk.recall_answer.Goals as goal
+
+pub returns-then-not-may_answer-clause-holds : goal.returns-then-not-may_answer-clause-holds
+returns-then-not-may_answer-clause-holds c terms greatest moment t0 log recalled h = c.miss.ensures.holds terms greatest moment t0 log h
+
+pub returns-clause-holds : goal.returns-clause-holds
+returns-clause-holds c terms greatest moment t0 log recalled h =
+    c.in_ok-answer_with.ensures terms greatest t0 log
+    (recalled-answers terms greatest t0 log c.args.question.now.query c.args.self.now c.args.counted c.requires.stage h.way recalled
+    (sym c.may_answer.ensures ∙ c.if-not-may_answer.false))

@@ -1,0 +1,97 @@
+-- What the machine keeps of finished lookups.
+use Rattle.std.specs.Prelude.{◌≡◌, ℕ, ◌+◌, ◌*◌, ◌≤◌, ◌==◌, Option, Some, None, Result, option_and_then, All, IsSomeAnd}
+use Rattle.dns_core.specs.Name.{DomainName}
+use Rattle.dns_core.specs.Log.{Log}
+use Rattle.dns_core.specs.declared.message.Query.{Query}
+use Rattle.dns_core.specs.declared.message.Message.{Message}
+use Rattle.dns_core.specs.declared.net_error.NetError.{NetError}
+use Rattle.dns_core.specs.declared.log.ToldOutcome.{ToldOutcome}
+use Rattle.dns_core.specs.declared.log.ToldOutcome.TheVariants as outcome
+use Rattle.resolver_cache.specs.Cached.{Cached}
+use Rattle.resolver_cache.specs.Cache.{upserted}
+use Rattle.resolver_cache.specs.declared.entry.Entry.{Entry}
+use Rattle.resolution.specs.Class.{class_of}
+use Rattle.resolution.specs.Given.{allows_all}
+use Rattle.resolution.specs.Verdict.{verdict, verdict_of_told}
+use Rattle.resolution.specs.Life.{life_in_seconds}
+use Rattle.resolution.specs.Serving.{Heard}
+use Rattle.resolution.specs.declared.verdict.Verdict.{Verdict}
+use Rattle.recursor_core.specs.Causes.{WalksTo}
+use Rattle.recursor_core.specs.Counted.{kept_of}
+use Rattle.recursor_core.specs.Replies.{Terms, given_of}
+use Rattle.recursor_core.specs.declared.lookup.Send.{Send}
+use Rattle.recursor_core.specs.declared.lookup.Send.TheVariants as send
+use Rattle.recursor_core.specs.declared.walk.Stage.{Stage}
+use Rattle.recursor_core.specs.declared.walk.Stage.TheVariants.{Start, Candidate, Last}
+use Rattle.recursor_core.specs.declared.walk.Walk.{Walk}
+use Rattle.recursor_core.specs.declared.resolving.State.{State}
+use Rattle.recursor_core.specs.declared.resolving.State.TheVariants.{Under, Done, Ended}
+use Rattle.recursor_core.specs.declared.resolving.Resolution.{Resolution}
+
+-- ---- what holds of the cache
+
+-- The response under a question is the verdict of the entry that it names, told by a server of a zone to which a walk went down, and it
+-- expires no later than its life after the moment of the telling.
+pub record EntryHolds (terms : Terms) (greatest : ℕ) (log : Log) (e : Entry) : Type 0 where
+  pub zone : DomainName
+  pub told : ToldOutcome
+  pub moment : ℕ
+  pub whole : Verdict
+  pub early : e.source ≤ greatest
+  pub heard : Heard (given_of terms) log e.source e.query told moment zone
+  pub counts : verdict (given_of terms) told e.query zone ≡ Some whole
+  pub walked : WalksTo (given_of terms) log e.query zone
+  pub kept : kept_of whole ≡ Some e.response
+  pub expires : IsSomeAnd (life_in_seconds (given_of terms) e.query.query_type whole) (λ life. e.expiry ≤ moment + 1000000 * life)
+
+-- Each response is so, and lives by the bounds of the terms.
+pub record CacheHolds (terms : Terms) (greatest : ℕ) (log : Log) (cache : Cached) : Type 0 where
+  pub lives : cache.config ≡ terms.lives
+  pub entries : All (EntryHolds terms greatest log) cache.entries
+
+-- ---- what is written
+
+-- a message that was told for the question, at the moment, by the entry, by a server of the zone
+pub record Telling : Type 0 where
+  pub zone : DomainName
+  pub query : Query
+  pub entry : ℕ
+  pub at : ℕ
+  pub message : Message
+
+abbrev pub telling : DomainName → Query → Send → Option Telling
+telling zone q (send.Told ip entry at message) = Some (record { zone = zone; query = q; entry = entry; at = at; message = message })
+telling zone q _ = None
+
+-- what a walk was just told; at the start nobody is asked
+abbrev pub telling_at_stage : Walk → Stage → Option Telling
+telling_at_stage w Start = None
+telling_at_stage w (Candidate labels) = telling w.zone w.lookup.query w.lookup.send
+telling_at_stage w Last = telling w.zone w.lookup.query w.lookup.send
+
+abbrev pub telling_of_walk : Walk → Option Telling
+telling_of_walk w = telling_at_stage w w.stage
+
+abbrev pub telling_in : State → Option Telling
+telling_in (Under w) = telling_of_walk w
+telling_in (Done reply) = None
+telling_in Ended = None
+
+-- what a resolution was just told
+abbrev pub telling_of : Option Resolution → Option Telling
+telling_of None = None
+telling_of (Some r) = telling_in r.state
+
+-- as what a message that a server of the zone told is kept
+abbrev pub response_in : DomainName → Message → Option (Result Message NetError)
+response_in zone m = option_and_then kept_of (verdict_of_told allows_all (class_of (outcome.Message m) m.query) zone)
+
+abbrev pub written : Cached → Telling → Option (Result Message NetError) → Cached
+written cache t None = cache
+written cache t (Some response) = upserted cache t.query response t.entry t.at (t.query.query_type.code == 2)
+
+-- The cache with what was told: as it counts, under its question, by its entry, since its moment; a repeated answer for NS records does not
+-- move the expiry of a current one to a later moment. Errors, and denials that the recursor made, are not written.
+abbrev pub remembered : Cached → Option Telling → Cached
+remembered cache None = cache
+remembered cache (Some t) = written cache t (response_in t.zone t.message)

@@ -1,0 +1,71 @@
+//! What counts for a question, whether it was told just now or is read from the cache.
+ghost use Rattle.std.specs.Prelude.{◌≡◌, IfOk};
+ghost use Rattle.recursor_core.specs.Counted.{kept_of, verdict_kept, recalled, may_answer};
+
+use dns_core::{DnsError, Message, NetError, NoMemory, Query};
+use resolution::Verdict;
+use resolver_cache::{CachedResponse, ResponseCache};
+use std::alloc::Global;
+
+/// What counts, and the number of the log entry that told it.
+#[derive(Drop, Debug)]
+pub struct Counted {
+    pub entry: u64,
+    pub verdict: Verdict,
+}
+
+impl Counted {
+    /// Whether it answers a question where it is read later: a negative, or an authoritative answer.
+    pub fn may_answer(&self) -> bool
+        ensures { result ≡ may_answer self.now.verdict }
+    {
+        match &self.verdict {
+            Verdict::Pos(kept) => kept.authoritative,
+            Verdict::Neg(_) => true,
+            Verdict::Made(_) => true,
+        }
+    }
+}
+
+/// As what a verdict is kept.
+pub fn kept_of(verdict: Verdict) -> Option<Result<Message, NetError>>
+    ensures { result ≡ kept_of verdict }
+{
+    match verdict {
+        Verdict::Pos(kept) => Some(Ok(kept)),
+        Verdict::Neg(found) => Some(Err(NetError::Dns(DnsError::NoRecordsFound(found)))),
+        Verdict::Made(_) => None,
+    }
+}
+
+/// The verdict that is kept so.
+fn verdict_kept(response: Result<Message, NetError>) -> Option<Verdict>
+    ensures { result ≡ verdict_kept response }
+{
+    match response {
+        Ok(kept) => Some(Verdict::Pos(kept)),
+        Err(NetError::Dns(DnsError::NoRecordsFound(found))) => Some(Verdict::Neg(found)),
+        Err(_) => None,
+    }
+}
+
+/// What the cache has for a question that is current at the moment.
+pub fn recalled(
+    alloc: Global,
+    cache: &ResponseCache,
+    query: &Query,
+    now: u64,
+) -> Result<Option<Counted>, NoMemory>
+    ensures { IfOk result (λ counted. counted ≡ recalled cache.now query.now now) }
+{
+    match cache.find(alloc, query, now)? {
+        Some(CachedResponse { response, source }) => {
+            let counted = verdict_kept(response).map(|verdict| Counted {
+                entry: source,
+                verdict,
+            });
+            Ok(counted)
+        }
+        None => Ok(None),
+    }
+}
