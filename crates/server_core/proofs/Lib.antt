@@ -1,0 +1,2 @@
+mod Factors
+pub mod FirstLeast

@@ -1,0 +1,9 @@
+pub mod Delays
+pub mod DelayLaws
+pub mod Status
+pub mod Servers
+pub mod NewServer
+pub mod Choice
+pub mod Policy
+pub mod ChoiceLaws
+pub mod Lending

@@ -1,0 +1,31 @@
+//! What the resolver knows of each server that it asks: how long it takes to answer, which connections
+//! to it are kept, and which of them is used next. All of it is values with no clock: the caller gives
+//! each moment.
+#![tactic(auto)]
+
+mod choice_laws;
+mod delay_laws;
+mod delays;
+mod name_server;
+mod policy;
+mod server_table;
+mod status;
+
+pub use choice_laws::{a_connection_is_chosen_alone, a_way_is_chosen_alone};
+pub use delay_laws::{
+    a_delay_falls_as_time_goes, a_delay_stays_within_five_seconds, reading_never_raises_a_delay,
+};
+pub use delays::DecayingSrtt;
+pub use name_server::{Connection, NameServer};
+pub use policy::ConnectionPolicy;
+pub use server_table::ServerTable;
+pub use status::{Status, a_status_is_read_back};
+
+#[cfg(test)]
+mod delays_tests;
+#[cfg(test)]
+mod policy_tests;
+#[cfg(test)]
+mod server_samples;
+#[cfg(test)]
+mod server_tests;

@@ -1,0 +1,54 @@
+use crate::server_samples::{address, keep, unopened};
+use crate::{ConnectionPolicy, NameServer};
+use dns_core::{NoMemory, Protocol};
+use resolver_settings::{NameServerConfig, ResolverOpts};
+use std::alloc::Global;
+use std::process::Abort;
+use std::test::Fail;
+
+const WITH_UDP: ConnectionPolicy = ConnectionPolicy { disable_udp: false };
+
+const WITHOUT_UDP: ConnectionPolicy = ConnectionPolicy { disable_udp: true };
+
+#[test]
+fn udp_is_used_where_it_is_allowed(rt: HostRuntime) -> Result<(), Fail> {
+    let alloc = rt.alloc();
+    let mut server = unopened(alloc)?;
+    keep(&mut server, Protocol::Tcp, 1)?;
+    keep(&mut server, Protocol::Udp, 9)?;
+    assert_eq!(rt; WITH_UDP.select_connection(&server, 0), Some(1));
+    assert_eq!(rt; WITHOUT_UDP.select_connection(&server, 0), Some(0));
+    assert_eq!(rt; WITH_UDP.select_connection_config(&server), Some(0));
+    assert_eq!(rt; WITHOUT_UDP.select_connection_config(&server), Some(1));
+    assert!(rt; WITHOUT_UDP.allows_server(&server));
+    Ok(())
+}
+
+#[test]
+fn the_lesser_delay_comes_first(rt: HostRuntime) -> Result<(), Fail> {
+    let alloc = rt.alloc();
+    let mut server = unopened(alloc)?;
+    keep(&mut server, Protocol::Udp, 9)?;
+    keep(&mut server, Protocol::Udp, 3)?;
+    keep(&mut server, Protocol::Udp, 3)?;
+    assert_eq!(rt; WITH_UDP.select_connection(&server, 0), Some(1));
+    Ok(())
+}
+
+/// A server that is reached over UDP alone.
+fn of_udp(alloc: Global) -> Result<NameServer, NoMemory> {
+    let config = NameServerConfig::udp(alloc, address())?;
+    let options = ResolverOpts::standard(alloc);
+    NameServer::new(alloc, Vec::new(alloc), config, &options, 10)
+}
+
+#[test]
+fn a_server_with_no_allowed_protocol_is_not_used(rt: HostRuntime) -> Result<(), Fail> {
+    let alloc = rt.alloc();
+    let mut server = of_udp(alloc)?;
+    keep(&mut server, Protocol::Udp, 9)?;
+    assert!(rt; !WITHOUT_UDP.allows_server(&server));
+    assert_eq!(rt; WITHOUT_UDP.select_connection(&server, 0), None);
+    assert_eq!(rt; WITHOUT_UDP.select_connection_config(&server), None);
+    Ok(())
+}
