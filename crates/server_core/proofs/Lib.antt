@@ -1,2 +1,8 @@
+pub mod Changing
+pub mod Lending
+pub mod Stages
+pub mod Steps
+pub mod Putting
+pub mod Configured
 mod Factors
 pub mod FirstLeast

@@ -7,3 +7,7 @@ pub mod Choice
 pub mod Policy
 pub mod ChoiceLaws
 pub mod Lending
+pub mod Order
+pub mod Hearing
+pub mod Sending
+pub mod Context

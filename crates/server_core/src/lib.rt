@@ -4,27 +4,45 @@
 #![tactic(auto)]
 
 mod choice_laws;
+mod context;
 mod delay_laws;
 mod delays;
+mod heard;
 mod name_server;
+mod order;
 mod policy;
+mod server_send;
 mod server_table;
 mod status;
 
 pub use choice_laws::{a_connection_is_chosen_alone, a_way_is_chosen_alone};
+pub use context::PoolContext;
 pub use delay_laws::{
     a_delay_falls_as_time_goes, a_delay_stays_within_five_seconds, reading_never_raises_a_delay,
 };
 pub use delays::DecayingSrtt;
+pub use heard::Heard;
 pub use name_server::{Connection, NameServer};
+pub use order::{After, Order, Outcome, Sent, Tick};
 pub use policy::ConnectionPolicy;
+pub use server_send::{Asked, SendStep, ServerSend, Stage};
 pub use server_table::ServerTable;
 pub use status::{Status, a_status_is_read_back};
 
 #[cfg(test)]
+mod context_tests;
+#[cfg(test)]
 mod delays_tests;
 #[cfg(test)]
+mod end_tests;
+#[cfg(test)]
 mod policy_tests;
+#[cfg(test)]
+mod send_delay_tests;
+#[cfg(test)]
+mod send_samples;
+#[cfg(test)]
+mod send_tests;
 #[cfg(test)]
 mod server_samples;
 #[cfg(test)]

@@ -5,9 +5,11 @@ ghost use Rattle.std.specs.List.{filter, list_any};
 ghost use Rattle.dns_core.specs.Connection.{protocol_of};
 ghost use Rattle.server_core.specs.Delays.{read_fixed, recorded};
 ghost use Rattle.server_core.specs.Servers.{is_udp, is_live, IsFirstDelay};
+ghost use Rattle.server_core.specs.Hearing.{touched, after_heard, without_dead, with_opened};
 ghost use Rattle.server_core.specs.NewServer.{begun, udp_first, in_order, new_server};
 
 use crate::delays::DecayingSrtt;
+use crate::heard::{Heard, count};
 use crate::status::Status;
 use dns_core::{ConnectionConfig, NoMemory, Protocol};
 use resolver_settings::{NameServerConfig, ResolverOpts, ServerOrderingStrategy};
@@ -58,6 +60,16 @@ impl Connection {
             Status::Init | Status::Established => true,
         }
     }
+
+    /// Takes in what was heard, where it has this number.
+    fn touch(&mut self, number: u64, status: Status, heard: Heard, now: u64)
+        ensures { self.new ≡ touched number status heard now self.old }
+    {
+        if self.number == number {
+            self.status = status;
+            count(&mut self.delay, heard, now);
+        }
+    }
 }
 
 /// Adds those that are of UDP, or those that are not.
@@ -100,6 +112,19 @@ fn in_order(
     }
 }
 
+/// The connection that the order of a number opened.
+fn new_connection(number: u64, protocol: Protocol, first_delay: u8) -> Connection
+    requires { IsFirstDelay first_delay }
+    ensures { result ≡ begun first_delay (protocol, number) }
+{
+    Connection {
+        number,
+        protocol,
+        status: Status::Init,
+        delay: DecayingSrtt::new(first_delay as u32),
+    }
+}
+
 fn begun(
     alloc: Global,
     opened: &[(Protocol, u64)],
@@ -110,14 +135,24 @@ fn begun(
 {
     let mut connections = Vec::with_capacity(alloc, opened.len())?;
     for one in opened {
-        connections.push(Connection {
-            number: one.1,
-            protocol: one.0,
-            status: Status::Init,
-            delay: DecayingSrtt::new(first_delay as u32),
-        })?;
+        connections.push(new_connection(one.1, one.0, first_delay))?;
     }
     Ok(connections)
+}
+
+fn keep_live(connections: &mut Vec<Connection>)
+    ensures { connections.new.items ≡ filter is_live connections.old.items }
+{
+    connections.retain(|c| c.is_live());
+}
+
+/// Takes in what was heard of the connection of a number.
+fn touch_all(connections: &mut Vec<Connection>, number: u64, status: Status, heard: Heard, now: u64)
+    ensures { connections.new.items ≡ map (touched number status heard now) connections.old.items }
+{
+    for connection in connections.iter_mut() {
+        connection.touch(number, status, heard, now);
+    }
 }
 
 impl NameServer {
@@ -182,6 +217,29 @@ impl NameServer {
     {
         self.connections.push(connection)?;
         Ok(())
+    }
+
+    /// Drops the connections that failed.
+    pub(crate) fn drop_dead(&mut self)
+        ensures { self.new ≡ without_dead self.old }
+    {
+        keep_live(&mut self.connections);
+    }
+
+    /// Keeps the connection that the order of a number opened.
+    pub(crate) fn keep_opened(&mut self, number: u64, protocol: Protocol) -> Result<(), NoMemory>
+        ensures ok { OnOk result (self.new ≡ with_opened number protocol self.old) }
+        ensures err { OnErr result (self.new ≡ self.old) }
+    {
+        self.keep(new_connection(number, protocol, self.first_delay))
+    }
+
+    /// Takes in what was heard over its connection of a number.
+    pub(crate) fn hear(&mut self, number: u64, status: Status, heard: Heard, now: u64)
+        ensures { self.new ≡ after_heard number status heard now self.old }
+    {
+        touch_all(&mut self.connections, number, status, heard, now);
+        count(&mut self.delay, heard, now);
     }
 
     /// Its delay at a moment.

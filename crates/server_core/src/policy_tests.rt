@@ -1,8 +1,6 @@
-use crate::server_samples::{address, keep, unopened};
-use crate::{ConnectionPolicy, NameServer};
-use dns_core::{NoMemory, Protocol};
-use resolver_settings::{NameServerConfig, ResolverOpts};
-use std::alloc::Global;
+use crate::ConnectionPolicy;
+use crate::server_samples::{keep, of_udp, unopened};
+use dns_core::Protocol;
 use std::process::Abort;
 use std::test::Fail;
 
@@ -33,13 +31,6 @@ fn the_lesser_delay_comes_first(rt: HostRuntime) -> Result<(), Fail> {
     keep(&mut server, Protocol::Udp, 3)?;
     assert_eq!(rt; WITH_UDP.select_connection(&server, 0), Some(1));
     Ok(())
-}
-
-/// A server that is reached over UDP alone.
-fn of_udp(alloc: Global) -> Result<NameServer, NoMemory> {
-    let config = NameServerConfig::udp(alloc, address())?;
-    let options = ResolverOpts::standard(alloc);
-    NameServer::new(alloc, Vec::new(alloc), config, &options, 10)
 }
 
 #[test]

@@ -31,6 +31,13 @@ pub fn unopened(alloc: Global) -> Result<NameServer, NoMemory> {
     )
 }
 
+/// A server that is reached over UDP alone.
+pub fn of_udp(alloc: Global) -> Result<NameServer, NoMemory> {
+    let config = NameServerConfig::udp(alloc, address())?;
+    let options = ResolverOpts::standard(alloc);
+    NameServer::new(alloc, Vec::new(alloc), config, &options, 10)
+}
+
 /// Keeps a connection with a delay of so many microseconds, at most 255.
 pub fn keep(server: &mut NameServer, protocol: Protocol, micros: u8) -> Result<(), NoMemory> {
     server.keep(Connection {

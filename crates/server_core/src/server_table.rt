@@ -2,9 +2,12 @@
 ghost use Rattle.std.specs.Prelude.{◌≡◌, ◌<◌, ◌++◌, ◌∷◌, [], Some, length, slice_get, IfOk, OnOk, OnErr};
 ghost use Rattle.std.specs.Borrow.{sem};
 ghost use Rattle.server_core.specs.Lending.{LendsServer};
+ghost use Rattle.server_core.specs.Hearing.{after_heard, without_dead, with_opened, changed_at};
 
+use crate::heard::Heard;
 use crate::name_server::NameServer;
-use dns_core::NoMemory;
+use crate::status::Status;
+use dns_core::{NoMemory, Protocol};
 use std::alloc::Global;
 use std::marker::Model;
 
@@ -47,6 +50,7 @@ impl ServerTable {
         Ok(count as u32)
     }
 
+    /// How many servers it has: their numbers are those below.
     pub fn len(&self) -> usize
         ensures { result ≡ length self.now }
     {
@@ -68,5 +72,35 @@ impl ServerTable {
         ensures value { slice_get self.old number ≡ Some result.now }
     {
         &mut self.servers[number as usize]
+    }
+
+    /// Drops the connections of a server that failed.
+    pub(crate) fn drop_dead(&mut self, server: u32)
+        requires { server < length self.old }
+        ensures { self.new ≡ changed_at without_dead server self.old }
+    {
+        self.get_mut(server).drop_dead();
+    }
+
+    /// Keeps the connection to a server that the order of a number opened.
+    pub(crate) fn keep_opened(
+        &mut self,
+        server: u32,
+        number: u64,
+        protocol: Protocol,
+    ) -> Result<(), NoMemory>
+        requires { server < length self.old }
+        ensures ok { OnOk result (self.new ≡ changed_at (with_opened number protocol) server self.old) }
+        ensures err { OnErr result (self.new ≡ self.old) }
+    {
+        self.get_mut(server).keep_opened(number, protocol)
+    }
+
+    /// Takes in what was heard over a connection of a server.
+    pub(crate) fn hear(&mut self, server: u32, number: u64, status: Status, heard: Heard, now: u64)
+        requires { server < length self.old }
+        ensures { self.new ≡ changed_at (after_heard number status heard now) server self.old }
+    {
+        self.get_mut(server).hear(number, status, heard, now);
     }
 }

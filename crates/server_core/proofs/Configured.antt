@@ -1,0 +1,76 @@
+-- Nothing that is done to a server changes how it is reached.
+use Rattle.std.proofs.Common.{◌≡◌, ◌∙◌, ◌∷◌, ℕ, zero, suc, List, [], map, Option, Some, None, option_map, Result, refl, sym, ap, slice_get}
+use Rattle.std.proofs.lemmas.Option.{slice_get-map}
+use Rattle.dns_core.specs.declared.connection.Protocol.{Protocol}
+use Rattle.dns_core.specs.declared.message.Message.{Message}
+use Rattle.dns_core.specs.declared.net_error.DnsError.{DnsError}
+use Rattle.dns_core.specs.declared.net_error.NetError.{NetError}
+use Rattle.server_core.specs.Servers.{Server}
+use Rattle.server_core.specs.Hearing.{after_heard, without_dead, with_opened, changed_at}
+use Rattle.server_core.specs.Sending.{lost_put, told_put, heard_put, after_step, after_want}
+use Rattle.server_core.specs.declared.heard.Heard.{Heard}
+use Rattle.server_core.specs.declared.order.Outcome.{Outcome}
+use Rattle.server_core.specs.declared.order.Outcome.TheVariants.{Pending, Connected, Told, Failed, GaveUp}
+use Rattle.server_core.specs.declared.server_send.Asked.{Asked}
+use Rattle.server_core.specs.declared.server_send.Stage.{Stage}
+use Rattle.server_core.specs.declared.server_send.Stage.TheVariants as stage
+use Rattle.server_core.specs.declared.status.Status.{Status}
+
+pub dead_configured : (s : Server) → (without_dead s).config ≡ s.config
+dead_configured s = refl
+
+pub opened_configured : (number : ℕ) (protocol : Protocol) (s : Server) → (with_opened number protocol s).config ≡ s.config
+opened_configured number protocol s = refl
+
+pub heard_configured : (number : ℕ) (status : Status) (heard : Heard) (now : ℕ) (s : Server) → (after_heard number status heard now s).config ≡ s.config
+heard_configured number status heard now s = refl
+
+pub lost_configured : (asked : Option Asked) (now : ℕ) (error : NetError) (s : Server) → (lost_put asked now error s).config ≡ s.config
+lost_configured None now error s = refl
+lost_configured (Some asked) now error s = refl
+
+pub told_configured : (asked : Option Asked) (now : ℕ) (class : Result Message DnsError) (s : Server) → (told_put asked now class s).config ≡ s.config
+told_configured None now class s = refl
+told_configured (Some asked) now class s = refl
+
+-- an outcome
+pub put_configured : (asked : Option Asked) (now : ℕ) (outcome : Outcome) (s : Server) → (heard_put asked now outcome s).config ≡ s.config
+put_configured asked now (Pending entry) s = refl
+put_configured asked now (Connected entry) s = lost_configured asked now _ s
+put_configured asked now (Told entry sent message) s = told_configured asked now _ s
+put_configured asked now (Failed entry sent refused error) s = lost_configured asked now error s
+put_configured asked now (GaveUp entry sent polls) s = lost_configured asked now _ s
+
+-- a step
+pub step_configured : (at : Stage) (s : Server) → (after_step at s).config ≡ s.config
+step_configured stage.Ready s = refl
+step_configured (stage.Opening protocol order polls) s = refl
+step_configured (stage.Opened protocol conn) s = refl
+step_configured (stage.Asking asked polls) s = refl
+step_configured (stage.Ended result) s = refl
+step_configured stage.Over s = refl
+
+-- a step for which memory is wanting
+pub want_configured : (at : Stage) (s : Server) → (after_want at s).config ≡ s.config
+want_configured stage.Ready s = refl
+want_configured (stage.Opening protocol order polls) s = refl
+want_configured (stage.Opened protocol conn) s = refl
+want_configured (stage.Asking asked polls) s = refl
+want_configured (stage.Ended result) s = refl
+want_configured stage.Over s = refl
+
+-- the configurations of a table whose server of a number was changed by what keeps them
+pub configs_kept :
+    (f : Server → Server) (n : ℕ) (table : List Server) → ((s : Server) → (f s).config ≡ s.config) →
+    map (λ s. s.config) (changed_at f n table) ≡ map (λ s. s.config) table
+configs_kept f n [] keeps = refl
+configs_kept f zero (s ∷ table) keeps = ap (λ config. config ∷ map (λ s. s.config) table) (keeps s)
+configs_kept f (suc n) (s ∷ table) keeps = ap (λ configs. s.config ∷ configs) (configs_kept f n table keeps)
+
+-- the configuration of each number
+pub changed_configured :
+    (f : Server → Server) (n : ℕ) (table : List Server) → ((s : Server) → (f s).config ≡ s.config) →
+    (k : ℕ) → option_map (λ s. s.config) (slice_get (changed_at f n table) k) ≡ option_map (λ s. s.config) (slice_get table k)
+changed_configured f n table keeps k =
+    let config : Server → _ = λ s. s.config in
+    sym (slice_get-map config (changed_at f n table) k) ∙ (ap (λ configs. slice_get configs k) (configs_kept f n table keeps) ∙ slice_get-map config table k)

@@ -1,0 +1,12 @@
+-- The number of an outcome.
+use Rattle.std.specs.Prelude.{ℕ}
+use Rattle.server_core.specs.declared.order.Outcome.{Outcome}
+use Rattle.server_core.specs.declared.order.Outcome.TheVariants.{Pending, Connected, Told, Failed, GaveUp}
+
+-- the number of the log entry that says the outcome
+abbrev pub entry_of : Outcome → ℕ
+entry_of (Pending entry) = entry
+entry_of (Connected entry) = entry
+entry_of (Told entry sent message) = entry
+entry_of (Failed entry sent refused error) = entry
+entry_of (GaveUp entry sent polls) = entry

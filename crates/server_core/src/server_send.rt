@@ -1,0 +1,530 @@
+//! One send of a request to one server, over the connections that are kept to it.
+ghost use Rattle.std.specs.Prelude.{◌≡◌, ◌≤◌, ◌<◌, ◌+◌, nat_le, ℕ, min, if◌then◌else◌, length, slice_get, true, false, IfNone, IfOk, OnOk, OnErr, IsTrue, Ok, IsOk};
+ghost use Rattle.dns_core.specs.Connection.{protocol_of};
+ghost use Rattle.dns_core.specs.declared.connection.Protocol.{Protocol};
+ghost use Rattle.dns_core.specs.declared.connection.ConnectionConfig.{ConnectionConfig};
+ghost use Rattle.server_core.specs.declared.name_server.Connection.{Connection};
+ghost use Rattle.server_core.specs.Hearing.{changed_at, without_dead, with_opened};
+ghost use Rattle.server_core.specs.Servers.{Server};
+ghost use Rattle.server_core.specs.Sending.{want_of, is_open, asked_of, opening_of, pendings, asks_left, asks_of, end_of, after_end, after_step, after_want, IsAskedOver, IsOpenedOver, OpensSelected, Begins, StepIs, TellsEnd, after_put, lost_put, told_put, heard_put, result_of, IsLostAsk, IsLost, IsHeard, IsConnected, IsTold, Comes, IsSameSend};
+
+use crate::heard::{heard_error, heard_of};
+use crate::name_server::NameServer;
+use crate::order::{After, Order, Outcome, Tick};
+use crate::policy::ConnectionPolicy;
+use crate::server_table::ServerTable;
+use crate::status::Status;
+use dns_core::{
+    ConnectionConfig, DnsError, DnsRequest, IoKind, Message, NetError, NoMemory, Protocol,
+    TryClone, classify,
+};
+use std::alloc::Global;
+use std::mem;
+use std::net::IpAddr;
+
+/// A question that was asked: over which connection, when, and whether this was there before the send.
+#[derive(Clone, Copy, Debug, PartialEq, Eq)]
+pub struct Asked {
+    pub conn: u64,
+    pub at: u64,
+    pub again: bool,
+}
+
+/// Where a send stands. `polls` counts the polls of its order that found nothing.
+#[derive(Drop, Debug)]
+pub enum Stage {
+    Ready,
+    Opening {
+        protocol: Protocol,
+        order: u64,
+        polls: u32,
+    },
+    Opened {
+        protocol: Protocol,
+        conn: u64,
+    },
+    Asking {
+        asked: Asked,
+        polls: u32,
+    },
+    Ended(Result<Message, NetError>),
+    Over,
+}
+
+/// What a send does next: it gives an order, waits for the outcome of one, or is done. It tells once
+/// that it is done, and waits from then on.
+#[derive(Drop, Debug)]
+pub enum SendStep {
+    Order(Order),
+    Waiting,
+    Done(Result<Message, NetError>),
+}
+
+/// A send of a request to a server of a table, over the connections that a policy allows. `retried`
+/// tells whether a connection that was used again was closed.
+#[derive(Drop, Debug)]
+pub struct ServerSend {
+    pub server: u32,
+    pub request: DnsRequest,
+    pub policy: ConnectionPolicy,
+    pub retried: bool,
+    pub stage: Stage,
+}
+
+/// What a stage comes to next.
+#[derive(Clone, Copy, Debug)]
+enum Want {
+    Begin,
+    Ask { protocol: Protocol, conn: u64 },
+    Wait,
+    Tell,
+}
+
+impl Stage {
+    fn want(&self) -> Want
+        ensures { result ≡ want_of self.now }
+    {
+        match self {
+            Stage::Ready => Want::Begin,
+            Stage::Opened { protocol, conn } => Want::Ask {
+                protocol: *protocol,
+                conn: *conn,
+            },
+            Stage::Opening { .. } | Stage::Asking { .. } | Stage::Over => Want::Wait,
+            Stage::Ended(_) => Want::Tell,
+        }
+    }
+
+    /// Whether an order of it is open.
+    pub fn is_open(&self) -> bool
+        ensures { result ≡ is_open self.now }
+    {
+        match self {
+            Stage::Opening { .. } | Stage::Asking { .. } => true,
+            Stage::Ready | Stage::Opened { .. } | Stage::Ended(_) | Stage::Over => false,
+        }
+    }
+
+    fn asked(&self) -> Option<Asked>
+        ensures { result ≡ asked_of self.now }
+    {
+        match self {
+            Stage::Asking { asked, .. } => Some(*asked),
+            _ => None,
+        }
+    }
+
+    fn opening(&self) -> Option<(Protocol, u64)>
+        ensures { result ≡ opening_of self.now }
+    {
+        match self {
+            Stage::Opening {
+                protocol,
+                order,
+                ..
+            } => Some((*protocol, *order)),
+            _ => None,
+        }
+    }
+
+    /// Counts a poll that found nothing, and answers how many there were before.
+    fn count_poll(&mut self) -> u32
+        requires { IsTrue (is_open self.old) }
+        ensures before { result ≡ pendings self.old }
+        ensures asked { asked_of self.new ≡ asked_of self.old }
+        ensures opening { opening_of self.new ≡ opening_of self.old }
+        ensures polls { pendings self.new ≡ min (pendings self.old + 1) 4294967295 }
+    {
+        match self {
+            Stage::Opening { polls, .. } => {
+                let before = *polls;
+                *polls = before.saturating_add(1);
+                before
+            }
+            Stage::Asking { polls, .. } => {
+                let before = *polls;
+                *polls = before.saturating_add(1);
+                before
+            }
+            _ => 0,
+        }
+    }
+}
+
+fn result_of(class: Result<Message, DnsError>) -> Result<Message, NetError>
+    ensures { result ≡ result_of class }
+{
+    match class {
+        Ok(message) => Ok(message),
+        Err(error) => Err(NetError::Dns(error)),
+    }
+}
+
+/// One more poll, after so many: the last one that patience allows, or one before it.
+fn after_poll(before: u32, patience: u32) -> After
+    ensures { result ≡ (if nat_le patience (before + 1) then After.GiveUp else After.Kept) }
+{
+    if patience <= before.saturating_add(1) {
+        After::GiveUp
+    } else {
+        After::Kept
+    }
+}
+
+impl ServerSend {
+    /// A send that has not begun.
+    pub fn new(server: u32, request: DnsRequest, policy: ConnectionPolicy) -> Self
+        ensures fresh { result ≡ record { server = server; request = request; policy = policy; retried = false; stage = Stage.Ready } }
+        ensures asks { asks_left result ≡ 2 }
+    {
+        ServerSend {
+            server,
+            request,
+            policy,
+            retried: false,
+            stage: Stage::Ready,
+        }
+    }
+
+    /// The next step at a moment. An order that it gives is one of this number.
+    pub fn next(
+        &mut self,
+        alloc: Global,
+        table: &mut ServerTable,
+        number: u64,
+        tick: Tick,
+    ) -> Result<SendStep, NoMemory>
+        requires { self.old.server < length table.old }
+        ensures same { IsSameSend self.old self.new }
+        ensures retried { self.new.retried ≡ self.old.retried }
+        ensures table { OnOk result (table.new ≡ changed_at (after_step self.old.stage) self.old.server table.old) }
+        ensures step { (server : Server) → slice_get table.old self.old.server ≡ Some server
+            → IfOk result (λ step. StepIs self.old self.old.stage number tick.now server step self.new.stage) }
+        ensures asks { IfOk result (λ step. asks_left self.new + asks_of step ≤ asks_left self.old) }
+        ensures count { length table.new ≡ length table.old }
+        ensures err { OnErr result (self.new ≡ self.old) }
+        ensures want { OnErr result (table.new ≡ changed_at (after_want self.old.stage) self.old.server table.old) }
+    {
+        match self.stage.want() {
+            Want::Begin => self.begin(alloc, table, number, tick.now),
+            Want::Ask { protocol, conn } => self.ask_first(alloc, table, protocol, conn, tick.now),
+            Want::Wait => Ok(SendStep::Waiting),
+            Want::Tell => Ok(self.tell()),
+        }
+    }
+
+    /// What it ended with, where that was not told yet: it is over from then on. Else nothing changes.
+    pub fn take_end(&mut self) -> Option<Result<Message, NetError>>
+        ensures end { result ≡ end_of self.old.stage }
+        ensures stage { self.new.stage ≡ after_end self.old.stage }
+        ensures same { IsSameSend self.old self.new }
+        ensures retried { self.new.retried ≡ self.old.retried }
+        ensures none { IfNone result (self.new ≡ self.old) }
+        ensures asks { asks_left self.new ≤ asks_left self.old }
+    {
+        match mem::replace(&mut self.stage, Stage::Over) {
+            Stage::Ended(result) => Some(result),
+            other => {
+                self.stage = other;
+                None
+            }
+        }
+    }
+
+    /// Tells once what it ended with.
+    fn tell(&mut self) -> SendStep
+        requires { want_of self.old.stage ≡ Want.Tell }
+        ensures tells { TellsEnd self.old.stage result self.new.stage }
+        ensures same { IsSameSend self.old self.new }
+        ensures retried { self.new.retried ≡ self.old.retried }
+    {
+        match self.take_end() {
+            Some(result) => SendStep::Done(result),
+            None => SendStep::Waiting,
+        }
+    }
+
+    /// Drops the connections that failed, and uses one of the others again, or opens one. Until then
+    /// one that failed stays in the list: a message that is told over it makes it stand again.
+    fn begin(
+        &mut self,
+        alloc: Global,
+        table: &mut ServerTable,
+        number: u64,
+        now: u64,
+    ) -> Result<SendStep, NoMemory>
+        requires live { self.old.server < length table.old }
+        requires ready { self.old.stage ≡ Stage.Ready }
+        ensures same { IsSameSend self.old self.new }
+        ensures retried { self.new.retried ≡ self.old.retried }
+        ensures table { table.new ≡ changed_at without_dead self.old.server table.old }
+        ensures step { (server : Server) → slice_get table.old self.old.server ≡ Some server
+            → IfOk result (λ step. Begins self.old number now (without_dead server) step self.new.stage) }
+        ensures err { OnErr result (self.new ≡ self.old) }
+    {
+        table.drop_dead(self.server);
+        self.select(alloc, table.get(self.server), number, now)
+    }
+
+    fn select(
+        &mut self,
+        alloc: Global,
+        server: &NameServer,
+        number: u64,
+        now: u64,
+    ) -> Result<SendStep, NoMemory>
+        ensures same { IsSameSend self.old self.new }
+        ensures retried { self.new.retried ≡ self.old.retried }
+        ensures step { IfOk result (λ step. Begins self.old number now server.now step self.new.stage) }
+        ensures err { OnErr result (self.new ≡ self.old) }
+    {
+        match self.policy.select_connection(server, now) {
+            Some(place) => self.ask_again(alloc, server, place, now),
+            None => self.open_selected(alloc, server, number),
+        }
+    }
+
+    fn ask_again(
+        &mut self,
+        alloc: Global,
+        server: &NameServer,
+        place: usize,
+        now: u64,
+    ) -> Result<SendStep, NoMemory>
+        requires { place < length server.now.connections }
+        ensures same { IsSameSend self.old self.new }
+        ensures retried { self.new.retried ≡ self.old.retried }
+        ensures step { (c : Connection) → slice_get server.now.connections place ≡ Some c
+            → IfOk result (λ step. IsAskedOver self.old now true c.protocol c.number server.now step self.new.stage) }
+        ensures err { OnErr result (self.new ≡ self.old) }
+    {
+        let connection = &server.connections()[place];
+        let conn = connection.number;
+        let request = self.request.try_clone(alloc)?;
+        let protocol = connection.protocol;
+        Ok(self.ask(
+            server.ip(),
+            protocol,
+            request,
+            Asked {
+                conn,
+                at: now,
+                again: true,
+            },
+        ))
+    }
+
+    /// Asks a copy of its request.
+    fn ask(&mut self, ip: IpAddr, protocol: Protocol, request: DnsRequest, asked: Asked) -> SendStep
+        ensures send { self.new ≡ record self.old { stage = Stage.Asking asked 0 } }
+        ensures step { result ≡ SendStep.Order (Order.Ask asked.conn ip protocol request) }
+    {
+        self.stage = Stage::Asking { asked, polls: 0 };
+        SendStep::Order(Order::Ask {
+            conn: asked.conn,
+            ip,
+            protocol,
+            request,
+        })
+    }
+
+    /// Opens a connection over the way that the policy selects. Where it selects none, the send is done.
+    fn open_selected(
+        &mut self,
+        alloc: Global,
+        server: &NameServer,
+        number: u64,
+    ) -> Result<SendStep, NoMemory>
+        ensures same { IsSameSend self.old self.new }
+        ensures retried { self.new.retried ≡ self.old.retried }
+        ensures step { IfOk result (λ step. OpensSelected self.old number server.now step self.new.stage) }
+        ensures err { OnErr result (self.new ≡ self.old) }
+    {
+        match self.policy.select_connection_config(server) {
+            Some(place) => self.open_at(alloc, server, place, number),
+            None => Ok(self.close_off()),
+        }
+    }
+
+    fn close_off(&mut self) -> SendStep
+        ensures send { self.new ≡ record self.old { stage = Stage.Over } }
+        ensures step { result ≡ SendStep.Done (Err NetError.NoConnections) }
+    {
+        self.stage = Stage::Over;
+        SendStep::Done(Err(NetError::NoConnections))
+    }
+
+    fn open_at(
+        &mut self,
+        alloc: Global,
+        server: &NameServer,
+        place: usize,
+        number: u64,
+    ) -> Result<SendStep, NoMemory>
+        requires { place < length server.now.config.connections }
+        ensures same { IsSameSend self.old self.new }
+        ensures retried { self.new.retried ≡ self.old.retried }
+        ensures step { (c : ConnectionConfig) → slice_get server.now.config.connections place ≡ Some c
+            → IfOk result (λ step. IsOpenedOver number c server.now step self.new.stage) }
+        ensures err { OnErr result (self.new ≡ self.old) }
+    {
+        let config = server.configs()[place].try_clone(alloc)?;
+        Ok(self.give_open(server.ip(), config, number))
+    }
+
+    fn give_open(&mut self, ip: IpAddr, config: ConnectionConfig, number: u64) -> SendStep
+        ensures send { self.new ≡ record self.old { stage = Stage.Opening (protocol_of config.protocol) number 0 } }
+        ensures step { result ≡ SendStep.Order (Order.Open ip config) }
+    {
+        let protocol = config.protocol.to_protocol();
+        self.stage = Stage::Opening {
+            protocol,
+            order: number,
+            polls: 0,
+        };
+        SendStep::Order(Order::Open { ip, config })
+    }
+
+    /// Keeps the connection that was opened, and asks over it.
+    fn ask_first(
+        &mut self,
+        alloc: Global,
+        table: &mut ServerTable,
+        protocol: Protocol,
+        conn: u64,
+        now: u64,
+    ) -> Result<SendStep, NoMemory>
+        requires live { self.old.server < length table.old }
+        ensures same { IsSameSend self.old self.new }
+        ensures retried { self.new.retried ≡ self.old.retried }
+        ensures table { OnOk result (table.new ≡ changed_at (with_opened conn protocol) self.old.server table.old) }
+        ensures step { (server : Server) → slice_get table.old self.old.server ≡ Some server
+            → IfOk result (λ step. IsAskedOver self.old now false protocol conn server step self.new.stage) }
+        ensures err { OnErr result (self.new ≡ self.old) }
+        ensures want { OnErr result (table.new ≡ table.old) }
+    {
+        let ip = table.get(self.server).ip();
+        let request = self.request.try_clone(alloc)?;
+        table.keep_opened(self.server, conn, protocol)?;
+        Ok(self.ask(
+            ip,
+            protocol,
+            request,
+            Asked {
+                conn,
+                at: now,
+                again: false,
+            },
+        ))
+    }
+
+    /// Takes the outcome of the open order. Where memory is wanting, nothing has changed.
+    pub fn put(
+        &mut self,
+        alloc: Global,
+        table: &mut ServerTable,
+        outcome: Outcome,
+        tick: Tick,
+    ) -> Result<After, NoMemory>
+        requires { self.old.server < length table.old }
+        ensures after { IfOk result (λ after. after ≡ after_put tick.patience self.old.stage outcome) }
+        ensures same { IsSameSend self.old self.new }
+        ensures late { is_open self.old.stage ≡ false → (result ≡ Ok After.Late) × (self.new ≡ self.old) × (table.new ≡ table.old) }
+        ensures table { OnOk result (table.new ≡ changed_at (heard_put (asked_of self.old.stage) tick.now outcome) self.old.server table.old) }
+        ensures comes { IsTrue (is_open self.old.stage) → OnOk result (Comes self.old outcome self.new) }
+        ensures asks { asks_left self.new ≤ asks_left self.old }
+        ensures count { length table.new ≡ length table.old }
+        ensures err { OnErr result ((self.new ≡ self.old) × (table.new ≡ table.old)) }
+        ensures ample { (IsTold outcome → ⊥) → IsOk result }
+    {
+        if !self.stage.is_open() {
+            return Ok(After::Late);
+        }
+        match outcome {
+            Outcome::Pending { .. } => {
+                let before = self.stage.count_poll();
+                Ok(after_poll(before, tick.patience))
+            }
+            Outcome::Connected { .. } => Ok(self.connect(table, tick.now)),
+            Outcome::Told { message, .. } => {
+                let class = classify(alloc, message)?;
+                Ok(self.hear(table, class, tick.now))
+            }
+            Outcome::Failed { error, .. } => Ok(self.lose(table, error, tick.now)),
+            Outcome::GaveUp { .. } => Ok(self.lose(table, NetError::Timeout, tick.now)),
+        }
+    }
+
+    /// The connection is there, where one was being opened.
+    fn connect(&mut self, table: &mut ServerTable, now: u64) -> After
+        requires { self.old.server < length table.old }
+        ensures after { result ≡ After.Ended }
+        ensures same { IsSameSend self.old self.new }
+        ensures none { opening_of self.old.stage ≡ None → table.new ≡ changed_at (lost_put (asked_of self.old.stage) now (NetError.Io IoKind.Other)) self.old.server table.old }
+        ensures some { (opening : Protocol × ℕ) → opening_of self.old.stage ≡ Some opening → table.new ≡ table.old }
+        ensures comes { IsConnected self.old (opening_of self.old.stage) self.new }
+    {
+        match self.stage.opening() {
+            Some((protocol, conn)) => {
+                self.stage = Stage::Opened { protocol, conn };
+                After::Ended
+            }
+            None => self.lose(table, NetError::Io(IoKind::Other), now),
+        }
+    }
+
+    /// A response was told, where one was asked for.
+    fn hear(&mut self, table: &mut ServerTable, class: Result<Message, DnsError>, now: u64) -> After
+        requires { self.old.server < length table.old }
+        ensures after { result ≡ After.Ended }
+        ensures same { IsSameSend self.old self.new }
+        ensures table { table.new ≡ changed_at (told_put (asked_of self.old.stage) now class) self.old.server table.old }
+        ensures comes { IsHeard self.old (asked_of self.old.stage) class self.new }
+    {
+        match self.stage.asked() {
+            Some(asked) => {
+                let heard = heard_of(now.saturating_sub(asked.at), &class);
+                table.hear(self.server, asked.conn, Status::Established, heard, now);
+                self.stage = Stage::Ended(result_of(class));
+            }
+            None => {
+                self.stage = Stage::Ended(Err(NetError::Io(IoKind::Other)));
+            }
+        }
+        After::Ended
+    }
+
+    /// The order came to nothing but an error.
+    fn lose(&mut self, table: &mut ServerTable, error: NetError, now: u64) -> After
+        requires { self.old.server < length table.old }
+        ensures after { result ≡ After.Ended }
+        ensures same { IsSameSend self.old self.new }
+        ensures table { table.new ≡ changed_at (lost_put (asked_of self.old.stage) now error) self.old.server table.old }
+        ensures comes { IsLost self.old (asked_of self.old.stage) error self.new }
+    {
+        match self.stage.asked() {
+            Some(asked) => {
+                let heard = heard_error(&error);
+                table.hear(self.server, asked.conn, Status::Failed, heard, now);
+                self.lose_ask(asked, error);
+            }
+            None => {
+                self.stage = Stage::Ended(Err(error));
+            }
+        }
+        After::Ended
+    }
+
+    /// Tries once more, or ends.
+    fn lose_ask(&mut self, asked: Asked, error: NetError)
+        ensures same { IsSameSend self.old self.new }
+        ensures comes { IsLostAsk self.old asked error self.new }
+    {
+        if asked.again && !self.retried && error.is_connection_closed() {
+            self.retried = true;
+            self.stage = Stage::Ready;
+        } else {
+            self.stage = Stage::Ended(Err(error));
+        }
+    }
+}
