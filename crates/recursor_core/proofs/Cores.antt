@@ -31,7 +31,7 @@ use Rattle.recursor_core.specs.declared.lookup.Send.TheVariants as send
 use Rattle.recursor_core.specs.declared.lookup.Want.TheVariants as want
 use Rattle.recursor_core.specs.declared.resolving.Need.TheVariants as need
 use Rattle.recursor_core.specs.declared.resolving.State.{State}
-use Rattle.recursor_core.specs.declared.resolving.State.TheVariants.{Under, Done, Ended}
+use Rattle.recursor_core.specs.declared.resolving.State.TheVariants.{New, Under, Done, Ended}
 use Rattle.recursor_core.specs.declared.resolving.Resolution.{Resolution}
 use Rattle.dns_core.specs.declared.message.Query.{Query}
 
@@ -70,6 +70,7 @@ begun-last (x ∷ xs) r = begun-last xs r
 -- an address that may be asked serves the zone of its walk
 asked-serves : (terms : Terms) (greatest moment t0 : ℕ) (log : Log) (question : Question) (s : State) (ip : IpAddr) (q : Query) → MayAskIn ip s
     → asked_of s ≡ Some q → StateHolds terms greatest moment t0 log question s → IsServerFor (given_of terms) log (greatest + 1) ip q
+asked-serves terms greatest moment t0 log question New ip q may is h = absurd may
 asked-serves terms greatest moment t0 log question (Under w) ip q may is h = by w.lookup.send refl
   where
     same : w.lookup.query ≡ q
@@ -97,6 +98,7 @@ asked-serves terms greatest moment t0 log question Ended ip q may is h = absurd 
 -- where a connection is wanted its server serves the zone of its walk
 wanted-serves : (terms : Terms) (greatest moment t0 : ℕ) (log : Log) (question : Question) (s : State) (ip : IpAddr)
     → state_want s ≡ need.Send (want.Connect ip) → StateHolds terms greatest moment t0 log question s → IsServer (given_of terms) log (greatest + 1) ip
+wanted-serves terms greatest moment t0 log question New ip wants h = cc
 wanted-serves terms greatest moment t0 log question (Under w) ip wants h = by w.lookup.send refl
   where
     by : (s : Send) → w.lookup.send ≡ s → IsServer (given_of terms) log (greatest + 1) ip

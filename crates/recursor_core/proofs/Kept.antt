@@ -32,7 +32,7 @@ use Rattle.recursor_core.specs.Derived.{Passed, WayHolds, StateHolds, Resolution
 use Rattle.recursor_core.specs.declared.reply.Reply.{Reply}
 use Rattle.recursor_core.specs.declared.walk.Walk.{Walk}
 use Rattle.recursor_core.specs.declared.resolving.State.{State}
-use Rattle.recursor_core.specs.declared.resolving.State.TheVariants.{Under, Done, Ended}
+use Rattle.recursor_core.specs.declared.resolving.State.TheVariants.{New, Under, Done, Ended}
 use Rattle.recursor_core.specs.declared.resolving.Resolution.{Resolution}
 use Rattle.recursor_core.specs.declared.machine.RecursorCore.{RecursorCore}
 use Rattle.recursor_core.proofs.KeptLookups.{lookup-kept, pool-kept, began-kept}
@@ -177,6 +177,7 @@ module _ (terms : Terms) (log longer : Log) (x : Extends log longer) where
   -- where a resolution stands
   state-kept : (g g' m m' t0 : ℕ) (question : Question) (s : State) → g ≤ g' → m ≤ m'
       → StateHolds terms g m t0 log question s → StateHolds terms g' m' t0 longer question s
+  state-kept g g' m m' t0 question New le later h = h
   state-kept g g' m m' t0 question (Under w) le later h = record {
     way = way-kept g g' question.query w le h.way;
     lookup = lookup-kept terms log longer x g g' m m' t0 w.zone w.lookup le later h.lookup;

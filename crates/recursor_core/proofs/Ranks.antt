@@ -11,7 +11,7 @@ use Rattle.recursor_core.specs.declared.lookup.Send.{Send}
 use Rattle.recursor_core.specs.declared.lookup.Send.TheVariants as send
 use Rattle.recursor_core.specs.Resolving.{rank, steps, state_polls, order_of}
 use Rattle.recursor_core.specs.declared.resolving.State.{State}
-use Rattle.recursor_core.specs.declared.resolving.State.TheVariants.{Under, Done, Ended}
+use Rattle.recursor_core.specs.declared.resolving.State.TheVariants.{New, Under, Done, Ended}
 use Rattle.recursor_core.specs.declared.resolving.Resolution.{Resolution}
 use Rattle.recursor_core.specs.declared.resolving.Need.TheVariants as need
 use Rattle.recursor_core.specs.Machine.{need_in, MayAskOf}
@@ -33,6 +33,7 @@ send_polls p (send.Failed ip entry error) = omega arith
 
 -- so it is with a state
 polls_within : (p : ℕ) (s : State) → state_polls p s ≤ p
+polls_within p New = omega arith
 polls_within p (Under w) = send_polls p w.lookup.send
 polls_within p (Done reply) = omega arith
 polls_within p Ended = omega arith

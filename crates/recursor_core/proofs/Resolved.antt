@@ -1,5 +1,5 @@
 -- A resolution after a step.
-use Rattle.std.proofs.Common.{◌≡◌, ◌≤◌, ℕ, Option, Some, None, IfSome, sym, subst}
+use Rattle.std.proofs.Common.{◌≡◌, ◌≤◌, ℕ, true, Option, Some, None, IfSome, sym, subst}
 use Rattle.dns_core.specs.Log.{Log}
 use Rattle.dns_core.specs.declared.message.Query.{Query}
 use Rattle.dns_core.specs.declared.request.Question.{Question}
@@ -7,13 +7,14 @@ use Rattle.resolver_cache.specs.Cached.{Cached}
 use Rattle.recursor_core.specs.Counted.{recalled, IsRecalled}
 use Rattle.recursor_core.specs.Remembered.{CacheHolds}
 use Rattle.recursor_core.specs.Replies.{Terms}
-use Rattle.recursor_core.specs.Resolving.{IsAfter}
+use Rattle.recursor_core.specs.Resolving.{state_want, IsAfter}
 use Rattle.recursor_core.specs.Derived.{StageHolds, LookupHolds, WayHolds, WalkComes, StateHolds, ResolutionHolds}
 use Rattle.recursor_core.specs.declared.counted.Counted.{Counted}
 use Rattle.recursor_core.specs.declared.lookup.Lookup.{Lookup}
 use Rattle.recursor_core.specs.declared.reply.Reply.{Reply}
 use Rattle.recursor_core.specs.declared.resolving.State.{State}
-use Rattle.recursor_core.specs.declared.resolving.State.TheVariants.{Under}
+use Rattle.recursor_core.specs.declared.resolving.State.TheVariants.{New, Under, Done, Ended}
+use Rattle.recursor_core.specs.declared.resolving.Need.TheVariants as need
 use Rattle.recursor_core.specs.declared.walk.Walk.{Walk}
 use Rattle.recursor_core.proofs.Recalling.{recalled-stands}
 
@@ -48,3 +49,11 @@ pub recalled-for : (terms : Terms) (greatest t0 now : ℕ) (log : Log) (cache : 
     → CacheHolds terms greatest log cache → found ≡ recalled cache q now → IfSome found (IsRecalled terms greatest t0 log q)
 recalled-for terms greatest t0 now log cache q None begun holds is = tt
 recalled-for terms greatest t0 now log cache q (Some c) begun holds is = recalled-stands terms greatest t0 now log cache q begun holds c (sym is)
+
+-- the name of a question that is to set out is fully qualified
+pub new-qualified : (terms : Terms) (greatest moment t0 : ℕ) (log : Log) (question : Question) (s : State) → state_want s ≡ need.SetOut
+    → StateHolds terms greatest moment t0 log question s → question.query.name.fqdn ≡ true
+new-qualified terms greatest moment t0 log question New is h = h
+new-qualified terms greatest moment t0 log question (Under w) is h = cc
+new-qualified terms greatest moment t0 log question (Done reply) is h = cc
+new-qualified terms greatest moment t0 log question Ended is h = cc

@@ -15,15 +15,15 @@ use Rattle.recursor_core.specs.Derived.{SendHolds, WalkHolds, StateHolds, Resolu
 use Rattle.recursor_core.specs.Lookup.{send_want}
 use Rattle.recursor_core.specs.Walk.{IsCandidate}
 use Rattle.recursor_core.specs.Resolving.{order_of, state_want}
-use Rattle.recursor_core.specs.Remembered.{Telling, telling, telling_at_stage, telling_in, telling_of, CacheHolds, remembered}
+use Rattle.recursor_core.specs.Remembered.{Telling, telling, telling_in, telling_of, CacheHolds, remembered}
 use Rattle.recursor_core.specs.declared.lookup.Send.{Send}
 use Rattle.recursor_core.specs.declared.lookup.Send.TheVariants as send
 use Rattle.recursor_core.specs.declared.resolving.Need.TheVariants as need
 use Rattle.recursor_core.specs.declared.resolving.State.{State}
-use Rattle.recursor_core.specs.declared.resolving.State.TheVariants.{Under, Done, Ended}
+use Rattle.recursor_core.specs.declared.resolving.State.TheVariants.{New, Under, Done, Ended}
 use Rattle.recursor_core.specs.declared.resolving.Resolution.{Resolution}
 use Rattle.recursor_core.specs.declared.walk.Stage.{Stage}
-use Rattle.recursor_core.specs.declared.walk.Stage.TheVariants.{Start, Candidate, Last}
+use Rattle.recursor_core.specs.declared.walk.Stage.TheVariants.{Candidate, Last}
 use Rattle.recursor_core.specs.declared.walk.Walk.{Walk}
 use Rattle.recursor_core.specs.Machine.{need_in}
 use Rattle.recursor_core.proofs.Remembering.{TellingHolds, remembered-holds}
@@ -41,13 +41,9 @@ send-untold zone q (send.Asking ip order since polls) h = refl
 send-untold zone q (send.Told ip entry at message) h = absurd (h refl)
 send-untold zone q (send.Failed ip entry error) h = absurd (h refl)
 
-stage-untold : (w : Walk) (s : Stage) → (order_of (need.Send (send_want w.lookup.send)) ≡ None → ⊥) → telling_at_stage w s ≡ None
-stage-untold w Start h = refl
-stage-untold w (Candidate labels) h = send-untold w.zone w.lookup.query w.lookup.send h
-stage-untold w Last h = send-untold w.zone w.lookup.query w.lookup.send h
-
 state-untold : (s : State) → (order_of (state_want s) ≡ None → ⊥) → telling_in s ≡ None
-state-untold (Under w) h = stage-untold w w.stage h
+state-untold New h = refl
+state-untold (Under w) h = send-untold w.zone w.lookup.query w.lookup.send h
 state-untold (Done reply) h = refl
 state-untold Ended h = refl
 
@@ -75,27 +71,22 @@ send-tells terms greatest moment t0 log zone q g moments (send.Told ip entry at 
     subst (TellingHolds terms greatest log) (same_Some _ _ is) (record { t0 = t0; heard = h.0; walked = walked })
 
 -- the walk went down to its zone for what it asks
-stage-walked : (terms : Terms) (greatest moment t0 : ℕ) (log : Log) (q : Query) (w : Walk) (s : Stage) (t : Telling) → w.stage ≡ s
-    → telling_at_stage w s ≡ Some t → WalkHolds terms greatest moment t0 log q w → WalksTo (given_of terms) log w.lookup.query w.zone
-stage-walked terms greatest moment t0 log q w Start t is tells h = cc
-stage-walked terms greatest moment t0 log q w (Candidate labels) t is tells h =
+stage-walked : (terms : Terms) (greatest moment t0 : ℕ) (log : Log) (q : Query) (w : Walk) (s : Stage) → w.stage ≡ s
+    → WalkHolds terms greatest moment t0 log q w → WalksTo (given_of terms) log w.lookup.query w.zone
+stage-walked terms greatest moment t0 log q w (Candidate labels) is h =
     let here = subst IsCandidate (sym is) tt in
     subst (λ (p : Query). WalksTo (given_of terms) log p w.zone) (sym (candidate-asked terms greatest log q w here h.way))
     (candidate-walked terms greatest log q w here h.way)
-stage-walked terms greatest moment t0 log q w Last t is tells h =
+stage-walked terms greatest moment t0 log q w Last is h =
     let last = walked-at-last terms greatest log q w is h.way in
     subst (λ (p : Query). WalksTo (given_of terms) log p w.zone) (sym last.0) last.1
 
-stage-tells : (w : Walk) (s : Stage) (t : Telling) → telling_at_stage w s ≡ Some t → telling w.zone w.lookup.query w.lookup.send ≡ Some t
-stage-tells w Start t h = cc
-stage-tells w (Candidate labels) t h = h
-stage-tells w Last t h = h
-
 state-tells : (terms : Terms) (greatest moment t0 : ℕ) (log : Log) (question : Question) (s : State) (t : Telling) → telling_in s ≡ Some t
     → StateHolds terms greatest moment t0 log question s → TellingHolds terms greatest log t
+state-tells terms greatest moment t0 log question New t is h = cc
 state-tells terms greatest moment t0 log question (Under w) t is h =
     send-tells terms greatest moment t0 log w.zone w.lookup.query w.lookup.ends h.lookup.tried.moments w.lookup.send t
-    (stage-walked terms greatest moment t0 log question.query w w.stage t refl is h) (stage-tells w w.stage t is) h.lookup.send
+    (stage-walked terms greatest moment t0 log question.query w w.stage refl h) is h.lookup.send
 state-tells terms greatest moment t0 log question (Done reply) t is h = cc
 state-tells terms greatest moment t0 log question Ended t is h = cc
 

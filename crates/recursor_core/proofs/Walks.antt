@@ -40,7 +40,7 @@ use Rattle.recursor_core.specs.declared.counted.Counted.{Counted}
 use Rattle.recursor_core.specs.declared.lookup.Lookup.{Lookup}
 use Rattle.recursor_core.specs.declared.reply.Reply.{Reply}
 use Rattle.recursor_core.specs.declared.walk.Stage.{Stage}
-use Rattle.recursor_core.specs.declared.walk.Stage.TheVariants.{Start, Candidate, Last}
+use Rattle.recursor_core.specs.declared.walk.Stage.TheVariants.{Candidate, Last}
 use Rattle.recursor_core.specs.declared.walk.Walk.{Walk}
 use Rattle.recursor_core.proofs.Candidates.{above-last, last-above, last-length, root-above, walked-from-passed, walked-at-candidate}
 use Rattle.recursor_core.proofs.Denials.{has-failed}
@@ -81,7 +81,6 @@ at-candidate terms greatest log q w here way = by w.stage refl here
           asked = held.3;
           passed = subst (λ (s : Stage). Passed terms log w.zone w.name (reached w.name s)) is way.passed;
         }
-    by Start is x = absurd x
     by Last is x = absurd x
 
 -- a verdict shows a cut where one does that is the same but for TTLs
@@ -269,42 +268,20 @@ roots-pool terms n log some = record {
 
 -- a walk that begins at the roots
 pub at-start : (terms : Terms) (greatest moment t0 : ℕ) (log : Log) (q : Query) (name zone : DomainName) (servers items : List IpAddr)
-    (asked : Query) (l : Lookup)
+    (total : ℕ) (stage : Stage) (asked : Query) (l : Lookup)
     → 0 < length terms.roots → q.name.fqdn ≡ true → name ≡ walk q → zone ≡ root → servers ≡ terms.roots → items ≡ terms.roots
-    → asked ≡ q → l.query ≡ asked
+    → total ≡ length name.labels → stage ≡ next_stage total 0 → asked ≡ query_of name q stage → l.query ≡ asked
     → ((z : DomainName) → IsTrue (is_above z (walk asked)) → ArePool terms log (greatest + 1) z items → LookupHolds terms greatest moment t0 log z l)
-    → WalkHolds terms greatest moment t0 log q (record { name = name; zone = zone; servers = servers; stage = Start; lookup = l })
-at-start terms greatest moment t0 log q name zone servers items asked l some f n z s i ask query made =
+    → WalkHolds terms greatest moment t0 log q (record { name = name; zone = zone; servers = servers; stage = stage; lookup = l })
+at-start terms greatest moment t0 log q name zone servers items total stage asked l some f n z s i count next ask query made =
     let qualified : name.fqdn ≡ true = subst (λ (d : DomainName). d.fqdn ≡ true) (sym n) (walk-qualified q f) in
     let above : is_above zone name ≡ true = subst (λ (d : DomainName). is_above d name ≡ true) (sym z) (root-above name qualified) in
     let low : length zone.labels ≤ 0 = subst (λ (d : DomainName). length d.labels ≤ 0) (sym z) (omega arith) in
-    let pool : (ips : List IpAddr) → ips ≡ terms.roots → ArePool terms log (greatest + 1) zone ips = λ ips is.
-    subst (λ (d : DomainName). ArePool terms log (greatest + 1) d ips) (sym z)
-    (subst (ArePool terms log (greatest + 1) root) (sym is) (roots-pool terms (greatest + 1) log some)) in
-    record {
-      way = record {
-        name = n;
-        above = above;
-        pool = pool servers s;
-        stage = (low, query ∙ ask);
-        passed = λ plain k longer short. absurd (omega (arith, longer, short));
-      };
-      lookup = made zone (subst (λ (d : DomainName). is_above zone d ≡ true) (n ∙ sym (ap walk ask)) above) (pool items i);
-    }
-
--- a walk that goes on from the start
-pub sets-out : (terms : Terms) (greatest moment t0 : ℕ) (log : Log) (q : Query) (w : Walk) (items : List IpAddr)
-    (total : ℕ) (stage : Stage) (asked : Query) (l : Lookup)
-    → w.stage ≡ Start → WayHolds terms greatest log q w → items ≡ w.servers
-    → total ≡ length w.name.labels → stage ≡ next_stage total 0 → asked ≡ query_of w.name q stage → l.query ≡ asked
-    → ((z : DomainName) → IsTrue (is_above z (walk asked)) → ArePool terms log (greatest + 1) z items → LookupHolds terms greatest moment t0 log z l)
-    → WalkHolds terms greatest moment t0 log q (record { name = w.name; zone = w.zone; servers = w.servers; stage = stage; lookup = l })
-sets-out terms greatest moment t0 log q w items total stage asked l is way same count next ask query made =
-    let held : StageHolds q w.zone w.name w.lookup.query Start = subst (StageHolds q w.zone w.name w.lookup.query) is way.stage in
-    let passed : Passed terms log w.zone w.name (0 + 1) =
-    subst (λ (s : Stage). Passed terms log w.zone w.name (reached w.name s)) is way.passed in
-    at-next terms greatest moment t0 log q w.name w.zone w.servers items 0 total stage asked l
-    way.name way.above held.0 way.pool passed same count next ask query made
+    let pool : ArePool terms log (greatest + 1) zone servers =
+    subst (λ (d : DomainName). ArePool terms log (greatest + 1) d servers) (sym z)
+    (subst (ArePool terms log (greatest + 1) root) (sym s) (roots-pool terms (greatest + 1) log some)) in
+    at-next terms greatest moment t0 log q name zone servers items 0 total stage asked l n above low pool
+    (λ plain k longer short. absurd (omega (arith, longer, short))) (i ∙ sym s) count next ask query made
 
 -- a walk that goes on from a candidate
 pub goes-on : (terms : Terms) (greatest moment t0 : ℕ) (log : Log) (q : Query) (w : Walk) (items : List IpAddr)
@@ -429,9 +406,8 @@ cut-leaves terms log w zone ips z plain far =
 
 -- ---- what was found in the cache
 
--- at the start and at last the question itself is looked for
+-- at last the question itself is looked for
 looked-for : (q : Query) (zone name : DomainName) (asked : Query) (stage : Stage) → (IsCandidate stage → ⊥) → StageHolds q zone name asked stage → asked ≡ q
-looked-for q zone name asked Start other held = held.1
 looked-for q zone name asked (Candidate labels) other held = absurd (other tt)
 looked-for q zone name asked Last other held = held
 

@@ -1,5 +1,5 @@
 -- What the machine keeps, as derived from a log.
-use Rattle.std.specs.Prelude.{◌≡◌, ℕ, ◌+◌, ◌≤◌, ◌<◌, List, ◌++◌, length, map, IsTrue, Option, Some, None, Ok, Err, All, Contains}
+use Rattle.std.specs.Prelude.{◌≡◌, ℕ, ◌+◌, ◌≤◌, ◌<◌, List, ◌++◌, length, map, IsTrue, true, Option, Some, None, Ok, Err, All, Contains}
 use Rattle.std.specs.declared.net.ip_addr.IpAddr.{IpAddr}
 use Rattle.dns_core.specs.Name.{DomainName, last_labels}
 use Rattle.dns_core.specs.Log.{Log}
@@ -28,10 +28,10 @@ use Rattle.recursor_core.specs.declared.lookup.Found.{Found}
 use Rattle.recursor_core.specs.declared.lookup.Found.TheVariants as found
 use Rattle.recursor_core.specs.declared.reply.Reply.{Reply}
 use Rattle.recursor_core.specs.declared.walk.Stage.{Stage}
-use Rattle.recursor_core.specs.declared.walk.Stage.TheVariants.{Start, Candidate, Last}
+use Rattle.recursor_core.specs.declared.walk.Stage.TheVariants.{Candidate, Last}
 use Rattle.recursor_core.specs.declared.walk.Walk.{Walk}
 use Rattle.recursor_core.specs.declared.resolving.State.{State}
-use Rattle.recursor_core.specs.declared.resolving.State.TheVariants.{Under, Done, Ended}
+use Rattle.recursor_core.specs.declared.resolving.State.TheVariants.{New, Under, Done, Ended}
 use Rattle.recursor_core.specs.declared.resolving.Resolution.{Resolution}
 use Rattle.recursor_core.specs.declared.machine.RecursorCore.{RecursorCore}
 
@@ -112,16 +112,13 @@ LookupComes terms greatest moment t0 log zone l (Some f) = FoundHolds terms grea
 abbrev pub last_name : ℕ → DomainName → DomainName
 last_name k n = record { labels = last_labels k n.labels; fqdn = n.fqdn }
 
--- At the start the question itself is looked for, at the root; then the NS records of a candidate, which is no shorter than the zone and no
--- longer than the name; at last the question again.
+-- The NS records of a candidate are looked for, which is no shorter than the zone and no longer than the name; at last the question itself.
 abbrev pub StageHolds : Query → DomainName → DomainName → Query → Stage → Type 0
-StageHolds q zone name asked Start = (length zone.labels ≤ 0) × (asked ≡ q)
 StageHolds q zone name asked (Candidate labels) = (1 ≤ labels) × (labels ≤ length name.labels) × (length zone.labels ≤ labels) × (asked ≡ question_for (last_name labels name) 2)
 StageHolds q zone name asked Last = asked ≡ q
 
 -- how many labels the candidates have of which the log shows no cut yet, or a cut that was taken: fewer
 abbrev pub reached : DomainName → Stage → ℕ
-reached name Start = 1
 reached name (Candidate labels) = labels
 reached name Last = length name.labels + 1
 
@@ -153,6 +150,7 @@ WalkComes terms greatest moment t0 log question w (Some reply) = ReplyHolds term
 -- ---- the machine
 
 abbrev pub StateHolds : Terms → ℕ → ℕ → ℕ → Log → Question → State → Type 0
+StateHolds terms greatest moment t0 log question New = question.query.name.fqdn ≡ true
 StateHolds terms greatest moment t0 log question (Under w) = WalkHolds terms greatest moment t0 log question.query w
 StateHolds terms greatest moment t0 log question (Done reply) = ReplyHolds terms machine_timer log t0 question reply
 StateHolds terms greatest moment t0 log question Ended = Unit {0}

@@ -1,4 +1,4 @@
--- What the machine keeps of finished lookups.
+-- What the machine keeps of finished lookups (RFC 1034 section 5.3.3, step 4).
 use Rattle.std.specs.Prelude.{◌≡◌, ℕ, ◌+◌, ◌*◌, ◌≤◌, ◌==◌, Option, Some, None, Result, option_and_then, All, IsSomeAnd}
 use Rattle.dns_core.specs.Name.{DomainName}
 use Rattle.dns_core.specs.Log.{Log}
@@ -21,11 +21,9 @@ use Rattle.recursor_core.specs.Counted.{kept_of}
 use Rattle.recursor_core.specs.Replies.{Terms, given_of}
 use Rattle.recursor_core.specs.declared.lookup.Send.{Send}
 use Rattle.recursor_core.specs.declared.lookup.Send.TheVariants as send
-use Rattle.recursor_core.specs.declared.walk.Stage.{Stage}
-use Rattle.recursor_core.specs.declared.walk.Stage.TheVariants.{Start, Candidate, Last}
 use Rattle.recursor_core.specs.declared.walk.Walk.{Walk}
 use Rattle.recursor_core.specs.declared.resolving.State.{State}
-use Rattle.recursor_core.specs.declared.resolving.State.TheVariants.{Under, Done, Ended}
+use Rattle.recursor_core.specs.declared.resolving.State.TheVariants.{New, Under, Done, Ended}
 use Rattle.recursor_core.specs.declared.resolving.Resolution.{Resolution}
 
 -- ---- what holds of the cache
@@ -63,16 +61,12 @@ abbrev pub telling : DomainName → Query → Send → Option Telling
 telling zone q (send.Told ip entry at message) = Some (record { zone = zone; query = q; entry = entry; at = at; message = message })
 telling zone q _ = None
 
--- what a walk was just told; at the start nobody is asked
-abbrev pub telling_at_stage : Walk → Stage → Option Telling
-telling_at_stage w Start = None
-telling_at_stage w (Candidate labels) = telling w.zone w.lookup.query w.lookup.send
-telling_at_stage w Last = telling w.zone w.lookup.query w.lookup.send
-
+-- what a walk was just told
 abbrev pub telling_of_walk : Walk → Option Telling
-telling_of_walk w = telling_at_stage w w.stage
+telling_of_walk w = telling w.zone w.lookup.query w.lookup.send
 
 abbrev pub telling_in : State → Option Telling
+telling_in New = None
 telling_in (Under w) = telling_of_walk w
 telling_in (Done reply) = None
 telling_in Ended = None

@@ -2,8 +2,7 @@
 use Rattle.std.specs.Prelude.{◌≡◌, ℕ, ◌+◌, ◌*◌, IsTrue, Option, Some, None}
 use Rattle.std.specs.declared.net.ip_addr.IpAddr.{IpAddr}
 use Rattle.dns_core.specs.declared.message.Query.{Query}
-use Rattle.resolver_cache.specs.Cached.{Cached}
-use Rattle.recursor_core.specs.Counted.{recalled, may_answer}
+use Rattle.recursor_core.specs.Counted.{may_answer}
 use Rattle.recursor_core.specs.Lookup as lookup
 use Rattle.recursor_core.specs.Walk as walk
 use Rattle.recursor_core.specs.declared.counted.Counted.{Counted}
@@ -13,10 +12,11 @@ use Rattle.recursor_core.specs.declared.lookup.Want.TheVariants as want
 use Rattle.recursor_core.specs.declared.resolving.Need.{Need}
 use Rattle.recursor_core.specs.declared.resolving.Need.TheVariants as need
 use Rattle.recursor_core.specs.declared.resolving.State.{State}
-use Rattle.recursor_core.specs.declared.resolving.State.TheVariants.{Under, Done, Ended}
+use Rattle.recursor_core.specs.declared.resolving.State.TheVariants.{New, Under, Done, Ended}
 use Rattle.recursor_core.specs.declared.resolving.Resolution.{Resolution}
 
 abbrev pub state_want : State → Need
+state_want New = need.SetOut
 state_want (Under w) = need.Send (lookup.send_want w.lookup.send)
 state_want (Done reply) = need.Reply
 state_want Ended = need.Nothing
@@ -25,6 +25,7 @@ abbrev pub want_of : Resolution → Need
 want_of r = state_want r.state
 
 abbrev pub order_of : Need → Option ℕ
+order_of need.SetOut = None
 order_of (need.Send want.Recall) = None
 order_of (need.Send want.Choose) = None
 order_of (need.Send (want.Connect ip)) = None
@@ -38,16 +39,18 @@ order_of need.Nothing = None
 abbrev pub waits_for : Resolution → Option ℕ
 waits_for r = order_of (want_of r)
 
-abbrev pub state_steps : State → ℕ
-state_steps (Under w) = walk.steps w
-state_steps (Done reply) = 1
-state_steps Ended = 0
+abbrev pub state_steps : Query → State → ℕ
+state_steps q New = walk.begin_steps q
+state_steps q (Under w) = walk.steps w
+state_steps q (Done reply) = 1
+state_steps q Ended = 0
 
 -- how many steps it has before it
 abbrev pub steps : Resolution → ℕ
-steps r = state_steps r.state
+steps r = state_steps r.question.query r.state
 
 abbrev pub state_polls : ℕ → State → ℕ
+state_polls patience New = 0
 state_polls patience (Under w) = lookup.polls_left patience w.lookup.send
 state_polls patience (Done reply) = 0
 state_polls patience Ended = 0
@@ -58,6 +61,7 @@ rank patience r = (patience + 1) * steps r + state_polls patience r.state
 
 -- its question may be asked of the address
 abbrev pub MayAskIn : IpAddr → State → Type 0
+MayAskIn ip New = ⊥
 MayAskIn ip (Under w) = lookup.MayAsk ip w.lookup.send
 MayAskIn ip (Done reply) = ⊥
 MayAskIn ip Ended = ⊥
@@ -67,12 +71,14 @@ MayAskNow ip r = MayAskIn ip r.state
 
 -- the question that it asks now
 abbrev pub asked_of : State → Option Query
+asked_of New = None
 asked_of (Under w) = Some w.lookup.query
 asked_of (Done reply) = None
 asked_of Ended = None
 
 -- the address that it asks now
 abbrev pub address_of : State → Option IpAddr
+address_of New = None
 address_of (Under w) = lookup.asked_address w.lookup.send
 address_of (Done reply) = None
 address_of Ended = None
@@ -86,23 +92,13 @@ abbrev pub IsAfter : Walk → Option Reply → State → Type 0
 IsAfter w None state = state ≡ Under w
 IsAfter w (Some reply) state = state ≡ Done reply
 
--- what the cache has for the present lookup
-abbrev pub recalled_in : Cached → ℕ → State → Option Counted
-recalled_in cache now (Under w) = recalled cache w.lookup.query now
-recalled_in cache now (Done reply) = None
-recalled_in cache now Ended = None
-
 abbrev pub IsDone : State → Type 0
+IsDone New = ⊥
 IsDone (Under w) = ⊥
 IsDone (Done reply) = Unit {0}
 IsDone Ended = ⊥
 
-abbrev pub IsAtCandidate : State → Type 0
-IsAtCandidate (Under w) = walk.IsCandidate w.stage
-IsAtCandidate (Done reply) = ⊥
-IsAtCandidate Ended = ⊥
-
--- where the cache has for the question itself what may be answered, it is answered
-abbrev pub HasAnswered : Option Counted → State → State → Type 0
-HasAnswered None old new = Unit {0}
-HasAnswered (Some c) old new = (IsAtCandidate old → ⊥) → IsTrue (may_answer c.verdict) → IsDone new
+-- where the cache has for a question what may be answered, it is answered
+abbrev pub IsAnswered : Option Counted → State → Type 0
+IsAnswered None state = Unit {0}
+IsAnswered (Some c) state = IsTrue (may_answer c.verdict) → IsDone state

@@ -4,7 +4,7 @@ use Rattle.std.specs.Option.{is_none}
 use Rattle.dns_core.specs.Name.{DomainName, last_labels}
 use Rattle.dns_core.specs.declared.message.Query.{Query}
 use Rattle.dns_core.specs.declared.net_error.NoRecords.{NoRecords}
-use Rattle.resolution.specs.Names.{question}
+use Rattle.resolution.specs.Names.{question, walk as name_walked}
 use Rattle.recursor_core.specs.declared.error.RecursorError.{RecursorError}
 use Rattle.recursor_core.specs.declared.error.RecursorError.TheVariants.{Negative, ForwardNS}
 use Rattle.dns_core.specs.declared.errors.NoMemory.{NoMemory}
@@ -15,17 +15,15 @@ use Rattle.recursor_core.specs.Lookup as lookup
 use Rattle.recursor_core.specs.declared.counted.Counted.{Counted}
 use Rattle.recursor_core.specs.declared.reply.Reply.{Reply}
 use Rattle.recursor_core.specs.declared.walk.Stage.{Stage}
-use Rattle.recursor_core.specs.declared.walk.Stage.TheVariants.{Start, Candidate, Last}
+use Rattle.recursor_core.specs.declared.walk.Stage.TheVariants.{Candidate, Last}
 use Rattle.recursor_core.specs.declared.walk.Walk.{Walk}
 
 abbrev pub IsCandidate : Stage → Type 0
-IsCandidate Start = ⊥
 IsCandidate (Candidate labels) = Unit {0}
 IsCandidate Last = ⊥
 
 -- how many lookups come after the present one, where the name has so many labels
 abbrev pub lookups_after : ℕ → Stage → ℕ
-lookups_after total Start = total + 1
 lookups_after total (Candidate labels) = total - labels + 1
 lookups_after total Last = 0
 
@@ -33,9 +31,8 @@ lookups_after total Last = 0
 abbrev pub next_stage : ℕ → ℕ → Stage
 next_stage total labels = if nat_lt labels total then Candidate (labels + 1) else Last
 
--- what is looked for: the question itself, then the NS records of a candidate, and at last the question again
+-- what is looked for: the NS records of a candidate, and at last the question itself
 abbrev pub query_of : DomainName → Query → Stage → Query
-query_of name q Start = q
 query_of name q (Candidate labels) = question (record { labels = last_labels labels name.labels; fqdn = name.fqdn }) 2
 query_of name q Last = q
 
@@ -57,6 +54,10 @@ ends_walk found = found.response_code.code == 3 && is_none found.ns
 -- how many steps a walk has before it; a lookup has fewer than 2 ^ 70
 abbrev pub steps : Walk → ℕ
 steps w = 2 + lookups_after (length w.name.labels) w.stage * 2 ^ 70 + lookup.steps w.lookup
+
+-- more steps than the walk of a question has
+abbrev pub begin_steps : Query → ℕ
+begin_steps q = 2 + (length (name_walked q).labels + 1) * 2 ^ 70
 
 -- The walk went on by a step, or has its reply.
 abbrev pub Goes : Walk → Walk → Result (Option Reply) NoMemory → Type 0

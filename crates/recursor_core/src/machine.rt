@@ -142,12 +142,7 @@ impl RecursorCore {
     }
 
     /// Begins a question, and answers its place among the resolutions.
-    pub fn begin(
-        &mut self,
-        alloc: Global,
-        question: Question,
-        now: u64,
-    ) -> Result<usize, RecursorError>
+    pub fn begin(&mut self, question: Question, now: u64) -> Result<usize, RecursorError>
         ensures not_qualified { (result ≡ Err (RecursorError.Message MessageKind.NotQualified)) ↔ (question.query.name.fqdn ≡ false) }
         ensures only { IfErr result IsBeginError }
         ensures derived { (log : Log) → self.old.moment ≤ now → Derived self.old log → Derived self.new log }
@@ -160,7 +155,7 @@ impl RecursorCore {
         if !question.query.name.is_fqdn() {
             return Err(RecursorError::Message(MessageKind::NotQualified));
         }
-        match self.begin_walk(alloc, question, now) {
+        match self.begin_resolution(question, now) {
             Ok(place) => {
                 self.moment = self.moment.max(now);
                 Ok(place)
@@ -169,7 +164,7 @@ impl RecursorCore {
         }
     }
 
-    fn begin_walk(&mut self, alloc: Global, question: Question, now: u64) -> Result<usize, NoMemory>
+    fn begin_resolution(&mut self, question: Question, now: u64) -> Result<usize, NoMemory>
         requires { question.query.name.fqdn ≡ true }
         ensures derived { (log : Log) → self.old.moment ≤ now → Derived self.old log
             → IfOk result (λ r. Derived (record self.new { moment = now }) log) }
@@ -179,9 +174,8 @@ impl RecursorCore {
         ensures err { IfErr result (λ e. self.new.resolutions.items ≡ self.old.resolutions.items) }
         ensures count { length self.old.resolutions.items ≤ length self.new.resolutions.items }
     {
-        let resolution = Resolution::begin(alloc, question, &self.setting.roots, now)?;
         let place = self.resolutions.len();
-        self.resolutions.push(resolution)?;
+        self.resolutions.push(Resolution::begin(question, now))?;
         Ok(place)
     }
 
@@ -192,6 +186,18 @@ impl RecursorCore {
             Some(resolution) => resolution.need(),
             None => Need::Nothing,
         }
+    }
+
+    /// Answers a resolution with what the cache has for its question, or begins its walk.
+    fn set_out(&mut self, alloc: Global, r: usize) -> Result<(), NoMemory>
+        requires { need_at self.old r ≡ Need.SetOut }
+        ensures falls { (p : ℕ) → rank p self.new < rank p self.old }
+        ensures derived { (log : Log) → Derived self.old log → Derived self.new log }
+        ensures same { SameCore self.old self.new }
+    {
+        let now = self.moment;
+        let resolution = &mut self.resolutions[r];
+        resolution.set_out(alloc, &self.setting.roots, &self.cache, now)
     }
 
     /// Goes by what the cache has for the present lookup of a resolution.
@@ -420,6 +426,10 @@ impl RecursorCore {
         ensures same { SameCore self.old self.new }
     {
         match self.need(r) {
+            Need::SetOut => {
+                self.set_out(alloc, r)?;
+                Ok(Progress::Again)
+            }
             Need::Send(want) => self.send(alloc, r, want),
             Need::Reply => Ok(self.reply(r)),
             Need::Nothing => Ok(Progress::Step(Step::Ended)),

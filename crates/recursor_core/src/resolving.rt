@@ -5,15 +5,17 @@ ghost use Rattle.dns_core.specs.Log.{Log, Extends};
 ghost use Rattle.recursor_core.specs.Order.{entry_of, Fits};
 ghost use Rattle.recursor_core.specs.Replies.{Terms, ReplyHolds};
 ghost use Rattle.recursor_core.specs.Tried.{machine_timer};
+ghost use Rattle.recursor_core.specs.Counted.{IsRecalled, recalled};
 ghost use Rattle.recursor_core.specs.Remembered.{CacheHolds, telling_in, remembered};
-ghost use Rattle.recursor_core.specs.Derived.{ResolutionHolds};
-ghost use Rattle.recursor_core.specs.Resolving.{want_of, waits_for, steps, rank, MayAskNow, IsAfter, SameBegun, asked_of, address_of, recalled_in, HasAnswered};
+ghost use Rattle.recursor_core.specs.Derived.{StateHolds, ResolutionHolds};
+ghost use Rattle.recursor_core.specs.Walk.{begin_steps};
+ghost use Rattle.recursor_core.specs.Resolving.{want_of, waits_for, state_steps, steps, rank, MayAskNow, IsAfter, SameBegun, asked_of, address_of, IsAnswered};
 
-use crate::counted::recalled;
+use crate::counted::{Counted, recalled};
 use crate::lookup::Want;
 use crate::order::{After, Outcome, Tick};
 use crate::reply::Reply;
-use crate::walk::Walk;
+use crate::walk::{Walk, answer_with};
 use dns_core::{Ips, NoMemory, Query, Question, TryClone};
 use resolver_cache::ResponseCache;
 use resolver_settings::AccessControlSet;
@@ -21,16 +23,19 @@ use std::alloc::Global;
 use std::mem;
 use std::net::IpAddr;
 
+/// Not begun, under way to its servers, answered, or ended.
 #[derive(Drop, Debug)]
 pub enum State {
+    New,
     Under(Walk),
     Done(Reply),
     Ended,
 }
 
-/// What a resolution needs next.
+/// What a resolution needs next: to set out, a step of a send, or that its reply is taken.
 #[derive(Clone, Copy, Debug)]
 pub enum Need {
+    SetOut,
     Send(Want),
     Reply,
     Nothing,
@@ -54,31 +59,48 @@ fn state_after(walk: Walk, reply: Option<Reply>) -> State
     }
 }
 
+/// Where a question stands for which the cache has this.
+fn begun_with(
+    alloc: Global,
+    question: &Question,
+    roots: &Ips,
+    counted: Option<Counted>,
+) -> Result<State, NoMemory>
+    ensures falls { IfOk result (λ state. state_steps question.now.query state < begin_steps question.now.query) }
+    ensures holds { (terms : Terms) (greatest moment t0 : ℕ) (log : Log) → question.now.query.name.fqdn ≡ true → terms.roots ≡ roots.now → 0 < length roots.now
+        → IfSome counted (IsRecalled terms greatest t0 log question.now.query)
+        → IfOk result (StateHolds terms greatest moment t0 log question.now) }
+    ensures answers { IfOk result (IsAnswered counted) }
+{
+    if let Some(counted) = counted {
+        if counted.may_answer() {
+            let reply = answer_with(alloc, question, counted)?;
+            return Ok(State::Done(reply));
+        }
+    }
+    let walk = Walk::new(alloc, question, roots)?;
+    Ok(State::Under(walk))
+}
+
 impl Resolution {
     /// A question that begins. Its name is fully qualified.
-    pub fn begin(
-        alloc: Global,
-        question: Question,
-        roots: &Ips,
-        now: u64,
-    ) -> Result<Resolution, NoMemory>
+    pub fn begin(question: Question, now: u64) -> Resolution
         requires { question.query.name.fqdn ≡ true }
-        ensures holds { (terms : Terms) (greatest : ℕ) (log : Log) → terms.roots ≡ roots.now → 0 < length roots.now
-            → IfOk result (ResolutionHolds terms greatest now log) }
-        ensures begun { IfOk result (λ r. (r.question ≡ question) × (r.begun ≡ now)) }
+        ensures holds { (terms : Terms) (greatest : ℕ) (log : Log) → ResolutionHolds terms greatest now log result }
+        ensures begun { (result.question ≡ question) × (result.begun ≡ now) }
     {
-        let walk = Walk::new(alloc, &question, roots)?;
-        Ok(Resolution {
+        Resolution {
             question,
             begun: now,
-            state: State::Under(walk),
-        })
+            state: State::New,
+        }
     }
 
     pub fn need(&self) -> Need
         ensures { result ≡ want_of self.now }
     {
         match &self.state {
+            State::New => Need::SetOut,
             State::Under(walk) => Need::Send(walk.lookup.send.want()),
             State::Done(_) => Need::Reply,
             State::Ended => Need::Nothing,
@@ -115,6 +137,29 @@ impl Resolution {
         }
     }
 
+    /// Is answered with what the cache has for the question, where this may be answered; else its walk
+    /// begins at the roots. On want of memory it has ended.
+    pub fn set_out(
+        &mut self,
+        alloc: Global,
+        roots: &Ips,
+        cache: &ResponseCache,
+        now: u64,
+    ) -> Result<(), NoMemory>
+        requires { want_of self.old ≡ Need.SetOut }
+        ensures falls { steps self.new < steps self.old }
+        ensures begun { SameBegun self.old self.new }
+        ensures holds { (terms : Terms) (greatest : ℕ) (log : Log) → terms.roots ≡ roots.now → 0 < length roots.now → CacheHolds terms greatest log cache.now
+            → ResolutionHolds terms greatest now log self.old → ResolutionHolds terms greatest now log self.new }
+        ensures answers { IfOk result (λ x. IsAnswered (recalled cache.now self.old.question.query now) self.new.state) }
+    {
+        self.state = State::Ended;
+        let counted = recalled(alloc, cache, &self.question.query, now)?;
+        let state = begun_with(alloc, &self.question, roots, counted)?;
+        self.state = state;
+        Ok(())
+    }
+
     /// Goes by what the cache has for the present lookup. On want of memory it has ended.
     pub fn recall(
         &mut self,
@@ -128,7 +173,6 @@ impl Resolution {
         ensures begun { SameBegun self.old self.new }
         ensures holds { (terms : Terms) (greatest : ℕ) (log : Log) → terms.server_filter ≡ filter.now → CacheHolds terms greatest log cache.now
             → ResolutionHolds terms greatest now log self.old → ResolutionHolds terms greatest now log self.new }
-        ensures answers { IfOk result (λ x. HasAnswered (recalled_in cache.now now self.old.state) self.old.state self.new.state) }
     {
         if let State::Under(walk) = mem::replace(&mut self.state, State::Ended) {
             let mut walk = walk;

@@ -269,7 +269,7 @@ pub fn begun(alloc: Global, core: &mut RecursorCore, question: &Question, now: u
     let Ok(question) = question.try_clone(alloc) else {
         return Played::Answered(no_memory(alloc));
     };
-    match core.begin(alloc, question, now) {
+    match core.begin(question, now) {
         Ok(r) => Played::Begun(r),
         Err(error) => Played::Answered(Reply {
             outcome: Err(error),

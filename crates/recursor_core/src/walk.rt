@@ -6,7 +6,7 @@ ghost use Rattle.resolution.specs.Names.{walk};
 ghost use Rattle.recursor_core.specs.Replies.{Terms, ReplyHolds};
 ghost use Rattle.recursor_core.specs.Tried.{machine_timer};
 ghost use Rattle.recursor_core.specs.Lookup.{send_want};
-ghost use Rattle.recursor_core.specs.Walk.{lookups_after, next_stage, query_of, made_negative, told_negative, ends_walk, IsCandidate, steps, Goes, Recalls};
+ghost use Rattle.recursor_core.specs.Walk.{lookups_after, next_stage, query_of, made_negative, told_negative, ends_walk, IsCandidate, steps, begin_steps, Goes, Recalls};
 ghost use Rattle.recursor_core.specs.Counted.{Stands, Answers, IsRecalled, may_answer};
 ghost use Rattle.recursor_core.specs.Remembered.{response_in, telling_of_walk, remembered};
 ghost use Rattle.recursor_core.specs.Derived.{FoundHolds, WayHolds, WalkHolds, WalkComes, LeavesBehind};
@@ -26,11 +26,9 @@ use resolver_settings::AccessControlSet;
 use std::alloc::Global;
 use std::mem;
 
-/// What is looked for now: the question itself, in the cache alone; the NS records of the last labels
-/// of the name; or the question itself, at the servers of the zone too.
+/// What is looked for now: the NS records of the last labels of the name, or the question itself.
 #[derive(Clone, Copy, Debug)]
 pub enum Stage {
-    Start,
     Candidate { labels: usize },
     Last,
 }
@@ -95,7 +93,6 @@ fn query_at(alloc: Global, name: &Name, query: &Query, stage: Stage) -> Result<Q
             query_type: RecordType::NS,
             query_class: DnsClass::IN,
         }),
-        Stage::Start => query.try_clone(alloc),
         Stage::Last => query.try_clone(alloc),
     }
 }
@@ -168,7 +165,11 @@ fn reply_by(
 }
 
 /// Answers a question with what counts for it, less the DNSSEC records that it does not want.
-fn answer_with(alloc: Global, question: &Question, counted: Counted) -> Result<Reply, NoMemory>
+pub(crate) fn answer_with(
+    alloc: Global,
+    question: &Question,
+    counted: Counted,
+) -> Result<Reply, NoMemory>
     ensures { (terms : Terms) (greatest t0 : ℕ) (log : Log) → Answers terms greatest t0 log question.now.query counted.entry counted.verdict
         → IfOk result (ReplyHolds terms machine_timer log t0 question.now) }
 {
@@ -184,22 +185,22 @@ fn answer_with(alloc: Global, question: &Question, counted: Counted) -> Result<R
 }
 
 impl Walk {
-    /// A walk from the roots, which no filter denies, to the name of a question, which is fully
-    /// qualified.
+    /// A walk from the roots, which no filter denies, to the name of a question.
     pub fn new(alloc: Global, question: &Question, roots: &Ips) -> Result<Walk, NoMemory>
-        requires { question.now.query.name.fqdn ≡ true }
-        ensures { (terms : Terms) (greatest moment t0 : ℕ) (log : Log) → terms.roots ≡ roots.now → 0 < length roots.now
+        ensures holds { (terms : Terms) (greatest moment t0 : ℕ) (log : Log) → question.now.query.name.fqdn ≡ true → terms.roots ≡ roots.now → 0 < length roots.now
             → IfOk result (WalkHolds terms greatest moment t0 log question.now.query) }
+        ensures steps { IfOk result (λ w. steps w < begin_steps question.now.query) }
     {
         let name = walked_name(alloc, &question.query)?;
-        let query = question.query.try_clone(alloc)?;
+        let stage = stage_after(name.labels().len(), 0);
+        let query = query_at(alloc, &name, &question.query, stage)?;
         let lookup = Lookup::new(alloc, query, roots.items())?;
         let servers = roots.try_clone(alloc)?;
         Ok(Walk {
             name,
             zone: Name::root(alloc),
             servers,
-            stage: Stage::Start,
+            stage,
             lookup,
         })
     }
@@ -209,9 +210,6 @@ impl Walk {
         ensures ok { OnOk result (cache.new ≡ remembered cache.old (telling_of_walk self.now)) }
         ensures err { OnErr result (cache.new ≡ cache.old) }
     {
-        if matches!(self.stage, Stage::Start) {
-            return Ok(());
-        }
         let Send::Told {
             entry,
             at,
@@ -230,7 +228,7 @@ impl Walk {
     }
 
     /// Goes by what the cache has for the present lookup; where it has nothing that serves, the servers
-    /// are to be asked, or at the start the way is to be gone. A reply where the walk ends with it.
+    /// are to be asked. A reply where the walk ends with it.
     pub fn recall(
         &mut self,
         alloc: Global,
@@ -247,11 +245,12 @@ impl Walk {
         ensures answers { Recalls self.old counted result }
     {
         let Some(counted) = counted else {
-            return self.miss(alloc, question);
+            self.lookup.begin();
+            return Ok(None);
         };
         match self.stage {
             Stage::Candidate { .. } => self.heed_candidate(alloc, question, filter, counted),
-            _ => self.recall_answer(alloc, question, counted),
+            Stage::Last => self.recall_answer(alloc, question, counted),
         }
     }
 
@@ -272,43 +271,10 @@ impl Walk {
         ensures answers { may_answer counted.verdict ≡ true → IfOk result IsSome }
     {
         if !counted.may_answer() {
-            return self.miss(alloc, question);
+            self.lookup.begin();
+            return Ok(None);
         }
         Ok(Some(answer_with(alloc, question, counted)?))
-    }
-
-    /// The cache has nothing that serves.
-    fn miss(&mut self, alloc: Global, question: &Question) -> Result<Option<Reply>, NoMemory>
-        requires { send_want self.old.lookup.send ≡ Want.Recall }
-        ensures falls { OnOk result (steps self.new < steps self.old) }
-        ensures none { IfOk result (λ reply. reply ≡ None) }
-        ensures holds { (terms : Terms) (greatest moment t0 : ℕ) (log : Log)
-            → WalkHolds terms greatest moment t0 log question.now.query self.old
-            → IfOk result (WalkComes terms greatest moment t0 log question.now self.new) }
-    {
-        match self.stage {
-            Stage::Start => self.set_out(alloc, question),
-            _ => {
-                self.lookup.begin();
-                Ok(None)
-            }
-        }
-    }
-
-    /// Goes from the root on to the first candidate.
-    fn set_out(&mut self, alloc: Global, question: &Question) -> Result<Option<Reply>, NoMemory>
-        requires { self.old.stage ≡ Stage.Start }
-        ensures falls { OnOk result (steps self.new < steps self.old) }
-        ensures none { IfOk result (λ reply. reply ≡ None) }
-        ensures holds { (terms : Terms) (greatest moment t0 : ℕ) (log : Log) → WayHolds terms greatest log question.now.query self.old
-            → IfOk result (WalkComes terms greatest moment t0 log question.now self.new) }
-    {
-        let stage = stage_after(self.name.labels().len(), 0);
-        let query = query_at(alloc, &self.name, &question.query, stage)?;
-        let lookup = Lookup::new(alloc, query, self.servers.items())?;
-        self.stage = stage;
-        self.lookup = lookup;
-        Ok(None)
     }
 
     /// The next server of the lookup is chosen; a reply where the walk ends for want of one.
@@ -349,7 +315,7 @@ impl Walk {
         }
     }
 
-    /// Goes by what a lookup came to. At the start there is none.
+    /// Goes by what a lookup came to.
     fn conclude(
         &mut self,
         alloc: Global,
@@ -364,7 +330,6 @@ impl Walk {
             → IfOk result (WalkComes terms greatest moment t0 log question.now self.new) }
     {
         match self.stage {
-            Stage::Start => self.set_out(alloc, question),
             Stage::Candidate { .. } => self.conclude_candidate(alloc, question, filter, found),
             Stage::Last => {
                 let reply = self.conclude_last(alloc, question, found)?;

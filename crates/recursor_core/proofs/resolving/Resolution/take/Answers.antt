@@ -15,7 +15,7 @@ returns-clause-falls c timely kept =
     let p = c.args.tick.patience in
     let front = 2 + lookups_after (length w.name.labels) w.stage * 2 ^ 70 in
     let l = c.take.new.self in
-    subst (λ (s : State). (p + 1) * (front + steps l) + polls_left p l.send < (p + 1) * state_steps s + state_polls p s) (sym c.in-Under.is)
+    subst (λ (s : State). (p + 1) * (front + steps l) + polls_left p l.send < (p + 1) * state_steps c.args.self.now.question.query s + state_polls p s) (sym c.in-Under.is)
     (lifted p front (steps l) (steps w.lookup) (polls_left p l.send) (polls_left p w.lookup.send) (c.take.ensures.falls timely kept))
 
 pub returns-clause-keeps : goal.returns-clause-keeps
@@ -24,7 +24,7 @@ returns-clause-keeps c =
     let p = c.args.tick.patience in
     let front = 2 + lookups_after (length w.name.labels) w.stage * 2 ^ 70 in
     let l = c.take.new.self in
-    subst (λ (s : State). (p + 1) * (front + steps l) + polls_left p l.send ≤ (p + 1) * state_steps s + state_polls p s) (sym c.in-Under.is)
+    subst (λ (s : State). (p + 1) * (front + steps l) + polls_left p l.send ≤ (p + 1) * state_steps c.args.self.now.question.query s + state_polls p s) (sym c.in-Under.is)
     (lifted_most p front (steps l) (steps w.lookup) (polls_left p l.send) (polls_left p w.lookup.send) c.take.ensures.keeps)
 
 pub returns-clause-holds : goal.returns-clause-holds

@@ -2,6 +2,3 @@ use Rattle.recursor_core.proofs.walk.Walk.conclude.Goals as goal
 
 pub returns-in_ok-reply-in-Last-clause-holds : goal.returns-in_ok-reply-in-Last-clause-holds
 returns-in_ok-reply-in-Last-clause-holds c terms greatest moment t0 log filtered way found = c.in_ok-reply-in-Last.ensures terms greatest t0 log c.in-Last.is way found
-
-pub returns-in-Start-clause-holds : goal.returns-in-Start-clause-holds
-returns-in-Start-clause-holds c terms greatest moment t0 log filtered way found = c.set_out.ensures.holds terms greatest moment t0 log way

@@ -9,8 +9,8 @@ returns-in-Candidate-clause-holds c terms greatest moment t0 log filtered recall
     let found = subst (λ (o : Option Counted). IfSome o (IsRecalled terms greatest t0 log c.args.self.now.lookup.query)) c.in-Some.is recalled in
     c.heed_candidate.ensures.holds terms greatest moment t0 log filtered h.way found.stands
 
-pub returns-in_default-stage : goal.returns-in_default-stage
-returns-in_default-stage c = record {
+pub returns-in-Last : goal.returns-in-Last
+returns-in-Last c = record {
   falls = c.recall_answer.ensures.falls;
   holds = λ terms greatest moment t0 log filtered recalled h.
       c.recall_answer.ensures.holds terms greatest moment t0 log

@@ -7,30 +7,30 @@ use Rattle.std.proofs.lemmas.List.Elements.{All-push}
 use Rattle.recursor_core.specs.Derived.{terms_of, ResolutionHolds}
 use Rattle.recursor_core.proofs.Kept.{same-log, resolutions-kept}
 use Rattle.recursor_core.proofs.Cores.{derived-is, begun-push, begun-last}
-use Rattle.recursor_core.proofs.machine.RecursorCore.begin_walk.Goals as goal
+use Rattle.recursor_core.proofs.machine.RecursorCore.begin_resolution.Goals as goal
 
 pub returns-clause-derived : goal.returns-clause-derived
 returns-clause-derived c log later d =
     let core = c.args.self.now in
-    let r = c.in_ok-resolution.resolution in
+    let r = c.begin.result in
     let terms = terms_of core in
     let P = ResolutionHolds terms core.greatest c.args.now log in
     let g = core.greatest in
     let rs = core.resolutions.items in
     let before = resolutions-kept terms log log (same-log log) g g core.moment c.args.now rs (omega arith) later d.resolutions in
     derived-is _ log core.setting g c.args.now core.cache (rs ++ r ∷ []) refl refl refl refl c.in_ok-push.ensures.items d.bound d.some d.cache
-    (All-push P rs r before (c.in_ok-resolution.ensures.holds terms g log refl d.some))
+    (All-push P rs r before (c.begin.ensures.holds terms g log))
 
 pub returns-clause-others : goal.returns-clause-others
 returns-clause-others c k within =
     let xs = c.args.self.now.resolutions.items in
-    ap (λ (rs : List Resolution). option_map begun_of (slice_get rs k)) c.in_ok-push.ensures.items ∙ begun-push xs c.in_ok-resolution.resolution k within
+    ap (λ (rs : List Resolution). option_map begun_of (slice_get rs k)) c.in_ok-push.ensures.items ∙ begun-push xs c.begin.result k within
 
 pub returns-clause-begun : goal.returns-clause-begun
 returns-clause-begun c =
     let xs = c.args.self.now.resolutions.items in
-    let r = c.in_ok-resolution.resolution in
-    let begun = c.in_ok-resolution.ensures.begun in
+    let r = c.begin.result in
+    let begun = c.begin.ensures.begun in
     let count : c.len-place.result ≡ length xs = omega (arith, c.len-place.ensures) in (
       count,
       ap (λ (n : ℕ). option_map begun_of (slice_get c.push.new.self.items n)) count
