@@ -1,24 +1,22 @@
 -- The machine after a step of one of its resolutions.
-use Rattle.std.proofs.Common.{◌≡◌, ◌<◌, ◌+◌, ℕ, zero, suc, List, [], ◌∷◌, ◌++◌, length, All, get_or, Option, Some, None, refl, sym, ◌∙◌, ap, subst, arith}
-use Rattle.std.specs.Prelude.{IsTrue, slice_get, IfSome}
+use Rattle.std.proofs.Common.{◌≡◌, ◌≤◌, ◌<◌, ◌+◌, ℕ, zero, suc, List, [], ◌∷◌, ◌++◌, length, All, get_or, Option, Some, None, Result, Ok, Err, refl, sym, ◌∙◌, ap, subst, arith}
+use Rattle.std.specs.Prelude.{slice_get, sum_by, IfSome, IsErr}
 use Rattle.std.proofs.lemmas.List.Elements.{All-set}
 use Rattle.std.proofs.Math.ListN.{set}
 use Rattle.std.specs.Option.{option_map}
 use Rattle.std.specs.Global.{Vec}
-use Rattle.std.specs.declared.net.ip_addr.IpAddr.{IpAddr}
 use Rattle.dns_core.specs.Log.{Log}
 use Rattle.dns_core.specs.declared.request.Question.{Question}
-use Rattle.resolution.specs.Names.{is_above, walk}
-use Rattle.resolution.specs.Serving.{Serves}
-use Rattle.resolution.specs.Asking.{IsServer, IsServerFor}
+use Rattle.dns_core.specs.declared.errors.NoMemory.{NoMemory}
 use Rattle.resolver_cache.specs.Cached.{Cached}
 use Rattle.recursor_core.specs.Order.{GoesToServer}
 use Rattle.recursor_core.specs.Remembered.{CacheHolds}
 use Rattle.recursor_core.specs.Replies.{Terms, terms_with, given_of, ReplyHolds}
 use Rattle.recursor_core.specs.Tried.{machine_timer}
-use Rattle.recursor_core.specs.Derived.{ResolutionHolds, StateHolds, terms_of, Derived}
-use Rattle.recursor_core.specs.Resolving.{SameBegun, MayAskIn, asked_of, state_want}
-use Rattle.recursor_core.specs.Machine.{Begun, begun_of, begun_at, need_in, MayAskOf, asked_in, ReplyGiven, StepGives, Gives, SameCore, IsSetAs}
+use Rattle.recursor_core.specs.Derived.{ResolutionHolds, terms_of, Derived}
+use Rattle.recursor_core.specs.Resolving as one
+use Rattle.recursor_core.specs.Resolving.{SameBegun}
+use Rattle.recursor_core.specs.Machine.{Begun, begun_of, begun_at, rank, GoesOn, ReplyGiven, StepGives, Gives, SameCore, IsSetAs}
 use Rattle.recursor_core.specs.declared.setting.Setting.{Setting}
 use Rattle.recursor_core.specs.declared.machine.RecursorCore.{RecursorCore}
 use Rattle.recursor_core.specs.declared.machine.Step.{Step}
@@ -26,14 +24,7 @@ use Rattle.recursor_core.specs.declared.machine.Step.TheVariants as step
 use Rattle.recursor_core.specs.declared.machine.Progress.{Progress}
 use Rattle.recursor_core.specs.declared.machine.Progress.TheVariants as progress
 use Rattle.recursor_core.specs.declared.reply.Reply.{Reply}
-use Rattle.recursor_core.specs.declared.lookup.Send.{Send}
-use Rattle.recursor_core.specs.declared.lookup.Send.TheVariants as send
-use Rattle.recursor_core.specs.declared.lookup.Want.TheVariants as want
-use Rattle.recursor_core.specs.declared.resolving.Need.TheVariants as need
-use Rattle.recursor_core.specs.declared.resolving.State.{State}
-use Rattle.recursor_core.specs.declared.resolving.State.TheVariants.{New, Under, Done, Ended}
 use Rattle.recursor_core.specs.declared.resolving.Resolution.{Resolution}
-use Rattle.dns_core.specs.declared.message.Query.{Query}
 
 -- what holds of all holds of the one at a place that was read
 pub held-at : (P : Resolution → Type 0) (xs : List Resolution) (i : ℕ) (f : Resolution) → i < length xs → f ≡ get_or xs i f → All P xs → P f
@@ -66,74 +57,6 @@ begun-push (x ∷ xs) r (suc k) within = begun-push xs r k (omega arith)
 pub begun-last : (xs : List Resolution) (r : Resolution) → option_map begun_of (slice_get (xs ++ r ∷ []) (length xs)) ≡ Some (begun_of r)
 begun-last [] r = refl
 begun-last (x ∷ xs) r = begun-last xs r
-
--- an address that may be asked serves the zone of its walk
-asked-serves : (terms : Terms) (greatest moment t0 : ℕ) (log : Log) (question : Question) (s : State) (ip : IpAddr) (q : Query) → MayAskIn ip s
-    → asked_of s ≡ Some q → StateHolds terms greatest moment t0 log question s → IsServerFor (given_of terms) log (greatest + 1) ip q
-asked-serves terms greatest moment t0 log question New ip q may is h = absurd may
-asked-serves terms greatest moment t0 log question (Under w) ip q may is h = by w.lookup.send refl
-  where
-    same : w.lookup.query ≡ q
-    same = cc
-
-    served : (to : IpAddr) → to ≡ ip → Serves (given_of terms) log (greatest + 1) to w.zone → IsServerFor (given_of terms) log (greatest + 1) ip q
-    served to e x = record {
-      zone = w.zone;
-      above = subst (λ (p : Query). IsTrue (is_above w.zone (walk p))) same h.lookup.above;
-      serves = subst (λ (a : IpAddr). Serves (given_of terms) log (greatest + 1) a w.zone) e x;
-    }
-
-    by : (s : Send) → w.lookup.send ≡ s → IsServerFor (given_of terms) log (greatest + 1) ip q
-    by send.Fresh e = absurd (rw e at may)
-    by send.Ready e = absurd (rw e at may)
-    by (send.Chosen to) e = served to (rw e at may) (rw e at h.lookup.send)
-    by (send.Opening to order polls) e = absurd (rw e at may)
-    by (send.Connected to conn) e = served to (rw e at may) (rw e at h.lookup.send)
-    by (send.Asking to order since polls) e = absurd (rw e at may)
-    by (send.Told to entry at message) e = absurd (rw e at may)
-    by (send.Failed to entry error) e = absurd (rw e at may)
-asked-serves terms greatest moment t0 log question (Done reply) ip q may is h = absurd may
-asked-serves terms greatest moment t0 log question Ended ip q may is h = absurd may
-
--- where a connection is wanted its server serves the zone of its walk
-wanted-serves : (terms : Terms) (greatest moment t0 : ℕ) (log : Log) (question : Question) (s : State) (ip : IpAddr)
-    → state_want s ≡ need.Send (want.Connect ip) → StateHolds terms greatest moment t0 log question s → IsServer (given_of terms) log (greatest + 1) ip
-wanted-serves terms greatest moment t0 log question New ip wants h = cc
-wanted-serves terms greatest moment t0 log question (Under w) ip wants h = by w.lookup.send refl
-  where
-    by : (s : Send) → w.lookup.send ≡ s → IsServer (given_of terms) log (greatest + 1) ip
-    by send.Fresh e = let is = rw e at wants in cc
-    by send.Ready e = let is = rw e at wants in cc
-    by (send.Chosen to) e =
-        let is = rw e at wants in
-        let same : to ≡ ip = cc in
-        record { zone = w.zone; serves = subst (λ (a : IpAddr). Serves (given_of terms) log (greatest + 1) a w.zone) same (rw e at h.lookup.send) }
-    by (send.Opening to order polls) e = let is = rw e at wants in cc
-    by (send.Connected to conn) e = let is = rw e at wants in cc
-    by (send.Asking to order since polls) e = let is = rw e at wants in cc
-    by (send.Told to entry at message) e = let is = rw e at wants in cc
-    by (send.Failed to entry error) e = let is = rw e at wants in cc
-wanted-serves terms greatest moment t0 log question (Done reply) ip wants h = cc
-wanted-serves terms greatest moment t0 log question Ended ip wants h = cc
-
--- so it is with the resolution at a place
-pub asks-server : (terms : Terms) (greatest moment : ℕ) (log : Log) (xs : List Resolution) (r : ℕ) (ip : IpAddr) (q : Query) → MayAskOf ip (slice_get xs r)
-    → asked_in (slice_get xs r) ≡ Some q → All (ResolutionHolds terms greatest moment log) xs → IsServerFor (given_of terms) log (greatest + 1) ip q
-asks-server terms greatest moment log [] r ip q may is all = absurd may
-asks-server terms greatest moment log (x ∷ xs) zero ip q may is all =
-    asked-serves terms greatest moment x.begun log x.question x.state ip q may is (all zero x (omega arith)).state
-asks-server terms greatest moment log (x ∷ xs) (suc r) ip q may is all =
-    asks-server terms greatest moment log xs r ip q may is (λ i d within. all (suc i) d (omega (arith, within)))
-
--- also where it wants a connection
-pub opens-server : (terms : Terms) (greatest moment : ℕ) (log : Log) (xs : List Resolution) (r : ℕ) (ip : IpAddr)
-    → need_in (slice_get xs r) ≡ need.Send (want.Connect ip) → All (ResolutionHolds terms greatest moment log) xs
-    → IsServer (given_of terms) log (greatest + 1) ip
-opens-server terms greatest moment log [] r ip e all = cc
-opens-server terms greatest moment log (x ∷ xs) zero ip e all =
-    wanted-serves terms greatest moment x.begun log x.question x.state ip e (all zero x (omega arith)).state
-opens-server terms greatest moment log (x ∷ xs) (suc r) ip e all =
-    opens-server terms greatest moment log xs r ip e (λ i d within. all (suc i) d (omega (arith, within)))
 
 -- a reply that holds is one that a step gives
 pub given-some : (terms : Terms) (log : Log) (reply : Option Reply) (here : Option Begun) (b : Begun) → here ≡ Some b
@@ -201,3 +124,12 @@ pub derived-set : (a b : RecursorCore) (log : Log) → IsSetAs a b → Derived a
 derived-set a b log h d =
     derived-is b log a.setting a.greatest a.moment a.cache a.resolutions.items h.1 h.2 h.3 h.4 (ap (λ (rs : Vec Resolution). rs.items) h.0)
     d.bound d.some d.cache d.resolutions
+
+-- nor do they add steps
+pub set-rank : (a b : RecursorCore) (p : ℕ) → IsSetAs a b → rank p b ≡ rank p a
+set-rank a b p h = ap (λ (rs : Vec Resolution). sum_by (one.rank p) rs.items) h.0
+
+-- on want of memory no step is added
+pub goes-err : (old new : RecursorCore) (result : Result Progress NoMemory) → IsErr result → ((p : ℕ) → rank p new ≤ rank p old) → GoesOn old new result
+goes-err old new (Ok p) e h = cc
+goes-err old new (Err e) is h = h

@@ -18,13 +18,14 @@ use Rattle.dns_core.specs.declared.errors.NoMemory.{NoMemory}
 use Rattle.dns_core.specs.declared.request.Question.{Question}
 use Rattle.dns_core.specs.declared.net_error.NoRecords.{NoRecords}
 use Rattle.dns_core.specs.declared.net_error.ForwardNsData.{ForwardNsData}
+use Rattle.dns_core.specs.declared.net_error.DnsError.{DnsError}
 use Rattle.dns_core.specs.declared.net_error.NetError.{NetError}
 use Rattle.dns_core.specs.declared.net_error.NetError.TheVariants as net
 use Rattle.dns_core.specs.declared.net_error.DnsError.TheVariants as dns
 use Rattle.resolution.specs.Names.{candidates, walk, question}
 use Rattle.resolution.specs.Records.{records}
 use Rattle.resolution.specs.Failing as failing
-use Rattle.resolution.specs.Class.{class_of, class_of_message, has_no_data_for, is_foreign}
+use Rattle.resolution.specs.Class.{class_of_message, class_of_classified, has_no_data_for, is_foreign}
 use Rattle.resolution.specs.Given.{allows_all}
 use Rattle.resolver_settings.specs.Access.{denies as access_denies}
 use Rattle.resolution.specs.Verdict.{verdict_of_told, verdict_of_class}
@@ -50,23 +51,24 @@ use Rattle.recursor_core.specs.Counted.{Stands, Answers, IsCurrentVerdict, kept_
 use Rattle.recursor_core.specs.Remembered.{response_in}
 use Rattle.recursor_core.specs.SameTold.{SameIfAny, SameReferrals, SameNegative, SameVerdict}
 use Rattle.recursor_core.specs.Walk.{told_negative, made_negative, ends_walk}
-use Rattle.recursor_core.specs.Derived.{IsHeard, Counts, WalkComes}
+use Rattle.recursor_core.specs.Derived.{IsConcluded, Counts, WalkComes}
 use Rattle.recursor_core.specs.declared.error.RecursorError.{RecursorError}
 use Rattle.recursor_core.specs.declared.error.RecursorError.TheVariants.{Negative, ForwardNS}
 use Rattle.recursor_core.specs.declared.reply.Reply.{Reply}
 use Rattle.recursor_core.specs.declared.walk.Walk.{Walk}
+use Rattle.recursor_core.proofs.Classified.{same-class}
 use Rattle.recursor_core.proofs.Lowered.{verdict_same, data_same}
 
 -- ---- what counts, and what fails
 
--- the verdict of a message is that for the question that was asked
-pub counts-of : (terms : Terms) (greatest t0 : ℕ) (log : Log) (zone : DomainName) (q : Query) (entry : ℕ) (message : Message) (v : Verdict)
-    → IsHeard terms greatest t0 log zone q entry message → verdict_of_told allows_all (class_of (told.Message message) message.query) zone ≡ Some v
-    → Counts terms greatest t0 log zone q entry v
-counts-of terms greatest t0 log zone q entry message v h is = record {
-  message = message;
-  is = h;
-  counts = subst (λ (asked : Query). verdict_of_told allows_all (class_of (told.Message message) asked) zone ≡ Some v) h.asked is;
+-- the verdict of a class is that of the message
+pub counts-of : (terms : Terms) (greatest t0 : ℕ) (log : Log) (zone : DomainName) (q : Query) (g : List ℕ) (entry : ℕ) (class : Result Message DnsError)
+    (v : Verdict) → IsConcluded terms greatest t0 log zone q g entry class
+    → verdict_of_told allows_all (Some (class_of_classified q class)) zone ≡ Some v → Counts terms greatest t0 log zone q entry v
+counts-of terms greatest t0 log zone q g entry class v h is = record {
+  message = h.message;
+  is = h.heard;
+  counts = ap (λ (c : Class). verdict_of_told allows_all (Some c) zone) (same-class h.message q class h.heard.asked h.classified) ∙ is;
 }
 
 -- what counts was told of the question, since it began
@@ -124,10 +126,13 @@ fails : (m : Message) (q : Query) (e : NetError) → error_of (class_of_message 
 fails m q e h =
     fails-by m e (not (m.response_code.code == 0 || m.response_code.code == 3)) m.truncation (has_no_data_for q m) (find (is_foreign q) (records m)) h
 
--- the error that a message is, for the question that was asked
-pub error-told : (message : Message) (q : Query) (e : NetError) → message.query ≡ q → error_of (class_of_message message message.query) ≡ Some e
-    → (answer_of (class_of_message message q) ≡ Err e) × (is_timeout e ≡ false) × (is_lookup_error e ≡ true)
-error-told message q e asked h = fails message q e (subst (λ (p : Query). error_of (class_of_message message p) ≡ Some e) asked h)
+-- a lookup that ended by a class without a verdict ended with the error that it is, which is no timeout
+pub error-told : (terms : Terms) (greatest t0 : ℕ) (log : Log) (zone : DomainName) (q : Query) (g : List ℕ) (entry : ℕ) (class : Result Message DnsError)
+    (e : NetError) → IsConcluded terms greatest t0 log zone q g entry class → error_of (class_of_classified q class) ≡ Some e
+    → Concluded terms t0 log zone q g (Err e) × (is_timeout e ≡ false) × (is_lookup_error e ≡ true)
+error-told terms greatest t0 log zone q g entry class e h is =
+    let failed = fails h.message q e (ap error_of (same-class h.message q class h.heard.asked h.classified) ∙ is) in
+    (subst (Concluded terms t0 log zone q g) failed.0 h.concluded, failed.1, failed.2)
 
 -- a class that is an error counts for nothing
 counts-none : (class : Class) (zone : DomainName) (e : NetError) → error_of class ≡ Some e → verdict_of_class allows_all class zone ≡ None
@@ -138,10 +143,10 @@ counts-none (Code code) zone e h = refl
 counts-none Truncated zone e h = refl
 counts-none (Foreign r) zone e h = refl
 
--- a message that is an error is not kept
-pub not-kept : (message : Message) (zone : DomainName) (e : NetError) → error_of (class_of_message message message.query) ≡ Some e
-    → None ≡ response_in zone message
-not-kept message zone e h = sym (ap (λ (v : Option Verdict). option_and_then kept_of v) (counts-none (class_of_message message message.query) zone e h))
+-- a class that is an error is not kept
+pub not-kept : (q : Query) (class : Result Message DnsError) (zone : DomainName) (e : NetError) → error_of (class_of_classified q class) ≡ Some e
+    → None ≡ response_in zone q class
+not-kept q class zone e h = sym (ap (λ (v : Option Verdict). option_and_then kept_of v) (counts-none (class_of_classified q class) zone e h))
 
 -- ---- replies
 

@@ -1,23 +1,25 @@
 -- What a lookup holds, or has found, where it chooses a server or hears an outcome.
-use Rattle.std.proofs.Common.{◌≡◌, ℕ, ◌+◌, ◌∙◌, Bool, true, false, ◌||◌, List, [], ◌∷◌, ◌++◌, length, refl, sym, ap, subst, arith, ⊎_elim, Option, Some, None, IfSome, IfNone, Err, Vec, vec_len, Global, Contains}
+use Rattle.std.proofs.Common.{◌≡◌, ℕ, ◌+◌, ◌∙◌, Bool, true, false, ◌||◌, List, [], ◌∷◌, ◌++◌, length, refl, sym, ap, subst, arith, ⊎_elim, Option, Some, None, IfSome, IfNone, Result, Err, Vec, vec_len, Global, Contains, if◌then◌else◌}
 use Rattle.std.proofs.lemmas.List.Elements.{All-pop, Contains-append_left, Contains-append_right, Contains-append_cases}
 use Rattle.std.proofs.lemmas.List.{append-nil, map-append}
 use Rattle.std.specs.declared.net.ip_addr.IpAddr.{IpAddr}
 use Rattle.dns_core.specs.Name.{DomainName}
 use Rattle.dns_core.specs.Log.{Log}
 use Rattle.dns_core.specs.declared.message.Message.{Message}
+use Rattle.dns_core.specs.declared.net_error.DnsError.{DnsError}
 use Rattle.dns_core.specs.declared.net_error.NetError.{NetError}
 use Rattle.resolution.specs.Serving.{Serves}
 use Rattle.resolution.specs.Lookups.{End, is_passing_error}
 use Rattle.resolution.specs.Ending.{Finished, is_timeout}
+use Rattle.server_core.specs.Sending.{is_open}
 use Rattle.recursor_core.specs.Causes.{is_lookup_error}
 use Rattle.recursor_core.specs.Replies.{Terms, given_of}
 use Rattle.recursor_core.specs.Tried.{last_error, machine_timer}
 use Rattle.recursor_core.specs.Lookup.{send_want, present}
-use Rattle.recursor_core.specs.Derived.{SendHolds, LookupHolds, FoundHolds, LookupComes, servers_of}
+use Rattle.recursor_core.specs.Derived.{HasTold, SendHolds, LookupHolds, FoundHolds, LookupComes, servers_of}
 use Rattle.recursor_core.specs.declared.lookup.Send.{Send}
 use Rattle.recursor_core.specs.declared.lookup.Send.TheVariants as send
-use Rattle.recursor_core.specs.declared.lookup.Want.TheVariants.{Choose}
+use Rattle.recursor_core.specs.declared.lookup.Want.TheVariants.{Choose, Order, Wait, Hear}
 use Rattle.recursor_core.specs.declared.lookup.Lookup.{Lookup}
 use Rattle.recursor_core.specs.declared.lookup.Found.{Found}
 use Rattle.recursor_core.specs.declared.lookup.Found.TheVariants as found
@@ -28,11 +30,28 @@ ready : (s : Send) → send_want s ≡ Choose → s ≡ send.Ready
 ready send.Fresh e = cc
 ready send.Ready e = refl
 ready (send.Chosen ip) e = cc
-ready (send.Opening ip order polls) e = cc
-ready (send.Connected ip conn) e = cc
-ready (send.Asking ip order since polls) e = cc
-ready (send.Told ip entry at message) e = cc
+ready (send.Under u) e = by_open (is_open u.send.stage) e
+  where
+    by_open : (b : Bool) → (if b then Wait u.order else Order) ≡ Choose → send.Under u ≡ send.Ready
+    by_open true k = cc
+    by_open false k = cc
+ready (send.Told ip entry at class) e = cc
 ready (send.Failed ip entry error) e = cc
+
+-- where an outcome is to be heard, a response was told or the send failed
+pub outcome-there : (s t : Send) → send_want s ≡ Hear → t ≡ s
+    → ((ip : IpAddr) (entry at : ℕ) (class : Result Message DnsError) → t ≡ send.Told ip entry at class → ⊥)
+    → ((ip : IpAddr) (entry : ℕ) (error : NetError) → t ≡ send.Failed ip entry error → ⊥) → ⊥
+outcome-there send.Fresh t e is told failed = cc
+outcome-there send.Ready t e is told failed = cc
+outcome-there (send.Chosen ip) t e is told failed = cc
+outcome-there (send.Under u) t e is told failed = by_open (is_open u.send.stage) e
+  where
+    by_open : (b : Bool) → (if b then Wait u.order else Order) ≡ Hear → ⊥
+    by_open true k = cc
+    by_open false k = cc
+outcome-there (send.Told ip entry at class) t e is told failed = told ip entry at class is
+outcome-there (send.Failed ip entry error) t e is told failed = failed ip entry error is
 
 last_is_lookup_error : (b : Bool) → is_lookup_error (last_error b) ≡ true
 last_is_lookup_error true = refl
@@ -81,11 +100,18 @@ module _ (terms : Terms) (greatest moment t0 : ℕ) (log : Log) (zone : DomainNa
       }
 
   -- a message was told
-  pub message-found : (ip : IpAddr) (entry at : ℕ) (message : Message) → l.send ≡ send.Told ip entry at message
-      → FoundHolds terms greatest t0 log zone l.query (l.ends ++ entry ∷ []) (found.Message entry message)
-  message-found ip entry at message is =
-      let told = subst (SendHolds terms greatest moment t0 log zone l.query l.ends h.tried.moments) is h.send in
-      (told.0.heard, concluded-decided terms log zone l.query h.pool h.tried told.1 refl (of_pool ip (send.Told ip entry at message) is refl) h.above h.listed)
+  pub message-found : (ip : IpAddr) (entry at : ℕ) (class : Result Message DnsError) → l.send ≡ send.Told ip entry at class
+      → FoundHolds terms greatest t0 log zone l.query (l.ends ++ entry ∷ []) (found.Told entry class)
+  message-found ip entry at class is =
+      let told : HasTold terms greatest moment t0 log zone l.query l.ends h.tried.moments ip entry at class =
+      subst (SendHolds terms greatest moment t0 log zone l.query l.ends h.tried.moments) is h.send in
+      record {
+        message = told.message;
+        classified = told.classified;
+        heard = told.heard.heard;
+        concluded =
+            concluded-decided terms log zone l.query h.pool h.tried told.came refl (of_pool ip (send.Told ip entry at class) is refl) h.above h.listed;
+      }
 
   -- an error was told that leaves the question to no other server
   error-found : (ip : IpAddr) (entry : ℕ) (error : NetError) → l.send ≡ send.Failed ip entry error → is_passing_error error ≡ false

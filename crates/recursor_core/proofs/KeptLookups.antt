@@ -124,12 +124,17 @@ module _ (terms : Terms) (log longer : Log) (x : Extends log longer) where
   send-kept g g' moment moment' t0 zone q ns moments send.Fresh le later h = tt
   send-kept g g' moment moment' t0 zone q ns moments send.Ready le later h = tt
   send-kept g g' moment moment' t0 zone q ns moments (send.Chosen ip) le later h = serves-kept (g + 1) (g' + 1) ip zone (omega arith) h
-  send-kept g g' moment moment' t0 zone q ns moments (send.Opening ip order polls) le later h = serves-kept (g + 1) (g' + 1) ip zone (omega arith) h
-  send-kept g g' moment moment' t0 zone q ns moments (send.Connected ip conn) le later h = serves-kept (g + 1) (g' + 1) ip zone (omega arith) h
-  send-kept g g' moment moment' t0 zone q ns moments (send.Asking ip order after polls) le later h =
-      (let e = h.0 in omega arith, serves-kept (after + 1) (after + 1) ip zone (omega arith) h.1)
-  send-kept g g' moment moment' t0 zone q ns moments (send.Told ip entry at message) le later h =
-      (record { heard = heard-kept g g' t0 zone q entry message le h.0.heard; is = h.0.is }, came-kept g g' moment moment' t0 q ns moments ip entry (Ok message) le later h.1)
+  send-kept g g' moment moment' t0 zone q ns moments (send.Under u) le later h = record {
+    asks = h.asks;
+    past = let p = h.past in omega arith;
+    serves = serves-kept (u.since + 1) (u.since + 1) u.ip zone (omega arith) h.serves;
+  }
+  send-kept g g' moment moment' t0 zone q ns moments (send.Told ip entry at class) le later h = record {
+    message = h.message;
+    classified = h.classified;
+    heard = record { heard = heard-kept g g' t0 zone q entry h.message le h.heard.heard; is = h.heard.is };
+    came = came-kept g g' moment moment' t0 q ns moments ip entry (Ok h.message) le later h.came;
+  }
   send-kept g g' moment moment' t0 zone q ns moments (send.Failed ip entry error) le later h =
       came-kept g g' moment moment' t0 q ns moments ip entry (Err error) le later h
 

@@ -2,10 +2,12 @@ pub mod Plays
 pub mod Ranks
 pub mod KeptLookups
 pub mod Kept
+pub mod Classified
 pub mod Pooling
 pub mod Pooled
 pub mod Hearing
 pub mod Sends
+pub mod Taking
 pub mod Candidates
 pub mod Denials
 pub mod Walks
@@ -22,3 +24,5 @@ pub mod Lowered
 pub mod Recalling
 pub mod Remembering
 pub mod Tellings
+pub mod Sending
+pub mod Asking

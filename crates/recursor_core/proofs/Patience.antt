@@ -7,7 +7,7 @@ use Rattle.dns_core.specs.declared.log.LogEntry.TheVariants as line
 use Rattle.resolution.specs.Ending.{waits, is_wait_for}
 use Rattle.recursor_core.specs.Carrying.{TellsThat, IsWaitedFor}
 use Rattle.recursor_core.specs.Patience.{IsPatient}
-use Rattle.recursor_core.specs.declared.order.Sent.{Sent}
+use Rattle.server_core.specs.declared.order.Sent.{Sent}
 use Rattle.recursor_core.proofs.Growing.{Longer-from_added, waits-added, waits-other, once}
 
 -- a log that stays as it is waits for none

@@ -5,7 +5,6 @@ use Rattle.std.proofs.Math.ListN.{set}
 use Rattle.std.proofs.Math.Nat.{mul-le-mul_left}
 use Rattle.std.proofs.lemmas.List.Sums.{sum_by-set}
 use Rattle.std.proofs.lemmas.Option.{slice_get_read}
-use Rattle.std.specs.declared.net.ip_addr.IpAddr.{IpAddr}
 use Rattle.recursor_core.specs.Lookup.{polls_left}
 use Rattle.recursor_core.specs.declared.lookup.Send.{Send}
 use Rattle.recursor_core.specs.declared.lookup.Send.TheVariants as send
@@ -14,10 +13,10 @@ use Rattle.recursor_core.specs.declared.resolving.State.{State}
 use Rattle.recursor_core.specs.declared.resolving.State.TheVariants.{New, Under, Done, Ended}
 use Rattle.recursor_core.specs.declared.resolving.Resolution.{Resolution}
 use Rattle.recursor_core.specs.declared.resolving.Need.TheVariants as need
-use Rattle.recursor_core.specs.Machine.{need_in, MayAskOf}
+use Rattle.recursor_core.specs.Machine.{need_in}
 
 -- one step less outweighs all polls
-fewer : (p s t a b : ℕ) → s < t → a ≤ p → (p + 1) * s + a < (p + 1) * t + b
+pub fewer : (p s t a b : ℕ) → s < t → a ≤ p → (p + 1) * s + a < (p + 1) * t + b
 fewer p s t a b h l = let next : s + 1 ≤ t = omega arith in let m = mul-le-mul_left (p + 1) next in omega (arith, m)
 
 -- no more polls are left than patience allows
@@ -25,10 +24,8 @@ send_polls : (p : ℕ) (s : Send) → polls_left p s ≤ p
 send_polls p send.Fresh = omega arith
 send_polls p send.Ready = omega arith
 send_polls p (send.Chosen ip) = omega arith
-send_polls p (send.Opening ip order polls) = omega arith
-send_polls p (send.Connected ip conn) = omega arith
-send_polls p (send.Asking ip order since polls) = omega arith
-send_polls p (send.Told ip entry at message) = omega arith
+send_polls p (send.Under u) = omega arith
+send_polls p (send.Told ip entry at class) = omega arith
 send_polls p (send.Failed ip entry error) = omega arith
 
 -- so it is with a state
@@ -57,11 +54,11 @@ sum_falls p xs i f g within is h = let moved = rw (sym (ap (rank p) is)) at (sum
 pub read_at : (xs : List Resolution) (i : ℕ) (f : Resolution) → i < length xs → f ≡ get_or xs i f → slice_get xs i ≡ Some f
 read_at xs i f within is = slice_get_read xs (length xs) i f refl within is
 
--- where an address may be asked there is a resolution
-pub may_ask_within : (ip : IpAddr) (xs : List Resolution) (i : ℕ) → MayAskOf ip (slice_get xs i) → i < length xs
-may_ask_within ip [] i h = absurd h
-may_ask_within ip (x ∷ xs) zero h = omega arith
-may_ask_within ip (x ∷ xs) (suc i) h = omega (arith, may_ask_within ip xs i h)
+-- and the one that was put there
+pub put_at : (xs : List Resolution) (i : ℕ) (g : Resolution) → i < length xs → slice_get (set xs i g) i ≡ Some g
+put_at [] i g within = absurd (omega (arith, within))
+put_at (x ∷ xs) zero g within = refl
+put_at (x ∷ xs) (suc i) g within = put_at xs i g (omega arith)
 
 -- where an order is waited for there is a resolution
 pub order_within : (xs : List Resolution) (i : ℕ) → order_of (need_in (slice_get xs i)) ≢ None → i < length xs

@@ -1,10 +1,11 @@
 -- What the machine writes into its cache is derived from the log, and stays so.
-use Rattle.std.proofs.Common.{◌≡◌, ℕ, ◌+◌, ◌*◌, ◌≤◌, ⊎_elim, Option, Some, None, Result, Contains, refl, sym, ap, subst, ◌∙◌, arith}
+use Rattle.std.proofs.Common.{◌≡◌, ℕ, ◌+◌, ◌*◌, ◌≤◌, ⊎_elim, Option, Some, None, Result, Contains, refl, sym, ap, ◌∙◌, arith}
 use Rattle.std.specs.Prelude.{◌==◌, option_and_then}
 use Rattle.std.proofs.lemmas.Option.{same_Some}
 use Rattle.std.proofs.lemmas.List.Elements.{All-contains, All-weaker, All-contains_itself}
 use Rattle.dns_core.specs.Name.{DomainName}
 use Rattle.dns_core.specs.Log.{Log, Extends}
+use Rattle.dns_core.specs.Classifying.{classify_of}
 use Rattle.dns_core.specs.declared.message.Query.{Query}
 use Rattle.dns_core.specs.declared.message.Message.{Message}
 use Rattle.dns_core.specs.declared.net_error.NetError.{NetError}
@@ -15,7 +16,8 @@ use Rattle.resolver_cache.specs.Life.{life_of}
 use Rattle.resolver_cache.specs.Laws.{IsJustWritten}
 use Rattle.resolver_cache.specs.declared.entry.Entry.{Entry}
 use Rattle.resolver_cache.proofs.OneWritten.{one_written, upserted-config}
-use Rattle.resolution.specs.Class.{class_of}
+use Rattle.resolution.specs.Class.{class_of_classified}
+use Rattle.resolution.specs.declared.class.Class.{Class}
 use Rattle.resolution.specs.Given.{allows_all}
 use Rattle.resolution.specs.Verdict.{verdict_of_told}
 use Rattle.resolution.specs.Life.{life_in_seconds}
@@ -28,6 +30,7 @@ use Rattle.recursor_core.specs.Counted.{kept_of}
 use Rattle.recursor_core.specs.Derived.{IsHeardAt}
 use Rattle.recursor_core.specs.Remembered.{EntryHolds, CacheHolds, Telling, response_in, written, remembered}
 use Rattle.recursor_core.specs.Replies.{Terms, given_of}
+use Rattle.recursor_core.proofs.Classified.{same-class}
 
 -- ---- longer logs, and less patience
 
@@ -68,10 +71,12 @@ cache-kept terms log longer x g g' cache le h = cache-on terms terms.patience (o
 
 -- ---- a response that is written
 
--- A message was told by a server of the zone to which a walk went down for the question.
+-- A message of the class was told by a server of the zone to which a walk went down for the question.
 pub record TellingHolds (terms : Terms) (greatest : ℕ) (log : Log) (t : Telling) : Type 0 where
   pub t0 : ℕ
-  pub heard : IsHeardAt terms greatest t0 log t.zone t.query t.entry t.at t.message
+  pub message : Message
+  pub classified : t.class ≡ classify_of message
+  pub heard : IsHeardAt terms greatest t0 log t.zone t.query t.entry t.at message
   pub walked : WalksTo (given_of terms) log t.query t.zone
 
 -- the lives of a verdict and of what it is kept as are one
@@ -85,7 +90,7 @@ module _ (terms : Terms) (greatest : ℕ) (log : Log) (cache : Cached) (t : Tell
     (told : TellingHolds terms greatest log t) where
   -- the entry that is written is the verdict of the telling
   just-written : (v : Verdict) (response : Result Message NetError) (e : Entry)
-      → verdict_of_told allows_all (class_of (outcome.Message t.message) t.message.query) t.zone ≡ Some v → kept_of v ≡ Some response
+      → verdict_of_told allows_all (Some (class_of_classified t.query t.class)) t.zone ≡ Some v → kept_of v ≡ Some response
       → IsJustWritten cache t.query response t.entry t.at e → EntryHolds terms greatest log e
   just-written v response e counts kept w =
       let heard = told.heard.heard in
@@ -97,18 +102,18 @@ module _ (terms : Terms) (greatest : ℕ) (log : Log) (cache : Cached) (t : Tell
       let expires : e.expiry ≤ heard.moment + 1000000 * w.life = omega (arith, moment, w.no_longer) in
       rw (query, source) (record {
         zone = t.zone;
-        told = outcome.Message t.message;
+        told = outcome.Message told.message;
         moment = heard.moment;
         whole = v;
         early = heard.early;
         heard = heard.heard;
-        counts = subst (λ (q : Query). verdict_of_told allows_all (class_of (outcome.Message t.message) q) t.zone ≡ Some v) heard.asked counts;
+        counts = ap (λ (class : Class). verdict_of_told allows_all (Some class) t.zone) (same-class told.message t.query t.class heard.asked told.classified) ∙ counts;
         walked = told.walked;
         kept = kept ∙ ap Some (sym w.answer);
         expires = rw lives expires;
       })
 
-  written-holds : (v : Option Verdict) → verdict_of_told allows_all (class_of (outcome.Message t.message) t.message.query) t.zone ≡ v
+  written-holds : (v : Option Verdict) → verdict_of_told allows_all (Some (class_of_classified t.query t.class)) t.zone ≡ v
       → (response : Option (Result Message NetError)) → option_and_then kept_of v ≡ response → CacheHolds terms greatest log (written cache t response)
   written-holds v counts None h = holds
   written-holds None counts (Some response) h = cc
@@ -125,4 +130,4 @@ module _ (terms : Terms) (greatest : ℕ) (log : Log) (cache : Cached) (t : Tell
 
   -- the cache with what was told
   pub remembered-holds : CacheHolds terms greatest log (remembered cache (Some t))
-  remembered-holds = written-holds _ refl (response_in t.zone t.message) refl
+  remembered-holds = written-holds _ refl (response_in t.zone t.query t.class) refl

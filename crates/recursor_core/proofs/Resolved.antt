@@ -1,19 +1,22 @@
 -- A resolution after a step.
-use Rattle.std.proofs.Common.{◌≡◌, ◌≤◌, ℕ, true, Option, Some, None, IfSome, sym, subst}
+use Rattle.std.proofs.Common.{◌≡◌, ◌≤◌, ◌<◌, ℕ, true, Option, Some, None, Result, Ok, Err, IfOk, IfSome, sym, ap, subst, arith}
 use Rattle.dns_core.specs.Log.{Log}
 use Rattle.dns_core.specs.declared.message.Query.{Query}
 use Rattle.dns_core.specs.declared.request.Question.{Question}
+use Rattle.dns_core.specs.declared.errors.NoMemory.{NoMemory}
 use Rattle.resolver_cache.specs.Cached.{Cached}
 use Rattle.recursor_core.specs.Counted.{recalled, IsRecalled}
 use Rattle.recursor_core.specs.Remembered.{CacheHolds}
 use Rattle.recursor_core.specs.Replies.{Terms}
-use Rattle.recursor_core.specs.Resolving.{state_want, IsAfter}
+use Rattle.recursor_core.specs.Walk.{Goes}
+use Rattle.recursor_core.specs.Resolving.{state_want, state_steps, steps, IsSettled, SameBegun}
 use Rattle.recursor_core.specs.Derived.{StageHolds, LookupHolds, WayHolds, WalkComes, StateHolds, ResolutionHolds}
 use Rattle.recursor_core.specs.declared.counted.Counted.{Counted}
 use Rattle.recursor_core.specs.declared.lookup.Lookup.{Lookup}
 use Rattle.recursor_core.specs.declared.reply.Reply.{Reply}
 use Rattle.recursor_core.specs.declared.resolving.State.{State}
 use Rattle.recursor_core.specs.declared.resolving.State.TheVariants.{New, Under, Done, Ended}
+use Rattle.recursor_core.specs.declared.resolving.Resolution.{Resolution}
 use Rattle.recursor_core.specs.declared.resolving.Need.TheVariants as need
 use Rattle.recursor_core.specs.declared.walk.Walk.{Walk}
 use Rattle.recursor_core.proofs.Recalling.{recalled-stands}
@@ -38,11 +41,39 @@ under-holds terms greatest moment log question begun w l early way same h = reco
   state = record { way = way-goes terms greatest log question.query w l same way; lookup = h };
 }
 
--- a walk that goes on, or has its reply
-pub after-holds : (terms : Terms) (greatest moment t0 : ℕ) (log : Log) (question : Question) (w : Walk) (reply : Option Reply) (state : State)
-    → IsAfter w reply state → WalkComes terms greatest moment t0 log question w reply → StateHolds terms greatest moment t0 log question state
-after-holds terms greatest moment t0 log question w None state is h = subst (StateHolds terms greatest moment t0 log question) (sym is) h
-after-holds terms greatest moment t0 log question w (Some reply) state is h = subst (StateHolds terms greatest moment t0 log question) (sym is) h
+-- a walk that goes on, or has its reply, or has ended for want of memory
+settled-state : (terms : Terms) (greatest moment t0 : ℕ) (log : Log) (question : Question) (w : Walk) (came : Result (Option Reply) NoMemory) (state : State)
+    → IsSettled came (Under w) state → IfOk came (WalkComes terms greatest moment t0 log question w) → StateHolds terms greatest moment t0 log question state
+settled-state terms greatest moment t0 log question w (Ok None) state is h = subst (StateHolds terms greatest moment t0 log question) (sym is) h
+settled-state terms greatest moment t0 log question w (Ok (Some reply)) state is h = subst (StateHolds terms greatest moment t0 log question) (sym is) h
+settled-state terms greatest moment t0 log question w (Err e) state is h = subst (StateHolds terms greatest moment t0 log question) (sym is) tt
+
+-- so it is with its resolution
+pub settled-holds : (terms : Terms) (greatest moment : ℕ) (log : Log) (old new : Resolution) (w : Walk) (came : Result (Option Reply) NoMemory)
+    → SameBegun old new → IsSettled came (Under w) new.state → old.begun ≤ moment → IfOk came (WalkComes terms greatest moment old.begun log old.question w)
+    → ResolutionHolds terms greatest moment log new
+settled-holds terms greatest moment log old new w came same is early h = record {
+  begun = subst (λ (t : ℕ). t ≤ moment) (sym same.1) early;
+  state = subst (λ (t : ℕ). StateHolds terms greatest moment t log new.question new.state) (sym same.1)
+      (subst (λ (q : Question). StateHolds terms greatest moment old.begun log q new.state) (sym same.0)
+      (settled-state terms greatest moment old.begun log old.question w came new.state is h));
+}
+
+-- it has less before it
+settled-less : (q : Query) (old w : Walk) (came : Result (Option Reply) NoMemory) (state : State) → IsSettled came (Under w) state → Goes old w came
+    → state_steps q state < state_steps q (Under old)
+settled-less q old w (Ok None) state is h = let left = ap (state_steps q) is in omega (arith, left, h)
+settled-less q old w (Ok (Some reply)) state is h = let left = ap (state_steps q) is in omega (arith, left)
+settled-less q old w (Err e) state is h = let left = ap (state_steps q) is in omega (arith, left)
+
+-- and so has its resolution
+pub settled-falls : (old new : Resolution) (was w : Walk) (came : Result (Option Reply) NoMemory) → old.state ≡ Under was → SameBegun old new
+    → IsSettled came (Under w) new.state → Goes was w came → steps new < steps old
+settled-falls old new was w came began same is h =
+    let less = settled-less old.question.query was w came new.state is h in
+    let here = ap (state_steps old.question.query) began in
+    let there = ap (λ (q : Question). state_steps q.query new.state) same.0 in
+    omega (arith, less, here, there)
 
 -- what was read from the cache stands, if anything was
 pub recalled-for : (terms : Terms) (greatest t0 now : ℕ) (log : Log) (cache : Cached) (q : Query) (found : Option Counted) → t0 ≤ now

@@ -1,19 +1,20 @@
 -- What a lookup holds after the outcome of a send.
-use Rattle.std.proofs.Common.{◌≡◌, ◌≤◌, ◌<◌, ◌+◌, ℕ, Bool, true, false, List, [], ◌∷◌, ◌++◌, reverse, Option, Some, None, Ok, Err, IsTrue, Vec, Global, inl, inr, refl, sym, ap, subst, arith, ◌∙◌}
+use Rattle.std.proofs.Common.{◌≡◌, ◌≤◌, ◌<◌, ◌+◌, ℕ, Bool, true, false, List, [], ◌∷◌, ◌++◌, Option, Some, None, Result, Ok, Err, IsTrue, Vec, Global, inl, inr, refl, sym, ap, subst, arith, ◌∙◌}
 use Rattle.std.specs.Prelude.{◌==◌, ◌&&◌, nat_le, nat_lt, Contains}
 use Rattle.std.specs.List.{list_all}
 use Rattle.std.specs.Cmp.{nat_eq_equiv}
-use Rattle.std.specs.List.Sorted.{IsPermutation}
 use Rattle.std.proofs.lemmas.Bool.{leb-true, lt-ltb}
 use Rattle.std.proofs.lemmas.List.Elements.{Contains-append_left, Contains-append_cases}
-use Rattle.std.proofs.lemmas.List.Sorted.{IsPermutation-reverse, IsPermutation-sym, All-permutation, Contains-permutation}
 use Rattle.std.specs.declared.net.ip_addr.IpAddr.{IpAddr}
 use Rattle.dns_core.specs.Name.{DomainName, same_names}
 use Rattle.dns_core.specs.NameLaws.{same_names_equiv}
 use Rattle.dns_core.specs.Log.{Log, Extends}
+use Rattle.dns_core.specs.Classifying.{classify_of}
 use Rattle.dns_core.specs.declared.message.Query.{Query}
 use Rattle.dns_core.specs.declared.message.Message.{Message}
+use Rattle.dns_core.specs.declared.request.DnsRequest.{DnsRequest}
 use Rattle.dns_core.specs.declared.connection.Protocol.{Protocol}
+use Rattle.dns_core.specs.declared.net_error.DnsError.{DnsError}
 use Rattle.dns_core.specs.declared.net_error.NetError.{NetError}
 use Rattle.dns_core.specs.declared.net_error.NetError.TheVariants as net
 use Rattle.dns_core.specs.declared.log.LogEntry.TheVariants as line
@@ -33,14 +34,17 @@ use Rattle.resolution.proofs.Caseless.{both}
 use Rattle.resolution.proofs.PlainServed.{same_ip-itself}
 use Rattle.recursor_core.specs.Order.{entry_for, IsSent, OutcomeIs, IsFor, IsLost}
 use Rattle.recursor_core.specs.Replies.{Terms, given_of}
-use Rattle.recursor_core.specs.Lookup.{present, IsSentBy, MayAsk, send_want, IsOf}
+use Rattle.recursor_core.specs.Lookup.{present, IsSentOver, IsSentBy, IsOf}
 use Rattle.recursor_core.specs.Tried.{BeganBy, Tried, Came}
-use Rattle.recursor_core.specs.Derived.{ArePool, IsHeardAt, SendHolds, LookupHolds, servers_of}
-use Rattle.recursor_core.specs.declared.order.Sent.{Sent}
-use Rattle.recursor_core.specs.declared.order.Outcome.TheVariants as outcome
+use Rattle.recursor_core.specs.Derived.{AreServers, ArePool, IsHeardAt, IsUnder, SendHolds, LookupHolds, servers_of}
+use Rattle.server_core.specs.declared.order.Sent.{Sent}
+use Rattle.server_core.specs.declared.order.Outcome.TheVariants as outcome
+use Rattle.server_core.specs.declared.server_send.Stage.{Stage}
+use Rattle.server_core.specs.declared.server_send.Stage.TheVariants as stage
+use Rattle.server_core.specs.declared.server_send.ServerSend.{ServerSend}
+use Rattle.recursor_core.specs.declared.lookup.Under.{Under}
 use Rattle.recursor_core.specs.declared.lookup.Send.{Send}
 use Rattle.recursor_core.specs.declared.lookup.Send.TheVariants as send
-use Rattle.recursor_core.specs.declared.lookup.Want.TheVariants as want
 use Rattle.recursor_core.specs.declared.lookup.Lookup.{Lookup}
 use Rattle.recursor_core.proofs.KeptLookups.{serves-kept, servers-kept, listed-kept, tried-kept, list_all-weaker, below-greater}
 
@@ -164,27 +168,24 @@ above-greatest : (greatest entry : ℕ) → greatest < entry → (ns : List ℕ)
 above-greatest greatest entry lt ns h =
     list_all-weaker (λ n. nat_le n greatest) (λ n. nat_lt n entry) (λ n k. lt-ltb n entry (let b = leb-true n greatest k in omega arith)) ns h
 
--- it was sent to the present server
-present-sent : (sent : Sent) (q : Query) (s : Send) → IsSentBy sent q s → present s ≡ sent.ip ∷ []
-present-sent sent q send.Fresh h = absurd h
-present-sent sent q send.Ready h = absurd h
-present-sent sent q (send.Chosen ip) h = absurd h
-present-sent sent q (send.Opening ip order polls) h = ap (λ (i : IpAddr). i ∷ []) (sym h.0)
-present-sent sent q (send.Connected ip conn) h = absurd h
-present-sent sent q (send.Asking ip order since polls) h = ap (λ (i : IpAddr). i ∷ []) (sym h.0)
-present-sent sent q (send.Told ip entry at message) h = absurd h
-present-sent sent q (send.Failed ip entry error) h = absurd h
-
 -- it was sent for the question
-for-sent : (sent : Sent) (q : Query) (s : Send) → IsSentBy sent q s → IsFor sent.query q
-for-sent sent q send.Fresh h = absurd h
-for-sent sent q send.Ready h = absurd h
-for-sent sent q (send.Chosen ip) h = absurd h
-for-sent sent q (send.Opening ip order polls) h = subst (λ (o : Option Query). IsFor o q) (sym h.1) tt
-for-sent sent q (send.Connected ip conn) h = absurd h
-for-sent sent q (send.Asking ip order since polls) h = subst (λ (o : Option Query). IsFor o q) (sym h.1) refl
-for-sent sent q (send.Told ip entry at message) h = absurd h
-for-sent sent q (send.Failed ip entry error) h = absurd h
+for-sent : (sent : Sent) (q : Query) (since : ℕ) (at : Stage) → IsSentOver since sent q at → IsFor sent.query q
+for-sent sent q since stage.Ready h = absurd h
+for-sent sent q since (stage.Opening protocol order polls) h = subst (λ (o : Option Query). IsFor o q) (sym h) tt
+for-sent sent q since (stage.Opened protocol conn) h = absurd h
+for-sent sent q since (stage.Asking asked polls) h = subst (λ (o : Option Query). IsFor o q) (sym h.0) refl
+for-sent sent q since (stage.Ended result) h = absurd h
+for-sent sent q since stage.Over h = absurd h
+
+-- where it asked, it asked the question, later than what was put before
+asked-sent : (sent : Sent) (q asked : Query) (since : ℕ) (at : Stage) → IsSentOver since sent q at → sent.query ≡ Some asked
+    → (sent.query ≡ Some q) × (since < sent.of)
+asked-sent sent q asked since stage.Ready h e = absurd h
+asked-sent sent q asked since (stage.Opening protocol order polls) h e = let none : sent.query ≡ None = h in cc
+asked-sent sent q asked since (stage.Opened protocol conn) h e = absurd h
+asked-sent sent q asked since (stage.Asking ask polls) h e = h
+asked-sent sent q asked since (stage.Ended result) h e = absurd h
+asked-sent sent q asked since stage.Over h e = absurd h
 
 -- An outcome comes now, by a later entry of a longer log.
 module _ (terms : Terms) (greatest moment begun now : ℕ) (log longer : Log) (zone : DomainName) where
@@ -211,19 +212,13 @@ module _ (terms : Terms) (greatest moment begun now : ℕ) (log longer : Log) (z
       IsHeardAt terms entry begun longer zone q entry now message × EndsSend (given_of terms) longer q entry (record { server = sent.ip; outcome = Ok message }) now
 
   -- what is told is heard so
-  told-heard : (q : Query) (g moments : List ℕ) (s : Send) (sent : Sent) (entry : ℕ) (message : Message)
-      → begun ≤ now → IsTrue (is_above zone (walk q)) → Extends log longer → SendHolds terms greatest moment begun log zone q g moments s → IsSentBy sent q s
+  told-heard : (q : Query) (u : Under) (sent : Sent) (entry : ℕ) (message : Message)
+      → begun ≤ now → IsTrue (is_above zone (walk q)) → Extends log longer → IsUnder terms greatest log zone q u → IsSentBy sent q u
       → OutcomeIs longer now (outcome.Told entry sent message) → EndsHeard q sent entry message
-  told-heard q g moments send.Fresh sent entry message late above x h by o = absurd by
-  told-heard q g moments send.Ready sent entry message late above x h by o = absurd by
-  told-heard q g moments (send.Chosen ip) sent entry message late above x h by o = absurd by
-  told-heard q g moments (send.Opening ip order polls) sent entry message late above x h by o = let a = by.1 in let b = o.1 in cc
-  told-heard q g moments (send.Connected ip conn) sent entry message late above x h by o = absurd by
-  told-heard q g moments (send.Told ip e at m) sent entry message late above x h by o = absurd by
-  told-heard q g moments (send.Failed ip e error) sent entry message late above x h by o = absurd by
-  told-heard q g moments (send.Asking ip order since polls) sent entry message late above x h by o =
+  told-heard q u sent entry message late above x h by o =
+      let sends = asked-sent sent q message.query u.since u.send.stage by.1 o.1 in
       let closes = o.0 in
-      let asked = asked-entry longer q sent closes.sent.protocol None by.1 closes.sent.logged in
+      let asked = asked-entry longer q sent closes.sent.protocol None sends.0 closes.sent.logged in
       let tells : Tells longer entry q (said.Message message) sent.of sent.ip now = record {
         protocol = closes.sent.protocol;
         asked = q;
@@ -233,14 +228,14 @@ module _ (terms : Terms) (greatest moment begun now : ℕ) (log longer : Log) (z
         before = closes.before;
         same = same_query-refl q;
       } in
-      let served = serves-kept terms log longer x (since + 1) sent.of ip zone (let lt = by.2 in omega arith) h.1 in (
+      let served = serves-kept terms log longer x (u.since + 1) sent.of u.ip zone (let lt = sends.1 in omega arith) h.serves in (
         record {
           heard = record {
             moment = now;
             early = omega arith;
             heard = heard tells (subst (λ (to : IpAddr). Serves (given_of terms) longer sent.of to zone) (sym by.0) served) above;
             late = late;
-            asked = let a : sent.query ≡ Some message.query = o.1 in let b : sent.query ≡ Some q = by.1 in cc;
+            asked = let a : sent.query ≡ Some message.query = o.1 in let b : sent.query ≡ Some q = sends.0 in cc;
           };
           is = refl;
         },
@@ -248,11 +243,11 @@ module _ (terms : Terms) (greatest moment begun now : ℕ) (log longer : Log) (z
       )
 
   -- A lookup whose send has come to something, by a later entry, holds by it.
-  lookup-came : (l : Lookup) (sent : Sent) (entry : ℕ) (s : Send) → greatest < entry → moment ≤ now
-      → (h : LookupHolds terms greatest moment begun log zone l) → Extends log longer → IsSentBy sent l.query l.send → present s ≡ sent.ip ∷ []
+  lookup-came : (l : Lookup) (u : Under) (entry : ℕ) (s : Send) → l.send ≡ send.Under u → greatest < entry → moment ≤ now
+      → (h : LookupHolds terms greatest moment begun log zone l) → Extends log longer → present s ≡ u.ip ∷ []
       → SendHolds terms entry now begun longer zone l.query l.ends h.tried.moments s → LookupHolds terms entry now begun longer zone (record l { send = s })
-  lookup-came l sent entry s lt le h x by is holds =
-      let same : present l.send ≡ present s = present-sent sent l.query l.send by ∙ sym is in
+  lookup-came l u entry s under lt le h x is holds =
+      let same : present l.send ≡ present s = ap present under ∙ sym is in
       record {
         above = h.above;
         servers = servers-kept terms log longer x (greatest + 1) (entry + 1) zone l.servers.items (omega arith) h.servers;
@@ -265,157 +260,87 @@ module _ (terms : Terms) (greatest moment begun now : ℕ) (log longer : Log) (z
         send = holds;
       }
 
-  -- A lookup that was told a message holds by it.
-  pub lookup-told : (l : Lookup) (sent : Sent) (entry : ℕ) (message : Message) → greatest < entry → moment ≤ now
-      → LookupHolds terms greatest moment begun log zone l → Extends log longer → IsOf sent begun now l → OutcomeIs longer now (outcome.Told entry sent message)
-      → LookupHolds terms entry now begun longer zone (record l { send = send.Told sent.ip entry now message })
-  lookup-told l sent entry message lt le h x of o =
+  -- what a send under way holds
+  under-holds : (l : Lookup) (u : Under) → l.send ≡ send.Under u → LookupHolds terms greatest moment begun log zone l → IsUnder terms greatest log zone l.query u
+  under-holds l u is h = subst (λ (s : Send). SendHolds terms greatest moment begun log zone l.query l.ends h.tried.moments s) is h.send
+
+  -- A lookup that was told a message holds by its class.
+  pub lookup-told : (l : Lookup) (u : Under) (sent : Sent) (entry : ℕ) (message : Message) (class : Result Message DnsError) → l.send ≡ send.Under u
+      → class ≡ classify_of message → greatest < entry → moment ≤ now → LookupHolds terms greatest moment begun log zone l → Extends log longer
+      → IsOf sent l.query begun now u → OutcomeIs longer now (outcome.Told entry sent message)
+      → LookupHolds terms entry now begun longer zone (record l { send = send.Told u.ip entry now class })
+  lookup-told l u sent entry message class under is_class lt le h x of o =
       let late = of.late in
       let early = of.early in
       let before = o.0.before in
-      let is = for-sent sent l.query l.send of.sends in
-      let t = told-heard l.query l.ends h.tried.moments l.send sent entry message (omega arith) h.above x h.send of.sends o in
+      let is = for-sent sent l.query u.since u.send.stage of.sends.1 in
+      let t = told-heard l.query u sent entry message (omega arith) h.above x (under-holds l u under h) of.sends o in
       let came = came-sent l.query h.pool l.ends l.timed_out sent None entry (Ok message) lt le late early o.0.sent is (omega arith) t.1 h.tried in
-      lookup-came l sent entry (send.Told sent.ip entry now message) lt le h x of.sends refl (t.0, came)
+      lookup-came l u entry (send.Told u.ip entry now class) under lt le h x refl (record {
+        message = message;
+        classified = is_class;
+        heard = t.0;
+        came = subst (λ (ip : IpAddr). Came terms entry now begun longer l.query l.ends h.tried.moments ip entry (Ok message)) of.sends.0 came;
+      })
 
   -- A lookup whose send was lost holds by that.
-  pub lookup-lost : (l : Lookup) (sent : Sent) (entry : ℕ) (error : NetError) → greatest < entry → moment ≤ now
-      → LookupHolds terms greatest moment begun log zone l → Extends log longer → IsOf sent begun now l → IsLost (given_of terms) longer now entry sent error
-      → LookupHolds terms entry now begun longer zone (record l { send = send.Failed sent.ip entry error })
-  lookup-lost l sent entry error lt le h x of o =
-      let is = for-sent sent l.query l.send of.sends in
+  pub lookup-lost : (l : Lookup) (u : Under) (sent : Sent) (entry : ℕ) (error : NetError) → l.send ≡ send.Under u → greatest < entry → moment ≤ now
+      → LookupHolds terms greatest moment begun log zone l → Extends log longer → IsOf sent l.query begun now u
+      → IsLost (given_of terms) longer now entry sent error
+      → LookupHolds terms entry now begun longer zone (record l { send = send.Failed u.ip entry error })
+  lookup-lost l u sent entry error under lt le h x of o =
+      let is = for-sent sent l.query u.since u.send.stage of.sends.1 in
       let ends = o.ends l.query is in
       let came = came-sent l.query h.pool l.ends l.timed_out sent o.refusal entry (Err error) lt le of.late of.early o.sent is o.before ends h.tried in
-      lookup-came l sent entry (send.Failed sent.ip entry error) lt le h x of.sends refl came
+      lookup-came l u entry (send.Failed u.ip entry error) under lt le h x refl
+      (subst (λ (ip : IpAddr). Came terms entry now begun longer l.query l.ends h.tried.moments ip entry (Err error)) of.sends.0 came)
 
--- ---- how a lookup begins and goes on
+  -- A lookup whose send goes on, with the same request, holds as before.
+  pub lookup-goes_on : (l : Lookup) (u : Under) (s : ServerSend) (entry : ℕ) → l.send ≡ send.Under u → s.request ≡ u.send.request
+      → greatest < entry → moment ≤ now → LookupHolds terms greatest moment begun log zone l → Extends log longer
+      → LookupHolds terms entry now begun longer zone (record l { send = send.Under (record u { send = s }) })
+  lookup-goes_on l u s entry under same lt le h x =
+      let held = under-holds l u under h in
+      lookup-came l u entry (send.Under (record u { send = s })) under lt le h x refl (record {
+        asks = ap (λ (r : DnsRequest). r.query) same ∙ held.asks;
+        past = let p = held.past in omega arith;
+        serves = serves-kept terms log longer x (u.since + 1) (u.since + 1) u.ip zone (omega arith) held.serves;
+      })
 
--- where the cache is to be looked at nothing was done
-fresh-wanted : (s : Send) → send_want s ≡ want.Recall → s ≡ send.Fresh
-fresh-wanted send.Fresh e = refl
-fresh-wanted send.Ready e = cc
-fresh-wanted (send.Chosen to) e = cc
-fresh-wanted (send.Opening to order polls) e = cc
-fresh-wanted (send.Connected to conn) e = cc
-fresh-wanted (send.Asking to order since polls) e = cc
-fresh-wanted (send.Told to entry at message) e = cc
-fresh-wanted (send.Failed to entry error) e = cc
-
--- the server whose connection is wanted is chosen
-chosen-wanted : (s : Send) (ip : IpAddr) → send_want s ≡ want.Connect ip → s ≡ send.Chosen ip
-chosen-wanted send.Fresh ip e = cc
-chosen-wanted send.Ready ip e = cc
-chosen-wanted (send.Chosen to) ip e = cc
-chosen-wanted (send.Opening to order polls) ip e = cc
-chosen-wanted (send.Connected to conn) ip e = cc
-chosen-wanted (send.Asking to order since polls) ip e = cc
-chosen-wanted (send.Told to entry at message) ip e = cc
-chosen-wanted (send.Failed to entry error) ip e = cc
-
--- what may be asked is present
-present-asked : (s : Send) (ip : IpAddr) → MayAsk ip s → present s ≡ ip ∷ []
-present-asked send.Fresh ip h = absurd h
-present-asked send.Ready ip h = absurd h
-present-asked (send.Chosen to) ip h = ap (λ (i : IpAddr). i ∷ []) h
-present-asked (send.Opening to order polls) ip h = absurd h
-present-asked (send.Connected to conn) ip h = ap (λ (i : IpAddr). i ∷ []) h
-present-asked (send.Asking to order since polls) ip h = absurd h
-present-asked (send.Told to entry at message) ip h = absurd h
-present-asked (send.Failed to entry error) ip h = absurd h
+-- ---- how a lookup begins
 
 module _ (terms : Terms) (greatest moment t0 : ℕ) (log : Log) (zone : DomainName) where
-  -- A lookup whose send goes on, at the same server, holds as before.
-  pub lookup-goes_on : (l : Lookup) (s : Send) → LookupHolds terms greatest moment t0 log zone l → present s ≡ present l.send
-      → ((ms : List ℕ) → SendHolds terms greatest moment t0 log zone l.query l.ends ms l.send → SendHolds terms greatest moment t0 log zone l.query l.ends ms s)
-      → LookupHolds terms greatest moment t0 log zone (record l { send = s })
-  lookup-goes_on l s h same holds = record {
-    above = h.above;
-    servers = h.servers;
-    pool = h.pool;
-    listed = h.listed;
-    some = h.some;
-    tried = h.tried;
-    only = subst (λ (ps : List IpAddr). (ip : IpAddr) → Contains (l.servers.items ++ ps) ip → Contains h.pool ip) (sym same) h.only;
-    whole =
-        subst (λ (ps : List IpAddr). (ip : IpAddr) → Contains h.pool ip → Contains (l.servers.items ++ ps ++ servers_of h.tried.ends) ip)
-        (sym same) h.whole;
-    send = holds h.tried.moments h.send;
-  }
-
-  -- the cache has nothing for it
-  pub lookup-begins : (l : Lookup) → send_want l.send ≡ want.Recall → LookupHolds terms greatest moment t0 log zone l
-      → LookupHolds terms greatest moment t0 log zone (record l { send = send.Ready })
-  lookup-begins l wanted h =
-      let is : l.send ≡ send.Fresh = fresh-wanted l.send wanted in
-      lookup-goes_on l send.Ready h (ap present (sym is)) (λ ms k. tt)
-
-  -- what was chosen may be opened
-  pub lookup-opens : (l : Lookup) (ip : IpAddr) (order : ℕ) → send_want l.send ≡ want.Connect ip
-      → LookupHolds terms greatest moment t0 log zone l → LookupHolds terms greatest moment t0 log zone (record l { send = send.Opening ip order 0 })
-  lookup-opens l ip order wanted h =
-      let is = chosen-wanted l.send ip wanted in
-      lookup-goes_on l (send.Opening ip order 0) h (ap present (sym is))
-      (λ ms k. subst (λ (s : Send). SendHolds terms greatest moment t0 log zone l.query l.ends ms s) is k)
-
-  -- what was opened is connected
-  pub lookup-connects : (l : Lookup) (ip : IpAddr) (order polls : ℕ) → l.send ≡ send.Opening ip order polls
-      → LookupHolds terms greatest moment t0 log zone l → LookupHolds terms greatest moment t0 log zone (record l { send = send.Connected ip order })
-  lookup-connects l ip order polls is h =
-      lookup-goes_on l (send.Connected ip order) h (ap present (sym is))
-      (λ ms k. subst (λ (s : Send). SendHolds terms greatest moment t0 log zone l.query l.ends ms s) is k)
-
-  -- what may be asked serves the zone
-  serves-asked : (q : Query) (g moments : List ℕ) (s : Send) (ip : IpAddr) → MayAsk ip s
-      → SendHolds terms greatest moment t0 log zone q g moments s → Serves (given_of terms) log (greatest + 1) ip zone
-  serves-asked q g moments send.Fresh ip a h = absurd a
-  serves-asked q g moments send.Ready ip a h = absurd a
-  serves-asked q g moments (send.Chosen to) ip a h = subst (λ (i : IpAddr). Serves (given_of terms) log (greatest + 1) i zone) a h
-  serves-asked q g moments (send.Opening to order polls) ip a h = absurd a
-  serves-asked q g moments (send.Connected to conn) ip a h = subst (λ (i : IpAddr). Serves (given_of terms) log (greatest + 1) i zone) a h
-  serves-asked q g moments (send.Asking to order since polls) ip a h = absurd a
-  serves-asked q g moments (send.Told to entry at message) ip a h = absurd a
-  serves-asked q g moments (send.Failed to entry error) ip a h = absurd a
-
-  -- it is asked, by what was put so far
-  pub lookup-asks : (l : Lookup) (ip : IpAddr) (order : ℕ) → MayAsk ip l.send
-      → LookupHolds terms greatest moment t0 log zone l → LookupHolds terms greatest moment t0 log zone (record l { send = send.Asking ip order greatest 0 })
-  lookup-asks l ip order may h =
-      lookup-goes_on l (send.Asking ip order greatest 0) h (sym (present-asked l.send ip may))
-      (λ ms k. (omega arith, serves-asked l.query l.ends ms l.send ip may k))
-
   -- a new lookup has its pool before it
   pub lookup-new : (q : Query) (ips : List IpAddr) (left : Vec IpAddr Global) → IsTrue (is_above zone (walk q)) → ArePool terms log (greatest + 1) zone ips
-      → left.items ≡ reverse ips
+      → left.items ≡ ips
       → LookupHolds terms greatest moment t0 log zone (record { query = q; servers = left; send = send.Fresh; ends = []; timed_out = false })
-  lookup-new q ips left above pool same =
-      let there : IsPermutation ips left.items = subst (λ (xs : List IpAddr). IsPermutation ips xs) (sym same) (IsPermutation-reverse ips) in
-      let back = IsPermutation-sym ips left.items there in
-      record {
-        above = above;
-        servers = All-permutation (λ ip. Serves (given_of terms) log (greatest + 1) ip zone) ips left.items there pool.serve;
-        pool = ips;
-        listed = pool.listed;
-        some = pool.some;
-        tried = record {
-          ends = [];
-          moments = [];
-          start = 0;
-          logged = no_send;
-          rises = tt;
-          early = refl;
-          passing = refl;
-          timeouts = refl;
-          began = tt;
-          past = omega arith;
-          since = refl;
-          till = refl;
-          rising = λ now e. refl;
-        };
-        only = λ ip k. elim (Contains-append_cases left.items [] ip k) [
-          | inl c ↦ Contains-permutation left.items ips ip back c
-          | inr c ↦ absurd (Has-from_Contains [] ip c)
-        ];
-        whole = λ ip k.
-            Contains-append_left (left.items ++ []) [] ip (Contains-append_left left.items [] ip (Contains-permutation ips left.items ip there k));
-        send = tt;
-      }
+  lookup-new q ips left above pool same = record {
+    above = above;
+    servers = subst (AreServers terms log (greatest + 1) zone) (sym same) pool.serve;
+    pool = ips;
+    listed = pool.listed;
+    some = pool.some;
+    tried = record {
+      ends = [];
+      moments = [];
+      start = 0;
+      logged = no_send;
+      rises = tt;
+      early = refl;
+      passing = refl;
+      timeouts = refl;
+      began = tt;
+      past = omega arith;
+      since = refl;
+      till = refl;
+      rising = λ now e. refl;
+    };
+    only = λ ip k. elim (Contains-append_cases left.items [] ip k) [
+      | inl c ↦ subst (λ (xs : List IpAddr). Contains xs ip) same c
+      | inr c ↦ absurd (Has-from_Contains [] ip c)
+    ];
+    whole = λ ip k.
+        Contains-append_left (left.items ++ []) [] ip
+        (Contains-append_left left.items [] ip (subst (λ (xs : List IpAddr). Contains xs ip) (sym same) k));
+    send = tt;
+  }

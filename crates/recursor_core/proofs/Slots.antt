@@ -23,9 +23,9 @@ use Rattle.resolution.proofs.Keeping.{Logged-extend}
 use Rattle.resolution.proofs.FailuresKept.{waits-extend}
 use Rattle.recursor_core.specs.Order.{entry_for, IsSent, Closes, Fits}
 use Rattle.recursor_core.specs.Carrying.{TellsThat, Counted, IsWaitedFor, SlotHolds, SlotsHold, slot_at, sent_by, sent_at, AreApart, IsAlone, IsUnwaited, CarrierHolds}
-use Rattle.recursor_core.specs.declared.order.Sent.{Sent}
-use Rattle.recursor_core.specs.declared.order.Outcome.{Outcome}
-use Rattle.recursor_core.specs.declared.order.Outcome.TheVariants as outcome
+use Rattle.server_core.specs.declared.order.Sent.{Sent}
+use Rattle.server_core.specs.declared.order.Outcome.{Outcome}
+use Rattle.server_core.specs.declared.order.Outcome.TheVariants as outcome
 use Rattle.recursor_core.specs.declared.carrier.Carrier.{Carrier}
 use Rattle.recursor_core.specs.declared.slot.Slot.{Slot}
 use Rattle.recursor_core.specs.declared.slot.Slot.TheVariants as slot

@@ -27,9 +27,9 @@ use Rattle.recursor_core.specs.declared.machine.Step.TheVariants as step
 use Rattle.recursor_core.specs.declared.turns.Turned.{Turned}
 use Rattle.recursor_core.specs.declared.turns.Turned.TheVariants as turned
 use Rattle.dns_core.specs.declared.errors.NoMemory.{NoMemory}
-use Rattle.recursor_core.specs.declared.order.Order.{Order}
-use Rattle.recursor_core.specs.declared.order.Order.TheVariants.{Open, Ask}
-use Rattle.recursor_core.specs.declared.order.Outcome.{Outcome}
+use Rattle.server_core.specs.declared.order.Order.{Order}
+use Rattle.server_core.specs.declared.order.Order.TheVariants.{Open, Ask}
+use Rattle.server_core.specs.declared.order.Outcome.{Outcome}
 use Rattle.recursor_core.specs.declared.reply.Reply.{Reply}
 use Rattle.recursor_core.proofs.Patience.{IsPatient-refl, IsPatient-trans}
 use Rattle.recursor_core.proofs.Kept.{Derived-extends, ReplyHolds-extends}

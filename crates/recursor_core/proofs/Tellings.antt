@@ -35,10 +35,8 @@ send-untold : (zone : DomainName) (q : Query) (s : Send) → (order_of (need.Sen
 send-untold zone q send.Fresh h = absurd (h refl)
 send-untold zone q send.Ready h = absurd (h refl)
 send-untold zone q (send.Chosen ip) h = absurd (h refl)
-send-untold zone q (send.Opening ip order polls) h = refl
-send-untold zone q (send.Connected ip conn) h = absurd (h refl)
-send-untold zone q (send.Asking ip order since polls) h = refl
-send-untold zone q (send.Told ip entry at message) h = absurd (h refl)
+send-untold zone q (send.Under u) h = refl
+send-untold zone q (send.Told ip entry at class) h = absurd (h refl)
 send-untold zone q (send.Failed ip entry error) h = absurd (h refl)
 
 state-untold : (s : State) → (order_of (state_want s) ≡ None → ⊥) → telling_in s ≡ None
@@ -57,18 +55,17 @@ late-untold (x ∷ xs) (suc r) f g within at waits same = late-untold xs r f g (
 
 -- ---- what was told holds
 
--- the message of a send
+-- the message of a send, as it is classified
 send-tells : (terms : Terms) (greatest moment t0 : ℕ) (log : Log) (zone : DomainName) (q : Query) (g moments : List ℕ) (s : Send) (t : Telling)
     → WalksTo (given_of terms) log q zone → telling zone q s ≡ Some t → SendHolds terms greatest moment t0 log zone q g moments s → TellingHolds terms greatest log t
 send-tells terms greatest moment t0 log zone q g moments send.Fresh t walked is h = cc
 send-tells terms greatest moment t0 log zone q g moments send.Ready t walked is h = cc
 send-tells terms greatest moment t0 log zone q g moments (send.Chosen ip) t walked is h = cc
-send-tells terms greatest moment t0 log zone q g moments (send.Opening ip order polls) t walked is h = cc
-send-tells terms greatest moment t0 log zone q g moments (send.Connected ip conn) t walked is h = cc
-send-tells terms greatest moment t0 log zone q g moments (send.Asking ip order since polls) t walked is h = cc
+send-tells terms greatest moment t0 log zone q g moments (send.Under u) t walked is h = cc
 send-tells terms greatest moment t0 log zone q g moments (send.Failed ip entry error) t walked is h = cc
-send-tells terms greatest moment t0 log zone q g moments (send.Told ip entry at message) t walked is h =
-    subst (TellingHolds terms greatest log) (same_Some _ _ is) (record { t0 = t0; heard = h.0; walked = walked })
+send-tells terms greatest moment t0 log zone q g moments (send.Told ip entry at class) t walked is h =
+    subst (TellingHolds terms greatest log) (same_Some _ _ is)
+    (record { t0 = t0; message = h.message; classified = h.classified; heard = h.heard; walked = walked })
 
 -- the walk went down to its zone for what it asks
 stage-walked : (terms : Terms) (greatest moment t0 : ℕ) (log : Log) (q : Query) (w : Walk) (s : Stage) → w.stage ≡ s

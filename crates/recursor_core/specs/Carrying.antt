@@ -9,7 +9,7 @@ use Rattle.dns_core.specs.declared.provider.ConnectionProvider.{Ghosts}
 use Rattle.resolution.specs.Telling.{Logged, moment_of}
 use Rattle.resolution.specs.Ending.{waits}
 use Rattle.recursor_core.specs.Order.{IsSent}
-use Rattle.recursor_core.specs.declared.order.Sent.{Sent}
+use Rattle.server_core.specs.declared.order.Sent.{Sent}
 use Rattle.recursor_core.specs.declared.carrier.Carrier.{Carrier}
 use Rattle.recursor_core.specs.declared.slot.Slot.{Slot}
 use Rattle.recursor_core.specs.declared.slot.Slot.TheVariants as slot

@@ -1,10 +1,12 @@
 -- What the machine keeps, as derived from a log.
-use Rattle.std.specs.Prelude.{◌≡◌, ℕ, ◌+◌, ◌≤◌, ◌<◌, List, ◌++◌, length, map, IsTrue, true, Option, Some, None, Ok, Err, All, Contains}
+use Rattle.std.specs.Prelude.{◌≡◌, ℕ, ◌+◌, ◌≤◌, ◌<◌, List, ◌++◌, length, map, true, IsTrue, Option, Some, None, Result, Ok, Err, All, Contains}
 use Rattle.std.specs.declared.net.ip_addr.IpAddr.{IpAddr}
 use Rattle.dns_core.specs.Name.{DomainName, last_labels}
 use Rattle.dns_core.specs.Log.{Log}
+use Rattle.dns_core.specs.Classifying.{classify_of}
 use Rattle.dns_core.specs.declared.message.Query.{Query}
 use Rattle.dns_core.specs.declared.message.Message.{Message}
+use Rattle.dns_core.specs.declared.net_error.DnsError.{DnsError}
 use Rattle.dns_core.specs.declared.request.Question.{Question}
 use Rattle.dns_core.specs.declared.log.ToldOutcome.TheVariants as told
 use Rattle.resolution.specs.Names.{is_above, walk, question as question_for}
@@ -21,6 +23,7 @@ use Rattle.recursor_core.specs.Replies.{Terms, terms_with, given_of, ReplyHolds}
 use Rattle.recursor_core.specs.Tried.{Tried, Came, Concluded, machine_timer}
 use Rattle.recursor_core.specs.Lookup.{present}
 use Rattle.recursor_core.specs.Remembered.{CacheHolds}
+use Rattle.recursor_core.specs.declared.lookup.Under.{Under}
 use Rattle.recursor_core.specs.declared.lookup.Send.{Send}
 use Rattle.recursor_core.specs.declared.lookup.Send.TheVariants as send
 use Rattle.recursor_core.specs.declared.lookup.Lookup.{Lookup}
@@ -31,7 +34,7 @@ use Rattle.recursor_core.specs.declared.walk.Stage.{Stage}
 use Rattle.recursor_core.specs.declared.walk.Stage.TheVariants.{Candidate, Last}
 use Rattle.recursor_core.specs.declared.walk.Walk.{Walk}
 use Rattle.recursor_core.specs.declared.resolving.State.{State}
-use Rattle.recursor_core.specs.declared.resolving.State.TheVariants.{New, Under, Done, Ended}
+use Rattle.recursor_core.specs.declared.resolving.State.TheVariants as state
 use Rattle.recursor_core.specs.declared.resolving.Resolution.{Resolution}
 use Rattle.recursor_core.specs.declared.machine.RecursorCore.{RecursorCore}
 
@@ -66,16 +69,27 @@ pub record Counts (terms : Terms) (greatest t0 : ℕ) (log : Log) (zone : Domain
   pub is : IsHeard terms greatest t0 log zone q entry message
   pub counts : verdict (given_of terms) (told.Message message) q zone ≡ Some v
 
+-- The send to the server ended after those of g, by a message of this class that the entry tells at this moment.
+pub record HasTold (terms : Terms) (greatest moment t0 : ℕ) (log : Log) (zone : DomainName) (q : Query) (g moments : List ℕ) (ip : IpAddr)
+    (entry at : ℕ) (class : Result Message DnsError) : Type 0 where
+  pub message : Message
+  pub classified : class ≡ classify_of message
+  pub heard : IsHeardAt terms greatest t0 log zone q entry at message
+  pub came : Came terms greatest moment t0 log q g moments ip entry (Ok message)
+
+-- A send under way asks the question of a server of the zone, by what was put before its last order.
+pub record IsUnder (terms : Terms) (greatest : ℕ) (log : Log) (zone : DomainName) (q : Query) (u : Under) : Type 0 where
+  pub asks : u.send.request.query ≡ q
+  pub past : u.since ≤ greatest
+  pub serves : Serves (given_of terms) log (u.since + 1) u.ip zone
+
 -- A server that is asked serves the zone, by what was put before; what came was told by such a one, and ended its send after those of g, which ended at the moments.
 abbrev pub SendHolds : Terms → ℕ → ℕ → ℕ → Log → DomainName → Query → List ℕ → List ℕ → Send → Type 0
 SendHolds terms greatest moment t0 log zone q g moments send.Fresh = Unit {0}
 SendHolds terms greatest moment t0 log zone q g moments send.Ready = Unit {0}
 SendHolds terms greatest moment t0 log zone q g moments (send.Chosen ip) = Serves (given_of terms) log (greatest + 1) ip zone
-SendHolds terms greatest moment t0 log zone q g moments (send.Opening ip order polls) = Serves (given_of terms) log (greatest + 1) ip zone
-SendHolds terms greatest moment t0 log zone q g moments (send.Connected ip conn) = Serves (given_of terms) log (greatest + 1) ip zone
-SendHolds terms greatest moment t0 log zone q g moments (send.Asking ip order sent_after polls) = (sent_after ≤ greatest) × Serves (given_of terms) log (sent_after + 1) ip zone
-SendHolds terms greatest moment t0 log zone q g moments (send.Told ip entry at message) =
-    IsHeardAt terms greatest t0 log zone q entry at message × Came terms greatest moment t0 log q g moments ip entry (Ok message)
+SendHolds terms greatest moment t0 log zone q g moments (send.Under u) = IsUnder terms greatest log zone q u
+SendHolds terms greatest moment t0 log zone q g moments (send.Told ip entry at class) = HasTold terms greatest moment t0 log zone q g moments ip entry at class
 SendHolds terms greatest moment t0 log zone q g moments (send.Failed ip entry error) = Came terms greatest moment t0 log q g moments ip entry (Err error)
 
 -- those to whom a send ended
@@ -94,10 +108,17 @@ pub record LookupHolds (terms : Terms) (greatest moment t0 : ℕ) (log : Log) (z
   pub whole : (ip : IpAddr) → Contains pool ip → Contains (l.servers.items ++ present l.send ++ servers_of tried.ends) ip
   pub send : SendHolds terms greatest moment t0 log zone l.query l.ends tried.moments l.send
 
+-- The lookup ended by a message of this class that the entry tells, and by these entries.
+pub record IsConcluded (terms : Terms) (greatest t0 : ℕ) (log : Log) (zone : DomainName) (q : Query) (g : List ℕ) (entry : ℕ)
+    (class : Result Message DnsError) : Type 0 where
+  pub message : Message
+  pub classified : class ≡ classify_of message
+  pub heard : IsHeard terms greatest t0 log zone q entry message
+  pub concluded : Concluded terms t0 log zone q g (answer_of (class_of_message message q))
+
 -- A message was told by a server of the zone, or none had more than the error; by these entries.
 abbrev pub FoundHolds : Terms → ℕ → ℕ → Log → DomainName → Query → List ℕ → Found → Type 0
-FoundHolds terms greatest t0 log zone q g (found.Message entry message) =
-    IsHeard terms greatest t0 log zone q entry message × Concluded terms t0 log zone q g (answer_of (class_of_message message q))
+FoundHolds terms greatest t0 log zone q g (found.Told entry class) = IsConcluded terms greatest t0 log zone q g entry class
 FoundHolds terms greatest t0 log zone q g (found.Error error) =
     (IsPlainlyTold log → IsTrue (is_lookup_error error)) × Concluded terms t0 log zone q g (Err error)
 
@@ -150,10 +171,10 @@ WalkComes terms greatest moment t0 log question w (Some reply) = ReplyHolds term
 -- ---- the machine
 
 abbrev pub StateHolds : Terms → ℕ → ℕ → ℕ → Log → Question → State → Type 0
-StateHolds terms greatest moment t0 log question New = question.query.name.fqdn ≡ true
-StateHolds terms greatest moment t0 log question (Under w) = WalkHolds terms greatest moment t0 log question.query w
-StateHolds terms greatest moment t0 log question (Done reply) = ReplyHolds terms machine_timer log t0 question reply
-StateHolds terms greatest moment t0 log question Ended = Unit {0}
+StateHolds terms greatest moment t0 log question state.New = question.query.name.fqdn ≡ true
+StateHolds terms greatest moment t0 log question (state.Under w) = WalkHolds terms greatest moment t0 log question.query w
+StateHolds terms greatest moment t0 log question (state.Done reply) = ReplyHolds terms machine_timer log t0 question reply
+StateHolds terms greatest moment t0 log question state.Ended = Unit {0}
 
 pub record ResolutionHolds (terms : Terms) (greatest moment : ℕ) (log : Log) (r : Resolution) : Type 0 where
   pub begun : r.begun ≤ moment

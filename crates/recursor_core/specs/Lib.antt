@@ -1,4 +1,5 @@
 pub mod Order
+pub mod Servers
 pub mod Lookup
 pub mod Walk
 pub mod Resolving
@@ -16,3 +17,5 @@ pub mod Turns
 pub mod Carrying
 pub mod Patience
 pub mod Standing
+pub mod Options
+pub mod Recursor

@@ -5,13 +5,14 @@ use Rattle.std.specs.declared.net.ip_addr.IpAddr.{IpAddr}
 use Rattle.dns_core.specs.Log.{Log}
 use Rattle.dns_core.specs.declared.message.Query.{Query}
 use Rattle.dns_core.specs.declared.request.Question.{Question}
+use Rattle.server_core.specs.declared.server_send.ServerSend.{ServerSend}
 use Rattle.recursor_core.specs.Order.{GoesToServer}
 use Rattle.recursor_core.specs.Replies.{Terms, given_of, ReplyHolds}
 use Rattle.recursor_core.specs.Tried.{machine_timer}
 use Rattle.recursor_core.specs.Derived.{terms_of}
 use Rattle.recursor_core.specs.Remembered.{Telling, telling_of, remembered}
-use Rattle.recursor_core.specs.declared.order.After.{After}
-use Rattle.recursor_core.specs.declared.order.After.TheVariants as after
+use Rattle.server_core.specs.declared.order.After.{After}
+use Rattle.server_core.specs.declared.order.After.TheVariants as after
 use Rattle.recursor_core.specs.declared.reply.Reply.{Reply}
 use Rattle.dns_core.specs.declared.errors.NoMemory.{NoMemory}
 use Rattle.recursor_core.specs.Resolving as one
@@ -41,14 +42,6 @@ need_at core r = need_in (slice_get core.resolutions.items r)
 abbrev pub order_at : RecursorCore → ℕ → Option ℕ
 order_at core r = one.order_of (need_at core r)
 
-abbrev pub MayAskOf : IpAddr → Option Resolution → Type 0
-MayAskOf ip None = ⊥
-MayAskOf ip (Some r) = one.MayAskNow ip r
-
--- its question may be asked of the address
-abbrev pub MayAskAt : RecursorCore → ℕ → IpAddr → Type 0
-MayAskAt core r ip = MayAskOf ip (slice_get core.resolutions.items r)
-
 abbrev pub asked_in : Option Resolution → Option Query
 asked_in None = None
 asked_in (Some r) = one.asked_of r.state
@@ -56,6 +49,10 @@ asked_in (Some r) = one.asked_of r.state
 -- the question that it asks now
 abbrev pub asked_at : RecursorCore → ℕ → Option Query
 asked_at core r = asked_in (slice_get core.resolutions.items r)
+
+-- the send asks what the resolution at a place asks now
+abbrev pub AsksForAt : ServerSend → RecursorCore → ℕ → Type 0
+AsksForAt send core r = asked_at core r ≡ Some send.request.query
 
 -- a question, and the moment at which it began
 pub record Begun : Type 0 where
@@ -73,7 +70,7 @@ begun_at core r = option_map begun_of (slice_get core.resolutions.items r)
 abbrev pub IsBegunAt : RecursorCore → ℕ → Question → ℕ → Type 0
 IsBegunAt core r question now = begun_at core r ≡ Some (record { question = question; moment = now })
 
--- nothing but the numbers of orders and the connections has changed
+-- nothing but the numbers of orders and the servers has changed
 abbrev pub IsSetAs : RecursorCore → RecursorCore → Type 0
 IsSetAs old new = (new.resolutions ≡ old.resolutions) × (new.setting ≡ old.setting) × (new.greatest ≡ old.greatest) × (new.moment ≡ old.moment) × (new.cache ≡ old.cache)
 

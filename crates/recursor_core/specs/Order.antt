@@ -11,19 +11,12 @@ use Rattle.resolution.specs.Given.{Given}
 use Rattle.resolution.specs.Telling.{Logged}
 use Rattle.resolution.specs.Asking.{IsServer, IsServerFor}
 use Rattle.resolution.specs.Ending.{waits, EndsSend}
-use Rattle.recursor_core.specs.declared.order.Order.{Order}
-use Rattle.recursor_core.specs.declared.order.Order.TheVariants.{Open, Ask}
-use Rattle.recursor_core.specs.declared.order.Sent.{Sent}
-use Rattle.recursor_core.specs.declared.order.Outcome.{Outcome}
-use Rattle.recursor_core.specs.declared.order.Outcome.TheVariants.{Pending, Connected, Told, Failed, GaveUp}
-
--- the number of the log entry that says the outcome
-abbrev pub entry_of : Outcome → ℕ
-entry_of (Pending entry) = entry
-entry_of (Connected entry) = entry
-entry_of (Told entry sent message) = entry
-entry_of (Failed entry sent refused error) = entry
-entry_of (GaveUp entry sent polls) = entry
+use Rattle.server_core.specs.Order.{entry_of}
+use Rattle.server_core.specs.declared.order.Order.{Order}
+use Rattle.server_core.specs.declared.order.Order.TheVariants.{Open, Ask}
+use Rattle.server_core.specs.declared.order.Sent.{Sent}
+use Rattle.server_core.specs.declared.order.Outcome.{Outcome}
+use Rattle.server_core.specs.declared.order.Outcome.TheVariants.{Pending, Connected, Told, Failed, GaveUp}
 
 -- the entry of what was sent: an opening, or a question
 abbrev pub entry_for : Sent → Protocol → Option NetError → LogEntry

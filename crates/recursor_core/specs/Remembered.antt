@@ -5,12 +5,12 @@ use Rattle.dns_core.specs.Log.{Log}
 use Rattle.dns_core.specs.declared.message.Query.{Query}
 use Rattle.dns_core.specs.declared.message.Message.{Message}
 use Rattle.dns_core.specs.declared.net_error.NetError.{NetError}
+use Rattle.dns_core.specs.declared.net_error.DnsError.{DnsError}
 use Rattle.dns_core.specs.declared.log.ToldOutcome.{ToldOutcome}
-use Rattle.dns_core.specs.declared.log.ToldOutcome.TheVariants as outcome
 use Rattle.resolver_cache.specs.Cached.{Cached}
 use Rattle.resolver_cache.specs.Cache.{upserted}
 use Rattle.resolver_cache.specs.declared.entry.Entry.{Entry}
-use Rattle.resolution.specs.Class.{class_of}
+use Rattle.resolution.specs.Class.{class_of_classified}
 use Rattle.resolution.specs.Given.{allows_all}
 use Rattle.resolution.specs.Verdict.{verdict, verdict_of_told}
 use Rattle.resolution.specs.Life.{life_in_seconds}
@@ -49,16 +49,16 @@ pub record CacheHolds (terms : Terms) (greatest : ℕ) (log : Log) (cache : Cach
 
 -- ---- what is written
 
--- a message that was told for the question, at the moment, by the entry, by a server of the zone
+-- a message, as it is classified, that was told for the question, at the moment, by the entry, by a server of the zone
 pub record Telling : Type 0 where
   pub zone : DomainName
   pub query : Query
   pub entry : ℕ
   pub at : ℕ
-  pub message : Message
+  pub class : Result Message DnsError
 
 abbrev pub telling : DomainName → Query → Send → Option Telling
-telling zone q (send.Told ip entry at message) = Some (record { zone = zone; query = q; entry = entry; at = at; message = message })
+telling zone q (send.Told ip entry at class) = Some (record { zone = zone; query = q; entry = entry; at = at; class = class })
 telling zone q _ = None
 
 -- what a walk was just told
@@ -76,9 +76,9 @@ abbrev pub telling_of : Option Resolution → Option Telling
 telling_of None = None
 telling_of (Some r) = telling_in r.state
 
--- as what a message that a server of the zone told is kept
-abbrev pub response_in : DomainName → Message → Option (Result Message NetError)
-response_in zone m = option_and_then kept_of (verdict_of_told allows_all (class_of (outcome.Message m) m.query) zone)
+-- as what a classified message that a server of the zone told for the question is kept
+abbrev pub response_in : DomainName → Query → Result Message DnsError → Option (Result Message NetError)
+response_in zone q class = option_and_then kept_of (verdict_of_told allows_all (Some (class_of_classified q class)) zone)
 
 abbrev pub written : Cached → Telling → Option (Result Message NetError) → Cached
 written cache t None = cache
@@ -88,4 +88,4 @@ written cache t (Some response) = upserted cache t.query response t.entry t.at (
 -- move the expiry of a current one to a later moment. Errors, and denials that the recursor made, are not written.
 abbrev pub remembered : Cached → Option Telling → Cached
 remembered cache None = cache
-remembered cache (Some t) = written cache t (response_in t.zone t.message)
+remembered cache (Some t) = written cache t (response_in t.zone t.query t.class)

@@ -1,13 +1,13 @@
 -- What a resolution needs, and how much of it is left.
-use Rattle.std.specs.Prelude.{◌≡◌, ℕ, ◌+◌, ◌*◌, IsTrue, Option, Some, None}
-use Rattle.std.specs.declared.net.ip_addr.IpAddr.{IpAddr}
+use Rattle.std.specs.Prelude.{◌≡◌, ℕ, ◌+◌, ◌*◌, IsTrue, Option, Some, None, Result, Ok, Err}
+use Rattle.server_core.specs.declared.server_send.ServerSend.{ServerSend}
 use Rattle.dns_core.specs.declared.message.Query.{Query}
 use Rattle.recursor_core.specs.Counted.{may_answer}
 use Rattle.recursor_core.specs.Lookup as lookup
 use Rattle.recursor_core.specs.Walk as walk
 use Rattle.recursor_core.specs.declared.counted.Counted.{Counted}
 use Rattle.recursor_core.specs.declared.reply.Reply.{Reply}
-use Rattle.recursor_core.specs.declared.walk.Walk.{Walk}
+use Rattle.dns_core.specs.declared.errors.NoMemory.{NoMemory}
 use Rattle.recursor_core.specs.declared.lookup.Want.TheVariants as want
 use Rattle.recursor_core.specs.declared.resolving.Need.{Need}
 use Rattle.recursor_core.specs.declared.resolving.Need.TheVariants as need
@@ -28,8 +28,8 @@ abbrev pub order_of : Need → Option ℕ
 order_of need.SetOut = None
 order_of (need.Send want.Recall) = None
 order_of (need.Send want.Choose) = None
-order_of (need.Send (want.Connect ip)) = None
-order_of (need.Send (want.Ask ip conn)) = None
+order_of (need.Send (want.Begin ip)) = None
+order_of (need.Send want.Order) = None
 order_of (need.Send (want.Wait order)) = Some order
 order_of (need.Send want.Hear) = None
 order_of need.Reply = None
@@ -59,16 +59,6 @@ state_polls patience Ended = 0
 abbrev pub rank : ℕ → Resolution → ℕ
 rank patience r = (patience + 1) * steps r + state_polls patience r.state
 
--- its question may be asked of the address
-abbrev pub MayAskIn : IpAddr → State → Type 0
-MayAskIn ip New = ⊥
-MayAskIn ip (Under w) = lookup.MayAsk ip w.lookup.send
-MayAskIn ip (Done reply) = ⊥
-MayAskIn ip Ended = ⊥
-
-abbrev pub MayAskNow : IpAddr → Resolution → Type 0
-MayAskNow ip r = MayAskIn ip r.state
-
 -- the question that it asks now
 abbrev pub asked_of : State → Option Query
 asked_of New = None
@@ -76,21 +66,19 @@ asked_of (Under w) = Some w.lookup.query
 asked_of (Done reply) = None
 asked_of Ended = None
 
--- the address that it asks now
-abbrev pub address_of : State → Option IpAddr
-address_of New = None
-address_of (Under w) = lookup.asked_address w.lookup.send
-address_of (Done reply) = None
-address_of Ended = None
+-- the send asks what it asks now
+abbrev pub AsksFor : ServerSend → State → Type 0
+AsksFor send state = asked_of state ≡ Some send.request.query
 
 -- It is still of the same question, which began when it began.
 abbrev pub SameBegun : Resolution → Resolution → Type 0
 SameBegun old new = (new.question ≡ old.question) × (new.begun ≡ old.begun)
 
--- the state after a walk that goes on, or that came to a reply
-abbrev pub IsAfter : Walk → Option Reply → State → Type 0
-IsAfter w None state = state ≡ Under w
-IsAfter w (Some reply) state = state ≡ Done reply
+-- it is as it was where it goes on; it has its reply, or has ended for want of memory
+abbrev pub IsSettled : Result (Option Reply) NoMemory → State → State → Type 0
+IsSettled (Ok None) old new = new ≡ old
+IsSettled (Ok (Some reply)) old new = new ≡ Done reply
+IsSettled (Err e) old new = new ≡ Ended
 
 abbrev pub IsDone : State → Type 0
 IsDone New = ⊥

@@ -10,12 +10,12 @@ ghost use Rattle.recursor_core.specs.Carrying.{TellsThat, Grown, SlotHolds, slot
 ghost use Rattle.recursor_core.specs.Patience.{IsPatient};
 ghost use Rattle.recursor_core.specs.declared.slot.Slot.TheVariants as slot;
 
-use crate::order::{Order, Outcome, Sent};
 use crate::slot::{Asking, Connection, Opening, Slot};
 use dns_core::{
     ConnectOptions, ConnectionConfig, ConnectionProvider, DnsRequest, NetError, NoMemory, Poll,
     Query,
 };
+use server_core::{Order, Outcome, Sent};
 use std::alloc::Global;
 use std::collections::BTreeMap;
 use std::mem;

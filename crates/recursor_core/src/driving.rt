@@ -16,11 +16,11 @@ ghost use Rattle.dns_core.specs.declared.request.Question.{Question};
 
 use crate::carrier::Carrier;
 use crate::machine::RecursorCore;
-use crate::order::Tick;
 use crate::recursor::Recursor;
 use crate::reply::Reply;
 use crate::turns::{Played, begun, play, take_reply};
 use dns_core::{ConnectionProvider, NoMemory, Question, Turn};
+use server_core::Tick;
 use std::alloc::Global;
 
 /// Begins a question that has not begun.

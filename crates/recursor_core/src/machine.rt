@@ -1,27 +1,25 @@
 //! The machine: it gives orders and is fed their outcomes, and knows neither a provider nor a log.
-ghost use Rattle.std.specs.Prelude.{◌≡◌, ◌≢◌, ◌≤◌, ◌<◌, ◌+◌, ◌⊎◌, ◌↔◌, ℕ, [], true, false, max, length, None, Some, Ok, Err, IfOk, IfSome, IfNone, IfErr, IsSome, OnOk, IsTrue};
+ghost use Rattle.std.specs.Prelude.{◌≡◌, ◌≢◌, ◌≤◌, ◌<◌, ◌+◌, ◌⊎◌, ◌↔◌, ℕ, [], true, false, max, length, None, Some, Ok, Err, IfOk, IfSome, IfNone, IfErr, IsSome, OnOk, OnErr, IsTrue};
 ghost use Rattle.dns_core.specs.Log.{Log, Extends};
-ghost use Rattle.recursor_core.specs.Order.{entry_of, Fits};
+ghost use Rattle.server_core.specs.Order.{entry_of};
+ghost use Rattle.recursor_core.specs.Order.{Fits};
 ghost use Rattle.resolver_settings.specs.Ttl.{has_reversed};
 ghost use Rattle.recursor_core.specs.Setting.{with_patience};
 ghost use Rattle.recursor_core.specs.Remembered.{CacheHolds, remembered};
 ghost use Rattle.recursor_core.specs.Derived.{terms_of, Derived};
-ghost use Rattle.recursor_core.specs.Machine.{need_at, order_at, asked_at, begun_at, MayAskAt, rank, GoesOn, Steps, Gives, StepGives, IsAwaited, IsNewError, IsBeginError, IsNewCore, SameCore, IsSetAs, IsBegunAt, telling_at, Writes};
+ghost use Rattle.recursor_core.specs.Machine.{need_at, order_at, asked_at, begun_at, AsksForAt, rank, GoesOn, Steps, Gives, StepGives, IsAwaited, IsNewError, IsBeginError, IsNewCore, SameCore, IsSetAs, IsBegunAt, telling_at, Writes};
 
 use crate::error::{MessageKind, RecursorError};
 use crate::lookup::Want;
 use crate::options::RecursorOptions;
-use crate::order::{After, Order, Outcome, Tick};
 use crate::reply::Reply;
 use crate::resolving::{Need, Resolution, State};
+use crate::servers::Servers;
 use crate::setting::Setting;
-use dns_core::{
-    ConnectionConfig, DnsRequest, DnsRequestOptions, NoMemory, Protocol, ProtocolConfig, Question,
-    TryClone,
-};
+use dns_core::{DnsRequest, DnsRequestOptions, NoMemory, Question, TryClone};
 use resolver_cache::ResponseCache;
+use server_core::{After, Order, Outcome, ServerSend, Tick};
 use std::alloc::Global;
-use std::collections::BTreeMap;
 use std::net::IpAddr;
 
 /// What a resolution has for whoever steps it.
@@ -41,27 +39,18 @@ pub enum Progress {
 }
 
 /// The resolutions, in the order of their beginning, and what they share: the cache of responses, the
-/// numbers of orders, the connections, each under its address as the number of the order that opened it,
-/// the greatest moment handed in so far, and the greatest number of a log entry.
+/// servers that were met, the numbers of orders, the greatest moment handed in so far, and the greatest
+/// number of a log entry.
 #[derive(Drop, Debug)]
 pub struct RecursorCore {
     setting: Setting,
     options: RecursorOptions,
     cache: ResponseCache,
     resolutions: Vec<Resolution>,
-    connections: BTreeMap<IpAddr, u64>,
+    servers: Servers,
     next_order: u64,
     moment: u64,
     greatest: u64,
-}
-
-/// A connection over UDP to the port of DNS.
-fn udp() -> ConnectionConfig {
-    ConnectionConfig {
-        port: 53,
-        protocol: ProtocolConfig::Udp,
-        bind_addr: None,
-    }
 }
 
 impl RecursorCore {
@@ -98,6 +87,7 @@ impl RecursorCore {
         ensures { IfOk result (IsNewCore roots.now options) }
     {
         let setting = Setting::new(alloc, roots, &options)?;
+        let servers = Servers::new(alloc, roots, &options)?;
         let policy = options.cache_policy.try_clone(alloc)?;
         let Ok(cache) = ResponseCache::new(alloc, options.response_cache_size, policy) else {
             unreachable!()
@@ -107,7 +97,7 @@ impl RecursorCore {
             options,
             cache,
             resolutions: Vec::new(alloc),
-            connections: BTreeMap::new(alloc),
+            servers,
             next_order: 1,
             moment: 0,
             greatest: 0,
@@ -200,6 +190,19 @@ impl RecursorCore {
         resolution.set_out(alloc, &self.setting.roots, &self.cache, now)
     }
 
+    /// Puts the servers of the present lookup of a resolution in the order in which they are to be asked.
+    fn arrange(&mut self, alloc: Global, r: usize) -> Result<(), NoMemory>
+        requires { need_at self.old r ≡ Need.Send Want.Recall }
+        ensures keeps { (p : ℕ) → rank p self.new ≤ rank p self.old }
+        ensures want { need_at self.new r ≡ Need.Send Want.Recall }
+        ensures derived { (log : Log) → Derived self.old log → Derived self.new log }
+        ensures same { SameCore self.old self.new }
+    {
+        let now = self.moment;
+        let resolution = &mut self.resolutions[r];
+        resolution.arrange(alloc, &mut self.servers, now)
+    }
+
     /// Goes by what the cache has for the present lookup of a resolution.
     fn recall(&mut self, alloc: Global, r: usize) -> Result<(), NoMemory>
         requires { need_at self.old r ≡ Need.Send Want.Recall }
@@ -244,25 +247,31 @@ impl RecursorCore {
         resolution.hear(alloc, &self.setting.server_filter)
     }
 
-    fn opens(&mut self, r: usize, ip: IpAddr, order: u64)
-        requires { need_at self.old r ≡ Need.Send (Want.Connect ip) }
-        ensures falls { (p : ℕ) → rank p self.new < rank p self.old }
-        ensures derived { (log : Log) → Derived self.old log → Derived self.new log }
-        ensures same { SameCore self.old self.new }
-    {
-        let resolution = &mut self.resolutions[r];
-        resolution.opens(ip, order);
-    }
-
-    fn asks(&mut self, r: usize, ip: IpAddr, order: u64)
-        requires { MayAskAt self.old r ip }
+    /// A send to the chosen server begins.
+    fn begin_send(&mut self, r: usize, ip: IpAddr, send: ServerSend)
+        requires want { need_at self.old r ≡ Need.Send (Want.Begin ip) }
+        requires fresh { AsksForAt send self.old r }
         ensures falls { (p : ℕ) → rank p self.new < rank p self.old }
         ensures derived { (log : Log) → Derived self.old log → Derived self.new log }
         ensures same { SameCore self.old self.new }
     {
         let since = self.greatest;
         let resolution = &mut self.resolutions[r];
-        resolution.asks(ip, order, since);
+        resolution.begin_send(ip, send, since);
+    }
+
+    /// The next order of the present send, of this number.
+    fn order(&mut self, alloc: Global, r: usize, number: u64) -> Result<Order, NoMemory>
+        requires { need_at self.old r ≡ Need.Send Want.Order }
+        ensures falls { (p : ℕ) → OnOk result (rank p self.new < rank p self.old) }
+        ensures keeps { (p : ℕ) → OnErr result (rank p self.new ≤ rank p self.old) }
+        ensures derived { (log : Log) → Derived self.old log → Derived self.new log × IfOk result (λ order. StepGives self.old log r (Step.Order number order)) }
+        ensures same { SameCore self.old self.new }
+    {
+        let since = self.greatest;
+        let now = self.moment;
+        let resolution = &mut self.resolutions[r];
+        resolution.order(alloc, &mut self.servers, number, since, now)
     }
 
     fn take_reply(&mut self, r: usize) -> Option<Reply>
@@ -287,18 +296,6 @@ impl RecursorCore {
         Ok(number)
     }
 
-    /// The number of the order that opened the connection to an address, where one is kept.
-    fn connection(&self, ip: IpAddr) -> Option<u64> {
-        self.connections.get(&ip).copied()
-    }
-
-    fn keep_connection(&mut self, ip: IpAddr, conn: u64) -> Result<(), NoMemory>
-        ensures { IsSetAs self.old self.new }
-    {
-        let _before = self.connections.insert(ip, conn)?;
-        Ok(())
-    }
-
     fn request(&self, alloc: Global, r: usize) -> Result<DnsRequest, NoMemory>
         ensures { IfOk result (λ request. asked_at self.now r ≡ Some request.query) }
     {
@@ -316,70 +313,29 @@ impl RecursorCore {
         }
     }
 
-    /// Gives the order to open a connection.
-    fn open(&mut self, r: usize, ip: IpAddr) -> Result<Progress, NoMemory>
-        requires { need_at self.old r ≡ Need.Send (Want.Connect ip) }
-        ensures goes { GoesOn self.old self.new result }
-        ensures gives { (log : Log) → Derived self.old log → Derived self.new log × IfOk result (Gives self.old log r) }
-        ensures same { SameCore self.old self.new }
-    {
-        let number = self.take_number()?;
-        self.opens(r, ip, number);
-        Ok(Progress::Step(Step::Order {
-            number,
-            order: Order::Open { ip, config: udp() },
-        }))
-    }
-
-    /// Gives the order to ask over a connection.
-    fn ask(&mut self, alloc: Global, r: usize, ip: IpAddr, conn: u64) -> Result<Progress, NoMemory>
-        requires { MayAskAt self.old r ip }
+    /// Begins a send of the present question to the chosen server.
+    fn begin_asking(&mut self, alloc: Global, r: usize, ip: IpAddr) -> Result<Progress, NoMemory>
+        requires { need_at self.old r ≡ Need.Send (Want.Begin ip) }
         ensures goes { GoesOn self.old self.new result }
         ensures gives { (log : Log) → Derived self.old log → Derived self.new log × IfOk result (Gives self.old log r) }
         ensures same { SameCore self.old self.new }
     {
         let request = self.request(alloc, r)?;
+        let send = self.servers.begin(ip, request)?;
+        self.begin_send(r, ip, send);
+        Ok(Progress::Again)
+    }
+
+    /// Gives the next order of the present send.
+    fn give_order(&mut self, alloc: Global, r: usize) -> Result<Progress, NoMemory>
+        requires { need_at self.old r ≡ Need.Send Want.Order }
+        ensures goes { GoesOn self.old self.new result }
+        ensures gives { (log : Log) → Derived self.old log → Derived self.new log × IfOk result (Gives self.old log r) }
+        ensures same { SameCore self.old self.new }
+    {
         let number = self.take_number()?;
-        self.asks(r, ip, number);
-        Ok(Progress::Step(Step::Order {
-            number,
-            order: Order::Ask {
-                conn,
-                ip,
-                protocol: Protocol::Udp,
-                request,
-            },
-        }))
-    }
-
-    /// Asks over the connection that is kept for the address, or opens one.
-    fn connect(&mut self, alloc: Global, r: usize, ip: IpAddr) -> Result<Progress, NoMemory>
-        requires { need_at self.old r ≡ Need.Send (Want.Connect ip) }
-        ensures goes { GoesOn self.old self.new result }
-        ensures gives { (log : Log) → Derived self.old log → Derived self.new log × IfOk result (Gives self.old log r) }
-        ensures same { SameCore self.old self.new }
-    {
-        match self.connection(ip) {
-            Some(conn) => self.ask(alloc, r, ip, conn),
-            None => self.open(r, ip),
-        }
-    }
-
-    /// Keeps a connection that came to be, and asks over it.
-    fn ask_first(
-        &mut self,
-        alloc: Global,
-        r: usize,
-        ip: IpAddr,
-        conn: u64,
-    ) -> Result<Progress, NoMemory>
-        requires { need_at self.old r ≡ Need.Send (Want.Ask ip conn) }
-        ensures goes { GoesOn self.old self.new result }
-        ensures gives { (log : Log) → Derived self.old log → Derived self.new log × IfOk result (Gives self.old log r) }
-        ensures same { SameCore self.old self.new }
-    {
-        self.keep_connection(ip, conn)?;
-        self.ask(alloc, r, ip, conn)
+        let order = self.order(alloc, r, number)?;
+        Ok(Progress::Step(Step::Order { number, order }))
     }
 
     fn reply(&mut self, r: usize) -> Progress
@@ -403,6 +359,7 @@ impl RecursorCore {
     {
         match want {
             Want::Recall => {
+                self.arrange(alloc, r)?;
                 self.recall(alloc, r)?;
                 Ok(Progress::Again)
             }
@@ -410,8 +367,8 @@ impl RecursorCore {
                 self.choose(alloc, r)?;
                 Ok(Progress::Again)
             }
-            Want::Connect { ip } => self.connect(alloc, r, ip),
-            Want::Ask { ip, conn } => self.ask_first(alloc, r, ip, conn),
+            Want::Begin { ip } => self.begin_asking(alloc, r, ip),
+            Want::Order => self.give_order(alloc, r),
             Want::Wait { order } => Ok(Progress::Step(Step::Waiting { number: order })),
             Want::Hear => {
                 self.hear(alloc, r)?;
@@ -463,44 +420,36 @@ impl RecursorCore {
         None
     }
 
-    fn take(&mut self, r: usize, outcome: Outcome, tick: Tick) -> After
+    fn take(
+        &mut self,
+        alloc: Global,
+        r: usize,
+        outcome: Outcome,
+        tick: Tick,
+    ) -> Result<After, NoMemory>
         requires { order_at self.old r ≢ None }
-        ensures falls { result ≢ After.Late → result ≢ After.GiveUp → rank tick.patience self.new < rank tick.patience self.old }
+        ensures falls { IfOk result (λ after. after ≢ After.Late → after ≢ After.GiveUp → rank tick.patience self.new < rank tick.patience self.old) }
         ensures keeps { rank tick.patience self.new ≤ rank tick.patience self.old }
         ensures derived { (log longer : Log) → self.old.setting.patience ≤ tick.patience → self.old.greatest < entry_of outcome → self.old.moment ≤ tick.now
             → Derived self.old log → Extends log longer → Fits longer tick.now outcome
             → Derived (record self.new { greatest = entry_of outcome; moment = tick.now }) longer }
         ensures same { SameCore self.old self.new }
-        ensures late { result ≡ After.Late → telling_at self.new r ≡ None }
+        ensures late { result ≡ Ok After.Late → telling_at self.new r ≡ None }
     {
         let resolution = &mut self.resolutions[r];
-        resolution.take(outcome, tick)
-    }
-
-    /// The address that the resolution at a place asks.
-    fn asked_address(&self, r: usize) -> Option<IpAddr> {
-        match self.resolutions.get(r) {
-            Some(resolution) => resolution.asked_address(),
-            None => None,
-        }
-    }
-
-    /// Where an exchange is given up, the connection to its address is not used again.
-    fn forget_given_up(&mut self, after: After, asked: Option<IpAddr>)
-        ensures { IsSetAs self.old self.new }
-    {
-        match (after, asked) {
-            (After::GiveUp, Some(ip)) => {
-                self.connections.remove(&ip);
-            }
-            _ => {}
-        }
+        resolution.take(alloc, &mut self.servers, outcome, tick)
     }
 
     /// Takes the outcome for the resolution that waits for its order.
-    fn accept(&mut self, r: usize, outcome: Outcome, tick: Tick) -> After
+    fn accept(
+        &mut self,
+        alloc: Global,
+        r: usize,
+        outcome: Outcome,
+        tick: Tick,
+    ) -> Result<After, NoMemory>
         requires { order_at self.old r ≢ None }
-        ensures falls { result ≢ After.Late → result ≢ After.GiveUp → rank tick.patience self.new < rank tick.patience self.old }
+        ensures falls { IfOk result (λ after. after ≢ After.Late → after ≢ After.GiveUp → rank tick.patience self.new < rank tick.patience self.old) }
         ensures keeps { rank tick.patience self.new ≤ rank tick.patience self.old }
         ensures derived { (log longer : Log) → self.old.setting.patience ≤ tick.patience → self.old.greatest < entry_of outcome → self.old.moment ≤ tick.now
             → Derived self.old log → Extends log longer → Fits longer tick.now outcome → Derived self.new longer }
@@ -508,12 +457,10 @@ impl RecursorCore {
         ensures cache { self.new.cache ≡ self.old.cache }
         ensures moment { self.old.moment ≡ tick.now → self.new.moment ≡ tick.now }
         ensures begun { (k : ℕ) → begun_at self.new k ≡ begun_at self.old k }
-        ensures late { result ≡ After.Late → telling_at self.new r ≡ None }
+        ensures late { result ≡ Ok After.Late → telling_at self.new r ≡ None }
     {
         let entry = outcome.entry();
-        let asked = self.asked_address(r);
-        let after = self.take(r, outcome, tick);
-        self.forget_given_up(after, asked);
+        let after = self.take(alloc, r, outcome, tick);
         self.greatest = entry;
         self.moment = self.moment.max(tick.now);
         after
@@ -522,7 +469,8 @@ impl RecursorCore {
     /// Takes the outcome of an order. One that nobody waits for is late, and changes nothing; so is one
     /// that does not fit the order, or whose number is not greater than all before. An order that is to
     /// be given up goes on until the outcome of the give-up is put. What counts of a message that was
-    /// told is written into the cache; on want of memory for this the outcome is taken all the same.
+    /// told is written into the cache; on want of memory for this the outcome is taken all the same, and
+    /// on want of memory to take it its order stays open.
     pub fn put(
         &mut self,
         alloc: Global,
@@ -546,7 +494,7 @@ impl RecursorCore {
         let Some(r) = self.waiter(number) else {
             return Ok(After::Late);
         };
-        let after = self.accept(r, outcome, tick);
+        let after = self.accept(alloc, r, outcome, tick)?;
         self.remember(alloc, r)?;
         Ok(after)
     }

@@ -1,15 +1,18 @@
 //! What a recursor is set to.
-ghost use Rattle.std.specs.Prelude.{◌≡◌, [], false, IfOk};
+ghost use Rattle.std.specs.Prelude.{◌≡◌, ◌∷◌, [], false, IfOk};
+ghost use Rattle.std.specs.List.{list_all};
 ghost use Rattle.resolver_settings.specs.Recommended.{special_nets};
 ghost use Rattle.resolver_settings.specs.Ttl.{one_day};
+ghost use Rattle.recursor_core.specs.Options.{is_first_delay, has_bad_first_delays};
 
-use dns_core::{NoMemory, Ports};
+use dns_core::{Delays, NoMemory, Ports};
 use resolver_settings::{Nets, TtlConfig, recommended_server_filters};
 use std::alloc::Global;
 
 /// The options of a recursor. The cache keeps so many responses, each for as long as the policy's
 /// bounds of TTLs say. An address that a delegation gives is asked where it is in no denied network
-/// or in an allowed one. The payload is that of EDNS, in bytes; the ports rise.
+/// or in an allowed one. The payload is that of EDNS, in bytes; the ports rise. Servers start with the
+/// first delays in turn, each from 1 to 31 microseconds, of which there is at least one.
 #[derive(Drop, Debug, PartialEq, Eq)]
 pub struct RecursorOptions {
     pub response_cache_size: u64,
@@ -19,12 +22,27 @@ pub struct RecursorOptions {
     pub cache_policy: TtlConfig,
     pub case_randomization: bool,
     pub edns_payload_len: u16,
+    pub first_delays: Delays,
+}
+
+/// Whether a server may start with this delay, in microseconds.
+fn is_first_delay(micros: u8) -> bool
+    ensures { result ≡ is_first_delay micros }
+{
+    1 <= micros && micros <= 31
+}
+
+/// Whether a server may start with each of these delays.
+fn are_first_delays(delays: &[u8]) -> bool
+    ensures { result ≡ list_all is_first_delay delays.now }
+{
+    delays.iter().all(|micros| is_first_delay(*micros))
 }
 
 impl RecursorOptions {
     /// 1,048,576 responses are kept, from 0 to 86,400 seconds; the 22 networks of special purpose are
     /// denied and none is allowed (RFC 6890), no port is avoided, case is not randomized, the payload is
-    /// 1,232 bytes. It fails for want of memory alone.
+    /// 1,232 bytes, and each server starts with 1 microsecond. It fails for want of memory alone.
     pub fn standard(alloc: Global) -> Result<RecursorOptions, NoMemory>
         ensures { IfOk result (λ options. options ≡ record {
           response_cache_size = 1048576;
@@ -34,6 +52,7 @@ impl RecursorOptions {
           cache_policy = record { general = one_day; own = [] };
           case_randomization = false;
           edns_payload_len = 1232;
+          first_delays = 1 ∷ [];
         }) }
     {
         Ok(RecursorOptions {
@@ -44,6 +63,14 @@ impl RecursorOptions {
             cache_policy: TtlConfig::standard(alloc),
             case_randomization: false,
             edns_payload_len: 1232,
+            first_delays: Delays::new(vec![in alloc; 1u8]?),
         })
+    }
+
+    /// Whether there is no first delay, or one with which no server may start.
+    pub fn has_bad_first_delays(&self) -> bool
+        ensures { result ≡ has_bad_first_delays self.now.first_delays }
+    {
+        self.first_delays.is_empty() || !are_first_delays(self.first_delays.items())
     }
 }

@@ -1,8 +1,9 @@
 //! The recursor: the machine over a provider.
-ghost use Rattle.std.specs.Prelude.{◌≡◌, ◌≢◌, ◌↔◌, IsTrue, List, [], Some, Err, IfOk, IfErr};
+ghost use Rattle.std.specs.Prelude.{◌≡◌, ◌≢◌, ◌↔◌, IsTrue, false, List, [], Some, Err, IfOk, IfErr};
 ghost use Rattle.dns_core.specs.declared.log.LogEntry.{LogEntry};
 ghost use Rattle.resolver_settings.specs.Ttl.{has_reversed};
-ghost use Rattle.recursor_core.specs.Machine.{IsNewError};
+ghost use Rattle.recursor_core.specs.Options.{has_bad_first_delays};
+ghost use Rattle.recursor_core.specs.Recursor.{IsSetupError};
 ghost use Rattle.recursor_core.specs.Setting.{server_filter_of};
 ghost use Rattle.recursor_core.specs.Standing.{Standing, Rests};
 
@@ -46,7 +47,8 @@ fn connect_options(alloc: Global, options: &RecursorOptions) -> Result<ConnectOp
 impl<P: ConnectionProvider> Recursor<P> {
     /// A recursor that begins at these roots, over a provider whose log is empty. The filter of the
     /// options is for other servers: no root is left out for it. It is refused where there is no root,
-    /// else where a minimum TTL is above its maximum.
+    /// else where a minimum TTL is above its maximum, else where a first delay is missing or outside
+    /// 1 to 31.
     pub fn with_options(
         alloc: Global,
         roots: &[IpAddr],
@@ -57,13 +59,17 @@ impl<P: ConnectionProvider> Recursor<P> {
         ensures ok { IfOk result (λ recursor. recursor ≡ record { provider = provider; roots = roots.now; server_filter = server_filter_of options; lives = options.cache_policy; patience = 4294967295; moment = 0 }) }
         ensures no_roots { (result ≡ Err (RecursorError.Message MessageKind.NoRoots)) ↔ (roots.now ≡ []) }
         ensures reversed { (result ≡ Err (RecursorError.Message MessageKind.ReversedTtl)) ↔ ((roots.now ≢ []) × IsTrue (has_reversed options.cache_policy)) }
-        ensures only { IfErr result IsNewError }
+        ensures first_delays { (result ≡ Err (RecursorError.Message MessageKind.FirstDelays)) ↔ ((roots.now ≢ []) × (has_reversed options.cache_policy ≡ false) × IsTrue (has_bad_first_delays options.first_delays)) }
+        ensures only { IfErr result IsSetupError }
     {
         if roots.is_empty() {
             return Err(RecursorError::Message(MessageKind::NoRoots));
         }
         if options.cache_policy.is_reversed() {
             return Err(RecursorError::Message(MessageKind::ReversedTtl));
+        }
+        if options.has_bad_first_delays() {
+            return Err(RecursorError::Message(MessageKind::FirstDelays));
         }
         let Ok(connect) = connect_options(alloc, &options) else {
             return Err(RecursorError::NoMemory);

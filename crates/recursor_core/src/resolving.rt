@@ -1,24 +1,27 @@
 //! One question under way, answered, or ended.
-ghost use Rattle.std.specs.Prelude.{◌≡◌, ◌≢◌, ◌≤◌, ◌<◌, ℕ, true, length, Some, None, IfOk, IfSome, IsSome, OnOk, OnErr};
+ghost use Rattle.std.specs.Prelude.{◌≡◌, ◌≢◌, ◌≤◌, ◌<◌, ◌+◌, ℕ, true, length, Some, None, Ok, IfOk, IfSome, IsSome, OnOk, OnErr, is_ok};
 ghost use Rattle.std.specs.declared.net.ip_addr.IpAddr.{IpAddr};
 ghost use Rattle.dns_core.specs.Log.{Log, Extends};
-ghost use Rattle.recursor_core.specs.Order.{entry_of, Fits};
-ghost use Rattle.recursor_core.specs.Replies.{Terms, ReplyHolds};
+ghost use Rattle.server_core.specs.Order.{entry_of};
+ghost use Rattle.recursor_core.specs.Order.{Fits, GoesToServer};
+ghost use Rattle.recursor_core.specs.Replies.{Terms, given_of, ReplyHolds};
 ghost use Rattle.recursor_core.specs.Tried.{machine_timer};
 ghost use Rattle.recursor_core.specs.Counted.{IsRecalled, recalled};
 ghost use Rattle.recursor_core.specs.Remembered.{CacheHolds, telling_in, remembered};
-ghost use Rattle.recursor_core.specs.Derived.{StateHolds, ResolutionHolds};
-ghost use Rattle.recursor_core.specs.Walk.{begin_steps};
-ghost use Rattle.recursor_core.specs.Resolving.{want_of, waits_for, state_steps, steps, rank, MayAskNow, IsAfter, SameBegun, asked_of, address_of, IsAnswered};
+ghost use Rattle.recursor_core.specs.Lookup.{send_want};
+ghost use Rattle.recursor_core.specs.Derived.{WalkHolds, WalkComes, StateHolds, ResolutionHolds};
+ghost use Rattle.recursor_core.specs.Walk.{begin_steps, Goes};
+ghost use Rattle.recursor_core.specs.Resolving.{want_of, waits_for, state_steps, steps, rank, IsSettled, SameBegun, asked_of, AsksFor, IsAnswered};
 
 use crate::counted::{Counted, recalled};
 use crate::lookup::Want;
-use crate::order::{After, Outcome, Tick};
 use crate::reply::Reply;
+use crate::servers::Servers;
 use crate::walk::{Walk, answer_with};
 use dns_core::{Ips, NoMemory, Query, Question, TryClone};
 use resolver_cache::ResponseCache;
 use resolver_settings::AccessControlSet;
+use server_core::{After, Order, Outcome, ServerSend, Tick};
 use std::alloc::Global;
 use std::mem;
 use std::net::IpAddr;
@@ -49,16 +52,6 @@ pub struct Resolution {
     pub state: State,
 }
 
-/// A walk that goes on, or the reply that it came to.
-fn state_after(walk: Walk, reply: Option<Reply>) -> State
-    ensures { IsAfter walk reply result }
-{
-    match reply {
-        Some(reply) => State::Done(reply),
-        None => State::Under(walk),
-    }
-}
-
 /// Where a question stands for which the cache has this.
 fn begun_with(
     alloc: Global,
@@ -82,7 +75,44 @@ fn begun_with(
     Ok(State::Under(walk))
 }
 
+/// A walk goes by what the cache has for its present lookup.
+fn recall(
+    alloc: Global,
+    walk: &mut Walk,
+    question: &Question,
+    filter: &AccessControlSet,
+    cache: &ResponseCache,
+    now: u64,
+) -> Result<Option<Reply>, NoMemory>
+    requires { send_want walk.old.lookup.send ≡ Want.Recall }
+    ensures falls { Goes walk.old walk.new result }
+    ensures holds { (terms : Terms) (greatest t0 : ℕ) (log : Log) → terms.server_filter ≡ filter.now → CacheHolds terms greatest log cache.now → t0 ≤ now
+        → WalkHolds terms greatest now t0 log question.now.query walk.old → IfOk result (WalkComes terms greatest now t0 log question.now walk.new) }
+{
+    let counted = recalled(alloc, cache, &walk.lookup.query, now)?;
+    walk.recall(alloc, question, filter, counted)
+}
+
 impl Resolution {
+    /// Goes on, or has this reply; on want of memory it has ended.
+    fn settle(&mut self, came: Result<Option<Reply>, NoMemory>) -> Result<(), NoMemory>
+        ensures state { IsSettled came self.old.state self.new.state }
+        ensures begun { SameBegun self.old self.new }
+        ensures result { is_ok result ≡ is_ok came }
+    {
+        match came {
+            Ok(None) => Ok(()),
+            Ok(Some(reply)) => {
+                self.state = State::Done(reply);
+                Ok(())
+            }
+            Err(_) => {
+                self.state = State::Ended;
+                Err(NoMemory)
+            }
+        }
+    }
+
     /// A question that begins. Its name is fully qualified.
     pub fn begin(question: Question, now: u64) -> Resolution
         requires { question.query.name.fqdn ≡ true }
@@ -113,16 +143,6 @@ impl Resolution {
     {
         match self.need() {
             Need::Send(Want::Wait { order }) => Some(order),
-            _ => None,
-        }
-    }
-
-    /// The address that it asks now.
-    pub fn asked_address(&self) -> Option<IpAddr>
-        ensures { result ≡ address_of self.now.state }
-    {
-        match &self.state {
-            State::Under(walk) => walk.lookup.send.asked_address(),
             _ => None,
         }
     }
@@ -174,13 +194,11 @@ impl Resolution {
         ensures holds { (terms : Terms) (greatest : ℕ) (log : Log) → terms.server_filter ≡ filter.now → CacheHolds terms greatest log cache.now
             → ResolutionHolds terms greatest now log self.old → ResolutionHolds terms greatest now log self.new }
     {
-        if let State::Under(walk) = mem::replace(&mut self.state, State::Ended) {
-            let mut walk = walk;
-            let counted = recalled(alloc, cache, &walk.lookup.query, now)?;
-            let reply = walk.recall(alloc, &self.question, filter, counted)?;
-            self.state = state_after(walk, reply);
-        }
-        Ok(())
+        let State::Under(walk) = &mut self.state else {
+            return Ok(());
+        };
+        let came = recall(alloc, walk, &self.question, filter, cache, now);
+        self.settle(came)
     }
 
     /// Writes what it was just told into the cache, where it is kept.
@@ -202,12 +220,11 @@ impl Resolution {
         ensures holds { (terms : Terms) (greatest moment : ℕ) (log : Log) → terms.server_filter ≡ filter.now
             → ResolutionHolds terms greatest moment log self.old → ResolutionHolds terms greatest moment log self.new }
     {
-        if let State::Under(walk) = mem::replace(&mut self.state, State::Ended) {
-            let mut walk = walk;
-            let reply = walk.choose(alloc, &self.question, filter)?;
-            self.state = state_after(walk, reply);
-        }
-        Ok(())
+        let State::Under(walk) = &mut self.state else {
+            return Ok(());
+        };
+        let came = walk.choose(alloc, &self.question, filter);
+        self.settle(came)
     }
 
     /// Hears what came of its order. On want of memory it has ended.
@@ -218,44 +235,84 @@ impl Resolution {
         ensures holds { (terms : Terms) (greatest moment : ℕ) (log : Log) → terms.server_filter ≡ filter.now
             → ResolutionHolds terms greatest moment log self.old → ResolutionHolds terms greatest moment log self.new }
     {
-        if let State::Under(walk) = mem::replace(&mut self.state, State::Ended) {
-            let mut walk = walk;
-            let reply = walk.hear(alloc, &self.question, filter)?;
-            self.state = state_after(walk, reply);
-        }
-        Ok(())
+        let State::Under(walk) = &mut self.state else {
+            return Ok(());
+        };
+        let came = walk.hear(alloc, &self.question, filter);
+        self.settle(came)
     }
 
-    /// The order to open a connection was given.
-    pub fn opens(&mut self, ip: IpAddr, order: u64)
-        ensures falls { (was : IpAddr) → want_of self.old ≡ Need.Send (Want.Connect was) → steps self.new < steps self.old }
+    /// Puts the servers of the present lookup in the order in which they are to be asked.
+    pub fn arrange(
+        &mut self,
+        alloc: Global,
+        servers: &mut Servers,
+        now: u64,
+    ) -> Result<(), NoMemory>
+        requires { want_of self.old ≡ Need.Send Want.Recall }
+        ensures keeps { (p : ℕ) → rank p self.new ≡ rank p self.old }
+        ensures want { want_of self.new ≡ Need.Send Want.Recall }
         ensures begun { SameBegun self.old self.new }
-        ensures holds { (terms : Terms) (greatest moment : ℕ) (log : Log) → want_of self.old ≡ Need.Send (Want.Connect ip)
+        ensures holds { (terms : Terms) (greatest moment : ℕ) (log : Log)
             → ResolutionHolds terms greatest moment log self.old → ResolutionHolds terms greatest moment log self.new }
     {
-        if let State::Under(walk) = &mut self.state {
-            walk.lookup.opens(ip, order);
+        match &mut self.state {
+            State::Under(walk) => walk.lookup.arrange(alloc, servers, now),
+            _ => Ok(()),
         }
     }
 
-    /// The order to ask over a connection was given.
-    pub fn asks(&mut self, ip: IpAddr, order: u64, since: u64)
-        ensures falls { MayAskNow ip self.old → steps self.new < steps self.old }
+    /// A send to the chosen server begins.
+    pub fn begin_send(&mut self, ip: IpAddr, send: ServerSend, since: u64)
+        requires want { want_of self.old ≡ Need.Send (Want.Begin ip) }
+        requires fresh { AsksFor send self.old.state }
+        ensures falls { steps self.new < steps self.old }
         ensures begun { SameBegun self.old self.new }
-        ensures holds { (terms : Terms) (moment : ℕ) (log : Log) → MayAskNow ip self.old
+        ensures holds { (terms : Terms) (moment : ℕ) (log : Log)
             → ResolutionHolds terms since moment log self.old → ResolutionHolds terms since moment log self.new }
     {
         if let State::Under(walk) = &mut self.state {
-            walk.lookup.asks(ip, order, since);
+            walk.lookup.begin_send(ip, send, since);
         }
     }
 
-    /// Takes the outcome of the order that it waits for.
-    pub fn take(&mut self, outcome: Outcome, tick: Tick) -> After
+    /// The next order of the present send.
+    pub fn order(
+        &mut self,
+        alloc: Global,
+        servers: &mut Servers,
+        number: u64,
+        since: u64,
+        now: u64,
+    ) -> Result<Order, NoMemory>
+        requires { want_of self.old ≡ Need.Send Want.Order }
+        ensures falls { OnOk result (steps self.new < steps self.old) }
+        ensures keeps { (p : ℕ) → OnErr result (rank p self.new ≤ rank p self.old) }
+        ensures begun { SameBegun self.old self.new }
+        ensures holds { (terms : Terms) (moment : ℕ) (log : Log)
+            → ResolutionHolds terms since moment log self.old → ResolutionHolds terms since moment log self.new }
+        ensures goes { (terms : Terms) (moment : ℕ) (log : Log)
+            → ResolutionHolds terms since moment log self.old → IfOk result (GoesToServer (given_of terms) log (since + 1)) }
+    {
+        match &mut self.state {
+            State::Under(walk) => walk.lookup.order(alloc, servers, number, since, now),
+            _ => Err(NoMemory),
+        }
+    }
+
+    /// Takes the outcome of the order that it waits for. On want of memory it is as before.
+    pub fn take(
+        &mut self,
+        alloc: Global,
+        servers: &mut Servers,
+        outcome: Outcome,
+        tick: Tick,
+    ) -> Result<After, NoMemory>
         requires { waits_for self.old ≢ None }
-        ensures falls { result ≢ After.Late → result ≢ After.GiveUp → rank tick.patience self.new < rank tick.patience self.old }
+        ensures falls { IfOk result (λ after. after ≢ After.Late → after ≢ After.GiveUp → rank tick.patience self.new < rank tick.patience self.old) }
         ensures keeps { rank tick.patience self.new ≤ rank tick.patience self.old }
-        ensures late { result ≡ After.Late → self.new ≡ self.old }
+        ensures late { result ≡ Ok After.Late → self.new ≡ self.old }
+        ensures err { OnErr result (self.new ≡ self.old) }
         ensures begun { SameBegun self.old self.new }
         ensures holds { (terms : Terms) (greatest moment : ℕ) (log longer : Log)
             → terms.patience ≤ tick.patience → greatest < entry_of outcome → moment ≤ tick.now
@@ -264,7 +321,7 @@ impl Resolution {
     {
         let begun = self.begun;
         match &mut self.state {
-            State::Under(walk) => walk.lookup.take(outcome, begun, tick),
+            State::Under(walk) => walk.lookup.take(alloc, servers, outcome, begun, tick),
             _ => unreachable!(),
         }
     }

@@ -2,8 +2,8 @@
 ghost use Rattle.std.specs.Prelude.{◌≡◌, IsTrue};
 ghost use Rattle.dns_core.specs.Connection.{Peer};
 
-use crate::order::Sent;
 use dns_core::ConnectionProvider;
+use server_core::Sent;
 use std::net::IpAddr;
 
 /// A connection that is being opened, and how many polls of it found nothing.

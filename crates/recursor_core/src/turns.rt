@@ -15,9 +15,9 @@ ghost use Rattle.recursor_core.specs.Turns.{TurnFalls, work, open_plays, IsBegun
 use crate::carrier::Carrier;
 use crate::error::RecursorError;
 use crate::machine::{RecursorCore, Step};
-use crate::order::{After, Order, Outcome, Tick};
 use crate::reply::Reply;
 use dns_core::{ConnectionProvider, NoMemory, Numbers, Question, TryClone};
+use server_core::{After, Order, Outcome, Tick};
 use std::alloc::Global;
 use std::mem;
 

@@ -16,10 +16,10 @@ use crate::error::{AuthorityData, RecursorError, WalkCause};
 use crate::lookup::{Found, Lookup, Send, Want};
 use crate::reply::Reply;
 use dns_core::{
-    DnsClass, Ips, Message, Name, NetError, NoMemory, NoRecords, Numbers, Query, Question,
-    RecordType, Records, TryClone, strip,
+    DnsClass, DnsError, Ips, Message, Name, NetError, NoMemory, NoRecords, Numbers, Query,
+    Question, RecordType, Records, TryClone, strip,
 };
-use recursor_walk::{addresses, is_delegation, verdict_of};
+use recursor_walk::{addresses, is_delegation, verdict_of_class};
 use resolution::{Cause, Verdict};
 use resolver_cache::ResponseCache;
 use resolver_settings::AccessControlSet;
@@ -68,16 +68,30 @@ fn stage_after(total: usize, labels: usize) -> Stage
     }
 }
 
-/// As what a message is kept that was told by a server of the zone.
+/// A copy of a message, as it is classified.
+fn copy_of(
+    alloc: Global,
+    class: &Result<Message, DnsError>,
+) -> Result<Result<Message, DnsError>, NoMemory>
+    ensures { IfOk result (λ copy. copy ≡ class.now) }
+{
+    match class {
+        Ok(message) => Ok(Ok(message.try_clone(alloc)?)),
+        Err(error) => Ok(Err(error.try_clone(alloc)?)),
+    }
+}
+
+/// As what a message is kept that was told for the question by a server of the zone.
 fn response_in(
     alloc: Global,
-    message: &Message,
+    class: &Result<Message, DnsError>,
+    query: &Query,
     zone: &Name,
 ) -> Result<Option<Result<Message, NetError>>, NoMemory>
-    ensures { IfOk result (λ response. response ≡ response_in zone.now message.now) }
+    ensures { IfOk result (λ response. response ≡ response_in zone.now query.now class.now) }
 {
-    let copy = message.try_clone(alloc)?;
-    match verdict_of(alloc, copy, zone)? {
+    let copy = copy_of(alloc, class)?;
+    match verdict_of_class(copy, query, zone) {
         Ok(verdict) => Ok(kept_of(verdict)),
         Err(_) => Ok(None),
     }
@@ -213,13 +227,13 @@ impl Walk {
         let Send::Told {
             entry,
             at,
-            message,
+            class,
             ..
         } = &self.lookup.send
         else {
             return Ok(());
         };
-        let Some(response) = response_in(alloc, message, &self.zone)? else {
+        let Some(response) = response_in(alloc, class, &self.lookup.query, &self.zone)? else {
             return Ok(());
         };
         let query = self.lookup.query.try_clone(alloc)?;
@@ -353,8 +367,8 @@ impl Walk {
             → IfOk result (WalkComes terms greatest moment t0 log question.now self.new) }
     {
         match found {
-            Found::Message { entry, message } => {
-                self.hear_candidate(alloc, question, filter, entry, message)
+            Found::Told { entry, class } => {
+                self.hear_candidate(alloc, question, filter, entry, class)
             }
             Found::Error(error) => match error {
                 NetError::Timeout => self.no_server(alloc, WalkCause::Timeout),
@@ -369,16 +383,16 @@ impl Walk {
         question: &Question,
         filter: &AccessControlSet,
         entry: u64,
-        message: Message,
+        class: Result<Message, DnsError>,
     ) -> Result<Option<Reply>, NoMemory>
         requires { IsCandidate self.old.stage }
         ensures falls { Goes self.old self.new result }
         ensures holds { (terms : Terms) (greatest moment t0 : ℕ) (log : Log) → terms.server_filter ≡ filter.now
             → WayHolds terms greatest log question.now.query self.old
-            → FoundHolds terms greatest t0 log self.old.zone self.old.lookup.query self.old.lookup.ends (Found.Message entry message)
+            → FoundHolds terms greatest t0 log self.old.zone self.old.lookup.query self.old.lookup.ends (Found.Told entry class)
             → IfOk result (WalkComes terms greatest moment t0 log question.now self.new) }
     {
-        match verdict_of(alloc, message, &self.zone)? {
+        match verdict_of_class(class, &self.lookup.query, &self.zone) {
             Ok(verdict) => {
                 let counted = Counted { entry, verdict };
                 self.heed_candidate(alloc, question, filter, counted)
@@ -500,7 +514,7 @@ impl Walk {
             → IfOk result (ReplyHolds terms machine_timer log t0 question.now) }
     {
         match found {
-            Found::Message { entry, message } => self.hear_last(alloc, question, entry, message),
+            Found::Told { entry, class } => self.hear_last(alloc, question, entry, class),
             Found::Error(error) => Ok(self.failed(alloc, error)),
         }
     }
@@ -510,13 +524,13 @@ impl Walk {
         alloc: Global,
         question: &Question,
         entry: u64,
-        message: Message,
+        class: Result<Message, DnsError>,
     ) -> Result<Reply, NoMemory>
         ensures { (terms : Terms) (greatest t0 : ℕ) (log : Log) → self.old.stage ≡ Stage.Last → WayHolds terms greatest log question.now.query self.old
-            → FoundHolds terms greatest t0 log self.old.zone self.old.lookup.query self.old.lookup.ends (Found.Message entry message)
+            → FoundHolds terms greatest t0 log self.old.zone self.old.lookup.query self.old.lookup.ends (Found.Told entry class)
             → IfOk result (ReplyHolds terms machine_timer log t0 question.now) }
     {
-        match verdict_of(alloc, message, &self.zone)? {
+        match verdict_of_class(class, &self.lookup.query, &self.zone) {
             Ok(verdict) => answer_with(alloc, question, Counted { entry, verdict }),
             Err(error) => Ok(self.failed(alloc, error)),
         }

@@ -1,9 +1,10 @@
 -- The script of a scenario has fully qualified names alone.
-use Rattle.std.proofs.Common.{◌≡◌, Bool, true, List, [], ◌∷◌, Ok, Err, refl, ap, ◌∙◌}
-use Rattle.std.specs.Prelude.{IsTrue, ◌&&◌}
+use Rattle.std.proofs.Common.{◌≡◌, Bool, true, List, [], ◌∷◌, Some, None, Ok, Err, refl, ap, ◌∙◌}
+use Rattle.std.specs.Prelude.{IsTrue, ◌&&◌, not}
 use Rattle.std.specs.List.{list_all, AllByRecursion}
 use Rattle.dns_core.specs.Record.{is_qualified_data}
 use Rattle.dns_core.specs.Message.{is_qualified_record}
+use Rattle.dns_core.specs.NetError.{is_qualified_error, is_no_records}
 use Rattle.dns_core.specs.declared.record.Record.{Record}
 use Rattle.dns_core.specs.declared.record.RData.{RData}
 use Rattle.dns_core.specs.declared.record.RData.TheVariants.{A, AAAA, NS, CNAME, SOA, RRSIG, Opaque}
@@ -14,6 +15,7 @@ use Rattle.recursor_text.specs.declared.scenario.Upstream.{Upstream}
 use Rattle.recursor_text.specs.declared.scenario.Upstream.TheVariants.{Script as FromScript}
 use Rattle.recursor_text.specs.Spelling.{IsData, IsRecord, IsScriptLine, rules_of}
 use Rattle.recursor_program.specs.Program.{script_of}
+use Rattle.recursor_program.proofs.Failures.{failure_qualified, failure_no_records}
 
 both : (a b : Bool) → a ≡ true → b ≡ true → (a && b) ≡ true
 both a b p q = ap (λ x. x && b) p ∙ q
@@ -40,9 +42,10 @@ line_qualified (Reply ip protocol name type delay (Ok m)) h =
     (both _ (list_all is_qualified_record m.additionals)
     (both (list_all is_qualified_record m.answers) (list_all is_qualified_record m.authorities) (records_qualified m.answers h.answers) (records_qualified m.authorities h.authorities))
     (records_qualified m.additionals h.additionals))
-line_qualified (Reply ip protocol name type delay (Err e)) h = absurd h
-line_qualified (Connect ip protocol delay error) h = absurd h
-line_qualified (Refuse ip protocol) h = absurd h
+line_qualified (Reply ip protocol name type delay (Err e)) h = both name.fqdn (is_qualified_error e) h.named.1 (failure_qualified e h.failure)
+line_qualified (Connect ip protocol delay None) h = refl
+line_qualified (Connect ip protocol delay (Some e)) h = both (is_qualified_error e) (not (is_no_records e)) (failure_qualified e h.failure) (failure_no_records e h.failure)
+line_qualified (Refuse ip protocol) h = refl
 
 lines_qualified : (lines : List ScriptLine) → AllByRecursion IsScriptLine lines → list_all is_qualified_line lines ≡ true
 lines_qualified [] h = refl

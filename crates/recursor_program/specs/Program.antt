@@ -1,5 +1,5 @@
 -- What the program writes for what it reads.
-use Rattle.std.specs.Prelude.{◌≡◌, ◌≢◌, ◌⊎◌, ℕ, Bool, false, not, List, [], ◌∷◌, length, codes, Ok, Err}
+use Rattle.std.specs.Prelude.{◌≡◌, ◌≢◌, ◌⊎◌, ℕ, Bool, true, false, not, List, [], ◌∷◌, length, codes, Some, None, Ok, Err}
 use Rattle.std.specs.declared.option.Option.{Option}
 use Rattle.std.specs.Io.KnownBytes.{Appends}
 use Rattle.std.specs.List.{list_all}
@@ -12,7 +12,7 @@ use Rattle.recursor_world.specs.Script.{Gives}
 use Rattle.recursor_world.specs.Upstream.{Upstream}
 use Rattle.dns_core.specs.Log.{log_of}
 use Rattle.resolution.specs.Asking.{AsksServers}
-use Rattle.recursor_core.specs.Plain.{IsPlainlyTold}
+use Rattle.recursor_core.specs.Plain.{is_special_error, IsPlainlyTold}
 use Rattle.recursor_core.specs.Replies.{Terms, given_of}
 use Rattle.recursor_core.specs.Setting.{server_filter_of}
 use Rattle.recursor_core.specs.Standing.{Standing, RepliesHold}
@@ -48,15 +48,16 @@ script_of (upstream.Script s) = s
 abbrev pub IsNewOver : List IpAddr → RecursorOptions → Script → Standing Upstream → Type 0
 IsNewOver roots options script r = (r.provider.script ≡ script) × (r.roots ≡ roots) × (r.server_filter ≡ server_filter_of options) × (r.moment ≡ 0) × (r.lives ≡ options.cache_policy) × (r.patience ≡ 4294967295)
 
--- the line tells a message, and not a truncated one
-abbrev pub is_whole_line : ScriptLine → Bool
-is_whole_line (line.Reply ip protocol name query_type delay (Ok m)) = not m.truncation
-is_whole_line (line.Reply ip protocol name query_type delay (Err e)) = false
-is_whole_line (line.Connect ip protocol delay error) = false
-is_whole_line (line.Refuse ip protocol) = false
+-- after the line no server is to be asked twice: it tells a message that is not truncated, an error of transport, or that a connection is there or is refused
+abbrev pub is_plain_line : ScriptLine → Bool
+is_plain_line (line.Reply ip protocol name query_type delay (Ok m)) = not m.truncation
+is_plain_line (line.Reply ip protocol name query_type delay (Err e)) = not (is_special_error e)
+is_plain_line (line.Connect ip protocol delay None) = true
+is_plain_line (line.Connect ip protocol delay (Some e)) = not (is_special_error e)
+is_plain_line (line.Refuse ip protocol) = true
 
-abbrev pub is_whole_script : Script → Bool
-is_whole_script s = list_all is_whole_line s.lines
+abbrev pub is_plain_script : Script → Bool
+is_plain_script s = list_all is_plain_line s.lines
 
 -- the roots of a scenario, the filter of other servers and the bounds of lives that its options say, and its patience
 abbrev pub terms_of : Scenario → Terms

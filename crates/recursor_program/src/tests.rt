@@ -304,8 +304,8 @@ fn bad_inputs_name_their_line(rt: HostRuntime) -> Result<(), Fail> {
     assert!(rt;
         refused(
             alloc,
-            &["recursor 1\nroot 11.0.0.1\nroot 11.0.0.9\n"],
-            "error line 3 not built\n"
+            &["recursor 1\nroot 11.0.0.1\nroot 11.0.0.9\npatience 3\ntold world\n"],
+            "error line 5 not built\n"
         )?
     );
     assert!(rt; refused(alloc, &[HEAD, "lookup\n"], "error line 5\n")?);
@@ -396,6 +396,78 @@ fn reversed_bounds_are_refused(rt: HostRuntime) -> Result<(), Fail> {
         Err(error) => { assert!(rt; error == RecursorError::Message(MessageKind::ReversedTtl)) }
         Ok(_) => assert!(rt; false),
     }
+    Ok(())
+}
+
+fn root() -> IpAddr {
+    IpAddr::V4(Ipv4Addr::new(11, 0, 0, 1))
+}
+
+fn starting_with(alloc: Global, delays: &[u8]) -> Result<RecursorOptions, Fail> {
+    let mut options = RecursorOptions::standard(alloc)?;
+    options.first_delays = Items::new(Vec::from_slice(alloc, delays)?);
+    Ok(options)
+}
+
+/// What a recursor with these roots and options is refused for.
+fn refusal(
+    alloc: Global,
+    roots: &[IpAddr],
+    options: RecursorOptions,
+) -> Result<Option<RecursorError>, Fail> {
+    let script = Script {
+        lines: Items::empty(alloc),
+    };
+    let upstream = ScriptUpstream::new(alloc, script)?;
+    match Recursor::with_options(alloc, roots, options, upstream) {
+        Ok(_) => Ok(None),
+        Err(error) => Ok(Some(error)),
+    }
+}
+
+/// A recursor with these roots and options is refused for this.
+fn refused_for(
+    alloc: Global,
+    roots: &[IpAddr],
+    options: RecursorOptions,
+    kind: MessageKind,
+) -> Result<(), Fail> {
+    let found = refusal(alloc, roots, options)?;
+    if found == Some(RecursorError::Message(kind)) {
+        return Ok(());
+    }
+    Err(Fail::new(format_args!("{found:?} in place of {kind:?}")))
+}
+
+/// These first delays are refused.
+fn wrong_delays(alloc: Global, delays: &[u8]) -> Result<(), Fail> {
+    let options = starting_with(alloc, delays)?;
+    refused_for(alloc, &[root()], options, MessageKind::FirstDelays)
+}
+
+#[test]
+fn first_delays_are_from_1_to_31(rt: HostRuntime) -> Result<(), Fail> {
+    let alloc = rt.alloc();
+    wrong_delays(alloc, &[])?;
+    wrong_delays(alloc, &[32])?;
+    wrong_delays(alloc, &[0])?;
+    wrong_delays(alloc, &[1, 31, 32])?;
+    let options = starting_with(alloc, &[1, 31])?;
+    assert!(rt; refusal(alloc, &[root()], options)?.is_none());
+    Ok(())
+}
+
+/// Where several things are wrong, the roots come first, and then the bounds of TTLs.
+#[test]
+fn first_delays_are_the_last_cause(rt: HostRuntime) -> Result<(), Fail> {
+    let alloc = rt.alloc();
+    let options = starting_with(alloc, &[])?;
+    refused_for(alloc, &[], options, MessageKind::NoRoots)?;
+    let mut options = starting_with(alloc, &[])?;
+    let mut bounds = options.cache_policy.general();
+    bounds.positive_min = 86_401;
+    options.cache_policy = TtlConfig::new(alloc, bounds);
+    refused_for(alloc, &[root()], options, MessageKind::ReversedTtl)?;
     Ok(())
 }
 

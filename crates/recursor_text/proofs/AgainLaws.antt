@@ -28,7 +28,7 @@ use Rattle.recursor_text.specs.RecordLines.{class_in}
 use Rattle.recursor_text.specs.Steps.{start, may_turn, may_end, is_settled, rule_of, settle, add, put, taken_at, taken, scenario_of}
 use Rattle.recursor_text.specs.Spelling.{spelled, record_text, record_texts, script_lines, root_line, option_line, question_line, turn_line, rules_of, to_roots, to_options, to_patience, to_told, to_rules, to_questions, to_turns, scenario_lines, patience_words, told_words, end_words, options_with, option_rank, last_rank, RiseAbove, most_roots, most_questions, most_turns, IsAddress, IsRecord, IsRule, IsScriptLine, IsQuestion, IsTurn, NoneFalls, last_moment, IsOption, IsScenario}
 use Rattle.recursor_text.proofs.Binds.{bind_some}
-use Rattle.recursor_text.proofs.LineLaws.{form_words, IsBare, IsForm, form_again}
+use Rattle.recursor_text.proofs.LineLaws.{rule_words, form_words, IsBare, IsLone, IsForm, form_again}
 use Rattle.recursor_text.proofs.OptionLaws.{last_push}
 use Rattle.recursor_text.proofs.RecordLaws.{record_again}
 use Rattle.recursor_text.proofs.TurnLaws.{moment_push}
@@ -193,15 +193,21 @@ message_is : (ip : IpAddr) (protocol : Protocol) (n : DomainName) (t : RecordTyp
 message_is ip protocol n t delay m fits =
     ap (λ (x : Message). Reply ip protocol n t delay (Ok x)) (λ i. record m { query = sym fits.query i })
 
+-- a line that no records follow
+lone_again : (roots : List IpAddr) (written : List OptionLine) (patience : ℕ) (rules : List ScriptLine) (r : ScriptLine) → IsLone r
+    → run (scripted roots written patience rules) (spelled (rule_words r) ∷ []) ≡ Some (scripted roots written patience (rules ++ r ∷ []))
+lone_again roots written patience rules r fits =
+    takes_form (scripted roots written patience rules) (scripted roots written patience (rules ++ r ∷ [])) (form.Rule r) [] refl fits refl
+
 rule_again : (roots : List IpAddr) (written : List OptionLine) (patience : ℕ) (rules : List ScriptLine) (r : ScriptLine) → IsScriptLine r → run (scripted roots written patience rules) (script_lines r) ≡ Some (scripted roots written patience (rules ++ r ∷ []))
 rule_again roots written patience rules (Reply ip protocol n t delay (Ok m)) fits =
     let o = bare_rule ip protocol n t delay m in
     takes_form (scripted roots written patience rules) (settle (scripted roots written patience rules) o) (form.Reply o) (record_texts m) refl (is_bare ip protocol n t delay m fits) refl
     ∙ first roots written patience rules o [] m.authorities m.additionals m.answers fits.answers fits.authorities fits.additionals
     ∙ ap (λ (l : ScriptLine). Some (scripted roots written patience (rules ++ l ∷ []))) (message_is ip protocol n t delay m fits)
-rule_again roots written patience rules (Reply ip protocol n t delay (Err e)) fits = absurd fits
-rule_again roots written patience rules (Connect ip protocol delay e) fits = absurd fits
-rule_again roots written patience rules (Refuse ip protocol) fits = absurd fits
+rule_again roots written patience rules (Reply ip protocol n t delay (Err e)) fits = lone_again roots written patience rules (Reply ip protocol n t delay (Err e)) fits
+rule_again roots written patience rules (Connect ip protocol delay e) fits = lone_again roots written patience rules (Connect ip protocol delay e) fits
+rule_again roots written patience rules (Refuse ip protocol) fits = lone_again roots written patience rules (Refuse ip protocol) fits
 
 rules_again : (roots : List IpAddr) (written : List OptionLine) (patience : ℕ) (front rules : List ScriptLine) → AllByRecursion IsScriptLine rules → run (scripted roots written patience front) (flat_map script_lines rules) ≡ Some (scripted roots written patience (front ++ rules))
 rules_again roots written patience front [] all = ap (λ (l : List ScriptLine). Some (scripted roots written patience l)) (sym (append-nil front))

@@ -1,5 +1,5 @@
 -- Steps that may fail.
-use Rattle.std.proofs.Common.{◌≡◌, Bool, true, false, cond, Option, Some, None, refl, inl, inr, ◌⊎◌}
+use Rattle.std.proofs.Common.{◌≡◌, Bool, true, false, cond, List, ◌++◌, Option, Some, None, refl, inl, inr, ◌⊎◌}
 use Rattle.recursor_text.specs.Numbers.{◌>>=◌}
 
 pub bind_some : {A B : Type 0} (r : Option A) (f : A → Option B) (y : B) → (r >>= f) ≡ Some y → (x : A) × (r ≡ Some x) × (f x ≡ Some y)
@@ -24,3 +24,7 @@ some_is x y e = cc
 pub chosen : {A : Type 0} (b : Bool) (x y z : A) → cond b x y ≡ z → ((b ≡ true) × (x ≡ z)) ⊎ ((b ≡ false) × (y ≡ z))
 chosen true x y z e = inl (refl, e)
 chosen false x y z e = inr (refl, e)
+
+-- what is read, behind items that are there
+abbrev pub behind : {X : Type 0} → List X → Option (List X) → Option (List X)
+behind front read = read >>= λ xs. Some (front ++ xs)

@@ -8,6 +8,7 @@ use Rattle.std.specs.declared.net.ip_addr.IpAddr.{IpAddr}
 use Rattle.dns_core.specs.declared.record.Record.{Record}
 use Rattle.dns_core.specs.declared.request.Question.{Question}
 use Rattle.dns_core.specs.declared.request.Turn.{Turn}
+use Rattle.recursor_world.specs.declared.script.ScriptLine.{ScriptLine}
 use Rattle.recursor_text.specs.declared.reading.lines.Form.{Form}
 use Rattle.recursor_text.specs.declared.reading.lines.Form.TheVariants as form
 use Rattle.recursor_text.specs.declared.reading.option_form.OptionLine.{OptionLine}
@@ -22,7 +23,7 @@ use Rattle.recursor_text.specs.RecordLines.{record_of}
 use Rattle.recursor_text.specs.Steps.{may_head, may_root, may_option, may_wait, may_tell, may_reply, may_ask, may_turn, may_end, is_ended, start, is_settled, rule_of, settle, add, put, taken_at, taken, scenario_of}
 use Rattle.recursor_text.specs.Spelling.{head_words, patience_words, told_words, end_words, spelled, record_text, script_lines, root_line, option_line, question_line, turn_line, to_roots, to_options, to_patience, to_told, to_rules, to_questions, to_turns, scenario_lines, most_roots, most_questions, most_turns, IsAddress, IsScriptLine, IsQuestion, IsTurn, NoneFalls, last_moment, IsOption, option_rank, RiseAbove, last_rank, IsScenario}
 use Rattle.recursor_text.proofs.Binds.{bind_some, guard_some, some_is}
-use Rattle.recursor_text.proofs.LineLaws.{form_words, IsBare, IsForm, form_takes}
+use Rattle.recursor_text.proofs.LineLaws.{rule_words, form_words, IsBare, IsLone, IsForm, lone_lines, form_takes}
 use Rattle.recursor_text.proofs.OptionLaws.{rise_push}
 use Rattle.recursor_text.proofs.OpenRuleLaws.{all_push, mapped_push, IsOpen, open_lines, same_head, add_takes}
 use Rattle.recursor_text.proofs.RecordLaws.{record_takes}
@@ -353,6 +354,11 @@ told d g e shut =
       nothing_told d no_rules shut ∙ sym (ap (λ (s : Stage). so_far_at s d ++ spelled told_words ∷ []) is),
     )
 
+-- the lines so far, where no rule is open
+so_far_ruled : (d : Draft) → d.stage ≡ Scripted → d.pending ≡ None → so_far d ≡ to_rules d.written (scenario_of d)
+so_far_ruled d is shut =
+    ap (λ (s : Stage). so_far_at s d) is ∙ ap (λ (p : Option OpenRule). to_rules d.written (scenario_of d) ++ pending_lines p) shut ∙ append-nil (to_rules d.written (scenario_of d))
+
 abbrev shut_in : Draft → OpenRule → Draft
 shut_in d o = record d { rules = d.rules ++ rule_of o ∷ []; pending = None }
 
@@ -448,6 +454,42 @@ settled d o line g is fits lines =
             ap (λ (s : Stage). so_far_at s (left_in d o)) is ∙ lines,
           )
     ]
+
+abbrev with_rule : Draft → ScriptLine → Draft
+with_rule d line = record d { rules = d.rules ++ line ∷ [] }
+
+ruled : (d : Draft) (line : ScriptLine) → Good d → IsLone line → may_reply d.stage ≡ true → d.pending ≡ None → Takes d (spelled (rule_words line)) (with_rule d line)
+ruled d line g fits e shut =
+    let is : d.stage ≡ Scripted = reply_rank d.stage e in
+    let r : rank d.stage ≡ 5 = ap rank is in
+    let lone = lone_lines line fits in
+    let before : so_far d ≡ to_rules d.written (scenario_of d) = so_far_ruled d is shut in
+    let after : so_far (with_rule d line) ≡ to_rules d.written (scenario_of (with_rule d line)) = so_far_ruled (with_rule d line) is shut in (
+      record {
+        no_roots = λ h. absurd (omega arith);
+        rooted = λ h. g.rooted (omega arith);
+        no_written = λ h. absurd (omega arith);
+        patient = λ h. g.patient (omega arith);
+        no_rules = λ h. absurd (omega arith);
+        no_pending = λ h. shut;
+        no_questions = g.no_questions;
+        no_turns = g.no_turns;
+        few_roots = g.few_roots;
+        roots = g.roots;
+        ordered = g.ordered;
+        valued = g.valued;
+        rules = all_push IsScriptLine d.rules line g.rules lone.1;
+        pending = g.pending;
+        waits = g.waits;
+        few_questions = g.few_questions;
+        questions = g.questions;
+        few_turns = g.few_turns;
+        turns = g.turns;
+        timed = g.timed;
+      },
+      after ∙ sym (flat_map_more script_lines (to_told d.roots d.written d.patience) d.rules line) ∙ ap (λ (l : List (List ℕ)). to_rules d.written (scenario_of d) ++ l) lone.0
+          ∙ sym (ap (λ (l : List (List ℕ)). l ++ spelled (rule_words line) ∷ []) before),
+    )
 
 abbrev with_question : Draft → Question → Draft
 with_question d q = record d { stage = Asked; questions = d.questions ++ q ∷ [] }
@@ -592,9 +634,12 @@ put_takes d (form.Reply o) e g shut fits h =
     let line = spelled (form_words (form.Reply o)) in
     let k = guard_some (may_reply d.stage) (Some (settle d o)) e h in
     let is : d.stage ≡ Scripted = reply_rank d.stage k.0 in
-    let before : so_far d ≡ to_rules d.written (scenario_of d) = ap (λ (s : Stage). so_far_at s d) is ∙ ap (λ (p : Option OpenRule). to_rules d.written (scenario_of d) ++ pending_lines p) shut ∙ append-nil (to_rules d.written (scenario_of d)) in
+    let before : so_far d ≡ to_rules d.written (scenario_of d) = so_far_ruled d is shut in
     subst (Takes d line) (some_is (settle d o) e k.1) (settled d o line g is (is_new o fits)
     (ap (λ (l : List (List ℕ)). to_rules d.written (scenario_of d) ++ l) (new_lines o fits) ∙ sym (ap (λ (l : List (List ℕ)). l ++ line ∷ []) before)))
+put_takes d (form.Rule line) e g shut fits h =
+    let k = guard_some (may_reply d.stage) (Some (with_rule d line)) e h in
+    subst (Takes d (spelled (rule_words line))) (some_is (with_rule d line) e k.1) (ruled d line g fits k.0 shut)
 put_takes d (form.Question q) e g shut fits h =
     let k = guard_some (may_ask d.stage && ltb (length d.questions) most_questions) (Some (with_question d q)) e h in
     let p = and_parts (may_ask d.stage) (ltb (length d.questions) most_questions) k.0 in

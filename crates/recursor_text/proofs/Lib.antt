@@ -12,6 +12,7 @@ pub mod LineLaws
 pub mod NameLaws
 pub mod NetLaws
 pub mod NumberLaws
+pub mod NumberListLaws
 pub mod OneLine
 pub mod OpenRuleLaws
 pub mod OptionLaws

@@ -1,5 +1,5 @@
 -- Networks: what a word spells is read again, and what is read is spelled so.
-use Rattle.std.proofs.Common.{◌≡◌, ℕ, ◌^◌, ◌<◌, ◌≤◌, Bool, true, false, ◌||◌, eqb, ltb, leb, List, [], ◌∷◌, ◌++◌, map, Option, Some, None, refl, sym, ap, subst, ◌∙◌, arith, lit<, inl, inr}
+use Rattle.std.proofs.Common.{◌≡◌, ℕ, ◌^◌, ◌<◌, ◌≤◌, Bool, true, false, ◌||◌, eqb, ltb, leb, List, [], ◌∷◌, map, Some, None, refl, sym, ap, subst, ◌∙◌, arith, lit<, inl, inr}
 use Rattle.std.specs.Prelude.{codes, decimal}
 use Rattle.std.specs.Char.{is_ascii_digit}
 use Rattle.std.specs.Str.{bytes_eq}
@@ -164,9 +164,3 @@ nets_are = record { takes = nets_take; again = nets_again }
 pub nets_plain : (ns : List Network) → AllByRecursion IsNet ns → AllBytes is_word_byte (nets_text ns)
 nets_plain [] all = refl
 nets_plain (n ∷ ns) all = joined_plain is_word_byte 44 (map net_text (n ∷ ns)) refl (each_plain (n ∷ ns) all)
-
--- ---- reading one after the other
-
--- what is read, behind networks that are there
-abbrev pub behind : List Network → Option (List Network) → Option (List Network)
-behind front read = read >>= λ ns. Some (front ++ ns)

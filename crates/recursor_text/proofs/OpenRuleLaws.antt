@@ -3,12 +3,11 @@ use Rattle.std.proofs.Common.{◌≡◌, ℕ, ◌+◌, ◌-◌, ◌<◌, ◌≤�
 use Rattle.std.specs.List.{AllByRecursion}
 use Rattle.std.proofs.lemmas.Bool.{ltb-true, ltb-false}
 use Rattle.std.proofs.lemmas.List.{append-nil, map_push, length_push}
-use Rattle.dns_core.specs.declared.connection.Protocol.TheVariants.{Udp}
 use Rattle.dns_core.specs.declared.record.Record.{Record}
 use Rattle.recursor_text.specs.declared.reading.rules.OpenRule.{OpenRule}
 use Rattle.recursor_text.specs.RecordLines.{class_in}
 use Rattle.recursor_text.specs.Steps.{add}
-use Rattle.recursor_text.specs.Spelling.{reply_words, spelled, record_text, record_texts, IsFullName, IsAddress, IsType, IsCode, IsRecord}
+use Rattle.recursor_text.specs.Spelling.{reply_words, spelled, record_text, record_texts, most_delay, IsFullName, IsAddress, IsTransport, IsType, IsCode, IsRecord}
 use Rattle.recursor_text.proofs.Binds.{guard_some, some_is, chosen}
 
 -- ---- lists that grow
@@ -24,10 +23,10 @@ mapped_push f base xs x = ap (λ (l : List (List ℕ)). base ++ l) (map_push f x
 
 pub record IsOpen (o : OpenRule) : Type 0 where
   pub address : IsAddress o.ip
-  pub transport : o.protocol ≡ Udp
+  pub transport : IsTransport o.protocol
   pub named : IsFullName o.message.query.name
   pub typed : IsType o.message.query.query_type
-  pub soon : o.delay ≡ 0
+  pub soon : o.delay ≤ most_delay
   pub class : o.message.query.query_class ≡ class_in
   pub fine : IsCode o.message.response_code
   pub full : o.message.truncation ≡ false

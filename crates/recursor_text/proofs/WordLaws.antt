@@ -15,15 +15,18 @@ use Rattle.dns_core.specs.NameText.{text_of as name_text}
 use Rattle.dns_core.specs.declared.codes.DnsClass.{DnsClass}
 use Rattle.dns_core.specs.declared.codes.ResponseCode.{ResponseCode}
 use Rattle.dns_core.specs.declared.connection.Protocol.{Protocol}
-use Rattle.dns_core.specs.declared.connection.Protocol.TheVariants.{Udp}
+use Rattle.dns_core.specs.declared.connection.Protocol.TheVariants.{Udp, Tcp}
+use Rattle.dns_core.specs.declared.net_error.IoKind.TheVariants.{Closed, Refused, Other}
+use Rattle.dns_core.specs.declared.net_error.NetError.{NetError}
+use Rattle.dns_core.specs.declared.net_error.NetError.TheVariants.{Busy, Io, Timeout, NoConnections, Truncated, QueryCaseMismatch, ForeignClassRecord, Dns, Msg, NoMemory}
 use Rattle.recursor_text.specs.Pieces.{pieces}
 use Rattle.recursor_text.specs.Codes.{type_of, is_record_type, is_asked_type}
 use Rattle.recursor_text.specs.Fields.{field, kept, in_table}
 use Rattle.recursor_text.specs.Names.{full_name}
 use Rattle.recursor_text.specs.RecordLines.{class_in, wide_field}
-use Rattle.recursor_text.specs.Lines.{no_error, no_such_name, protocols, response_codes, flags, dnssec_words}
-use Rattle.recursor_text.specs.Texts.{ip_text, type_text, class_text, response_code_text, protocol_text, flags_text, class_names, code_names}
-use Rattle.recursor_text.specs.Spelling.{dnssec_text, spelled, IsName, IsFullName, IsAddress, IsType, IsRecordType, IsCode}
+use Rattle.recursor_text.specs.Lines.{no_error, no_such_name, protocols, failures, response_codes, flags, dnssec_words}
+use Rattle.recursor_text.specs.Texts.{ip_text, type_text, class_text, response_code_text, protocol_text, error_word, flags_text, class_names, code_names}
+use Rattle.recursor_text.specs.Spelling.{dnssec_text, spelled, IsName, IsFullName, IsAddress, IsType, IsRecordType, IsCode, IsTransport, IsFailure}
 use Rattle.recursor_text.proofs.PlainLaws.{AllBytes, AllPlain, pieces_again}
 use Rattle.recursor_text.proofs.NumberLaws.{is_word_byte, decimal_plain, ipv4_plain}
 use Rattle.recursor_text.proofs.NameLaws.{name_plain}
@@ -44,8 +47,32 @@ no_such_name_text : response_code_text no_such_name ≡ codes "NXDOMAIN"
 unfolding response_code_text code_names
 no_such_name_text = refl
 
-pub protocol_field : IsField (in_table protocols) protocol_text (λ p. p ≡ Udp)
-protocol_field = table_field _ _ protocols ((refl, refl), tt) (λ p is. subst (λ (q : Protocol). in_table protocols (protocol_text q) ≡ Some q) (sym is) refl)
+-- what holds of both transports
+by_transport : (P : Protocol → Type 0) → P Udp → P Tcp → (p : Protocol) → IsTransport p → P p
+by_transport P a b p (inl is) = subst P (sym is) a
+by_transport P a b p (inr is) = subst P (sym is) b
+
+pub protocol_field : IsField (in_table protocols) protocol_text IsTransport
+protocol_field = table_field _ _ protocols ((refl, inl refl), ((refl, inr refl), tt)) (by_transport (λ (q : Protocol). in_table protocols (protocol_text q) ≡ Some q) refl refl)
+
+-- what holds of each error that is told
+by_failure : (P : NetError → Type 0) → P (Io Other) → P (Io Closed) → P (Io Refused) → P Timeout → P NoConnections → (e : NetError) → IsFailure e → P e
+by_failure P a b c d e (Io Other) is = a
+by_failure P a b c d e (Io Closed) is = b
+by_failure P a b c d e (Io Refused) is = c
+by_failure P a b c d e Timeout is = d
+by_failure P a b c d e NoConnections is = e
+by_failure P a b c d e Busy is = absurd is
+by_failure P a b c d e Truncated is = absurd is
+by_failure P a b c d e QueryCaseMismatch is = absurd is
+by_failure P a b c d e (ForeignClassRecord name dns_class record_type) is = absurd is
+by_failure P a b c d e (Dns error) is = absurd is
+by_failure P a b c d e (Msg text) is = absurd is
+by_failure P a b c d e NoMemory is = absurd is
+
+pub failure_is_field : IsField (in_table failures) error_word IsFailure
+failure_is_field = table_field _ _ failures ((refl, tt), ((refl, tt), ((refl, tt), ((refl, tt), ((refl, tt), tt)))))
+    (by_failure (λ (e : NetError). in_table failures (error_word e) ≡ Some e) refl refl refl refl refl)
 
 pub record_type_field : IsField (kept is_record_type type_of) type_text IsRecordType
 record_type_field = kept_field type_of type_text _ type_field is_record_type
@@ -100,8 +127,11 @@ class_plain c is = subst (λ (d : DnsClass). AllBytes is_word_byte (class_text d
 pub response_plain : (c : ResponseCode) → IsCode c → AllBytes is_word_byte (response_code_text c)
 response_plain = by_code (λ (u : ResponseCode). AllBytes is_word_byte (response_code_text u)) (rw no_error_text refl) (rw no_such_name_text refl)
 
-pub protocol_plain : (p : Protocol) → p ≡ Udp → AllBytes is_word_byte (protocol_text p)
-protocol_plain p is = subst (λ (q : Protocol). AllBytes is_word_byte (protocol_text q)) (sym is) refl
+pub protocol_plain : (p : Protocol) → IsTransport p → AllBytes is_word_byte (protocol_text p)
+protocol_plain = by_transport (λ (q : Protocol). AllBytes is_word_byte (protocol_text q)) refl refl
+
+pub failure_plain : (e : NetError) → IsFailure e → AllBytes is_word_byte (error_word e)
+failure_plain = by_failure (λ (e : NetError). AllBytes is_word_byte (error_word e)) refl refl refl refl refl
 
 pub flags_plain : (a t : Bool) → AllBytes is_word_byte (flags_text a t)
 flags_plain false false = refl

@@ -9,6 +9,7 @@ pub mod Lines
 pub mod Log
 pub mod Names
 pub mod Networks
+pub mod NumberLists
 pub mod Numbers
 pub mod OptionForm
 pub mod OptionLines

@@ -1,19 +1,24 @@
 -- What each line of a scenario says that is no record line.
-use Rattle.std.specs.Prelude.{ℕ, List, [], ◌∷◌, Bool, true, false, Option, Some, None, if◌then◌else◌, codes}
+use Rattle.std.specs.Prelude.{ℕ, List, [], ◌∷◌, Bool, true, false, Option, Some, None, Result, Ok, Err, if◌then◌else◌, codes}
+use Rattle.std.specs.Result.{result_err}
 use Rattle.std.specs.Str.{bytes_eq}
 use Rattle.std.specs.declared.net.ip_addr.IpAddr.{IpAddr}
 use Rattle.dns_core.specs.Name.{DomainName}
 use Rattle.dns_core.specs.declared.codes.RecordType.{RecordType}
 use Rattle.dns_core.specs.declared.codes.ResponseCode.{ResponseCode}
 use Rattle.dns_core.specs.declared.connection.Protocol.{Protocol}
-use Rattle.dns_core.specs.declared.connection.Protocol.TheVariants.{Udp}
+use Rattle.dns_core.specs.declared.connection.Protocol.TheVariants.{Udp, Tcp}
 use Rattle.dns_core.specs.declared.message.Message.{Message}
+use Rattle.dns_core.specs.declared.net_error.IoKind.TheVariants.{Closed, Refused, Other}
+use Rattle.dns_core.specs.declared.net_error.NetError.{NetError}
+use Rattle.dns_core.specs.declared.net_error.NetError.TheVariants.{Io, Timeout, NoConnections}
 use Rattle.dns_core.specs.declared.request.Question.{Question}
 use Rattle.dns_core.specs.declared.request.Turn.{Turn}
+use Rattle.recursor_world.specs.declared.script.ScriptLine.TheVariants.{Connect, Refuse, Reply}
 use Rattle.recursor_text.specs.declared.reading.lines.Form.{Form}
 use Rattle.recursor_text.specs.declared.reading.lines.Form.TheVariants as form
 use Rattle.recursor_text.specs.declared.reading.rules.Counts.{Counts}
-use Rattle.recursor_text.specs.declared.reading.rules.OpenRule.{OpenRule}
+use Rattle.recursor_text.specs.declared.reading.rules.MessageHead.{MessageHead}
 use Rattle.recursor_text.specs.Addresses.{ip_of}
 use Rattle.recursor_text.specs.Codes.{type_of, is_asked_type}
 use Rattle.recursor_text.specs.Fields.{Fields, field, kept, in_table, both, skip, whole, nothing}
@@ -22,6 +27,7 @@ use Rattle.recursor_text.specs.Numbers.{◌>>=◌, number_within}
 use Rattle.recursor_text.specs.OptionForm.{option_line_of}
 use Rattle.recursor_text.specs.Pieces.{pieces}
 use Rattle.recursor_text.specs.RecordLines.{class_in, wide_field}
+use Rattle.recursor_text.specs.Spelling.{most_delay}
 
 -- ---- words that stand for values
 
@@ -31,9 +37,15 @@ no_error = record { code = 0 }
 abbrev pub no_such_name : ResponseCode
 no_such_name = record { code = 3 }
 
--- the transports that rules are for
+-- the transports that lines of a script are for
 abbrev pub protocols : List (List ℕ × Protocol)
-protocols = (codes "udp", Udp) ∷ []
+protocols = (codes "udp", Udp) ∷ (codes "tcp", Tcp) ∷ []
+
+-- the errors that lines of a script tell
+abbrev pub failures : List (List ℕ × NetError)
+failures =
+    (codes "io", Io Other) ∷ (codes "closed", Io Closed) ∷ (codes "refused", Io Refused) ∷ (codes "timeout", Timeout)
+    ∷ (codes "noconnections", NoConnections) ∷ []
 
 -- the codes that messages have
 abbrev pub response_codes : List (List ℕ × ResponseCode)
@@ -77,29 +89,74 @@ counts_fields ws = three_counts ws >>= λ x. Some (counts_from x.0, x.1)
 abbrev pub head_parts : Type 0
 head_parts = ResponseCode × ((Bool × Bool) × Counts)
 
-abbrev pub message_fields : Fields head_parts
-message_fields = skip (codes "message") (both (field (in_table response_codes)) (both (field (in_table flags)) counts_fields))
+abbrev pub head_from : head_parts → MessageHead
+head_from x = record { response_code = x.0; authoritative = x.1.0.0; truncation = x.1.0.1; owed = x.1.1 }
+
+abbrev pub head_parts_fields : Fields head_parts
+head_parts_fields = both (field (in_table response_codes)) (both (field (in_table flags)) counts_fields)
+
+-- a message, after its first word
+abbrev pub message_fields : Fields MessageHead
+message_fields ws = head_parts_fields ws >>= λ x. Some (head_from x.0, x.1)
+
+-- how many polls find nothing yet
+abbrev pub delay_field : Fields ℕ
+delay_field = field (number_within 0 most_delay)
+
+abbrev pub failure_field : Fields NetError
+failure_field = field (in_table failures)
+
+-- what a connection or a question comes to: fields behind a word of their own, or an error
+abbrev pub outcome_fields : {X : Type 0} → List ℕ → Fields X → Fields (Result X NetError)
+outcome_fields key p [] = None
+outcome_fields key p (w ∷ ws) =
+    if bytes_eq w key then p ws >>= (λ x. Some (Ok x.0, x.1))
+    else if bytes_eq w (codes "error") then failure_field ws >>= (λ e. Some (Err e.0, e.1))
+    else None
+
+abbrev pub connected_fields : Fields (Result (Unit {0}) NetError)
+connected_fields = outcome_fields (codes "ok") nothing
+
+abbrev pub answered_fields : Fields (Result MessageHead NetError)
+answered_fields = outcome_fields (codes "message") message_fields
+
+abbrev pub refuse_fields : Fields (IpAddr × Protocol)
+refuse_fields = both (field ip_of) (field (in_table protocols))
+
+abbrev pub connect_parts : Type 0
+connect_parts = IpAddr × (Protocol × (ℕ × Result (Unit {0}) NetError))
+
+abbrev pub connect_fields : Fields connect_parts
+connect_fields = both (field ip_of) (both (field (in_table protocols)) (both delay_field connected_fields))
+
+abbrev pub connect_from : connect_parts → Form
+connect_from x = form.Rule (Connect x.0 x.1.0 x.1.1.0 (result_err x.1.1.1))
 
 abbrev pub reply_parts : Type 0
-reply_parts = IpAddr × (Protocol × (DomainName × (RecordType × (ℕ × head_parts))))
+reply_parts = IpAddr × (Protocol × (DomainName × (RecordType × (ℕ × Result MessageHead NetError))))
 
 abbrev pub reply_fields : Fields reply_parts
-reply_fields = both (field ip_of) (both (field (in_table protocols)) (both (field full_name) (both type_field (both (field (number_within 0 0)) message_fields))))
+reply_fields = both (field ip_of) (both (field (in_table protocols)) (both (field full_name) (both type_field (both delay_field answered_fields))))
 
 -- a message without records
-abbrev pub bare_message : DomainName → RecordType → head_parts → Message
+abbrev pub bare_message : DomainName → RecordType → MessageHead → Message
 bare_message n t h = record {
   query = record { name = n; query_type = t; query_class = class_in };
-  response_code = h.0;
-  authoritative = h.1.0.0;
-  truncation = h.1.0.1;
+  response_code = h.response_code;
+  authoritative = h.authoritative;
+  truncation = h.truncation;
   answers = [];
   authorities = [];
   additionals = [];
 }
 
-abbrev pub open_rule : reply_parts → OpenRule
-open_rule x = record { ip = x.0; protocol = x.1.0; delay = x.1.1.1.1.0; message = bare_message x.1.1.0 x.1.1.1.0 x.1.1.1.1.1; owed = x.1.1.1.1.1.1.1 }
+-- a rule that tells a message, none of whose records is there yet, or an error
+abbrev pub rule_by : IpAddr → Protocol → DomainName → RecordType → ℕ → Result MessageHead NetError → Form
+rule_by ip protocol n t delay (Ok h) = form.Reply (record { ip = ip; protocol = protocol; delay = delay; message = bare_message n t h; owed = h.owed })
+rule_by ip protocol n t delay (Err e) = form.Rule (Reply ip protocol n t delay (Err e))
+
+abbrev pub reply_from : reply_parts → Form
+reply_from x = rule_by x.0 x.1.0 x.1.1.0 x.1.1.1.0 x.1.1.1.1.0 x.1.1.1.1.1
 
 abbrev pub question_fields : Fields (DomainName × (RecordType × Bool))
 question_fields = both (field (short_name 23)) (both type_field (field (in_table dnssec_words)))
@@ -128,8 +185,14 @@ patience_of = whole patience_fields form.Patience
 unfoldable pub told_of : List (List ℕ) → Option Form
 told_of = whole told_fields (λ x. form.ToldScript)
 
+unfoldable pub connect_of : List (List ℕ) → Option Form
+connect_of = whole connect_fields connect_from
+
+unfoldable pub refuse_of : List (List ℕ) → Option Form
+refuse_of = whole refuse_fields (λ x. form.Rule (Refuse x.0 x.1))
+
 unfoldable pub reply_of : List (List ℕ) → Option Form
-reply_of = whole reply_fields (λ x. form.Reply (open_rule x))
+reply_of = whole reply_fields reply_from
 
 unfoldable pub question_of : List (List ℕ) → Option Form
 question_of = whole question_fields (λ x. form.Question (question_from x))
@@ -152,6 +215,8 @@ forms_of (w ∷ ws) =
     else if bytes_eq w (codes "told") then told_of ws
     else if bytes_eq w (codes "question") then question_of ws
     else if bytes_eq w (codes "turn") then turn_of ws
+    else if bytes_eq w (codes "connect") then connect_of ws
+    else if bytes_eq w (codes "refuse") then refuse_of ws
     else if bytes_eq w (codes "end") then end_line_of ws
     else None
 

@@ -4,9 +4,10 @@ use Rattle.std.specs.Str.{bytes_eq}
 use Rattle.resolver_settings.specs.Net.{Network}
 use Rattle.recursor_text.specs.declared.reading.option_form.Bounds.{Bounds}
 use Rattle.recursor_text.specs.declared.reading.option_form.OptionLine.{OptionLine}
-use Rattle.recursor_text.specs.declared.reading.option_form.OptionLine.TheVariants.{ResponseCacheSize, AllowServer, DenyServer, PositiveTtl, NegativeTtl}
+use Rattle.recursor_text.specs.declared.reading.option_form.OptionLine.TheVariants.{ResponseCacheSize, AllowServer, DenyServer, AvoidLocalUdpPorts, PositiveTtl, NegativeTtl, EdnsPayloadLen, FirstDelays}
 use Rattle.recursor_text.specs.Fields.{Fields, field, whole}
 use Rattle.recursor_text.specs.Networks.{nets_of}
+use Rattle.recursor_text.specs.NumberLists.{ports_of, delays_of}
 use Rattle.recursor_text.specs.Numbers.{◌>>=◌, number_within}
 use Rattle.recursor_text.specs.RecordLines.{wide_field}
 
@@ -15,6 +16,16 @@ nets_field = field nets_of
 
 abbrev pub size_field : Fields ℕ
 size_field = field (number_within 0 4194304)
+
+abbrev pub ports_field : Fields (List ℕ)
+ports_field = field ports_of
+
+-- a number of bytes
+abbrev pub payload_field : Fields ℕ
+payload_field = field (number_within 0 65535)
+
+abbrev pub delays_field : Fields (List ℕ)
+delays_field = field delays_of
 
 -- the least number of seconds, and the greatest, which is no smaller
 abbrev pub bounds_fields : Fields Bounds
@@ -29,11 +40,20 @@ allow_server_of = whole nets_field AllowServer
 unfoldable pub deny_server_of : List (List ℕ) → Option OptionLine
 deny_server_of = whole nets_field DenyServer
 
+unfoldable pub avoid_local_udp_ports_of : List (List ℕ) → Option OptionLine
+avoid_local_udp_ports_of = whole ports_field AvoidLocalUdpPorts
+
 unfoldable pub positive_ttl_of : List (List ℕ) → Option OptionLine
 positive_ttl_of = whole bounds_fields PositiveTtl
 
 unfoldable pub negative_ttl_of : List (List ℕ) → Option OptionLine
 negative_ttl_of = whole bounds_fields NegativeTtl
+
+unfoldable pub edns_payload_len_of : List (List ℕ) → Option OptionLine
+edns_payload_len_of = whole payload_field EdnsPayloadLen
+
+unfoldable pub first_delays_of : List (List ℕ) → Option OptionLine
+first_delays_of = whole delays_field FirstDelays
 
 -- the option that the next word names
 unfoldable pub option_line_of : List (List ℕ) → Option OptionLine
@@ -42,6 +62,9 @@ option_line_of (w ∷ ws) =
     if bytes_eq w (codes "response_cache_size") then response_cache_size_of ws
     else if bytes_eq w (codes "allow_server") then allow_server_of ws
     else if bytes_eq w (codes "deny_server") then deny_server_of ws
+    else if bytes_eq w (codes "avoid_local_udp_ports") then avoid_local_udp_ports_of ws
     else if bytes_eq w (codes "positive_ttl") then positive_ttl_of ws
     else if bytes_eq w (codes "negative_ttl") then negative_ttl_of ws
+    else if bytes_eq w (codes "edns_payload_len") then edns_payload_len_of ws
+    else if bytes_eq w (codes "first_delays") then first_delays_of ws
     else None

@@ -1,28 +1,13 @@
 -- Option lines of the whole format, which are not all read yet.
-use Rattle.std.specs.Prelude.{ℕ, ◌+◌, nat_lt, Bool, true, false, ◌||◌, List, [], ◌∷◌, Option, Some, None, is_some, if◌then◌else◌, codes}
+use Rattle.std.specs.Prelude.{ℕ, nat_lt, Bool, ◌||◌, List, [], ◌∷◌, Option, Some, None, if◌then◌else◌, codes}
 use Rattle.std.specs.Str.{bytes_eq}
-use Rattle.std.specs.List.{list_all}
 use Rattle.recursor_text.specs.Fields.{Fields, checked, field, both, whole, nothing}
 use Rattle.recursor_text.specs.Networks.{nets_of}
+use Rattle.recursor_text.specs.NumberLists.{ports_of, delays_of}
 use Rattle.recursor_text.specs.Numbers.{◌>>=◌, number_within}
-use Rattle.recursor_text.specs.Pieces.{pieces}
 
 abbrev pub Line : Type 0
 Line = List (List ℕ) → Option (Unit {0})
-
--- ports that rise, from this one on
-abbrev pub are_ports_from : ℕ → List (List ℕ) → Bool
-are_ports_from low [] = true
-are_ports_from low (w ∷ ws) = elim (number_within low 65535 w) [ Some n ↦ are_ports_from (n + 1) ws | None ↦ false ]
-
-abbrev pub is_port_list : List ℕ → Bool
-is_port_list w = bytes_eq w (codes "-") || are_ports_from 0 (pieces 44 w)
-
-abbrev pub is_delay : List ℕ → Bool
-is_delay w = is_some (number_within 1 31 w)
-
-abbrev pub is_delay_list : List ℕ → Bool
-is_delay_list w = list_all is_delay (pieces 44 w)
 
 -- a number up to most
 unfoldable pub number_line : ℕ → Line
@@ -32,10 +17,10 @@ unfoldable pub networks_line : Line
 networks_line = whole (field nets_of) (λ x. tt)
 
 unfoldable pub ports_line : Line
-ports_line = whole (checked is_port_list) (λ x. tt)
+ports_line = whole (field ports_of) (λ x. tt)
 
 unfoldable pub delays_line : Line
-delays_line = whole (checked is_delay_list) (λ x. tt)
+delays_line = whole (field delays_of) (λ x. tt)
 
 abbrev pub seconds : Fields ℕ
 seconds = field (number_within 0 4294967295)

@@ -1,5 +1,5 @@
 -- The one text of each scenario.
-use Rattle.std.specs.Prelude.{◌≡◌, ℕ, ◌<◌, ◌≤◌, ◌⊎◌, List, [], ◌∷◌, ◌++◌, length, map, Bool, true, false, Ok, Err, codes, decimal}
+use Rattle.std.specs.Prelude.{◌≡◌, ℕ, ◌+◌, ◌<◌, ◌≤◌, ◌⊎◌, List, [], ◌∷◌, ◌++◌, length, map, Bool, true, false, Option, Some, None, IfSome, Ok, Err, codes, decimal}
 use Rattle.std.specs.List.{flat_map, join_with_byte, AllByRecursion}
 use Rattle.std.specs.declared.net.ip_addr.IpAddr.{IpAddr}
 use Rattle.std.specs.declared.net.ip_addr.IpAddr.TheVariants.{V4, V6}
@@ -10,8 +10,10 @@ use Rattle.dns_core.specs.NameText.{text_of as name_text}
 use Rattle.dns_core.specs.declared.codes.RecordType.{RecordType}
 use Rattle.dns_core.specs.declared.codes.ResponseCode.{ResponseCode}
 use Rattle.dns_core.specs.declared.connection.Protocol.{Protocol}
-use Rattle.dns_core.specs.declared.connection.Protocol.TheVariants.{Udp}
+use Rattle.dns_core.specs.declared.connection.Protocol.TheVariants.{Udp, Tcp}
 use Rattle.dns_core.specs.declared.message.Message.{Message}
+use Rattle.dns_core.specs.declared.net_error.NetError.{NetError}
+use Rattle.dns_core.specs.declared.net_error.NetError.TheVariants.{Io, Timeout, NoConnections}
 use Rattle.dns_core.specs.declared.record.RData.{RData}
 use Rattle.dns_core.specs.declared.record.RData.TheVariants.{A, AAAA, NS, CNAME, SOA, RRSIG, Opaque}
 use Rattle.dns_core.specs.declared.record.Record.{Record}
@@ -26,13 +28,13 @@ use Rattle.recursor_world.specs.declared.script.ScriptLine.{ScriptLine}
 use Rattle.recursor_world.specs.declared.script.ScriptLine.TheVariants.{Connect, Refuse, Reply}
 use Rattle.recursor_text.specs.declared.reading.option_form.Bounds.{Bounds}
 use Rattle.recursor_text.specs.declared.reading.option_form.OptionLine.{OptionLine}
-use Rattle.recursor_text.specs.declared.reading.option_form.OptionLine.TheVariants.{ResponseCacheSize, AllowServer, DenyServer, PositiveTtl, NegativeTtl}
+use Rattle.recursor_text.specs.declared.reading.option_form.OptionLine.TheVariants.{ResponseCacheSize, AllowServer, DenyServer, AvoidLocalUdpPorts, PositiveTtl, NegativeTtl, EdnsPayloadLen, FirstDelays}
 use Rattle.recursor_text.specs.declared.scenario.Scenario.{Scenario}
 use Rattle.recursor_text.specs.declared.scenario.Upstream.{Upstream}
 use Rattle.recursor_text.specs.declared.scenario.Upstream.TheVariants.{Script as FromScript}
 use Rattle.recursor_text.specs.Codes.{is_record_type, is_asked_type}
 use Rattle.recursor_text.specs.RecordLines.{class_in}
-use Rattle.recursor_text.specs.Texts.{ip_text, type_text, response_code_text, protocol_text, flags_text, record_words}
+use Rattle.recursor_text.specs.Texts.{ip_text, type_text, response_code_text, protocol_text, error_word, flags_text, record_words}
 
 -- ---- the words of each line
 
@@ -55,6 +57,11 @@ abbrev pub nets_text : List Network → List ℕ
 nets_text [] = codes "-"
 nets_text (n ∷ ns) = join_with_byte 44 (map net_text (n ∷ ns))
 
+-- numbers with commas between them, and a dash where there are none
+abbrev pub numbers_text : List ℕ → List ℕ
+numbers_text [] = codes "-"
+numbers_text (n ∷ ns) = join_with_byte 44 (map decimal (n ∷ ns))
+
 -- the least and the greatest
 abbrev pub bounds_words : Bounds → List (List ℕ)
 bounds_words b = decimal b.least ∷ decimal b.most ∷ []
@@ -64,8 +71,11 @@ abbrev pub named_words : OptionLine → List (List ℕ)
 named_words (ResponseCacheSize size) = codes "response_cache_size" ∷ decimal size ∷ []
 named_words (AllowServer nets) = codes "allow_server" ∷ nets_text nets ∷ []
 named_words (DenyServer nets) = codes "deny_server" ∷ nets_text nets ∷ []
+named_words (AvoidLocalUdpPorts ports) = codes "avoid_local_udp_ports" ∷ numbers_text ports ∷ []
 named_words (PositiveTtl b) = codes "positive_ttl" ∷ bounds_words b
 named_words (NegativeTtl b) = codes "negative_ttl" ∷ bounds_words b
+named_words (EdnsPayloadLen bytes) = codes "edns_payload_len" ∷ decimal bytes ∷ []
+named_words (FirstDelays delays) = codes "first_delays" ∷ numbers_text delays ∷ []
 
 abbrev pub option_words : OptionLine → List (List ℕ)
 option_words o = codes "option" ∷ named_words o
@@ -93,6 +103,25 @@ counted_words m a b c = codes "message" ∷ response_code_text m.response_code �
 abbrev pub reply_words : IpAddr → Protocol → DomainName → RecordType → ℕ → Message → ℕ → ℕ → ℕ → List (List ℕ)
 reply_words ip protocol name type delay m a b c = codes "reply" ∷ ip_text ip ∷ protocol_text protocol ∷ name_text name ∷ type_text type ∷ decimal delay ∷ counted_words m a b c
 
+-- an error that a connection or a question comes to
+abbrev pub error_words : NetError → List (List ℕ)
+error_words e = codes "error" ∷ error_word e ∷ []
+
+-- a rule that tells an error
+abbrev pub failed_words : IpAddr → Protocol → DomainName → RecordType → ℕ → NetError → List (List ℕ)
+failed_words ip protocol name type delay e = codes "reply" ∷ ip_text ip ∷ protocol_text protocol ∷ name_text name ∷ type_text type ∷ decimal delay ∷ error_words e
+
+-- what a connection comes to: that it is there, or an error
+abbrev pub connected_words : Option NetError → List (List ℕ)
+connected_words None = codes "ok" ∷ []
+connected_words (Some e) = error_words e
+
+abbrev pub connect_words : IpAddr → Protocol → ℕ → Option NetError → List (List ℕ)
+connect_words ip protocol delay error = codes "connect" ∷ ip_text ip ∷ protocol_text protocol ∷ decimal delay ∷ connected_words error
+
+abbrev pub refuse_words : IpAddr → Protocol → List (List ℕ)
+refuse_words ip protocol = codes "refuse" ∷ ip_text ip ∷ protocol_text protocol ∷ []
+
 -- ---- the lines of a scenario, in order
 
 -- a line is its words, with a space between any two
@@ -105,12 +134,12 @@ record_text r = spelled (record_words r)
 abbrev pub record_texts : Message → List (List ℕ)
 record_texts m = map record_text m.answers ++ (map record_text m.authorities ++ map record_text m.additionals)
 
--- a rule that tells a message, with the records that it counts; no other line of a script is built
+-- a line of a script; a rule that tells a message has the records that it counts behind it
 abbrev pub script_lines : ScriptLine → List (List ℕ)
 script_lines (Reply ip protocol name type delay (Ok m)) = spelled (reply_words ip protocol name type delay m (length m.answers) (length m.authorities) (length m.additionals)) ∷ record_texts m
-script_lines (Reply ip protocol name type delay (Err e)) = []
-script_lines (Connect ip protocol delay error) = []
-script_lines (Refuse ip protocol) = []
+script_lines (Reply ip protocol name type delay (Err e)) = spelled (failed_words ip protocol name type delay e) ∷ []
+script_lines (Connect ip protocol delay error) = spelled (connect_words ip protocol delay error) ∷ []
+script_lines (Refuse ip protocol) = spelled (refuse_words ip protocol) ∷ []
 
 abbrev pub root_line : IpAddr → List ℕ
 root_line ip = spelled (root_words ip)
@@ -207,13 +236,28 @@ pub record IsRecord (r : Record) : Type 0 where
 abbrev pub IsCode : ResponseCode → Type 0
 IsCode c = (c.code ≡ 0) ⊎ (c.code ≡ 3)
 
--- a rule that tells a message at once, over UDP
+-- UDP or TCP
+abbrev pub IsTransport : Protocol → Type 0
+IsTransport p = (p ≡ Udp) ⊎ (p ≡ Tcp)
+
+-- how many polls at most find nothing yet
+abbrev pub most_delay : ℕ
+most_delay = 1000000
+
+-- an error that a connection or a question comes to: a fault of transport, a timeout, or that there is no connection
+abbrev pub IsFailure : NetError → Type 0
+IsFailure (Io kind) = Unit {0}
+IsFailure Timeout = Unit {0}
+IsFailure NoConnections = Unit {0}
+IsFailure _ = ⊥
+
+-- a rule that tells a message
 pub record IsRule (ip : IpAddr) (protocol : Protocol) (name : DomainName) (type : RecordType) (delay : ℕ) (m : Message) : Type 0 where
   pub address : IsAddress ip
-  pub transport : protocol ≡ Udp
+  pub transport : IsTransport protocol
   pub named : IsFullName name
   pub typed : IsType type
-  pub soon : delay ≡ 0
+  pub soon : delay ≤ most_delay
   pub query : m.query ≡ record { name = name; query_type = type; query_class = class_in }
   pub fine : IsCode m.response_code
   pub full : m.truncation ≡ false
@@ -224,11 +268,27 @@ pub record IsRule (ip : IpAddr) (protocol : Protocol) (name : DomainName) (type 
   pub authorities : AllByRecursion IsRecord m.authorities
   pub additionals : AllByRecursion IsRecord m.additionals
 
+-- a rule that tells an error
+pub record IsFailedRule (ip : IpAddr) (protocol : Protocol) (name : DomainName) (type : RecordType) (delay : ℕ) (e : NetError) : Type 0 where
+  pub address : IsAddress ip
+  pub transport : IsTransport protocol
+  pub named : IsFullName name
+  pub typed : IsType type
+  pub soon : delay ≤ most_delay
+  pub failure : IsFailure e
+
+-- what a connection comes to, which is its error or that it is there
+pub record IsConnect (ip : IpAddr) (protocol : Protocol) (delay : ℕ) (error : Option NetError) : Type 0 where
+  pub address : IsAddress ip
+  pub transport : IsTransport protocol
+  pub soon : delay ≤ most_delay
+  pub failure : IfSome error IsFailure
+
 abbrev pub IsScriptLine : ScriptLine → Type 0
 IsScriptLine (Reply ip protocol name type delay (Ok m)) = IsRule ip protocol name type delay m
-IsScriptLine (Reply ip protocol name type delay (Err e)) = ⊥
-IsScriptLine (Connect ip protocol delay error) = ⊥
-IsScriptLine (Refuse ip protocol) = ⊥
+IsScriptLine (Reply ip protocol name type delay (Err e)) = IsFailedRule ip protocol name type delay e
+IsScriptLine (Connect ip protocol delay error) = IsConnect ip protocol delay error
+IsScriptLine (Refuse ip protocol) = IsAddress ip × IsTransport protocol
 
 -- a question of at most 23 labels
 pub record IsQuestion (q : Question) : Type 0 where
@@ -259,6 +319,16 @@ pub record IsNet (n : Network) : Type 0 where
   pub address : IsAddress n.addr
   pub short : n.prefix ≤ width_of n.addr
 
+-- ports of 16 bits, the first from this number on, and each above the one before
+abbrev pub ArePorts : ℕ → List ℕ → Type 0
+ArePorts low [] = Unit {0}
+ArePorts low (port ∷ ports) = (low ≤ port) × (port ≤ 65535) × ArePorts (port + 1) ports
+
+-- at least one delay, each from 1 to 31 microseconds
+pub record AreFirstDelays (delays : List ℕ) : Type 0 where
+  pub some : 0 < length delays
+  pub each : AllByRecursion (λ delay. (1 ≤ delay) × (delay ≤ 31)) delays
+
 -- seconds of 32 bits, the least first
 pub record IsBounds (b : Bounds) : Type 0 where
   pub ordered : b.least ≤ b.most
@@ -268,16 +338,22 @@ abbrev pub IsOption : OptionLine → Type 0
 IsOption (ResponseCacheSize size) = size ≤ 4194304
 IsOption (AllowServer nets) = AllByRecursion IsNet nets
 IsOption (DenyServer nets) = AllByRecursion IsNet nets
+IsOption (AvoidLocalUdpPorts ports) = ArePorts 0 ports
 IsOption (PositiveTtl b) = IsBounds b
 IsOption (NegativeTtl b) = IsBounds b
+IsOption (EdnsPayloadLen bytes) = bytes ≤ 65535
+IsOption (FirstDelays delays) = AreFirstDelays delays
 
 -- the place of an option in the order of all options of the format, from 1
 abbrev pub option_rank : OptionLine → ℕ
 option_rank (ResponseCacheSize size) = 2
 option_rank (AllowServer nets) = 7
 option_rank (DenyServer nets) = 8
+option_rank (AvoidLocalUdpPorts ports) = 9
 option_rank (PositiveTtl b) = 10
 option_rank (NegativeTtl b) = 11
+option_rank (EdnsPayloadLen bytes) = 14
+option_rank (FirstDelays delays) = 16
 
 -- the lines stand in the order of the options, none of them twice, each behind this rank
 abbrev pub RiseAbove : ℕ → List OptionLine → Type 0
@@ -299,6 +375,7 @@ standard_options = record {
   cache_policy = record { general = one_day; own = [] };
   case_randomization = false;
   edns_payload_len = 1232;
+  first_delays = 1 ∷ [];
 }
 
 -- other bounds of positive answers, the same for every type
@@ -314,8 +391,11 @@ abbrev pub changed : RecursorOptions → OptionLine → RecursorOptions
 changed options (ResponseCacheSize size) = record options { response_cache_size = size }
 changed options (AllowServer nets) = record options { allow_server = nets }
 changed options (DenyServer nets) = record options { deny_server = nets }
+changed options (AvoidLocalUdpPorts ports) = record options { avoid_local_udp_ports = ports }
 changed options (PositiveTtl b) = record options { cache_policy = with_positive options.cache_policy b }
 changed options (NegativeTtl b) = record options { cache_policy = with_negative options.cache_policy b }
+changed options (EdnsPayloadLen bytes) = record options { edns_payload_len = bytes }
+changed options (FirstDelays delays) = record options { first_delays = delays }
 
 -- the same of several lines, one after the other
 abbrev pub changed_by : RecursorOptions → List OptionLine → RecursorOptions
@@ -330,7 +410,7 @@ options_with written = changed_by standard_options written
 
 -- how many roots, questions and turns a scenario may have
 abbrev pub most_roots : ℕ
-most_roots = 1
+most_roots = 64
 
 abbrev pub most_questions : ℕ
 most_questions = 10000

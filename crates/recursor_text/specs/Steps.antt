@@ -102,6 +102,7 @@ put d (form.Option o) = if may_option d.stage && nat_lt (last_rank 0 d.written) 
 put d (form.Patience n) = if may_wait d.stage then Some (record d { stage = Patient; patience = n }) else None
 put d form.ToldScript = if may_tell d.stage then Some (record d { stage = Scripted }) else None
 put d (form.Reply o) = if may_reply d.stage then Some (settle d o) else None
+put d (form.Rule line) = if may_reply d.stage then Some (record d { rules = d.rules ++ line ∷ [] }) else None
 put d (form.Question q) = if may_ask d.stage && nat_lt (length d.questions) most_questions then Some (record d { stage = Asked; questions = d.questions ++ q ∷ [] }) else None
 put d (form.Turn t) = if may_turn d.stage && nat_lt (length d.turns) most_turns && nat_le (last_moment 0 d.turns) t.moment then Some (record d { stage = Turned; turns = d.turns ++ t ∷ [] }) else None
 put d form.End = if may_end d.stage then Some (record d { stage = Ended }) else None

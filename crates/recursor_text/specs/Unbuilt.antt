@@ -1,17 +1,18 @@
--- Lines that the format has and that are not read yet. A turn and the end are read wherever the
--- format has them.
+-- Lines that the format has and that are not read yet. A root, a turn and the end are read wherever
+-- the format has them.
 use Rattle.std.specs.Prelude.{ℕ, Bool, true, false, not, ◌&&◌, ◌||◌, ◌==◌, nat_le, nat_lt, List, [], ◌∷◌, length, Option, Some, None, is_some, if◌then◌else◌, codes}
 use Rattle.std.specs.Str.{bytes_eq}
 use Rattle.recursor_text.specs.declared.reading.draft.Draft.{Draft}
 use Rattle.recursor_text.specs.declared.reading.draft.Stage.{Stage}
-use Rattle.recursor_text.specs.declared.reading.draft.Stage.TheVariants.{Headed, Rooted, Optioned, Patient, Scripted, Asked}
+use Rattle.recursor_text.specs.declared.reading.draft.Stage.TheVariants.{Rooted, Optioned, Patient, Scripted, Asked}
 use Rattle.recursor_text.specs.declared.reading.draft.Place.{Place}
 use Rattle.recursor_text.specs.declared.reading.draft.Refusal.{Refusal}
 use Rattle.recursor_text.specs.declared.reading.draft.Refusal.TheVariants.{Bad, NotBuilt}
 use Rattle.recursor_text.specs.Addresses.{ip_of, ipv6_of}
 use Rattle.recursor_text.specs.Codes.{number_behind, type_of}
-use Rattle.recursor_text.specs.Fields.{Fields, checked, field, both, skip, whole, nothing}
+use Rattle.recursor_text.specs.Fields.{checked, field, both, skip, whole, nothing}
 use Rattle.recursor_text.specs.Hex.{bytes_of}
+use Rattle.recursor_text.specs.Lines.{delay_field}
 use Rattle.recursor_text.specs.Names.{full_name, relaxed_name}
 use Rattle.recursor_text.specs.Numbers.{◌>>=◌, number_within, ipv4_of}
 use Rattle.recursor_text.specs.OptionLines.{Line, option_line}
@@ -55,12 +56,6 @@ unfoldable pub is_code : List ℕ → Bool
 is_code w = is_among (codes "NOERROR" ∷ codes "FORMERR" ∷ codes "SERVFAIL" ∷ codes "NXDOMAIN" ∷ codes "NOTIMP" ∷ codes "REFUSED" ∷ []) w || is_numbered (codes "RCODE") is_named_code w
 
 -- ---- lines, each after its first word
-
-abbrev pub delay_field : Fields ℕ
-delay_field = field (number_within 0 1000000)
-
-unfoldable pub root_line : Line
-root_line = whole (field ip_of) (λ x. tt)
 
 unfoldable pub told_line : Line
 told_line = whole (skip (codes "world") nothing) (λ x. tt)
@@ -129,11 +124,6 @@ record_line ws = both (field full_name) (both wide_field (checked is_class)) ws 
 
 -- ---- where a line can stand
 
-abbrev pub is_at_roots : Stage → Bool
-is_at_roots Headed = true
-is_at_roots Rooted = true
-is_at_roots _ = false
-
 abbrev pub is_at_options : Stage → Bool
 is_at_options Rooted = true
 is_at_options Optioned = true
@@ -173,8 +163,7 @@ late_line place w ws =
 unfoldable pub other_line : Place → Line
 other_line place [] = None
 other_line place (w ∷ ws) =
-    if bytes_eq w (codes "root") then stands (is_at_roots place.stage) (root_line ws)
-    else if bytes_eq w (codes "option") then stands (is_at_options place.stage) (option_line place.option ws)
+    if bytes_eq w (codes "option") then stands (is_at_options place.stage) (option_line place.option ws)
     else if bytes_eq w (codes "told") then stands (is_at_told place.stage) (told_line ws)
     else late_line place w ws
 

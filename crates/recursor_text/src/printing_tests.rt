@@ -423,3 +423,47 @@ fn prints_refusals(rt: HostRuntime) -> Result<(), Fail> {
     assert_eq!(rt; text.as_slice(), want.as_bytes());
     Ok(())
 }
+
+fn put_failures(alloc: Global, to: &mut Log) -> Result<(), NameError> {
+    let ip = IpAddr::V4(Ipv4Addr::new(11, 0, 0, 3));
+    to.push(LogEntry::Asked {
+        ip,
+        protocol: Protocol::Tcp,
+        query: query(alloc, "a.", RecordType::A)?,
+        moment: 0,
+        refused: Some(NetError::Io(IoKind::Closed)),
+    })?;
+    let errors = [
+        NetError::Io(IoKind::Other),
+        NetError::Io(IoKind::Closed),
+        NetError::Io(IoKind::Refused),
+        NetError::Timeout,
+        NetError::NoConnections,
+    ];
+    for error in errors {
+        to.push(LogEntry::Told {
+            of: 1,
+            moment: 0,
+            outcome: ToldOutcome::Error(error),
+        })?;
+    }
+    Ok(())
+}
+
+#[test]
+fn prints_failures_of_transport(rt: HostRuntime) -> Result<(), Fail> {
+    let alloc = rt.alloc();
+    let mut log = Log::empty(alloc);
+    put_failures(alloc, &mut log)?;
+    let text = log_text(alloc, &log)?;
+    let want = "log 6
+1 asked 11.0.0.3 tcp a. A 0 refused closed
+2 told 1 0 error io
+3 told 1 0 error closed
+4 told 1 0 error refused
+5 told 1 0 error timeout
+6 told 1 0 error noconnections
+";
+    assert_eq!(rt; text.as_slice(), want.as_bytes());
+    Ok(())
+}

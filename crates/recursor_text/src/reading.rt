@@ -7,6 +7,7 @@ pub mod draft;
 pub mod hex;
 pub mod lines;
 pub mod networks;
+pub mod number_lists;
 pub mod numbers;
 pub mod option_form;
 pub mod option_lines;

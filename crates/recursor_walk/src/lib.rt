@@ -8,7 +8,7 @@ mod verdict;
 
 pub use class::class_of;
 pub use glue::{addresses, is_delegation};
-pub use response::verdict_of;
+pub use response::verdict_of_class;
 pub use verdict::{answer_within, negative_within};
 
 #[cfg(test)]

@@ -1,16 +1,14 @@
 //! What a response that was told comes to: what it counts for, or an error.
 ghost use Rattle.std.specs.Prelude.{◌≡◌, IfOk, IfErr, Some};
-ghost use Rattle.dns_core.specs.declared.log.ToldOutcome.TheVariants as outcome;
 ghost use Rattle.resolution.specs.Given.{allows_all};
-ghost use Rattle.resolution.specs.Class.{class_of, class_of_message};
+ghost use Rattle.resolution.specs.Class.{class_of_classified};
 ghost use Rattle.resolution.specs.Verdict.{verdict_of_told};
 ghost use Rattle.recursor_walk.specs.Response.{error_of};
 
 use crate::class::class_of;
 use crate::verdict::{answer_within, negative_within};
-use dns_core::{DnsError, Message, Name, NetError, NoMemory, Record};
+use dns_core::{DnsError, Message, Name, NetError, Query, Record};
 use resolution::{Class, Verdict};
-use std::alloc::Global;
 
 /// The error of a response with a record of another class than the question's.
 fn foreign_class(r: Record) -> NetError
@@ -23,22 +21,22 @@ fn foreign_class(r: Record) -> NetError
     }
 }
 
-/// What a response counts for, as told by a server of the zone; or the error that it is where it is
-/// neither an answer nor a negative.
-pub fn verdict_of(
-    alloc: Global,
-    message: Message,
+/// What a response, classified, counts for, as told for the question by a server of the zone; or the
+/// error that it is where it is neither an answer nor a negative.
+pub fn verdict_of_class(
+    class: Result<Message, DnsError>,
+    query: &Query,
     zone: &Name,
-) -> Result<Result<Verdict, NetError>, NoMemory>
-    ensures counts { IfOk result (λ found. IfOk found (λ verdict. verdict_of_told allows_all (class_of (outcome.Message message) message.query) zone.now ≡ Some verdict)) }
-    ensures error { IfOk result (λ found. IfErr found (λ e. error_of (class_of_message message message.query) ≡ Some e)) }
+) -> Result<Verdict, NetError>
+    ensures counts { IfOk result (λ verdict. verdict_of_told allows_all (Some (class_of_classified query.now class)) zone.now ≡ Some verdict) }
+    ensures error { IfErr result (λ e. error_of (class_of_classified query.now class) ≡ Some e) }
 {
-    match class_of(alloc, message)? {
-        Class::Positive(answer) => Ok(Ok(answer_within(answer, zone))),
-        Class::Negative(found) => Ok(Ok(Verdict::Neg(negative_within(found, zone)))),
-        Class::Code(code) => Ok(Err(NetError::Dns(DnsError::ResponseCode(code)))),
-        Class::Truncated => Ok(Err(NetError::Truncated)),
-        Class::Foreign(r) => Ok(Err(foreign_class(r))),
-        Class::Error(error) => Ok(Err(error)),
+    match class_of(class, query) {
+        Class::Positive(answer) => Ok(answer_within(answer, zone)),
+        Class::Negative(found) => Ok(Verdict::Neg(negative_within(found, zone))),
+        Class::Code(code) => Err(NetError::Dns(DnsError::ResponseCode(code))),
+        Class::Truncated => Err(NetError::Truncated),
+        Class::Foreign(r) => Err(foreign_class(r)),
+        Class::Error(error) => Err(error),
     }
 }

@@ -1,7 +1,7 @@
 use crate::{addresses, answer_within, class_of, is_delegation};
 use dns_core::{
     DnsClass, Message, Name, NameError, NoMemory, Query, RData, Record, RecordType, Records,
-    ResponseCode,
+    ResponseCode, TryClone, classify,
 };
 use resolution::{Class, Verdict};
 use resolver_settings::{AccessControlSet, AccessControlSetBuilder, IpNet};
@@ -83,7 +83,9 @@ fn left(message: Message, zone: &Name) -> Option<usize> {
 }
 
 fn is_foreign(alloc: Global, message: Message) -> Result<bool, NoMemory> {
-    Ok(matches!(class_of(alloc, message)?, Class::Foreign(_)))
+    let query = message.query.try_clone(alloc)?;
+    let class = classify(alloc, message)?;
+    Ok(matches!(class_of(class, &query), Class::Foreign(_)))
 }
 
 /// How many additional records are left of a referral of `com.`, as told by a server of the zone.

@@ -18,7 +18,7 @@ use std::alloc::Global;
 use std::net::IpAddr;
 
 /// How many roots, questions and turns a scenario may have.
-const MOST_ROOTS: usize = 1;
+const MOST_ROOTS: usize = 64;
 
 const MOST_QUESTIONS: usize = 10_000;
 
@@ -302,6 +302,14 @@ impl Draft {
         Ok(())
     }
 
+    fn put_rule(&mut self, line: ScriptLine) -> Result<(), LineError>
+        ensures { Steps result self.new (put self.old (form.Rule line)) }
+    {
+        pass(self.stage.may_reply())?;
+        self.rules.push(line)?;
+        Ok(())
+    }
+
     fn put_question(&mut self, question: Question) -> Result<(), LineError>
         ensures { Steps result self.new (put self.old (form.Question question)) }
     {
@@ -335,6 +343,7 @@ impl Draft {
             Form::Patience(patience) => self.put_patience(patience),
             Form::ToldScript => self.advance(stage.may_tell(), Stage::Scripted),
             Form::Reply(rule) => self.put_reply(alloc, rule),
+            Form::Rule(line) => self.put_rule(line),
             Form::Question(question) => self.put_question(question),
             Form::Turn(turn) => self.put_turn(turn),
             Form::End => self.advance(stage.may_end(), Stage::Ended),

@@ -1,15 +1,17 @@
 //! The lines of a scenario that are no record lines, each read on its own.
 ghost use Rattle.std.specs.Prelude.{◌≡◌};
 ghost use Rattle.recursor_text.specs.Fields.{Gives, GivesFields, field, in_table};
-ghost use Rattle.recursor_text.specs.Lines.{protocols, response_codes, flags, type_field, dnssec_words, counts_fields, head_of, root_of, option_of, patience_of, told_of, reply_of, question_of, turn_of, end_line_of, form_of};
+ghost use Rattle.recursor_text.specs.Lines.{protocols, failures, response_codes, flags, type_field, dnssec_words, counts_fields, message_fields, delay_field, connected_fields, answered_fields, bare_message, head_of, root_of, option_of, patience_of, told_of, connect_of, refuse_of, reply_of, question_of, turn_of, end_line_of, form_of};
 
 use super::codes::is_asked_type;
 use super::option_form::{OptionLine, option_line};
-use super::rules::{Counts, OpenRule};
+use super::rules::{Counts, MessageHead, OpenRule};
 use super::words::{LineError, Words, pass};
 use dns_core::{
-    DnsClass, Message, Protocol, Query, Question, RecordType, Records, ResponseCode, Turn,
+    DnsClass, IoKind, Message, Name, NetError, Protocol, Query, Question, RecordType, Records,
+    ResponseCode, Turn,
 };
+use recursor_world::ScriptLine;
 use std::alloc::Global;
 use std::net::IpAddr;
 
@@ -23,6 +25,8 @@ pub enum Form {
     ToldScript,
     /// A rule, none of whose records is there yet.
     Reply(OpenRule),
+    /// A line of a script that is whole: no records follow it.
+    Rule(ScriptLine),
     Question(Question),
     Turn(Turn),
     End,
@@ -38,6 +42,34 @@ fn protocol(words: &mut Words) -> Result<Protocol, LineError>
     };
     if word == b"udp".as_slice() {
         return Ok(Protocol::Udp);
+    }
+    if word == b"tcp".as_slice() {
+        return Ok(Protocol::Tcp);
+    }
+    Err(LineError::Refused)
+}
+
+/// An error that a connection or a question comes to.
+fn failure(words: &mut Words) -> Result<NetError, LineError>
+    ensures { GivesFields result words.new (field (in_table failures) words.old) }
+{
+    let Some(word) = words.next() else {
+        return Err(LineError::Refused);
+    };
+    if word == b"io".as_slice() {
+        return Ok(NetError::Io(IoKind::Other));
+    }
+    if word == b"closed".as_slice() {
+        return Ok(NetError::Io(IoKind::Closed));
+    }
+    if word == b"refused".as_slice() {
+        return Ok(NetError::Io(IoKind::Refused));
+    }
+    if word == b"timeout".as_slice() {
+        return Ok(NetError::Timeout);
+    }
+    if word == b"noconnections".as_slice() {
+        return Ok(NetError::NoConnections);
     }
     Err(LineError::Refused)
 }
@@ -153,6 +185,110 @@ fn counts(words: &mut Words) -> Result<Counts, LineError>
     })
 }
 
+/// A message, after its first word.
+fn message_head(words: &mut Words) -> Result<MessageHead, LineError>
+    ensures { GivesFields result words.new (message_fields words.old) }
+{
+    let response_code = response_code(words)?;
+    let (authoritative, truncation) = flags(words)?;
+    let owed = counts(words)?;
+    Ok(MessageHead {
+        response_code,
+        authoritative,
+        truncation,
+        owed,
+    })
+}
+
+/// How many polls find nothing yet.
+pub fn delay(words: &mut Words) -> Result<u32, LineError>
+    ensures { GivesFields result words.new (delay_field words.old) }
+{
+    let delay = words.number(0, 1_000_000)?;
+    Ok(delay as u32)
+}
+
+/// What a connection comes to.
+fn connected(words: &mut Words) -> Result<Result<(), NetError>, LineError>
+    ensures { GivesFields result words.new (connected_fields words.old) }
+{
+    let Some(word) = words.next() else {
+        return Err(LineError::Refused);
+    };
+    if word == b"ok".as_slice() {
+        return Ok(Ok(()));
+    }
+    if word == b"error".as_slice() {
+        let error = failure(words)?;
+        return Ok(Err(error));
+    }
+    Err(LineError::Refused)
+}
+
+/// What a question comes to.
+fn answered(words: &mut Words) -> Result<Result<MessageHead, NetError>, LineError>
+    ensures { GivesFields result words.new (answered_fields words.old) }
+{
+    let Some(word) = words.next() else {
+        return Err(LineError::Refused);
+    };
+    if word == b"message".as_slice() {
+        let head = message_head(words)?;
+        return Ok(Ok(head));
+    }
+    if word == b"error".as_slice() {
+        let error = failure(words)?;
+        return Ok(Err(error));
+    }
+    Err(LineError::Refused)
+}
+
+/// A message without records.
+fn bare_message(alloc: Global, name: Name, query_type: RecordType, head: MessageHead) -> Message
+    ensures { result ≡ bare_message name query_type head }
+{
+    Message {
+        query: Query {
+            name,
+            query_type,
+            query_class: DnsClass::IN,
+        },
+        response_code: head.response_code,
+        authoritative: head.authoritative,
+        truncation: head.truncation,
+        answers: Records::empty(alloc),
+        authorities: Records::empty(alloc),
+        additionals: Records::empty(alloc),
+    }
+}
+
+#[tactic(auto, unfolding(crate::specs::Lines::connect_of))]
+fn connect_line(alloc: Global, words: &mut Words) -> Result<Form, LineError>
+    ensures { Gives result (connect_of words.old) }
+{
+    let ip = words.ip(alloc)?;
+    let protocol = protocol(words)?;
+    let delay = delay(words)?;
+    let outcome = connected(words)?;
+    words.end()?;
+    Ok(Form::Rule(ScriptLine::Connect {
+        ip,
+        protocol,
+        delay,
+        error: outcome.err(),
+    }))
+}
+
+#[tactic(auto, unfolding(crate::specs::Lines::refuse_of))]
+fn refuse_line(alloc: Global, words: &mut Words) -> Result<Form, LineError>
+    ensures { Gives result (refuse_of words.old) }
+{
+    let ip = words.ip(alloc)?;
+    let protocol = protocol(words)?;
+    words.end()?;
+    Ok(Form::Rule(ScriptLine::Refuse { ip, protocol }))
+}
+
 #[tactic(auto, unfolding(crate::specs::Lines::reply_of))]
 fn reply_line(alloc: Global, words: &mut Words) -> Result<Form, LineError>
     ensures { Gives result (reply_of words.old) }
@@ -161,32 +297,26 @@ fn reply_line(alloc: Global, words: &mut Words) -> Result<Form, LineError>
     let protocol = protocol(words)?;
     let name = words.full_name(alloc)?;
     let query_type = asked_type(words)?;
-    let delay = words.number(0, 0)?;
-    words.literal(b"message")?;
-    let response_code = response_code(words)?;
-    let (authoritative, truncation) = flags(words)?;
-    let owed = counts(words)?;
+    let delay = delay(words)?;
+    let outcome = answered(words)?;
     words.end()?;
-    let message = Message {
-        query: Query {
+    match outcome {
+        Ok(head) => Ok(Form::Reply(OpenRule {
+            ip,
+            protocol,
+            delay,
+            message: bare_message(alloc, name, query_type, head),
+            owed: head.owed,
+        })),
+        Err(error) => Ok(Form::Rule(ScriptLine::Reply {
+            ip,
+            protocol,
             name,
             query_type,
-            query_class: DnsClass::IN,
-        },
-        response_code,
-        authoritative,
-        truncation,
-        answers: Records::empty(alloc),
-        authorities: Records::empty(alloc),
-        additionals: Records::empty(alloc),
-    };
-    Ok(Form::Reply(OpenRule {
-        ip,
-        protocol,
-        delay: delay as u32,
-        message,
-        owed,
-    }))
+            delay,
+            outcome: Err(error),
+        })),
+    }
 }
 
 #[tactic(auto, unfolding(crate::specs::Lines::question_of))]
@@ -258,6 +388,12 @@ pub fn form_line(alloc: Global, line: &[u8]) -> Result<Form, LineError>
     }
     if word == b"turn".as_slice() {
         return turn_line(&mut words);
+    }
+    if word == b"connect".as_slice() {
+        return connect_line(alloc, &mut words);
+    }
+    if word == b"refuse".as_slice() {
+        return refuse_line(alloc, &mut words);
     }
     if word == b"end".as_slice() {
         return end_line(&mut words);

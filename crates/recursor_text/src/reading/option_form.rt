@@ -1,11 +1,11 @@
 //! Option lines that are read, and the options that they say.
 ghost use Rattle.std.specs.Prelude.{◌≡◌, IfOk};
 ghost use Rattle.recursor_text.specs.Fields.{Gives, GivesFields};
-ghost use Rattle.recursor_text.specs.OptionForm.{bounds_fields, response_cache_size_of, allow_server_of, deny_server_of, positive_ttl_of, negative_ttl_of, option_line_of};
+ghost use Rattle.recursor_text.specs.OptionForm.{bounds_fields, response_cache_size_of, allow_server_of, deny_server_of, avoid_local_udp_ports_of, positive_ttl_of, negative_ttl_of, edns_payload_len_of, first_delays_of, option_line_of};
 ghost use Rattle.recursor_text.specs.Spelling.{option_rank, last_rank, with_positive, with_negative, changed, options_with};
 
 use super::words::{LineError, Words};
-use dns_core::{Items, NoMemory};
+use dns_core::{Delays, Items, NoMemory, Ports};
 use recursor_core::RecursorOptions;
 use resolver_settings::{Nets, TtlBounds, TtlConfig};
 use std::alloc::Global;
@@ -23,8 +23,11 @@ pub enum OptionLine {
     ResponseCacheSize(u64),
     AllowServer(Nets),
     DenyServer(Nets),
+    AvoidLocalUdpPorts(Ports),
     PositiveTtl(Bounds),
     NegativeTtl(Bounds),
+    EdnsPayloadLen(u16),
+    FirstDelays(Delays),
 }
 
 impl OptionLine {
@@ -36,8 +39,11 @@ impl OptionLine {
             OptionLine::ResponseCacheSize(_) => 2,
             OptionLine::AllowServer(_) => 7,
             OptionLine::DenyServer(_) => 8,
+            OptionLine::AvoidLocalUdpPorts(_) => 9,
             OptionLine::PositiveTtl(_) => 10,
             OptionLine::NegativeTtl(_) => 11,
+            OptionLine::EdnsPayloadLen(_) => 14,
+            OptionLine::FirstDelays(_) => 16,
         }
     }
 
@@ -48,12 +54,15 @@ impl OptionLine {
             OptionLine::ResponseCacheSize(size) => options.response_cache_size = size,
             OptionLine::AllowServer(nets) => options.allow_server = nets,
             OptionLine::DenyServer(nets) => options.deny_server = nets,
+            OptionLine::AvoidLocalUdpPorts(ports) => options.avoid_local_udp_ports = ports,
             OptionLine::PositiveTtl(bounds) => {
                 options.cache_policy = with_positive(alloc, &options.cache_policy, bounds);
             }
             OptionLine::NegativeTtl(bounds) => {
                 options.cache_policy = with_negative(alloc, &options.cache_policy, bounds);
             }
+            OptionLine::EdnsPayloadLen(bytes) => options.edns_payload_len = bytes,
+            OptionLine::FirstDelays(delays) => options.first_delays = delays,
         }
     }
 }
@@ -139,6 +148,15 @@ fn deny_server_line(alloc: Global, words: &mut Words) -> Result<OptionLine, Line
     Ok(OptionLine::DenyServer(nets))
 }
 
+#[tactic(auto, unfolding(crate::specs::OptionForm::avoid_local_udp_ports_of))]
+fn avoid_local_udp_ports_line(alloc: Global, words: &mut Words) -> Result<OptionLine, LineError>
+    ensures { Gives result (avoid_local_udp_ports_of words.old) }
+{
+    let ports = words.ports(alloc)?;
+    words.end()?;
+    Ok(OptionLine::AvoidLocalUdpPorts(ports))
+}
+
 #[tactic(auto, unfolding(crate::specs::OptionForm::positive_ttl_of))]
 fn positive_ttl_line(words: &mut Words) -> Result<OptionLine, LineError>
     ensures { Gives result (positive_ttl_of words.old) }
@@ -155,6 +173,24 @@ fn negative_ttl_line(words: &mut Words) -> Result<OptionLine, LineError>
     let bounds = ttl_bounds(words)?;
     words.end()?;
     Ok(OptionLine::NegativeTtl(bounds))
+}
+
+#[tactic(auto, unfolding(crate::specs::OptionForm::edns_payload_len_of))]
+fn edns_payload_len_line(words: &mut Words) -> Result<OptionLine, LineError>
+    ensures { Gives result (edns_payload_len_of words.old) }
+{
+    let bytes = words.number(0, 65_535)?;
+    words.end()?;
+    Ok(OptionLine::EdnsPayloadLen(bytes as u16))
+}
+
+#[tactic(auto, unfolding(crate::specs::OptionForm::first_delays_of))]
+fn first_delays_line(alloc: Global, words: &mut Words) -> Result<OptionLine, LineError>
+    ensures { Gives result (first_delays_of words.old) }
+{
+    let delays = words.delays(alloc)?;
+    words.end()?;
+    Ok(OptionLine::FirstDelays(delays))
 }
 
 /// The name of an option, and its value.
@@ -174,11 +210,20 @@ pub fn option_line(alloc: Global, words: &mut Words) -> Result<OptionLine, LineE
     if word == b"deny_server".as_slice() {
         return deny_server_line(alloc, words);
     }
+    if word == b"avoid_local_udp_ports".as_slice() {
+        return avoid_local_udp_ports_line(alloc, words);
+    }
     if word == b"positive_ttl".as_slice() {
         return positive_ttl_line(words);
     }
     if word == b"negative_ttl".as_slice() {
         return negative_ttl_line(words);
+    }
+    if word == b"edns_payload_len".as_slice() {
+        return edns_payload_len_line(words);
+    }
+    if word == b"first_delays".as_slice() {
+        return first_delays_line(alloc, words);
     }
     Err(LineError::Refused)
 }

@@ -1,87 +1,16 @@
 //! Option lines of the whole format, which are not all read yet: which values they may have, and in
 //! which order they stand.
-ghost use Rattle.std.specs.Prelude.{◌≡◌, IfOk};
-ghost use Rattle.std.specs.List.{list_all};
+ghost use Rattle.std.specs.Prelude.{◌≡◌};
 ghost use Rattle.recursor_text.specs.Fields.{Gives, GivesFields, checked};
-ghost use Rattle.recursor_text.specs.Pieces.{pieces};
-ghost use Rattle.recursor_text.specs.OptionLines.{are_ports_from, is_port_list, is_delay, is_delay_list, number_line, networks_line, ports_line, delays_line, bounds_line, damping_line, encryption_line, is_minimization, minimization_line, is_network_option, is_bounds_option, most_of, listed_line, value_line, rank_of, option_line};
+ghost use Rattle.recursor_text.specs.OptionLines.{number_line, networks_line, ports_line, delays_line, bounds_line, damping_line, encryption_line, is_minimization, minimization_line, is_network_option, is_bounds_option, most_of, listed_line, value_line, rank_of, option_line};
 
-use super::numbers::number;
-use super::pieces::cut;
 use super::words::{LineError, Words, pass};
 use std::alloc::Global;
-
-fn are_ports(word: &[u8]) -> bool
-    ensures { result ≡ are_ports_from 0 (pieces 44 word.now) }
-{
-    let mut low: u64 = 0;
-    let mut rest = word;
-    'items: loop {
-        let (item, after) = cut(rest, b',');
-        match number(item, 65_535) {
-            Some(n) if low <= n => low = n + 1,
-            _ => return false,
-        }
-        let Some(after) = after else {
-            return true;
-        };
-        rest = after;
-    }
-}
-
-fn is_port_list(word: &[u8]) -> bool
-    ensures { result ≡ is_port_list word.now }
-{
-    word == b"-".as_slice() || are_ports(word)
-}
-
-fn is_delay(word: &[u8]) -> bool
-    ensures { result ≡ is_delay word.now }
-{
-    match number(word, 31) {
-        Some(n) if 1 <= n => true,
-        _ => false,
-    }
-}
-
-fn is_delay_list(word: &[u8]) -> bool
-    ensures { result ≡ is_delay_list word.now }
-{
-    let mut rest = word;
-    'items: loop {
-        let (item, after) = cut(rest, b',');
-        if !is_delay(item) {
-            return false;
-        }
-        let Some(after) = after else {
-            return true;
-        };
-        rest = after;
-    }
-}
 
 fn is_minimization(word: &[u8]) -> bool
     ensures { result ≡ is_minimization word.now }
 {
     word == b"strict".as_slice() || word == b"relaxed".as_slice()
-}
-
-fn ports(words: &mut Words) -> Result<(), LineError>
-    ensures { GivesFields result words.new (checked is_port_list words.old) }
-{
-    let Some(word) = words.next() else {
-        return Err(LineError::Refused);
-    };
-    pass(is_port_list(word))
-}
-
-fn delays(words: &mut Words) -> Result<(), LineError>
-    ensures { GivesFields result words.new (checked is_delay_list words.old) }
-{
-    let Some(word) = words.next() else {
-        return Err(LineError::Refused);
-    };
-    pass(is_delay_list(word))
 }
 
 fn minimization(words: &mut Words) -> Result<(), LineError>
@@ -112,19 +41,19 @@ fn networks_line(alloc: Global, words: &mut Words) -> Result<(), LineError>
 }
 
 #[tactic(auto, unfolding(crate::specs::OptionLines::ports_line))]
-fn ports_line(words: &mut Words) -> Result<(), LineError>
+fn ports_line(alloc: Global, words: &mut Words) -> Result<(), LineError>
     ensures { Gives result (ports_line words.old) }
 {
-    ports(words)?;
+    let _ports = words.ports(alloc)?;
     words.end()?;
     Ok(())
 }
 
 #[tactic(auto, unfolding(crate::specs::OptionLines::delays_line))]
-fn delays_line(words: &mut Words) -> Result<(), LineError>
+fn delays_line(alloc: Global, words: &mut Words) -> Result<(), LineError>
     ensures { Gives result (delays_line words.old) }
 {
-    delays(words)?;
+    let _delays = words.delays(alloc)?;
     words.end()?;
     Ok(())
 }
@@ -227,7 +156,7 @@ fn listed_line(alloc: Global, word: &[u8], words: &mut Words) -> Result<(), Line
         return networks_line(alloc, words);
     }
     if word == b"avoid_local_udp_ports".as_slice() {
-        return ports_line(words);
+        return ports_line(alloc, words);
     }
     if is_bounds_option(word) {
         return bounds_line(words);
@@ -239,7 +168,7 @@ fn listed_line(alloc: Global, word: &[u8], words: &mut Words) -> Result<(), Line
         return minimization_line(words);
     }
     if word == b"first_delays".as_slice() {
-        return delays_line(words);
+        return delays_line(alloc, words);
     }
     Err(LineError::Refused)
 }

@@ -1,10 +1,11 @@
 //! Lines that are not taken: which of them the format has, though they are not read yet.
 ghost use Rattle.std.specs.Prelude.{◌≡◌, Option, codes, IfOk};
 ghost use Rattle.recursor_text.specs.Fields.{Gives, GivesFields, checked};
-ghost use Rattle.recursor_text.specs.Unbuilt.{is_protocol, is_error_word, is_flags, is_dnssec, is_named_class, is_class, is_named_code, is_code, root_line, told_line, refuse_line, error_line, message_line, ok_line, connect_line, reply_line, question_line, ipv4_data, ipv6_data, name_data, soa_data, signature_data, bytes_data, data_line, delay_field, outcome_line, stands, record_line, is_at_roots, is_at_options, is_at_told, is_at_rules, is_at_questions, rule_line, late_line, other_line, line_at, refusal_at};
+ghost use Rattle.recursor_text.specs.Unbuilt.{is_protocol, is_error_word, is_flags, is_dnssec, is_named_class, is_class, is_named_code, is_code, told_line, refuse_line, error_line, message_line, ok_line, connect_line, reply_line, question_line, ipv4_data, ipv6_data, name_data, soa_data, signature_data, bytes_data, data_line, outcome_line, stands, record_line, is_at_options, is_at_told, is_at_rules, is_at_questions, rule_line, late_line, other_line, line_at, refusal_at};
 
 use super::codes::{number_behind, record_type};
 use super::draft::{Place, Refusal, Stage};
+use super::lines::delay;
 use super::option_lines::option_line;
 use super::words::{LineError, Words, pass};
 use dns_core::NoMemory;
@@ -142,22 +143,7 @@ fn response_code(words: &mut Words) -> Result<(), LineError>
     pass(is_code(word))
 }
 
-fn delay(words: &mut Words) -> Result<u64, LineError>
-    ensures { GivesFields result words.new (delay_field words.old) }
-{
-    words.number(0, 1_000_000)
-}
-
 // ---- lines, each after its first word
-
-#[tactic(auto, unfolding(crate::specs::Unbuilt::root_line))]
-fn root_line(alloc: Global, words: &mut Words) -> Result<(), LineError>
-    ensures { Gives result (root_line words.old) }
-{
-    words.ip(alloc)?;
-    words.end()?;
-    Ok(())
-}
 
 #[tactic(auto, unfolding(crate::specs::Unbuilt::told_line))]
 fn told_line(words: &mut Words) -> Result<(), LineError>
@@ -379,12 +365,6 @@ fn record_line(alloc: Global, words: &mut Words) -> Result<(), LineError>
 
 // ---- where a line can stand
 
-fn is_at_roots(stage: Stage) -> bool
-    ensures { result ≡ is_at_roots stage }
-{
-    matches!(&stage, Stage::Headed | Stage::Rooted)
-}
-
 fn is_at_options(stage: Stage) -> bool
     ensures { result ≡ is_at_options stage }
 {
@@ -457,9 +437,6 @@ fn other_line(alloc: Global, place: Place, words: &mut Words) -> Result<(), Line
         return Err(LineError::Refused);
     };
     let stage = place.stage;
-    if word == b"root".as_slice() {
-        return stands(is_at_roots(stage), root_line(alloc, words));
-    }
     if word == b"option".as_slice() {
         return stands(
             is_at_options(stage),

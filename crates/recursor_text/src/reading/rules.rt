@@ -1,6 +1,6 @@
 //! Rules of a script while their records are read.
 
-use dns_core::{Message, Protocol};
+use dns_core::{Message, Protocol, ResponseCode};
 use std::net::IpAddr;
 
 /// How many records of each section are still to come.
@@ -9,6 +9,15 @@ pub struct Counts {
     pub answers: u32,
     pub authorities: u32,
     pub additionals: u32,
+}
+
+/// What the line of a message says of it: all but its question and its records.
+#[derive(Clone, Copy, Debug, PartialEq, Eq)]
+pub struct MessageHead {
+    pub response_code: ResponseCode,
+    pub authoritative: bool,
+    pub truncation: bool,
+    pub owed: Counts,
 }
 
 /// A rule that tells a message, some of whose records are still to come.

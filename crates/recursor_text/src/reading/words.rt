@@ -6,6 +6,7 @@ ghost use Rattle.recursor_text.specs.Fields.{GivesFields, Ends, Gives, field, li
 ghost use Rattle.recursor_text.specs.Hex.{bytes_of};
 ghost use Rattle.recursor_text.specs.Names.{relaxed_name, full_name, short_name};
 ghost use Rattle.recursor_text.specs.Networks.{nets_of};
+ghost use Rattle.recursor_text.specs.NumberLists.{ports_of, delays_of};
 ghost use Rattle.recursor_text.specs.Numbers.{number_within, ipv4_of};
 ghost use Rattle.recursor_text.specs.Pieces.{pieces};
 
@@ -13,9 +14,10 @@ use super::addresses::{ip, ipv6};
 use super::codes::record_type;
 use super::hex::bytes;
 use super::networks::nets;
+use super::number_lists::{delays, ports};
 use super::numbers::{ipv4, number};
 use super::pieces::cut;
-use dns_core::{Bytes, Name, NameError, NoMemory, RecordType};
+use dns_core::{Bytes, Delays, Name, NameError, NoMemory, Ports, RecordType};
 use resolver_settings::Nets;
 use std::alloc::Global;
 use std::marker::Model;
@@ -192,6 +194,26 @@ impl<'a> Words<'a> {
             return Err(LineError::Refused);
         };
         nets(alloc, word)
+    }
+
+    /// Ports, which rise.
+    pub fn ports(&mut self, alloc: Global) -> Result<Ports, LineError>
+        ensures { GivesFields result self.new (field ports_of self.old) }
+    {
+        let Some(word) = self.next() else {
+            return Err(LineError::Refused);
+        };
+        ports(alloc, word)
+    }
+
+    /// First delays, in microseconds.
+    pub fn delays(&mut self, alloc: Global) -> Result<Delays, LineError>
+        ensures { GivesFields result self.new (field delays_of self.old) }
+    {
+        let Some(word) = self.next() else {
+            return Err(LineError::Refused);
+        };
+        delays(alloc, word)
     }
 
     /// A type, by its name or its number.

@@ -29,7 +29,7 @@ returns c =
     let terms : run_terms p r ≡ terms_of s = terms-are p s.patience r s.roots (server_filter_of s.options) s.options.cache_policy new.1 new.2 new.4 first in
     record {
       gives = given;
-      plain = gives_plainly (script_of s.upstream) log c.requires.whole given;
+      plain = gives_plainly (script_of s.upstream) log c.requires.plain given;
       answered = omega (arith, replied, asked, answered);
       asks = asks-of (terms_of s) (run_terms p r) log (told_by provider) terms is (c.drive.ensures.asks (told_by provider) refl);
       replies = replies-of (terms_of s) (run_terms p r) log (told_by provider) r.moment s.turns c.items-2.result.now s.questions c.items.result.now c.new.result c.in_ok-replies.replies.items

@@ -9,7 +9,7 @@ use Rattle.recursor_walk.proofs.class.first_foreign.Goals as goal
 pub returns : goal.returns
 returns c =
     let m = c.args.message.now in
-    let p = is_foreign m.query in
+    let p = is_foreign c.args.query.now in
     let last = option_copied c.foreign_in-3.result in
     ap option_copied (c.or-2.ensures ∙ ap (λ o. option_or o c.foreign_in-3.result) c.or.ensures)
     ∙ copied-or (option_or c.foreign_in.result c.foreign_in-2.result) c.foreign_in-3.result

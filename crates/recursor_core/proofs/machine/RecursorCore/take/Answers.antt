@@ -1,6 +1,7 @@
 use Rattle.std.proofs.Common.{◌<◌, length, arith, refl}
 use Rattle.std.proofs.lemmas.List.Elements.{All-set}
-use Rattle.recursor_core.specs.Order.{entry_of}
+use Rattle.std.proofs.lemmas.Result.{IfOk-weaker}
+use Rattle.server_core.specs.Order.{entry_of}
 use Rattle.recursor_core.specs.Derived.{terms_of, ResolutionHolds}
 use Rattle.recursor_core.proofs.Kept.{resolutions-kept}
 use Rattle.recursor_core.proofs.Remembering.{cache-kept}
@@ -10,12 +11,13 @@ use Rattle.recursor_core.proofs.Cores.{held-at, begun-set}
 use Rattle.recursor_core.proofs.machine.RecursorCore.take.Goals as goal
 
 pub returns-clause-falls : goal.returns-clause-falls
-returns-clause-falls c timely kept =
+returns-clause-falls c =
     let xs = c.args.self.now.resolutions.items in
     let f = c.index_mut-resolution.result.now in
     let at = c.index_mut-resolution.ensures.value in
     let within : c.args.r < length xs = order_within xs c.args.r c.requires in
-    sum_falls c.args.tick.patience xs c.args.r f c.take.new.self within at (c.take.ensures.falls timely kept)
+    IfOk-weaker c.take.result _ _ (λ after falls timely kept. sum_falls c.args.tick.patience xs c.args.r f c.take.new.self within at (falls timely kept))
+    c.take.ensures.falls
 
 pub returns-clause-keeps : goal.returns-clause-keeps
 returns-clause-keeps c =

@@ -1,15 +1,13 @@
-use Rattle.std.proofs.Common.{◌∙◌, sym, subst}
-use Rattle.recursor_core.specs.Derived.{StateHolds}
-use Rattle.recursor_core.proofs.Resolved.{after-holds}
+use Rattle.recursor_core.proofs.Resolved.{settled-holds, settled-falls}
 use Rattle.recursor_core.proofs.resolving.Resolution.hear.Goals as goal
 
-pub returns-in_ok-reply-clause-holds : goal.returns-in_ok-reply-clause-holds
-returns-in_ok-reply-clause-holds c terms greatest moment log filtered h =
+pub returns-clause-falls : goal.returns-clause-falls
+returns-clause-falls c =
+    settled-falls c.args.self.now c.settle.new.self c.in-Under.walk c.hear-came.new.self c.hear-came.result c.in-Under.is c.settle.ensures.begun c.settle.ensures.state
+    c.hear-came.ensures.falls
+
+pub returns-clause-holds : goal.returns-clause-holds
+returns-clause-holds c terms greatest moment log filtered h =
     let r = c.args.self.now in
-    let is = sym c.replace.ensures.value ∙ c.in-Under.is in
-    let state = subst (StateHolds terms greatest moment r.begun log r.question) is h.state in
-    let comes = c.in_ok-reply.ensures.holds terms greatest moment r.begun log filtered state in
-    record {
-      begun = h.begun;
-      state = after-holds terms greatest moment r.begun log r.question c.hear.new.self c.in_ok-reply.reply c.state_after.result c.state_after.ensures comes;
-    }
+    settled-holds terms greatest moment log r c.settle.new.self c.hear-came.new.self c.hear-came.result c.settle.ensures.begun c.settle.ensures.state h.begun
+    (c.hear-came.ensures.holds terms greatest moment r.begun log filtered (rw c.in-Under.is at h.state))

@@ -1,17 +1,13 @@
-use Rattle.std.proofs.Common.{◌∙◌, sym, subst}
-use Rattle.recursor_core.specs.Derived.{StateHolds}
-use Rattle.recursor_core.proofs.Resolved.{after-holds, recalled-for}
+use Rattle.recursor_core.proofs.Resolved.{settled-holds, settled-falls}
 use Rattle.recursor_core.proofs.resolving.Resolution.recall.Goals as goal
 
-pub returns-in_ok-reply-clause-holds : goal.returns-in_ok-reply-clause-holds
-returns-in_ok-reply-clause-holds c terms greatest log filtered cached h =
+pub returns-clause-falls : goal.returns-clause-falls
+returns-clause-falls c =
+    settled-falls c.args.self.now c.settle.new.self c.in-Under.walk c.recall-came.new.walk c.recall-came.result c.in-Under.is c.settle.ensures.begun
+    c.settle.ensures.state c.recall-came.ensures.falls
+
+pub returns-clause-holds : goal.returns-clause-holds
+returns-clause-holds c terms greatest log filtered cached h =
     let r = c.args.self.now in
-    let w = c.in-Under.walk in
-    let is = sym c.replace.ensures.value ∙ c.in-Under.is in
-    let state = subst (StateHolds terms greatest c.args.now r.begun log r.question) is h.state in
-    let stands = recalled-for terms greatest r.begun c.args.now log c.args.cache.now w.lookup.query c.in_ok-counted.counted h.begun cached c.in_ok-counted.ensures in
-    let comes = c.in_ok-reply.ensures.holds terms greatest c.args.now r.begun log filtered stands state in
-    record {
-      begun = h.begun;
-      state = after-holds terms greatest c.args.now r.begun log r.question c.recall.new.self c.in_ok-reply.reply c.state_after.result c.state_after.ensures comes;
-    }
+    settled-holds terms greatest c.args.now log r c.settle.new.self c.recall-came.new.walk c.recall-came.result c.settle.ensures.begun c.settle.ensures.state h.begun
+    (c.recall-came.ensures.holds terms greatest r.begun log filtered cached h.begun (rw c.in-Under.is at h.state))

@@ -1,5 +1,6 @@
 use Rattle.std.proofs.Common.{◌<◌, ◌≤◌, ◌+◌, ◌*◌, ◌^◌, length, arith, subst, sym}
-use Rattle.recursor_core.specs.Order.{entry_of}
+use Rattle.std.proofs.lemmas.Result.{IfOk-weaker}
+use Rattle.server_core.specs.Order.{entry_of}
 use Rattle.recursor_core.specs.Lookup.{steps, polls_left}
 use Rattle.recursor_core.specs.Walk.{lookups_after}
 use Rattle.recursor_core.specs.Resolving.{state_steps, state_polls}
@@ -10,13 +11,15 @@ use Rattle.recursor_core.proofs.Resolved.{under-holds}
 use Rattle.recursor_core.proofs.resolving.Resolution.take.Goals as goal
 
 pub returns-clause-falls : goal.returns-clause-falls
-returns-clause-falls c timely kept =
+returns-clause-falls c =
     let w = c.in-Under.walk in
     let p = c.args.tick.patience in
     let front = 2 + lookups_after (length w.name.labels) w.stage * 2 ^ 70 in
     let l = c.take.new.self in
+    IfOk-weaker c.take.result _ _ (λ after falls timely kept.
     subst (λ (s : State). (p + 1) * (front + steps l) + polls_left p l.send < (p + 1) * state_steps c.args.self.now.question.query s + state_polls p s) (sym c.in-Under.is)
-    (lifted p front (steps l) (steps w.lookup) (polls_left p l.send) (polls_left p w.lookup.send) (c.take.ensures.falls timely kept))
+    (lifted p front (steps l) (steps w.lookup) (polls_left p l.send) (polls_left p w.lookup.send) (falls timely kept)))
+    c.take.ensures.falls
 
 pub returns-clause-keeps : goal.returns-clause-keeps
 returns-clause-keeps c =

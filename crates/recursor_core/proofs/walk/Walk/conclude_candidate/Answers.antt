@@ -17,8 +17,8 @@ use Rattle.recursor_core.proofs.Walks.{timed-out, leaves-failed}
 use Rattle.recursor_core.proofs.walk.Walk.conclude_candidate.Goals.{in-Timeout, in_default}
 use Rattle.recursor_core.proofs.walk.Walk.conclude_candidate.Goals as goal
 
-pub returns-in-Message-clause-holds : goal.returns-in-Message-clause-holds
-returns-in-Message-clause-holds c terms greatest moment t0 log filtered way found = c.hear_candidate.ensures.holds terms greatest moment t0 log filtered way (rw c.in-Message.is at found)
+pub returns-in-Told-clause-holds : goal.returns-in-Told-clause-holds
+returns-in-Told-clause-holds c terms greatest moment t0 log filtered way found = c.hear_candidate.ensures.holds terms greatest moment t0 log filtered way (rw c.in-Told.is at found)
 
 -- an error that is none is no timeout
 not-timeout : (e : NetError) → (e ≡ net.Timeout → ⊥) → is_timeout e ≡ false

@@ -3,8 +3,8 @@ use Rattle.recursor_core.proofs.Denials.{denied, has-failed}
 use Rattle.recursor_core.proofs.Walks.{walked-at-last}
 use Rattle.recursor_core.proofs.walk.Walk.conclude_last.Goals as goal
 
-pub returns-in-Message : goal.returns-in-Message
-returns-in-Message c terms greatest t0 log is way found = c.hear_last.ensures terms greatest t0 log is way (rw c.in-Message.is at found)
+pub returns-in-Told : goal.returns-in-Told
+returns-in-Told c terms greatest t0 log is way found = c.hear_last.ensures terms greatest t0 log is way (rw c.in-Told.is at found)
 
 pub returns-in-Error : goal.returns-in-Error
 returns-in-Error c terms greatest t0 log is way found =

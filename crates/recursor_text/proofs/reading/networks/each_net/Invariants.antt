@@ -1,7 +1,7 @@
 use Rattle.std.proofs.Common.{◌≡◌, length}
 use Rattle.recursor_text.specs.Pieces.{pieces}
 use Rattle.recursor_text.specs.Networks.{each_net}
-use Rattle.recursor_text.proofs.NetLaws.{behind}
+use Rattle.recursor_text.proofs.Binds.{behind}
 use Rattle.recursor_text.proofs.reading.networks.each_net.Given as goal
 
 abbrev pub invariant-items : goal.invariant-items

@@ -1,0 +1,50 @@
+use Rattle.std.proofs.Common.{◌<◌, ◌∙◌, length, refl, sym, ap}
+use Rattle.recursor_core.specs.Derived.{terms_of, ResolutionHolds}
+use Rattle.recursor_core.specs.Machine.{need_in, asked_in}
+use Rattle.recursor_core.proofs.Ranks.{rank_falls, sum_falls, need_within, read_at}
+use Rattle.recursor_core.proofs.Cores.{all-after, begun-set}
+use Rattle.recursor_core.proofs.machine.RecursorCore.begin_send.Goals as goal
+
+pub begin_send-requires-clause-want : goal.begin_send-requires-clause-want
+begin_send-requires-clause-want c =
+    let xs = c.args.self.now.resolutions.items in
+    let f = c.index_mut-resolution.result.now in
+    let at = c.index_mut-resolution.ensures.value in
+    let within : c.args.r < length xs = need_within xs c.args.r (λ e. cc) in
+    sym (ap need_in (read_at xs c.args.r f within at)) ∙ c.requires.want
+
+pub begin_send-requires-clause-fresh : goal.begin_send-requires-clause-fresh
+begin_send-requires-clause-fresh c =
+    let xs = c.args.self.now.resolutions.items in
+    let f = c.index_mut-resolution.result.now in
+    let at = c.index_mut-resolution.ensures.value in
+    let within : c.args.r < length xs = need_within xs c.args.r (λ e. cc) in
+    sym (ap asked_in (read_at xs c.args.r f within at)) ∙ c.requires.fresh
+
+pub returns-clause-falls : goal.returns-clause-falls
+returns-clause-falls c p =
+    let xs = c.args.self.now.resolutions.items in
+    let f = c.index_mut-resolution.result.now in
+    let at = c.index_mut-resolution.ensures.value in
+    let within : c.args.r < length xs = need_within xs c.args.r (λ e. cc) in
+    sum_falls p xs c.args.r f c.begin_send.new.self within at (rank_falls p f c.begin_send.new.self c.begin_send.ensures.falls)
+
+pub returns-clause-derived : goal.returns-clause-derived
+returns-clause-derived c log d =
+    let core = c.args.self.now in
+    let terms = terms_of core in
+    let xs = c.args.self.now.resolutions.items in
+    let f = c.index_mut-resolution.result.now in
+    let at = c.index_mut-resolution.ensures.value in
+    let within : c.args.r < length xs = need_within xs c.args.r (λ e. cc) in
+    let P = ResolutionHolds terms core.greatest core.moment log in
+    let kept = all-after P xs c.args.r f c.begin_send.new.self within at (c.begin_send.ensures.holds terms core.moment log) d.resolutions in
+    record { bound = d.bound; some = d.some; cache = d.cache; resolutions = kept }
+
+pub returns-clause-same : goal.returns-clause-same
+returns-clause-same c =
+    let xs = c.args.self.now.resolutions.items in
+    let f = c.index_mut-resolution.result.now in
+    let at = c.index_mut-resolution.ensures.value in
+    let within : c.args.r < length xs = need_within xs c.args.r (λ e. cc) in
+    record { setting = refl; cache = refl; greatest = refl; moment = refl; begun = begun-set xs c.args.r f c.begin_send.new.self within at c.begin_send.ensures.begun }
