@@ -13,7 +13,7 @@ const RUNS: usize = 2_000;
 
 /// A recursor over a script, and its question.
 #[derive(Drop)]
-struct Asking {
+struct Bench {
     recursor: Recursor<ScriptUpstream>,
     questions: Items<Question>,
 }
@@ -27,7 +27,7 @@ fn referral(
     servers: usize,
     network: usize,
 ) -> Result<(), Fail> {
-    let addresses = 2 * servers;
+    let addresses = servers.saturating_mul(2);
     let rule = format!(in alloc;
         "reply {server} udp {zone} NS 0 message NOERROR none 0 {servers} {addresses}\n"
     )?;
@@ -69,22 +69,30 @@ fn scenario(alloc: Global, option: &str, second: usize, third: usize) -> Result<
     Ok(text)
 }
 
-fn recursor_over(alloc: Global, scenario: Scenario) -> Result<Asking, Fail> {
-    let Upstream::Script(script) = scenario.upstream;
+fn recursor_over(alloc: Global, scenario: Scenario) -> Result<Bench, Fail> {
+    let Scenario {
+        roots,
+        options,
+        patience: _,
+        upstream,
+        questions,
+        turns: _,
+    } = scenario;
+    let Upstream::Script(script) = upstream;
     if !script.is_qualified() {
         return Err(Fail::new(format_args!("a name is not fully qualified")));
     }
     let upstream = ScriptUpstream::new(alloc, script)?;
-    match Recursor::with_options(alloc, scenario.roots.items(), scenario.options, upstream) {
-        Ok(recursor) => Ok(Asking {
+    match Recursor::with_options(alloc, roots.items(), options, upstream) {
+        Ok(recursor) => Ok(Bench {
             recursor,
-            questions: scenario.questions,
+            questions,
         }),
         Err(_) => Err(Fail::new(format_args!("the recursor is refused"))),
     }
 }
 
-fn asking(alloc: Global, option: &str, second: usize, third: usize) -> Result<Asking, Fail> {
+fn bench_over(alloc: Global, option: &str, second: usize, third: usize) -> Result<Bench, Fail> {
     let text = scenario(alloc, option, second, third)?;
     match read_scenario(alloc, text.as_bytes()) {
         Ok(scenario) => recursor_over(alloc, scenario),
@@ -97,18 +105,12 @@ fn is_answered(replies: &[Reply]) -> bool {
 }
 
 /// Drives the question so often, each time in a run of its own, and counts its answers.
-fn answers(alloc: Global, asking: &mut Asking, runs: usize) -> Result<usize, Fail> {
+fn answers(alloc: Global, bench: &mut Bench, runs: usize) -> Result<usize, Fail> {
     let mut answers = 0;
     for _ in 0..runs {
-        let replies = drive(
-            alloc,
-            &mut asking.recursor,
-            asking.questions.items(),
-            &[],
-            3,
-        )?;
+        let replies = drive(alloc, &mut bench.recursor, bench.questions.items(), &[], 3)?;
         if is_answered(replies.as_slice()) {
-            answers += 1;
+            answers = usize::saturating_add(answers, 1);
         }
     }
     Ok(answers)
@@ -117,8 +119,8 @@ fn answers(alloc: Global, asking: &mut Asking, runs: usize) -> Result<usize, Fai
 /// Each of so many runs has its answer.
 fn are_answered(alloc: Global, option: &str, servers: [usize; 2], runs: usize) -> Result<(), Fail> {
     let [second, third] = servers;
-    let mut asking = asking(alloc, option, second, third)?;
-    let found = answers(alloc, &mut asking, runs)?;
+    let mut bench = bench_over(alloc, option, second, third)?;
+    let found = answers(alloc, &mut bench, runs)?;
     if found == runs {
         return Ok(());
     }
