@@ -1,0 +1,2 @@
+mod Foreign
+mod Unfiltered

@@ -1,0 +1,3 @@
+pub mod Statistics
+pub mod Ordering
+pub mod AnswerFilter

@@ -1,0 +1,22 @@
+//! A pool of servers: in which order they are asked, which of their errors is kept, and what is left
+//! of the answer.
+#![tactic(auto)]
+
+mod answer_filter;
+mod kept_error;
+mod kept_error_laws;
+mod ordering;
+mod statistics;
+
+pub use answer_filter::filtered;
+pub use kept_error::most_specific;
+pub use kept_error_laws::the_earlier_negative_is_kept;
+pub use ordering::ordered;
+pub use statistics::sort_servers_by_query_statistics;
+
+#[cfg(test)]
+mod answer_filter_tests;
+#[cfg(test)]
+mod kept_error_tests;
+#[cfg(test)]
+mod ordering_tests;
