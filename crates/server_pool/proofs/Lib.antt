@@ -1,2 +1,4 @@
 mod Foreign
 mod Unfiltered
+pub mod Turning
+pub mod KeptOver

@@ -2,15 +2,17 @@
 //! of the answer.
 #![tactic(auto)]
 
+mod agenda;
 mod answer_filter;
 mod kept_error;
 mod kept_error_laws;
 mod ordering;
 mod statistics;
 
+pub use agenda::{Candidate, Ending};
 pub use answer_filter::filtered;
 pub use kept_error::most_specific;
-pub use kept_error_laws::the_earlier_negative_is_kept;
+pub use kept_error_laws::{the_earlier_negative_is_kept, the_kept_error_is_what_is_left};
 pub use ordering::ordered;
 pub use statistics::sort_servers_by_query_statistics;
 
