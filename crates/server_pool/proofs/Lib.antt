@@ -2,3 +2,4 @@ mod Foreign
 mod Unfiltered
 pub mod Turning
 pub mod KeptOver
+pub mod Standing
