@@ -3,3 +3,5 @@ mod Unfiltered
 pub mod Turning
 pub mod KeptOver
 pub mod Standing
+pub mod Deciding
+pub mod Finishing

@@ -15,16 +15,16 @@ use Rattle.server_pool.specs.Agenda.IsRepeated.{refused as refused_again, waits 
 use Rattle.server_pool.proofs.Turning.{or_false, but, any_more, all_more, but_more_first, but_more, after_more, find_none, find_more_first, find_more, filter_more, last_more}
 use Rattle.server_pool.proofs.KeptOver.{no_turn}
 
-or_left : (a b : Bool) → a ≡ true → (a || b) ≡ true
+pub or_left : (a b : Bool) → a ≡ true → (a || b) ≡ true
 or_left true b h = refl
 or_left false b h = cc
 
-or_right : (a b : Bool) → b ≡ true → (a || b) ≡ true
+pub or_right : (a b : Bool) → b ≡ true → (a || b) ≡ true
 or_right true b h = refl
 or_right false b h = h
 
 -- a first one is among the third, in place of the second
-to_first : (x w u : Bool) → ((x || w) || u) ≡ true → (w || (x || u)) ≡ true
+pub to_first : (x w u : Bool) → ((x || w) || u) ≡ true → (w || (x || u)) ≡ true
 to_first true true u h = refl
 to_first true false u h = refl
 to_first false w u h = h
