@@ -85,7 +85,7 @@ module _ {S : Type 0} (rules : Rules S) (class : Answered → Class) (same_is : 
       room = λ s. dropped_room (cond (rules.same s c) 1 0) (places rules s rest) (places rules s under) (places rules s busy) (places rules s pool) _ (count_cons (rules.same s) c rest) (st.room s);
       share = λ s. dropped_share (cond (rules.same s c) 1 0) (count_by (is_at rules class s) ends) (places rules s rest) (places rules s under) _ _ (count_cons (rules.same s) c rest) (st.share s);
       size = omega (arith, st.size);
-      total = omega (arith, st.total)
+      total = omega (arith, st.total);
     }
 
     start_deals : (s : S) → IsDealt rules class ends under (c ∷ rest) busy s → IsDealt rules class ends (c ∷ under) rest busy s
@@ -123,7 +123,7 @@ module _ {S : Type 0} (rules : Rules S) (class : Answered → Class) (same_is : 
       share = λ s. started_share (cond (rules.same s c) 1 0) (count_by (is_at rules class s) ends) (places rules s rest) (places rules s under) _ _ _
           (count_cons (rules.same s) c rest) (count_cons (rules.same s) c under) (st.share s);
       size = omega (arith, st.size);
-      total = omega (arith, st.total)
+      total = omega (arith, st.total);
     }
 
   -- the first allowed one is taken, those before it are dropped

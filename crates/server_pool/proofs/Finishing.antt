@@ -44,7 +44,7 @@ module _ {S : Type 0} (rules : Rules S) (class : Answered → Class) (same_self 
     room = λ s. omega arith;
     share = λ s. omega arith;
     size = omega arith;
-    total = omega arith
+    total = omega arith;
   }
 
   module _ (ends : List (End S)) (busy : List S) (off : Bool) (kept : NetError) (k : ℕ) where
@@ -85,7 +85,7 @@ module _ {S : Type 0} (rules : Rules S) (class : Answered → Class) (same_self 
           (slept_share (count_by (is_at rules class s) ends) (places rules s busy) (places rules s pool) ((k + 1) * places rules s pool) _ (st.share s) (busy_first (places rules s busy) (places rules s pool) (st.room s)));
       size = busy_first (length busy) (length pool) st.size;
       total = subst (λ (m : ℕ). length ends + length busy + 0 ≤ m + (if has_turned rules class ends then 1 else 0)) (once_more k (length pool))
-          (slept_share (length ends) (length busy) (length pool) ((k + 1) * length pool) _ st.total (busy_first (length busy) (length pool) st.size))
+          (slept_share (length ends) (length busy) (length pool) ((k + 1) * length pool) _ st.total (busy_first (length busy) (length pool) st.size));
     }
 
     -- ---- all its ends decide
@@ -163,7 +163,7 @@ module _ {S : Type 0} (rules : Rules S) (class : Answered → Class) (same_self 
       again = was_repeated st.repeated;
       busy = all_from (λ s. (has_turned rules class ends && not (rules.beyond_udp s)) || retried_of (length (own rules class s ends)) (last_or None (own rules class s ends))) pool
           (λ s h. retried_one s f st.delayed (st.dealt s h));
-      answers = ap Err (st.error ∙ kept_is_left rules class ends st.none)
+      answers = ap Err (st.error ∙ kept_is_left rules class ends st.none);
     })
 
   module _ (ends : List (End S)) (under waiting busy : List S) (off : Bool) (kept : NetError) (k : ℕ) where
@@ -176,7 +176,7 @@ module _ {S : Type 0} (rules : Rules S) (class : Answered → Class) (same_self 
       whole = refl;
       before = st.none;
       final = is_final (retries rules class e) (turns rules class e) r (λ g. sym st.udp ∙ t g);
-      answers = refl
+      answers = refl;
     })
       where
         is_final : (a b : Bool) → a ≡ false → (b ≡ true → has_turned rules class ends ≡ true) → (not a && (not b || has_turned rules class ends)) ≡ true

@@ -5,3 +5,4 @@ pub mod KeptOver
 pub mod Standing
 pub mod Deciding
 pub mod Finishing
+pub mod Plans

@@ -165,7 +165,7 @@ module _ {S : Type 0} (rules : Rules S) (class : Answered → Class) where
             (ap (λ (b : Bool). if b then 1 else 0) (no_turn_yet s)) (ap (λ (b : Bool). if b then 1 else 0) (turn_at_last s)) (st.share s);
         size = omega (arith, st.size);
         total = move_total (length ends) (length waiting) (length under) ((k + 1) * length pool) _ _ _
-            (length-append ends (e ∷ [])) (ap (λ (b : Bool). if b then 1 else 0) n) (ap (λ (b : Bool). if b then 1 else 0) has_turned_now) st.total
+            (length-append ends (e ∷ [])) (ap (λ (b : Bool). if b then 1 else 0) n) (ap (λ (b : Bool). if b then 1 else 0) has_turned_now) st.total;
       }
 
     -- ---- an end that passes the question on: the server is kept for later where it is busy
@@ -251,5 +251,5 @@ module _ {S : Type 0} (rules : Rules S) (class : Answered → Class) where
             (count_more (is_at rules class s) ends e) (count_cons (rules.same s) e.server under) (ap (λ (b : Bool). if b then 1 else 0) (same_turn_at s)) (st.share s);
         size = omega (arith, st.size, one_more);
         total = keep_total (length ends) (length waiting) (length under) ((k + 1) * length pool) _ _ _
-            (length-append ends (e ∷ [])) (ap (λ (b : Bool). if b then 1 else 0) same_turned) st.total
+            (length-append ends (e ∷ [])) (ap (λ (b : Bool). if b then 1 else 0) same_turned) st.total;
       }

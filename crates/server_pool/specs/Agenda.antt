@@ -1,16 +1,16 @@
 -- What a lookup has still to ask, and how that stands to the ends of the sends that it made.
-use Rattle.std.specs.Prelude.{◌≡◌, ℕ, ◌+◌, ◌*◌, ◌≤◌, Bool, true, false, not, ◌&&◌, ◌||◌, ◌==◌, List, map, filter, count_by, length, if◌then◌else◌, Option, Some, None, Ok, Err}
+use Rattle.std.specs.Prelude.{◌≡◌, ℕ, ◌+◌, ◌*◌, ◌≤◌, Bool, true, false, not, ◌&&◌, ◌||◌, ◌==◌, List, map, filter, count_by, length, nat_lt, ◌^◌, ◌∷◌, ◌++◌, [], if◌then◌else◌, Option, Some, None, Ok, Err}
 use Rattle.std.specs.Bool.{beq}
 use Rattle.std.specs.List.{list_any, last_or, after_first}
 use Rattle.dns_core.specs.declared.message.Query.{Query}
 use Rattle.dns_core.specs.declared.net_error.NetError.{NetError}
 use Rattle.resolution.specs.Class.{class_of_classified, class_of_error}
-use Rattle.resolution.specs.Lookups.{Answered, Rules, End, is_turn, is_retryable, is_busy, class_of_end, turns, has_turned, but_turn, none_is_final, is_at, is_turn_at}
+use Rattle.resolution.specs.Lookups.{Answered, Rules, End, is_turn, is_retryable, is_busy, answer_of, class_of_end, turns, has_turned, but_turn, none_is_final, is_at, is_turn_at}
 use Rattle.resolution.specs.declared.class.Class.{Class}
-use Rattle.server_pool.specs.KeptError.{kept_over}
-use Rattle.server_pool.specs.declared.agenda.Candidate.{Candidate}
-use Rattle.server_pool.specs.declared.agenda.Ending.{Ending}
-use Rattle.server_pool.specs.declared.agenda.Ending.TheVariants.{Turns, Passes, Ends}
+use Rattle.server_pool.specs.KeptError.{kept_after, kept_over}
+use Rattle.server_pool.specs.declared.candidate.Candidate.{Candidate}
+use Rattle.server_pool.specs.declared.candidate.Ending.{Ending}
+use Rattle.server_pool.specs.declared.candidate.Ending.TheVariants.{Turns, Passes, Ends}
 
 -- those to be asked, in their order, and those that were busy; UDP is off; the error that is kept; how often the lookup slept
 pub record Plan : Type 0 where
@@ -39,6 +39,26 @@ class_of_sent q (Err e) = class_of_error e
 -- the first turn turns UDP off, what is retryable passes the question on, and everything else ends the lookup
 abbrev pub ending_of : Bool → Bool → Class → Ending
 ending_of off trusted c = if is_turn c && not off then Turns else (if is_retryable trusted c then Passes else Ends)
+
+-- what an end of a send to a server answers, where it ends the lookup
+abbrev pub answer_after : Bool → Bool → Class → Option Answered
+answer_after off trusted c = elim (ending_of off trusted c) [ Turns ↦ None | Passes ↦ None | Ends ↦ Some (answer_of c) ]
+
+-- what is to be done after an end: a server that turned UDP off comes first, one that is busy comes later
+abbrev pub after_end : Candidate → Class → Plan → Plan
+after_end s c p = elim (ending_of p.off s.trusted c) [
+  | Turns ↦ record p { waiting = s ∷ p.waiting; off = true; kept = kept_after p.kept c }
+  | Passes ↦ record p { busy = if is_busy c then p.busy ++ s ∷ [] else p.busy; kept = kept_after p.kept c }
+  | Ends ↦ p
+]
+
+-- the sleeps get longer: 20 milliseconds, 40, 80, 160
+abbrev pub sleep_time : ℕ → ℕ
+sleep_time sleeps = 20000 * 2 ^ sleeps
+
+-- those that were busy are asked again after a sleep, four times at most
+abbrev pub may_sleep : Plan → Bool
+may_sleep p = not (length p.busy == 0) && nat_lt p.sleeps 4
 
 -- ---- how a plan stands to the ends of the sends that were made
 
@@ -95,6 +115,10 @@ module _ {S : Type 0} (rules : Rules S) (class : Answered → Class) where
     -- the same of all servers together
     pub size : length waiting + length under + length busy ≤ length pool
     pub total : length ends + length waiting + length under ≤ (sleeps + 1) * length pool + (if has_turned rules class ends then 1 else 0)
+
+-- a send to the server ended so
+abbrev pub end_at : Candidate → Answered → End Candidate
+end_at s o = record { server = s; outcome = o }
 
 -- how the plan of a lookup of a question stands
 abbrev pub PlanStands : Query → ℕ → List Candidate → List (End Candidate) → List Candidate → Plan → Type 0

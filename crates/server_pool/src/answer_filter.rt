@@ -44,7 +44,7 @@ fn one_class(query: &Query, section: Records) -> Result<Records, Record>
 
 /// A message without records of another class than the question's, or the first of them, section by
 /// section.
-fn of_one_class(query: &Query, message: Message) -> Result<Message, Record>
+pub(crate) fn of_one_class(query: &Query, message: Message) -> Result<Message, Record>
     ensures ok { IfOk result (λ kept. (kept ≡ message) × (find (is_foreign query.now) (records message) ≡ None)) }
     ensures err { IfErr result (λ r. find (is_foreign query.now) (records message) ≡ Some r) }
 {
@@ -129,7 +129,7 @@ fn nothing_left(alloc: Global, query: Query) -> NetError
     }))
 }
 
-fn foreign_class(r: Record) -> NetError
+pub(crate) fn foreign_class(r: Record) -> NetError
     ensures { result ≡ foreign_class r }
 {
     NetError::ForeignClassRecord {

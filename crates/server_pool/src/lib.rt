@@ -4,13 +4,15 @@
 
 mod agenda;
 mod answer_filter;
+mod candidate;
 mod kept_error;
 mod kept_error_laws;
 mod ordering;
 mod statistics;
 
-pub use agenda::{Candidate, Ending};
+pub use agenda::Agenda;
 pub use answer_filter::filtered;
+pub use candidate::{Candidate, Ending};
 pub use kept_error::most_specific;
 pub use kept_error_laws::{the_earlier_negative_is_kept, the_kept_error_is_what_is_left};
 pub use ordering::ordered;
