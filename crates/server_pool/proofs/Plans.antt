@@ -101,16 +101,19 @@ taken_some q timeout pool ends under p n (Some c) f g st =
     subst (λ (x : Plan). PlanStands q timeout pool ends (c ∷ under) x) (sym g)
     (stands_taken (rules_of timeout) (class_of_sent q) same_is pool ends under p.busy p.off p.kept p.sleeps p.waiting c (sym f) st)
 
+none_waits : (p n : Plan) → None ≡ find (may_ask p.off) p.waiting → n ≡ record p { waiting = after_first (may_ask p.off) p.waiting } → n ≡ record p { waiting = [] }
+none_waits p n f g = g ∙ ap (λ (w : List Candidate). record p { waiting = w }) (none_after (may_ask p.off) p.waiting (sym f))
+
 pub taken_none : (q : Query) (timeout : ℕ) (pool : List Candidate) (ends : List (End Candidate)) (under : List Candidate) (p n : Plan) (o : Option Candidate)
-    → o ≡ find (may_ask p.off) p.waiting → n ≡ record p { waiting = after_first (may_ask p.off) p.waiting } → PlanStands q timeout pool ends under p → IfNone o (PlanStands q timeout pool ends under n × (n.waiting ≡ []))
+    → o ≡ find (may_ask p.off) p.waiting → n ≡ record p { waiting = after_first (may_ask p.off) p.waiting } → PlanStands q timeout pool ends under p → IfNone o (PlanStands q timeout pool ends under n)
 taken_none q timeout pool ends under p n (Some c) f g st = tt
 taken_none q timeout pool ends under p n None f g st =
-    let gone : after_first (may_ask p.off) p.waiting ≡ [] = none_after (may_ask p.off) p.waiting (sym f) in
-    let is : n ≡ record p { waiting = [] } = g ∙ ap (λ (w : List Candidate). record p { waiting = w }) gone in (
-      subst (λ (x : Plan). PlanStands q timeout pool ends under x) (sym is)
-          (stands_empty (rules_of timeout) (class_of_sent q) same_is pool ends under p.busy p.off p.kept p.sleeps p.waiting (sym f) st),
-      ap (λ (x : Plan). x.waiting) is,
-    )
+    subst (λ (x : Plan). PlanStands q timeout pool ends under x) (sym (none_waits p n f g))
+    (stands_empty (rules_of timeout) (class_of_sent q) same_is pool ends under p.busy p.off p.kept p.sleeps p.waiting (sym f) st)
+
+pub taken_empty : (p n : Plan) (o : Option Candidate) → o ≡ find (may_ask p.off) p.waiting → n ≡ record p { waiting = after_first (may_ask p.off) p.waiting } → IfNone o (n.waiting ≡ [])
+taken_empty p n (Some c) f g = tt
+taken_empty p n None f g = ap (λ (x : Plan). x.waiting) (none_waits p n f g)
 
 -- ---- an end is heard
 

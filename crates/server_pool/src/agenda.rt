@@ -136,7 +136,8 @@ impl Agenda {
         ensures some { (q : Query) (timeout : ℕ) (pool : List Candidate) (ends : List (End Candidate)) (under : List Candidate) →
             PlanStands q timeout pool ends under self.old → IfSome result (λ c. PlanStands q timeout pool ends (c ∷ under) self.new) }
         ensures none { (q : Query) (timeout : ℕ) (pool : List Candidate) (ends : List (End Candidate)) (under : List Candidate) →
-            PlanStands q timeout pool ends under self.old → IfNone result (PlanStands q timeout pool ends under self.new × (self.new.waiting ≡ [])) }
+            PlanStands q timeout pool ends under self.old → IfNone result (PlanStands q timeout pool ends under self.new) }
+        ensures empty { IfNone result (self.new.waiting ≡ []) }
     {
         self.pop_allowed()
     }

@@ -3,6 +3,7 @@
 #![tactic(auto)]
 
 mod agenda;
+mod agenda_laws;
 mod answer_filter;
 mod candidate;
 mod kept_error;
@@ -11,6 +12,7 @@ mod ordering;
 mod statistics;
 
 pub use agenda::Agenda;
+pub use agenda_laws::{a_deadline_ends_a_lookup, a_lookup_makes_few_sends};
 pub use answer_filter::filtered;
 pub use candidate::{Candidate, Ending};
 pub use kept_error::most_specific;
@@ -18,6 +20,8 @@ pub use kept_error_laws::{the_earlier_negative_is_kept, the_kept_error_is_what_i
 pub use ordering::ordered;
 pub use statistics::sort_servers_by_query_statistics;
 
+#[cfg(test)]
+mod agenda_tests;
 #[cfg(test)]
 mod answer_filter_tests;
 #[cfg(test)]
