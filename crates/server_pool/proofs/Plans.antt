@@ -15,7 +15,9 @@ use Rattle.server_pool.specs.KeptError.{kept_after}
 use Rattle.server_pool.specs.declared.candidate.Candidate.{Candidate}
 use Rattle.server_pool.specs.declared.candidate.Ending.{Ending}
 use Rattle.server_pool.specs.declared.candidate.Ending.TheVariants.{Turns, Passes, Ends}
-use Rattle.server_pool.specs.Agenda.{Plan, PlanStands, Stands, among, places, end_at, may_sleep, same_candidate, rules_of, may_ask, class_of_sent, ending_of, answer_after, after_end}
+use Rattle.server_pool.specs.Agenda.{Plan, PlanStands, Stands, among, places, end_at, may_sleep, same_candidate, rules_of, may_ask, class_of_sent, ending_of, answer_after, after_end, IsHeard, StandsAfter}
+use Rattle.server_pool.specs.declared.candidate.Hearing.{Hearing}
+use Rattle.server_pool.specs.declared.candidate.Hearing.TheVariants.{GoesOn, Answers, Wanting}
 use Rattle.server_pool.proofs.Turning.{after_no, any_more}
 use Rattle.server_pool.proofs.Standing.{or_left, or_right, count_more, stands_turned, stands_passed}
 use Rattle.server_pool.proofs.Finishing.{stands_woken, pool_spent, pool_decided}
@@ -117,12 +119,16 @@ taken_empty p n None f g = ap (λ (x : Plan). x.waiting) (none_waits p n f g)
 
 -- ---- an end is heard
 
+abbrev answer_by : {A : Type 0} → Ending → A → Option A
+answer_by d y = elim d [ Turns ↦ None | Passes ↦ None | Ends ↦ Some y ]
+
+-- a mismatch turned UDP off
+pub turn_heard : (s : Candidate) (e : NetError) (p n : Plan) → Turns ≡ ending_of p.off s.trusted (class_of_error e) → n ≡ record p { waiting = s ∷ p.waiting; off = true } → IsHeard s (class_of_error e) (Err e) p n GoesOn
+turn_heard s e p n h g = (ap (λ (d : Ending). answer_by d (answer_of (class_of_error e))) h, turned_by s e p n h g)
+
 -- what two tests of a class and the policy come to
 abbrev ending : Bool → Bool → Bool → Ending
 ending t r off = if t && not off then Turns else (if r then Passes else Ends)
-
-abbrev answer_by : {A : Type 0} → Ending → A → Option A
-answer_by d y = elim d [ Turns ↦ None | Passes ↦ None | Ends ↦ Some y ]
 
 it_ends : {A : Type 0} (t r off : Bool) (x y : A) → Some x ≡ answer_by (ending t r off) y → (r ≡ false) × (t ≡ true → off ≡ true) × (x ≡ y)
 it_ends true r false x y h = cc
@@ -176,13 +182,10 @@ module _ (q : Query) (timeout : ℕ) (pool : List Candidate) (ends : List (End C
   abbrev class : Class
   class = class_of_sent q o
 
-  pub heard_ends : (start now : ℕ) (r : Result (Option Answered) NoMemory) → IfOk r (λ a. a ≡ answer_after p.off s.trusted class)
-      → IfOk r (λ a. IfSome a (λ answer. PoolRun (rules_of timeout) (class_of_sent q) pool (ends ++ end_at s o ∷ []) answer start now))
-  heard_ends start now (Err e) h = tt
-  heard_ends start now (Ok None) h = tt
-  heard_ends start now (Ok (Some x)) h =
-      let d = it_ends (is_turn class) (is_retryable s.trusted class) p.off x (answer_of class) h in
-      subst (λ (a : Answered). PoolRun (rules_of timeout) (class_of_sent q) pool (ends ++ end_at s o ∷ []) a start now) (sym d.2)
+  answered : (start now : ℕ) (a : Answered) → Some a ≡ answer_after p.off s.trusted class → PoolRun (rules_of timeout) (class_of_sent q) pool (ends ++ end_at s o ∷ []) a start now
+  answered start now a h =
+      let d = it_ends (is_turn class) (is_retryable s.trusted class) p.off a (answer_of class) h in
+      subst (λ (x : Answered). PoolRun (rules_of timeout) (class_of_sent q) pool (ends ++ end_at s o ∷ []) x start now) (sym d.2)
       (pool_decided (rules_of timeout) (class_of_sent q) same_self pool ends under p.waiting p.busy p.off p.kept p.sleeps start now (end_at s o) d.0 d.1 st)
 
   after_turn : (n : Plan) → n ≡ after_end s class p → is_turn class ≡ true → p.off ≡ false → PlanStands q timeout pool (ends ++ end_at s o ∷ []) under n
@@ -207,11 +210,10 @@ module _ (q : Query) (timeout : ℕ) (pool : List Candidate) (ends : List (End C
   either n g (inl h) = after_turn n g h.0 h.1
   either n g (inr h) = after_pass n g h.0 h.1
 
-  pub heard_goes_on : (r : Result (Option Answered) NoMemory) (n : Plan) → IfOk r (λ a. a ≡ answer_after p.off s.trusted class) → OnOk r (n ≡ after_end s class p)
-      → IfOk r (λ a. IfNone a (PlanStands q timeout pool (ends ++ end_at s o ∷ []) under n))
-  heard_goes_on (Err e) n h g = tt
-  heard_goes_on (Ok (Some x)) n h g = tt
-  heard_goes_on (Ok None) n h g = either n g (it_goes_on (is_turn class) (is_retryable s.trusted class) p.off (answer_of class) h)
+  pub stands_heard : (start now : ℕ) (n : Plan) (h : Hearing) → IsHeard s class o p n h → StandsAfter q timeout start now pool ends under s o n h
+  stands_heard start now n GoesOn h = either n h.1 (it_goes_on (is_turn class) (is_retryable s.trusted class) p.off (answer_of class) h.0)
+  stands_heard start now n (Answers a) h = answered start now a h.0
+  stands_heard start now n (Wanting back) h = subst (λ (x : Plan). PlanStands q timeout pool ends (s ∷ under) x) (sym h.1) st
 
 -- ---- a sleep is over, and all is spent
 

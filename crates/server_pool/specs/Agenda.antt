@@ -5,12 +5,14 @@ use Rattle.std.specs.List.{list_any, last_or, after_first}
 use Rattle.dns_core.specs.declared.message.Query.{Query}
 use Rattle.dns_core.specs.declared.net_error.NetError.{NetError}
 use Rattle.resolution.specs.Class.{class_of_classified, class_of_error}
-use Rattle.resolution.specs.Lookups.{Answered, Rules, End, is_turn, is_retryable, is_busy, answer_of, class_of_end, turns, has_turned, but_turn, none_is_final, is_at, is_turn_at}
+use Rattle.resolution.specs.Lookups.{Answered, Rules, End, is_turn, is_retryable, is_busy, answer_of, class_of_end, turns, has_turned, but_turn, none_is_final, is_at, is_turn_at, PoolRun}
 use Rattle.resolution.specs.declared.class.Class.{Class}
 use Rattle.server_pool.specs.KeptError.{kept_after, kept_over}
 use Rattle.server_pool.specs.declared.candidate.Candidate.{Candidate}
 use Rattle.server_pool.specs.declared.candidate.Ending.{Ending}
 use Rattle.server_pool.specs.declared.candidate.Ending.TheVariants.{Turns, Passes, Ends}
+use Rattle.server_pool.specs.declared.candidate.Hearing.{Hearing}
+use Rattle.server_pool.specs.declared.candidate.Hearing.TheVariants.{GoesOn, Answers, Wanting}
 
 -- those to be asked, in their order, and those that were busy; UDP is off; the error that is kept; how often the lookup slept
 pub record Plan : Type 0 where
@@ -51,6 +53,12 @@ after_end s c p = elim (ending_of p.off s.trusted c) [
   | Passes ↦ record p { busy = if is_busy c then p.busy ++ s ∷ [] else p.busy; kept = kept_after p.kept c }
   | Ends ↦ p
 ]
+
+-- the end of a send to a server was heard, or given back
+abbrev pub IsHeard : Candidate → Class → Answered → Plan → Plan → Hearing → Type 0
+IsHeard s c o old new GoesOn = (None ≡ answer_after old.off s.trusted c) × (new ≡ after_end s c old)
+IsHeard s c o old new (Answers a) = (Some a ≡ answer_after old.off s.trusted c) × (new ≡ after_end s c old)
+IsHeard s c o old new (Wanting back) = (back ≡ o) × (new ≡ old)
 
 -- the sleeps get longer: 20 milliseconds, 40, 80, 160
 abbrev pub sleep_time : ℕ → ℕ
@@ -123,3 +131,9 @@ end_at s o = record { server = s; outcome = o }
 -- how the plan of a lookup of a question stands
 abbrev pub PlanStands : Query → ℕ → List Candidate → List (End Candidate) → List Candidate → Plan → Type 0
 PlanStands q timeout pool ends under p = Stands (rules_of timeout) (class_of_sent q) pool ends under p.waiting p.busy p.off p.kept p.sleeps
+
+-- how it stands after an end of a send to a server was heard, or what the lookup answers then
+abbrev pub StandsAfter : Query → ℕ → ℕ → ℕ → List Candidate → List (End Candidate) → List Candidate → Candidate → Answered → Plan → Hearing → Type 0
+StandsAfter q timeout start now pool ends under s o p GoesOn = PlanStands q timeout pool (ends ++ end_at s o ∷ []) under p
+StandsAfter q timeout start now pool ends under s o p (Answers a) = PoolRun (rules_of timeout) (class_of_sent q) pool (ends ++ end_at s o ∷ []) a start now
+StandsAfter q timeout start now pool ends under s o p (Wanting back) = PlanStands q timeout pool ends (s ∷ under) p

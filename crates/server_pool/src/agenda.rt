@@ -7,10 +7,10 @@ ghost use Rattle.resolution.specs.Class.{class_of_error};
 ghost use Rattle.resolution.specs.KeptError.{most_specific};
 ghost use Rattle.resolution.specs.Lookups.{Answered, End, PoolRun, answer_of, is_turn, is_busy, is_retryable};
 ghost use Rattle.server_pool.specs.declared.candidate.Candidate.{Candidate};
-ghost use Rattle.server_pool.specs.Agenda.{may_ask, class_of_sent, ending_of, answer_after, after_end, sleep_time, may_sleep, rules_of, end_at, PlanStands};
+ghost use Rattle.server_pool.specs.Agenda.{may_ask, class_of_sent, ending_of, IsHeard, StandsAfter, sleep_time, may_sleep, rules_of, end_at, PlanStands};
 
 use crate::answer_filter::{foreign_class, of_one_class};
-use crate::candidate::{Candidate, Ending};
+use crate::candidate::{Candidate, Ending, Hearing};
 use crate::kept_error::most_specific;
 use dns_core::{Message, NetError, NoMemory, Query};
 use server_core::ConnectionPolicy;
@@ -144,26 +144,22 @@ impl Agenda {
 
     /// Takes a message that a server told. A cut one turns UDP off the first time, and the server is
     /// asked again first; another one ends the lookup.
-    fn hear_message(
-        &mut self,
-        candidate: Candidate,
-        message: Message,
-        query: &Query,
-    ) -> Result<Option<Result<Message, NetError>>, NoMemory>
-        ensures answer { IfOk result (λ a. a ≡ answer_after self.old.off candidate.trusted (class_of_sent query.now (Ok message))) }
-        ensures plan { OnOk result (self.new ≡ after_end candidate (class_of_sent query.now (Ok message)) self.old) }
-        ensures err { OnErr result (self.new ≡ self.old) }
+    fn hear_message(&mut self, candidate: Candidate, message: Message, query: &Query) -> Hearing
+        ensures { IsHeard candidate (class_of_sent query.now (Ok message)) (Ok message) self.old self.new result }
     {
         if !message.truncation {
-            return Ok(Some(whole_answer(query, message)));
+            return Hearing::Answers(whole_answer(query, message));
         }
         if self.policy.disable_udp {
-            return Ok(Some(Err(NetError::Truncated)));
+            return Hearing::Answers(Err(NetError::Truncated));
         }
-        self.waiting.push_front(candidate)?;
-        self.policy.disable_udp = true;
-        self.kept = NetError::Truncated;
-        Ok(None)
+        match self.turn(candidate) {
+            Ok(()) => {
+                self.kept = NetError::Truncated;
+                Hearing::GoesOn
+            }
+            Err(NoMemory) => Hearing::Wanting(Ok(message)),
+        }
     }
 
     /// Keeps an error, where it is the most specific.
@@ -184,38 +180,50 @@ impl Agenda {
         Ok(())
     }
 
-    /// Passes the question on: a server that is busy is asked again later.
-    fn pass(&mut self, candidate: Candidate, error: NetError) -> Result<(), NoMemory>
-        ensures ok { OnOk result (self.new ≡ record self.old { busy = if is_busy (class_of_error error) then self.old.busy ++ candidate ∷ [] else self.old.busy; kept = most_specific self.old.kept error }) }
+    /// Keeps a server that is busy for later.
+    fn delay(&mut self, candidate: Candidate, error: &NetError) -> Result<(), NoMemory>
+        ensures ok { OnOk result (self.new ≡ record self.old { busy = if is_busy (class_of_error error.now) then self.old.busy ++ candidate ∷ [] else self.old.busy }) }
         ensures err { OnErr result (self.new ≡ self.old) }
     {
-        if is_busy(&error) {
+        if is_busy(error) {
             self.busy.push_back(candidate)?;
         }
-        self.keep(error);
         Ok(())
     }
 
+    /// Passes the question on to another server.
+    fn pass(&mut self, candidate: Candidate, error: NetError) -> Hearing
+        requires { Ending.Passes ≡ ending_of self.old.off candidate.trusted (class_of_error error) }
+        ensures { IsHeard candidate (class_of_error error) (Err error) self.old self.new result }
+    {
+        match self.delay(candidate, &error) {
+            Ok(()) => {
+                self.keep(error);
+                Hearing::GoesOn
+            }
+            Err(NoMemory) => Hearing::Wanting(Err(error)),
+        }
+    }
+
+    /// Turns UDP off for a mismatch.
+    fn turn_for(&mut self, candidate: Candidate, error: NetError) -> Hearing
+        requires { Ending.Turns ≡ ending_of self.old.off candidate.trusted (class_of_error error) }
+        ensures { IsHeard candidate (class_of_error error) (Err error) self.old self.new result }
+    {
+        match self.turn(candidate) {
+            Ok(()) => Hearing::GoesOn,
+            Err(NoMemory) => Hearing::Wanting(Err(error)),
+        }
+    }
+
     /// Takes an error with which a send to a server ended.
-    fn hear_error(
-        &mut self,
-        candidate: Candidate,
-        error: NetError,
-    ) -> Result<Option<Result<Message, NetError>>, NoMemory>
-        ensures answer { IfOk result (λ a. a ≡ answer_after self.old.off candidate.trusted (class_of_error error)) }
-        ensures plan { OnOk result (self.new ≡ after_end candidate (class_of_error error) self.old) }
-        ensures err { OnErr result (self.new ≡ self.old) }
+    fn hear_error(&mut self, candidate: Candidate, error: NetError) -> Hearing
+        ensures { IsHeard candidate (class_of_error error) (Err error) self.old self.new result }
     {
         match ending_of(self.policy.disable_udp, candidate.trusted, &error) {
-            Ending::Turns => {
-                self.turn(candidate)?;
-                Ok(None)
-            }
-            Ending::Passes => {
-                self.pass(candidate, error)?;
-                Ok(None)
-            }
-            Ending::Ends => Ok(Some(Err(error))),
+            Ending::Turns => self.turn_for(candidate, error),
+            Ending::Passes => self.pass(candidate, error),
+            Ending::Ends => Hearing::Answers(Err(error)),
         }
     }
 
@@ -225,10 +233,8 @@ impl Agenda {
         candidate: Candidate,
         outcome: Result<Message, NetError>,
         query: &Query,
-    ) -> Result<Option<Result<Message, NetError>>, NoMemory>
-        ensures answer { IfOk result (λ a. a ≡ answer_after self.old.off candidate.trusted (class_of_sent query.now outcome)) }
-        ensures plan { OnOk result (self.new ≡ after_end candidate (class_of_sent query.now outcome) self.old) }
-        ensures err { OnErr result (self.new ≡ self.old) }
+    ) -> Hearing
+        ensures { IsHeard candidate (class_of_sent query.now outcome) outcome self.old self.new result }
     {
         match outcome {
             Ok(message) => self.hear_message(candidate, message, query),
@@ -236,23 +242,16 @@ impl Agenda {
         }
     }
 
-    /// Takes what the send to a server ended with that `take` gave. Where that ends the lookup, it is
-    /// the answer; else the lookup goes on. Where memory is wanting, nothing has changed.
+    /// Takes what the send to a server ended with that `take` gave.
     pub fn hear(
         &mut self,
         candidate: Candidate,
         outcome: Result<Message, NetError>,
         query: &Query,
-    ) -> Result<Option<Result<Message, NetError>>, NoMemory>
-        ensures answer { IfOk result (λ a. a ≡ answer_after self.old.off candidate.trusted (class_of_sent query.now outcome)) }
-        ensures plan { OnOk result (self.new ≡ after_end candidate (class_of_sent query.now outcome) self.old) }
-        ensures ends { (timeout start now : ℕ) (pool : List Candidate) (ends : List (End Candidate)) (under : List Candidate) →
-            PlanStands query.now timeout pool ends (candidate ∷ under) self.old →
-            IfOk result (λ a. IfSome a (λ answer. PoolRun (rules_of timeout) (class_of_sent query.now) pool (ends ++ end_at candidate outcome ∷ []) answer start now)) }
-        ensures goes_on { (timeout : ℕ) (pool : List Candidate) (ends : List (End Candidate)) (under : List Candidate) →
-            PlanStands query.now timeout pool ends (candidate ∷ under) self.old →
-            IfOk result (λ a. IfNone a (PlanStands query.now timeout pool (ends ++ end_at candidate outcome ∷ []) under self.new)) }
-        ensures err { OnErr result (self.new ≡ self.old) }
+    ) -> Hearing
+        ensures heard { IsHeard candidate (class_of_sent query.now outcome) outcome self.old self.new result }
+        ensures stands { (timeout start now : ℕ) (pool : List Candidate) (ends : List (End Candidate)) (under : List Candidate) →
+            PlanStands query.now timeout pool ends (candidate ∷ under) self.old → StandsAfter query.now timeout start now pool ends under candidate outcome self.new result }
     {
         self.hear_end(candidate, outcome, query)
     }

@@ -14,7 +14,7 @@ mod statistics;
 pub use agenda::Agenda;
 pub use agenda_laws::{a_deadline_ends_a_lookup, a_lookup_makes_few_sends};
 pub use answer_filter::filtered;
-pub use candidate::{Candidate, Ending};
+pub use candidate::{Candidate, Ending, Hearing};
 pub use kept_error::most_specific;
 pub use kept_error_laws::{the_earlier_negative_is_kept, the_kept_error_is_what_is_left};
 pub use ordering::ordered;
