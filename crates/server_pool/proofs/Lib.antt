@@ -6,3 +6,4 @@ pub mod Standing
 pub mod Deciding
 pub mod Finishing
 pub mod Plans
+pub mod Moving

@@ -291,21 +291,23 @@ impl Agenda {
         self.ask_again();
     }
 
-    /// The error that is kept.
-    fn into_kept(self) -> NetError
-        ensures { result ≡ self.kept }
+    /// Hands out the error that is kept.
+    fn take_kept(&mut self) -> NetError
+        ensures kept { result ≡ self.old.kept }
+        ensures plan { self.new ≡ record self.old { kept = NetError.NoConnections } }
     {
-        self.kept
+        mem::replace(&mut self.kept, NetError::NoConnections)
     }
 
     /// What the lookup answers where no server may be asked any more.
-    pub fn give_up(self) -> NetError
-        requires waiting { self.waiting ≡ [] }
-        requires awake { may_sleep self ≡ false }
-        ensures kept { result ≡ self.kept }
+    pub fn give_up(&mut self) -> NetError
+        requires waiting { self.old.waiting ≡ [] }
+        requires awake { may_sleep self.old ≡ false }
+        ensures kept { result ≡ self.old.kept }
+        ensures plan { self.new ≡ record self.old { kept = NetError.NoConnections } }
         ensures spent { (q : Query) (timeout start now : ℕ) (pool : List Candidate) (ends : List (End Candidate)) →
-            PlanStands q timeout pool ends [] self → PoolRun (rules_of timeout) (class_of_sent q) pool ends (Err result) start now }
+            PlanStands q timeout pool ends [] self.old → PoolRun (rules_of timeout) (class_of_sent q) pool ends (Err result) start now }
     {
-        self.into_kept()
+        self.take_kept()
     }
 }

@@ -1,4 +1,4 @@
-use crate::{Agenda, Candidate};
+use crate::{Agenda, Candidate, Hearing};
 use dns_core::{
     DnsClass, DnsError, IoKind, Message, Name, NameError, NetError, NoRecords, Query, RecordType,
     Records, ResponseCode,
@@ -56,15 +56,16 @@ fn step(
     let Some(next) = agenda.take() else {
         return Ok((99, None));
     };
-    match agenda.hear(next, outcome, query)? {
-        Some(Err(error)) => Ok((next.server, Some(error))),
-        Some(Ok(_)) => Ok((next.server, Some(NetError::NoConnections))),
-        None => Ok((next.server, None)),
+    match agenda.hear(next, outcome, query) {
+        Hearing::Answers(Err(error)) => Ok((next.server, Some(error))),
+        Hearing::Answers(Ok(_)) => Ok((next.server, Some(NetError::NoConnections))),
+        Hearing::GoesOn => Ok((next.server, None)),
+        Hearing::Wanting(_) => Err(Fail::new(format_args!("memory is wanting"))),
     }
 }
 
 /// What is answered where no server is left.
-fn left(mut agenda: Agenda) -> Option<NetError> {
+fn left(agenda: &mut Agenda) -> Option<NetError> {
     match agenda.take() {
         Some(_) => None,
         None => {
@@ -89,7 +90,7 @@ fn a_cut_message_turns_udp_off(rt: HostRuntime) -> Result<(), Fail> {
     assert!(rt; again == (0, None));
     let third = step(&mut agenda, Err(NetError::Io(IoKind::Refused)), &query)?;
     assert!(rt; third == (2, None));
-    assert!(rt; left(agenda) == Some(NetError::Timeout));
+    assert!(rt; left(&mut agenda) == Some(NetError::Timeout));
     Ok(())
 }
 
@@ -113,7 +114,7 @@ fn a_busy_server_is_kept_for_later(rt: HostRuntime) -> Result<(), Fail> {
     let first = step(&mut agenda, Err(NetError::Busy), &query)?;
     assert!(rt; first == (0, None));
     assert!(rt; agenda.may_sleep());
-    assert!(rt; left(agenda).is_none());
+    assert!(rt; left(&mut agenda).is_none());
     Ok(())
 }
 
