@@ -3,3 +3,4 @@ pub mod Statistics
 pub mod Ordering
 pub mod AnswerFilter
 pub mod Agenda
+pub mod Rounds

@@ -9,6 +9,7 @@ mod candidate;
 mod kept_error;
 mod kept_error_laws;
 mod ordering;
+mod rounds;
 mod statistics;
 
 pub use agenda::Agenda;

@@ -1,0 +1,44 @@
+-- How a lookup stands between its steps.
+use Rattle.std.specs.Prelude.{◌≡◌, ℕ, ◌+◌, ◌≤◌, true, min, ◌==◌, ◌||◌, not, IsTrue, List, [], ◌∷◌, ◌++◌, map, length, ◌⊎◌, Option, Some, None}
+use Rattle.dns_core.specs.declared.message.Query.{Query}
+use Rattle.resolution.specs.Lookups.{Answered, End, PoolRun}
+use Rattle.server_pool.specs.declared.candidate.Candidate.{Candidate}
+use Rattle.server_pool.specs.declared.rounds.Sending.{Sending}
+use Rattle.server_pool.specs.declared.rounds.Phase.{Phase}
+use Rattle.server_pool.specs.declared.rounds.Phase.TheVariants.{Asking, Asleep, Decided, Told}
+use Rattle.server_pool.specs.declared.rounds.Rounds.{Rounds}
+use Rattle.server_pool.specs.Agenda.{rules_of, class_of_sent, end_at, may_sleep, sleep_time, PlanStands}
+
+-- the servers of the sends that have not ended
+abbrev pub under_way : List Sending → List Candidate
+under_way sends = map (λ s. s.candidate) sends
+
+-- no end of these decided the lookup, and its plan stands so
+abbrev pub Goes : List Candidate → List (End Candidate) → Rounds → Type 0
+Goes pool ends r = PlanStands r.request.query r.timeout pool ends (under_way r.sends.items) r.agenda
+
+-- the step of a moment decided it by these ends
+pub record IsAnswered (pool : List Candidate) (ends : List (End Candidate)) (r : Rounds) (answer : Answered) : Type 0 where
+  pub at : ℕ
+  pub run : PoolRun (rules_of r.timeout) (class_of_sent r.request.query) pool ends answer r.start at
+
+-- Sends are under way, or a round after the first is to begin; or the lookup sleeps before it asks the busy ones again; or it is decided.
+abbrev pub StandsIn : List Candidate → List (End Candidate) → Rounds → Phase → Type 0
+StandsIn pool ends r Asking = Goes pool ends r × (ends ≡ [] → r.sends.items ≡ [] → ⊥)
+StandsIn pool ends r (Asleep until) = Goes pool ends r × (r.sends.items ≡ []) × (r.agenda.waiting ≡ []) × (may_sleep r.agenda ≡ true) × (ends ≡ [] → ⊥)
+StandsIn pool ends r (Decided answer) = IsAnswered pool ends r answer
+StandsIn pool ends r Told = Unit {0}
+
+abbrev pub RoundsStand : List Candidate → List (End Candidate) → Rounds → Type 0
+RoundsStand pool ends r = StandsIn pool ends r r.phase
+
+-- it is of the same request, and began at the same moment
+pub record IsSameLookup (old new : Rounds) : Type 0 where
+  pub request : new.request ≡ old.request
+  pub together : new.together ≡ old.together
+  pub timeout : new.timeout ≡ old.timeout
+  pub start : new.start ≡ old.start
+
+-- where the deadline is reached at this moment, there is an end, or there was no time
+abbrev pub MayBeLate : List (End Candidate) → Rounds → ℕ → Type 0
+MayBeLate ends r now = r.start + r.timeout ≤ now → IsTrue (not (length ends == 0) || r.timeout == 0)
