@@ -20,7 +20,7 @@ pub one_more_send : (q : Query) (timeout : ℕ) (pool : List Candidate) (ends : 
 one_more_send q timeout pool ends sends other x c p e is st =
     let rules = rules_of timeout in
     let moved : PlanStands q timeout pool ends (under_way sends ++ c ∷ []) p =
-        stands_moved rules (class_of_sent q) pool ends (c ∷ under_way sends) (under_way sends ++ c ∷ []) p.waiting p.busy p.off p.kept p.sleeps (first_last rules c (under_way sends)) st in
+    stands_moved rules (class_of_sent q) pool ends (c ∷ under_way sends) (under_way sends ++ c ∷ []) p.waiting p.busy p.off p.kept p.sleeps (first_last rules c (under_way sends)) st in
     let list : under_way other ≡ under_way sends ++ c ∷ [] =
-        ap under_way e ∙ map-append (λ (s : Sending). s.candidate) sends (x ∷ []) ∙ ap (λ (y : Candidate). under_way sends ++ y ∷ []) is in
+    ap under_way e ∙ map-append (λ (s : Sending). s.candidate) sends (x ∷ []) ∙ ap (λ (y : Candidate). under_way sends ++ y ∷ []) is in
     subst (λ (l : List Candidate). PlanStands q timeout pool ends l p) (sym list) moved

@@ -1,5 +1,5 @@
 -- How a lookup stands between its steps.
-use Rattle.std.specs.Prelude.{◌≡◌, ℕ, ◌+◌, ◌≤◌, true, min, ◌==◌, ◌||◌, not, IsTrue, List, [], ◌∷◌, ◌++◌, map, length, ◌⊎◌, Option, Some, None}
+use Rattle.std.specs.Prelude.{◌≡◌, ℕ, ◌+◌, ◌≤◌, ◌<◌, true, min, ◌==◌, ◌||◌, not, IsTrue, List, [], ◌∷◌, ◌++◌, map, length, ◌⊎◌, Option, Some, None}
 use Rattle.dns_core.specs.declared.message.Query.{Query}
 use Rattle.resolution.specs.Lookups.{Answered, End, PoolRun}
 use Rattle.server_pool.specs.declared.candidate.Candidate.{Candidate}
@@ -24,8 +24,8 @@ pub record IsAnswered (pool : List Candidate) (ends : List (End Candidate)) (r :
 
 -- Sends are under way, or a round after the first is to begin; or the lookup sleeps before it asks the busy ones again; or it is decided.
 abbrev pub StandsIn : List Candidate → List (End Candidate) → Rounds → Phase → Type 0
-StandsIn pool ends r Asking = Goes pool ends r × (ends ≡ [] → r.sends.items ≡ [] → ⊥)
-StandsIn pool ends r (Asleep until) = Goes pool ends r × (r.sends.items ≡ []) × (r.agenda.waiting ≡ []) × (may_sleep r.agenda ≡ true) × (ends ≡ [] → ⊥)
+StandsIn pool ends r Asking = Goes pool ends r × (ends ≡ [] → 0 < length r.sends.items)
+StandsIn pool ends r (Asleep until) = Goes pool ends r × (length r.sends.items ≡ 0) × (r.agenda.waiting ≡ []) × (may_sleep r.agenda ≡ true) × (ends ≡ [] → ⊥)
 StandsIn pool ends r (Decided answer) = IsAnswered pool ends r answer
 StandsIn pool ends r Told = Unit {0}
 
@@ -42,3 +42,7 @@ pub record IsSameLookup (old new : Rounds) : Type 0 where
 -- where the deadline is reached at this moment, there is an end, or there was no time
 abbrev pub MayBeLate : List (End Candidate) → Rounds → ℕ → Type 0
 MayBeLate ends r now = r.start + r.timeout ≤ now → IsTrue (not (length ends == 0) || r.timeout == 0)
+
+-- a sleep that begins at this moment ends so much later, and at the deadline at the latest
+abbrev pub wakes_at : Rounds → ℕ → ℕ
+wakes_at r now = min (now + sleep_time r.agenda.sleeps) (r.start + r.timeout)

@@ -1,10 +1,10 @@
 //! The rounds of one lookup at a pool: some servers are asked side by side, and when all of them have
 //! ended, the next ones, until an end decides the lookup, no server is left, or its time is over.
-ghost use Rattle.std.specs.Prelude.{◌≡◌, ◌≢◌, ◌≤◌, ◌<◌, ◌+◌, ℕ, nat_le, min, [], ◌∷◌, ◌++◌, List, true, false, length, IfOk, OnOk, OnErr, IsTrue};
+ghost use Rattle.std.specs.Prelude.{◌≡◌, ◌≤◌, ◌<◌, ◌+◌, ◌-◌, ◌^◌, ℕ, nat_le, min, [], ◌∷◌, ◌++◌, List, true, false, length, IfOk, OnOk, OnErr, IsTrue};
 ghost use Rattle.resolution.specs.Lookups.{End};
 ghost use Rattle.server_pool.specs.declared.candidate.Candidate.{Candidate};
 ghost use Rattle.server_pool.specs.Agenda.{may_sleep, sleep_time};
-ghost use Rattle.server_pool.specs.Rounds.{Goes, RoundsStand, IsSameLookup, MayBeLate};
+ghost use Rattle.server_pool.specs.Rounds.{Goes, RoundsStand, IsSameLookup, MayBeLate, wakes_at};
 
 use crate::agenda::Agenda;
 use crate::candidate::Candidate;
@@ -66,7 +66,7 @@ impl Rounds {
         ensures same { IsSameLookup self.old self.new }
         ensures phase { self.new.phase ≡ self.old.phase }
         ensures more { length self.old.sends.items ≤ length self.new.sends.items }
-        ensures sent { IfOk result (λ sent. sent ≡ true → self.new.sends.items ≢ []) }
+        ensures sent { IfOk result (λ sent. sent ≡ true → 0 < length self.new.sends.items) }
         ensures none { IfOk result (λ sent. sent ≡ false → self.new.agenda.waiting ≡ []) }
     {
         let request = self.request.try_clone(alloc)?;
@@ -80,5 +80,42 @@ impl Rounds {
             }
             None => Ok(false),
         }
+    }
+
+    /// Sends to the others that are asked side by side with the first.
+    fn send_others(&mut self, alloc: Global) -> Result<(), NoMemory>
+        ensures goes { (pool : List Candidate) (ends : List (End Candidate)) → Goes pool ends self.old → Goes pool ends self.new }
+        ensures same { IsSameLookup self.old self.new }
+        ensures phase { self.new.phase ≡ self.old.phase }
+        ensures more { length self.old.sends.items ≤ length self.new.sends.items }
+    {
+        'others: for _other in 1..self.together {
+            if !self.send_one(alloc)? {
+                break;
+            }
+        }
+        Ok(())
+    }
+
+    /// Sends to as many servers as are asked side by side, or to those that are left.
+    fn send_all(&mut self, alloc: Global) -> Result<(), NoMemory>
+        ensures goes { (pool : List Candidate) (ends : List (End Candidate)) → Goes pool ends self.old → Goes pool ends self.new }
+        ensures same { IsSameLookup self.old self.new }
+        ensures phase { self.new.phase ≡ self.old.phase }
+        ensures none { OnOk result (length self.new.sends.items ≡ 0 → self.new.agenda.waiting ≡ []) }
+    {
+        if self.send_one(alloc)? {
+            self.send_others(alloc)?;
+        }
+        Ok(())
+    }
+
+    /// When a sleep ends that begins at this moment.
+    fn wakes_at(&self, now: u64) -> u64
+        requires { self.now.agenda.sleeps ≤ 4 }
+        ensures { result ≡ min (wakes_at self.now now) (2 ^ 64 - 1) }
+    {
+        let deadline = self.start.saturating_add(self.timeout);
+        deadline.min(now.saturating_add(self.agenda.sleep_time()))
     }
 }
