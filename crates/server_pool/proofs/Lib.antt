@@ -8,3 +8,4 @@ pub mod Finishing
 pub mod Plans
 pub mod Moving
 pub mod Sendings
+pub mod Beginning

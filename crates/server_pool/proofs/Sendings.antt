@@ -1,12 +1,14 @@
 -- The sends of a round, as they begin and end.
-use Rattle.std.proofs.Common.{◌≡◌, ◌∙◌, ℕ, Bool, true, false, List, [], ◌∷◌, ◌++◌, map, refl, ap, sym, subst}
+use Rattle.std.proofs.Common.{◌≡◌, ◌∙◌, ℕ, suc, ◌+◌, ◌≤◌, ◌&&◌, ◌==◌, nat_lt, not, length, Bool, true, false, List, [], ◌∷◌, ◌++◌, map, refl, ap, sym, subst, arith}
 use Rattle.std.proofs.lemmas.List.{map-append}
 use Rattle.dns_core.specs.declared.message.Query.{Query}
 use Rattle.resolution.specs.Lookups.{End}
 use Rattle.server_pool.specs.declared.candidate.Candidate.{Candidate}
 use Rattle.server_pool.specs.declared.rounds.Sending.{Sending}
-use Rattle.server_pool.specs.Agenda.{Plan, PlanStands, rules_of, class_of_sent}
+use Rattle.server_pool.specs.Agenda.{Plan, PlanStands, among, own, may_sleep, same_candidate, rules_of, class_of_sent}
 use Rattle.server_pool.specs.Rounds.{under_way}
+use Rattle.server_pool.proofs.Standing.{or_left}
+use Rattle.server_pool.proofs.Plans.{same_self}
 use Rattle.server_pool.proofs.Moving.{IsSameList, stands_moved, first_last}
 
 -- the same sends
@@ -24,3 +26,29 @@ one_more_send q timeout pool ends sends other x c p e is st =
     let list : under_way other ≡ under_way sends ++ c ∷ [] =
     ap under_way e ∙ map-append (λ (s : Sending). s.candidate) sends (x ∷ []) ∙ ap (λ (y : Candidate). under_way sends ++ y ∷ []) is in
     subst (λ (l : List Candidate). PlanStands q timeout pool ends l p) (sym list) moved
+
+-- none at all
+empty_list : {X : Type 0} (xs : List X) → length xs ≡ 0 → xs ≡ []
+empty_list [] h = refl
+empty_list (x ∷ xs) h = absurd (omega (arith, h))
+
+pub no_sends : (q : Query) (timeout : ℕ) (pool : List Candidate) (ends : List (End Candidate)) (sends : List Sending) (p : Plan) → length sends ≡ 0
+    → PlanStands q timeout pool ends (under_way sends) p → PlanStands q timeout pool ends [] p
+no_sends q timeout pool ends sends p e st = same_sends q timeout pool ends sends [] p (sym (empty_list sends e)) st
+
+pub without_sends : (q : Query) (timeout : ℕ) (pool : List Candidate) (ends : List (End Candidate)) (sends : List Sending) (p : Plan) → length sends ≡ 0
+    → PlanStands q timeout pool ends [] p → PlanStands q timeout pool ends (under_way sends) p
+without_sends q timeout pool ends sends p e st = same_sends q timeout pool ends [] sends p (empty_list sends e) st
+
+-- a lookup that may sleep has an end
+module _ (q : Query) (timeout : ℕ) (ends : List (End Candidate)) where
+  had_end : (busy : List Candidate) (k : ℕ) → ((s : Candidate) → among (rules_of timeout) s busy ≡ true → k + 1 ≤ length (own (rules_of timeout) (class_of_sent q) s ends))
+      → (not (length busy == 0) && nat_lt k 4) ≡ true → ends ≡ [] → ⊥
+  had_end [] k d h e = cc
+  had_end (x ∷ xs) k d h e =
+      let one = d x (or_left (same_candidate x x) _ (same_self x)) in
+      let none : k + 1 ≤ 0 = subst (λ (l : List (End Candidate)). k + 1 ≤ length (own (rules_of timeout) (class_of_sent q) x l)) e one in
+      omega arith
+
+  pub slept_after : (pool under : List Candidate) (p : Plan) → PlanStands q timeout pool ends under p → may_sleep p ≡ true → ends ≡ [] → ⊥
+  slept_after pool under p st h e = had_end p.busy p.sleeps st.delayed h e

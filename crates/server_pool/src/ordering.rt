@@ -8,7 +8,7 @@ use resolver_settings::{ResolverOpts, ServerOrderingStrategy};
 use server_core::ServerTable;
 
 /// How many servers are asked side by side: one at least.
-fn side_by_side(options: &ResolverOpts) -> usize
+pub(crate) fn side_by_side(options: &ResolverOpts) -> usize
     ensures { result ≡ side_by_side options.now }
 {
     options.num_concurrent_reqs.max(1)

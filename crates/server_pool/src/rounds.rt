@@ -1,14 +1,17 @@
 //! The rounds of one lookup at a pool: some servers are asked side by side, and when all of them have
 //! ended, the next ones, until an end decides the lookup, no server is left, or its time is over.
-ghost use Rattle.std.specs.Prelude.{◌≡◌, ◌≤◌, ◌<◌, ◌+◌, ◌-◌, ◌^◌, ℕ, nat_le, min, [], ◌∷◌, ◌++◌, List, true, false, length, IfOk, OnOk, OnErr, IsTrue};
+ghost use Rattle.std.specs.Prelude.{◌≡◌, ◌≤◌, ◌<◌, ◌+◌, ◌-◌, ◌^◌, ℕ, nat_le, min, [], ◌∷◌, ◌++◌, List, true, false, length, Err, IfOk, OnOk, OnErr, IsTrue};
 ghost use Rattle.resolution.specs.Lookups.{End};
 ghost use Rattle.server_pool.specs.declared.candidate.Candidate.{Candidate};
 ghost use Rattle.server_pool.specs.Agenda.{may_sleep, sleep_time};
+ghost use Rattle.server_pool.specs.Ordering.{side_by_side};
 ghost use Rattle.server_pool.specs.Rounds.{Goes, RoundsStand, IsSameLookup, MayBeLate, wakes_at};
 
 use crate::agenda::Agenda;
 use crate::candidate::Candidate;
+use crate::ordering::side_by_side;
 use dns_core::{DnsRequest, Message, NetError, NoMemory, TryClone};
+use resolver_settings::ResolverOpts;
 use server_core::{ConnectionPolicy, ServerSend};
 use std::alloc::Global;
 
@@ -117,5 +120,103 @@ impl Rounds {
     {
         let deadline = self.start.saturating_add(self.timeout);
         deadline.min(now.saturating_add(self.agenda.sleep_time()))
+    }
+
+    /// Where no send is under way and no server is left: the lookup sleeps, or the error that is kept
+    /// is its answer.
+    fn pause(&mut self, now: u64)
+        requires sends { length self.old.sends.items ≡ 0 }
+        requires waiting { self.old.agenda.waiting ≡ [] }
+        ensures stands { (pool : List Candidate) (ends : List (End Candidate)) → Goes pool ends self.old → RoundsStand pool ends self.new }
+        ensures same { IsSameLookup self.old self.new }
+        ensures sleeps { may_sleep self.old.agenda ≡ true → self.new.phase ≡ Phase.Asleep (min (wakes_at self.old now) (2 ^ 64 - 1)) }
+        ensures spent { may_sleep self.old.agenda ≡ false → self.new.phase ≡ Phase.Decided (Err self.old.agenda.kept) }
+    {
+        if self.agenda.may_sleep() {
+            self.phase = Phase::Asleep {
+                until: self.wakes_at(now),
+            };
+        } else {
+            let error = self.agenda.give_up();
+            self.phase = Phase::Decided(Err(error));
+        }
+    }
+
+    /// What follows after the sends of a round were begun.
+    fn settle(&mut self, now: u64)
+        requires { length self.old.sends.items ≡ 0 → self.old.agenda.waiting ≡ [] }
+        ensures stands { (pool : List Candidate) (ends : List (End Candidate)) → Goes pool ends self.old → RoundsStand pool ends self.new }
+        ensures same { IsSameLookup self.old self.new }
+        ensures asks { 0 < length self.old.sends.items → self.new ≡ record self.old { phase = Phase.Asking } }
+        ensures sleeps { length self.old.sends.items ≡ 0 → may_sleep self.old.agenda ≡ true → self.new.phase ≡ Phase.Asleep (min (wakes_at self.old now) (2 ^ 64 - 1)) }
+        ensures spent { length self.old.sends.items ≡ 0 → may_sleep self.old.agenda ≡ false → self.new.phase ≡ Phase.Decided (Err self.old.agenda.kept) }
+    {
+        if self.sends.is_empty() {
+            self.pause(now);
+        } else {
+            self.phase = Phase::Asking;
+        }
+    }
+
+    /// A round begins: the time is over, or servers are asked, or none is left. Where memory is wanting
+    /// some servers may be asked already, and the round is to begin once more.
+    fn begin(&mut self, alloc: Global, now: u64) -> Result<(), NoMemory>
+        ensures stands { (pool : List Candidate) (ends : List (End Candidate)) → Goes pool ends self.old → MayBeLate ends self.old now → OnOk result (RoundsStand pool ends self.new) }
+        ensures want { (pool : List Candidate) (ends : List (End Candidate)) → Goes pool ends self.old → OnErr result (Goes pool ends self.new) }
+        ensures same { IsSameLookup self.old self.new }
+        ensures phase { OnErr result (self.new.phase ≡ self.old.phase) }
+        ensures late { self.old.start + self.old.timeout ≤ now → OnOk result (self.new.phase ≡ Phase.Decided (Err NetError.Timeout)) }
+        ensures asks { OnOk result (self.new.phase ≡ Phase.Asking → 0 < length self.new.sends.items) }
+    {
+        if self.is_late(now) {
+            self.phase = Phase::Decided(Err(NetError::Timeout));
+            return Ok(());
+        }
+        self.send_all(alloc)?;
+        self.settle(now);
+        Ok(())
+    }
+
+    /// A lookup of a request at the servers of a pool, in their order. Its first round begins.
+    pub fn new(
+        alloc: Global,
+        pool: &[Candidate],
+        request: DnsRequest,
+        options: &ResolverOpts,
+        now: u64,
+    ) -> Result<Self, NoMemory>
+        ensures stands { IfOk result (λ r. RoundsStand pool.now [] r) }
+        ensures request { IfOk result (λ r. r.request ≡ request) }
+        ensures time { IfOk result (λ r. (r.start ≡ now) × (r.timeout ≡ options.now.timeout)) }
+        ensures together { IfOk result (λ r. r.together ≡ side_by_side options.now) }
+        ensures asks { IfOk result (λ r. r.phase ≡ Phase.Asking → 0 < length r.sends.items) }
+        ensures late { options.now.timeout ≡ 0 → IfOk result (λ r. r.phase ≡ Phase.Decided (Err NetError.Timeout)) }
+    {
+        let mut rounds = Rounds {
+            request,
+            together: side_by_side(options),
+            timeout: options.timeout,
+            start: now,
+            agenda: Agenda::new(alloc, pool)?,
+            sends: Vec::new(alloc),
+            phase: Phase::Asking,
+        };
+        rounds.begin(alloc, now)?;
+        Ok(rounds)
+    }
+
+    /// After a sleep, the servers that were busy are asked again in a round of their own.
+    fn wake(&mut self, alloc: Global, now: u64) -> Result<(), NoMemory>
+        requires few { self.old.agenda.sleeps < 4 }
+        requires empty { self.old.agenda.waiting ≡ [] }
+        requires sends { length self.old.sends.items ≡ 0 }
+        ensures stands { (pool : List Candidate) (ends : List (End Candidate)) → Goes pool ends self.old → (ends ≡ [] → ⊥) → RoundsStand pool ends self.new }
+        ensures same { IsSameLookup self.old self.new }
+        ensures late { self.old.start + self.old.timeout ≤ now → OnOk result (self.new.phase ≡ Phase.Decided (Err NetError.Timeout)) }
+        ensures asks { OnOk result (self.new.phase ≡ Phase.Asking → 0 < length self.new.sends.items) }
+    {
+        self.agenda.wake();
+        self.phase = Phase::Asking;
+        self.begin(alloc, now)
     }
 }

@@ -1,0 +1,29 @@
+-- A round that begins after another, whether there is memory or not.
+use Rattle.std.proofs.Common.{◌≡◌, ◌∙◌, ℕ, suc, ◌+◌, ◌≤◌, ◌<◌, ◌==◌, ◌||◌, not, length, Bool, true, false, List, [], ◌∷◌, refl, ap, sym, subst, arith, Result, Ok, Err, OnOk, OnErr}
+use Rattle.std.proofs.lemmas.Bool.{eqb-true}
+use Rattle.dns_core.specs.declared.message.Query.{Query}
+use Rattle.dns_core.specs.declared.errors.NoMemory.{NoMemory}
+use Rattle.resolution.specs.Lookups.{End}
+use Rattle.server_pool.specs.declared.candidate.Candidate.{Candidate}
+use Rattle.server_pool.specs.declared.rounds.Phase.{Phase}
+use Rattle.server_pool.specs.declared.rounds.Phase.TheVariants.{Asking}
+use Rattle.server_pool.specs.declared.rounds.Rounds.{Rounds}
+use Rattle.server_pool.specs.Rounds.{Goes, StandsIn, RoundsStand}
+use Rattle.server_pool.proofs.Standing.{or_left}
+
+-- where there was an end
+some_end : {X : Type 0} (xs : List X) → (xs ≡ [] → ⊥) → not (length xs == 0) ≡ true
+some_end [] h = absurd (h refl)
+some_end (x ∷ xs) h = at_length (suc (length xs) == 0) refl
+  where
+    at_length : (b : Bool) → (suc (length xs) == 0) ≡ b → not b ≡ true
+    at_length true e = let z : suc (length xs) ≡ 0 = eqb-true (suc (length xs)) 0 e in absurd (omega arith)
+    at_length false e = refl
+
+pub not_first : {X : Type 0} (xs : List X) (timeout : ℕ) → (xs ≡ [] → ⊥) → (not (length xs == 0) || timeout == 0) ≡ true
+not_first xs timeout h = or_left (not (length xs == 0)) (timeout == 0) (some_end xs h)
+
+pub stands_anyway : {T : Type 0} (pool : List Candidate) (ends : List (End Candidate)) (r : Rounds) (result : Result T NoMemory) → (ends ≡ [] → ⊥)
+    → OnOk result (RoundsStand pool ends r) → OnErr result (Goes pool ends r) → OnErr result (r.phase ≡ Asking) → RoundsStand pool ends r
+stands_anyway pool ends r (Ok x) h a b c = a
+stands_anyway pool ends r (Err e) h a b c = subst (λ (p : Phase). StandsIn pool ends r p) (sym c) (b, (λ none. absurd (h none)))
