@@ -1,5 +1,5 @@
 -- A round that begins after another, whether there is memory or not.
-use Rattle.std.proofs.Common.{◌≡◌, ◌∙◌, ℕ, suc, ◌+◌, ◌≤◌, ◌<◌, ◌==◌, ◌||◌, not, length, Bool, true, false, List, [], ◌∷◌, refl, ap, sym, subst, arith, Result, Ok, Err, OnOk, OnErr}
+use Rattle.std.proofs.Common.{◌≡◌, ◌∙◌, ℕ, suc, ◌+◌, ◌≤◌, ◌<◌, ◌==◌, ◌||◌, not, length, Bool, true, false, List, [], ◌∷◌, ◌++◌, refl, ap, sym, subst, arith, Result, Ok, Err, OnOk, OnErr}
 use Rattle.std.proofs.lemmas.Bool.{eqb-true}
 use Rattle.dns_core.specs.declared.message.Query.{Query}
 use Rattle.dns_core.specs.declared.errors.NoMemory.{NoMemory}
@@ -27,3 +27,12 @@ pub stands_anyway : {T : Type 0} (pool : List Candidate) (ends : List (End Candi
     → OnOk result (RoundsStand pool ends r) → OnErr result (Goes pool ends r) → OnErr result (r.phase ≡ Asking) → RoundsStand pool ends r
 stands_anyway pool ends r (Ok x) h a b c = a
 stands_anyway pool ends r (Err e) h a b c = subst (λ (p : Phase). StandsIn pool ends r p) (sym c) (b, (λ none. absurd (h none)))
+
+-- a list with one more is not empty
+pub more_is_some : {X : Type 0} (xs : List X) (x : X) → xs ++ x ∷ [] ≡ [] → ⊥
+more_is_some [] x h = cc
+more_is_some (y ∷ xs) x h = cc
+
+-- a lookup that goes on after an end
+pub goes_after : (pool : List Candidate) (ends : List (End Candidate)) (r : Rounds) → r.phase ≡ Asking → (ends ≡ [] → ⊥) → Goes pool ends r → RoundsStand pool ends r
+goes_after pool ends r p h g = subst (λ (x : Phase). StandsIn pool ends r x) (sym p) (g, (λ none. absurd (h none)))

@@ -73,24 +73,24 @@ module _ {S : Type 0} (rules : Rules S) where
     length_same = let a = length-append xs (x ∷ []) in omega arith;
   }
 
-  -- one in the midst stands first
-  pub picked_first : (xs : List S) (i : ℕ) (x : S) → slice_get xs i ≡ Some x → IsSameList rules xs (x ∷ remove xs i)
-  picked_first [] i x h = cc
-  picked_first (y ∷ xs) zero x h =
+  -- one of a list, by what is seen of each, stands first
+  pub picked_first : {X : Type 0} (f : X → S) (xs : List X) (i : ℕ) (x : X) → slice_get xs i ≡ Some x → IsSameList rules (map f xs) (f x ∷ map f (remove xs i))
+  picked_first f [] i x h = cc
+  picked_first {X} f (y ∷ xs) zero x h =
       let e : y ≡ x = cc in
-      let itself : IsSameList rules (y ∷ xs) (y ∷ xs) = record { among_same = λ s. refl; places_same = λ s. refl; length_same = refl } in
-      subst (λ (z : S). IsSameList rules (y ∷ xs) (z ∷ xs)) e itself
-  picked_first (y ∷ xs) (suc i) x h =
-      let rest = remove xs i in
-      let r : IsSameList rules xs (x ∷ rest) = picked_first xs i x h in
+      let itself : IsSameList rules (f y ∷ map f xs) (f y ∷ map f xs) = record { among_same = λ s. refl; places_same = λ s. refl; length_same = refl } in
+      subst (λ (z : X). IsSameList rules (f y ∷ map f xs) (f z ∷ map f xs)) e itself
+  picked_first f (y ∷ xs) (suc i) x h =
+      let rest = map f (remove xs i) in
+      let r : IsSameList rules (map f xs) (f x ∷ rest) = picked_first f xs i x h in
       record {
-        among_same = λ s. ap (λ (b : Bool). rules.same s y || b) (r.among_same s) ∙ or_swap (rules.same s y) (rules.same s x) (among rules s rest);
+        among_same = λ s. ap (λ (b : Bool). rules.same s (f y) || b) (r.among_same s) ∙ or_swap (rules.same s (f y)) (rules.same s (f x)) (among rules s rest);
         places_same = λ s.
-            let a = count_cons (rules.same s) y xs in
-            let b = count_cons (rules.same s) x (y ∷ rest) in
-            let c = count_cons (rules.same s) y rest in
-            let d = count_cons (rules.same s) x rest in
+            let a = count_cons (rules.same s) (f y) (map f xs) in
+            let b = count_cons (rules.same s) (f x) (f y ∷ rest) in
+            let c = count_cons (rules.same s) (f y) rest in
+            let d = count_cons (rules.same s) (f x) rest in
             let e = r.places_same s in
             omega arith;
-        length_same = let e = r.length_same in omega arith;
+        length_same = let e = r.length_same in omega arith
       }

@@ -1,5 +1,8 @@
 -- The sends of a round, as they begin and end.
-use Rattle.std.proofs.Common.{◌≡◌, ◌∙◌, ℕ, suc, ◌+◌, ◌≤◌, ◌&&◌, ◌==◌, nat_lt, not, length, Bool, true, false, List, [], ◌∷◌, ◌++◌, map, refl, ap, sym, subst, arith}
+use Rattle.std.proofs.Common.{◌≡◌, ◌∙◌, ℕ, suc, ◌+◌, ◌≤◌, ◌&&◌, ◌==◌, nat_lt, not, length, Bool, true, false, List, [], ◌∷◌, ◌++◌, map, refl, ap, sym, subst, arith, get_or, slice_get, Some}
+use Rattle.std.specs.List.{remove}
+use Rattle.std.proofs.Math.Seq.{map-set_same}
+use Rattle.std.proofs.Math.ListN.{set}
 use Rattle.std.proofs.lemmas.List.{map-append}
 use Rattle.dns_core.specs.declared.message.Query.{Query}
 use Rattle.resolution.specs.Lookups.{End}
@@ -9,7 +12,7 @@ use Rattle.server_pool.specs.Agenda.{Plan, PlanStands, among, own, may_sleep, sa
 use Rattle.server_pool.specs.Rounds.{under_way}
 use Rattle.server_pool.proofs.Standing.{or_left}
 use Rattle.server_pool.proofs.Plans.{same_self}
-use Rattle.server_pool.proofs.Moving.{IsSameList, stands_moved, first_last}
+use Rattle.server_pool.proofs.Moving.{IsSameList, stands_moved, first_last, picked_first}
 
 -- the same sends
 pub same_sends : (q : Query) (timeout : ℕ) (pool : List Candidate) (ends : List (End Candidate)) (sends other : List Sending) (p : Plan) → other ≡ sends
@@ -26,6 +29,19 @@ one_more_send q timeout pool ends sends other x c p e is st =
     let list : under_way other ≡ under_way sends ++ c ∷ [] =
     ap under_way e ∙ map-append (λ (s : Sending). s.candidate) sends (x ∷ []) ∙ ap (λ (y : Candidate). under_way sends ++ y ∷ []) is in
     subst (λ (l : List Candidate). PlanStands q timeout pool ends l p) (sym list) moved
+
+-- one written over, of the same server
+pub written_send : (q : Query) (timeout : ℕ) (pool : List Candidate) (ends : List (End Candidate)) (sends : List Sending) (i : ℕ) (x d : Sending) (p : Plan) → x.candidate ≡ (get_or sends i d).candidate
+    → PlanStands q timeout pool ends (under_way sends) p → PlanStands q timeout pool ends (under_way (set sends i x)) p
+written_send q timeout pool ends sends i x d p e st =
+    subst (λ (l : List Candidate). PlanStands q timeout pool ends l p) (sym (map-set_same (λ (s : Sending). s.candidate) sends i x d e)) st
+
+-- one that has ended
+pub ended_send : (q : Query) (timeout : ℕ) (pool : List Candidate) (ends : List (End Candidate)) (sends : List Sending) (i : ℕ) (s : Sending) (p : Plan) → slice_get sends i ≡ Some s
+    → PlanStands q timeout pool ends (under_way sends) p → PlanStands q timeout pool ends (s.candidate ∷ under_way (remove sends i)) p
+ended_send q timeout pool ends sends i s p there st =
+    stands_moved (rules_of timeout) (class_of_sent q) pool ends (under_way sends) (s.candidate ∷ under_way (remove sends i)) p.waiting p.busy p.off p.kept p.sleeps
+    (picked_first (rules_of timeout) (λ (x : Sending). x.candidate) sends i s there) st
 
 -- none at all
 empty_list : {X : Type 0} (xs : List X) → length xs ≡ 0 → xs ≡ []

@@ -1,18 +1,18 @@
 //! The rounds of one lookup at a pool: some servers are asked side by side, and when all of them have
 //! ended, the next ones, until an end decides the lookup, no server is left, or its time is over.
-ghost use Rattle.std.specs.Prelude.{◌≡◌, ◌≤◌, ◌<◌, ◌+◌, ◌-◌, ◌^◌, ℕ, nat_le, min, [], ◌∷◌, ◌++◌, List, true, false, length, Err, IfOk, OnOk, OnErr, IsTrue};
+ghost use Rattle.std.specs.Prelude.{◌≡◌, ◌≤◌, ◌<◌, ◌+◌, ◌-◌, ◌^◌, ℕ, nat_le, min, [], ◌∷◌, ◌++◌, List, true, false, length, slice_get, Some, Err, IfOk, OnOk, OnErr, IsTrue};
 ghost use Rattle.resolution.specs.Lookups.{End};
 ghost use Rattle.server_pool.specs.declared.candidate.Candidate.{Candidate};
-ghost use Rattle.server_pool.specs.Agenda.{may_sleep, sleep_time};
+ghost use Rattle.server_pool.specs.Agenda.{may_sleep, sleep_time, end_at};
 ghost use Rattle.server_pool.specs.Ordering.{side_by_side};
 ghost use Rattle.server_pool.specs.Rounds.{Goes, RoundsStand, IsSameLookup, MayBeLate, wakes_at};
 
 use crate::agenda::Agenda;
-use crate::candidate::Candidate;
+use crate::candidate::{Candidate, Hearing};
 use crate::ordering::side_by_side;
 use dns_core::{DnsRequest, Message, NetError, NoMemory, TryClone};
 use resolver_settings::ResolverOpts;
-use server_core::{ConnectionPolicy, ServerSend};
+use server_core::{ConnectionPolicy, ServerSend, Stage};
 use std::alloc::Global;
 
 /// A send to a server that has not ended: `order` is the number of its last order, 0 before the first.
@@ -218,5 +218,51 @@ impl Rounds {
         self.agenda.wake();
         self.phase = Phase::Asking;
         self.begin(alloc, now)
+    }
+
+    /// Puts an end back that could not be heard.
+    fn give_back(&mut self, place: usize, outcome: Result<Message, NetError>)
+        requires { place < length self.old.sends.items }
+        ensures goes { (pool : List Candidate) (ends : List (End Candidate)) → Goes pool ends self.old → Goes pool ends self.new }
+        ensures same { IsSameLookup self.old self.new }
+        ensures phase { self.new.phase ≡ self.old.phase }
+        ensures agenda { self.new.agenda ≡ self.old.agenda }
+    {
+        let sending = &mut self.sends[place];
+        sending.send.stage = Stage::Ended(outcome);
+    }
+
+    /// Hears with what the send at a place ended. Where memory is wanting, the send stays, and its end
+    /// is to be heard once more.
+    fn hear(
+        &mut self,
+        place: usize,
+        outcome: Result<Message, NetError>,
+        now: u64,
+    ) -> Result<(), NoMemory>
+        requires place { place < length self.old.sends.items }
+        requires asks { self.old.phase ≡ Phase.Asking }
+        ensures stands { (pool : List Candidate) (ends : List (End Candidate)) (s : Sending) → slice_get self.old.sends.items place ≡ Some s → Goes pool ends self.old
+            → OnOk result (RoundsStand pool (ends ++ end_at s.candidate outcome ∷ []) self.new) }
+        ensures want { (pool : List Candidate) (ends : List (End Candidate)) → Goes pool ends self.old → OnErr result (Goes pool ends self.new) }
+        ensures same { IsSameLookup self.old self.new }
+        ensures phase { OnErr result (self.new.phase ≡ self.old.phase) }
+    {
+        let candidate = self.sends[place].candidate;
+        match self.agenda.hear(candidate, outcome, &self.request.query) {
+            Hearing::GoesOn => {
+                self.sends.remove(place);
+                Ok(())
+            }
+            Hearing::Answers(answer) => {
+                self.sends.remove(place);
+                self.phase = Phase::Decided(answer);
+                Ok(())
+            }
+            Hearing::Wanting(outcome) => {
+                self.give_back(place, outcome);
+                Err(NoMemory)
+            }
+        }
     }
 }
