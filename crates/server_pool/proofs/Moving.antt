@@ -92,5 +92,5 @@ module _ {S : Type 0} (rules : Rules S) where
             let d = count_cons (rules.same s) (f x) rest in
             let e = r.places_same s in
             omega arith;
-        length_same = let e = r.length_same in omega arith
+        length_same = let e = r.length_same in omega arith;
       }

@@ -1,15 +1,20 @@
 -- The sends of a round, as they begin and end.
-use Rattle.std.proofs.Common.{◌≡◌, ◌∙◌, ℕ, suc, ◌+◌, ◌≤◌, ◌&&◌, ◌==◌, nat_lt, not, length, Bool, true, false, List, [], ◌∷◌, ◌++◌, map, refl, ap, sym, subst, arith, get_or, slice_get, Some}
+use Rattle.std.proofs.Common.{◌≡◌, ◌∙◌, ℕ, zero, suc, ◌+◌, ◌≤◌, ◌&&◌, ◌==◌, nat_lt, not, length, Bool, true, false, List, [], ◌∷◌, ◌++◌, map, refl, ap, sym, subst, arith, get_or, slice_get, Some}
 use Rattle.std.specs.List.{remove}
+use Rattle.std.proofs.lemmas.Option.{get_or_from_slice_get}
 use Rattle.std.proofs.Math.Seq.{map-set_same}
 use Rattle.std.proofs.Math.ListN.{set}
 use Rattle.std.proofs.lemmas.List.{map-append}
 use Rattle.dns_core.specs.declared.message.Query.{Query}
 use Rattle.resolution.specs.Lookups.{End}
 use Rattle.server_pool.specs.declared.candidate.Candidate.{Candidate}
+use Rattle.server_core.specs.Sending.{Comes}
+use Rattle.server_core.specs.declared.order.Outcome.{Outcome}
+use Rattle.server_core.specs.declared.server_send.ServerSend.{ServerSend}
 use Rattle.server_pool.specs.declared.rounds.Sending.{Sending}
+use Rattle.server_pool.specs.declared.rounds.Rounds.{Rounds}
 use Rattle.server_pool.specs.Agenda.{Plan, PlanStands, among, own, may_sleep, same_candidate, rules_of, class_of_sent}
-use Rattle.server_pool.specs.Rounds.{under_way}
+use Rattle.server_pool.specs.Rounds.{under_way, IsFed}
 use Rattle.server_pool.proofs.Standing.{or_left}
 use Rattle.server_pool.proofs.Plans.{same_self}
 use Rattle.server_pool.proofs.Moving.{IsSameList, stands_moved, first_last, picked_first}
@@ -35,6 +40,23 @@ pub written_send : (q : Query) (timeout : ℕ) (pool : List Candidate) (ends : L
     → PlanStands q timeout pool ends (under_way sends) p → PlanStands q timeout pool ends (under_way (set sends i x)) p
 written_send q timeout pool ends sends i x d p e st =
     subst (λ (l : List Candidate). PlanStands q timeout pool ends l p) (sym (map-set_same (λ (s : Sending). s.candidate) sends i x d e)) st
+
+get_set : {X : Type 0} (xs : List X) (i : ℕ) (x s : X) → slice_get xs i ≡ Some s → slice_get (set xs i x) i ≡ Some x
+get_set [] i x s h = cc
+get_set (y ∷ xs) zero x s h = refl
+get_set (y ∷ xs) (suc i) x s h = get_set xs i x s h
+
+-- the one that was written
+pub fed_send : (sends : List Sending) (i : ℕ) (s lent : Sending) (next : ServerSend) (o : Outcome) (r : Rounds) → slice_get sends i ≡ Some s → lent ≡ get_or sends i lent
+    → r.sends.items ≡ set sends i (record lent { send = next }) → Comes lent.send o next → IsFed s i o r
+fed_send sends i s lent next o r there is new comes =
+    let same : lent ≡ s = is ∙ get_or_from_slice_get sends i s lent there in
+    let written : slice_get (set sends i (record lent { send = next })) i ≡ Some (record lent { send = next }) = get_set sends i (record lent { send = next }) s there in
+    record {
+      next = next;
+      comes = subst (λ (x : Sending). Comes x.send o next) same comes;
+      there = ap (λ (l : List Sending). slice_get l i) new ∙ written ∙ ap (λ (x : Sending). Some (record x { send = next })) same
+    }
 
 -- one that has ended
 pub ended_send : (q : Query) (timeout : ℕ) (pool : List Candidate) (ends : List (End Candidate)) (sends : List Sending) (i : ℕ) (s : Sending) (p : Plan) → slice_get sends i ≡ Some s

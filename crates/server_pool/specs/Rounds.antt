@@ -1,5 +1,5 @@
 -- How a lookup stands between its steps.
-use Rattle.std.specs.Prelude.{◌≡◌, ℕ, ◌+◌, ◌≤◌, ◌<◌, true, min, ◌==◌, ◌||◌, not, IsTrue, List, [], ◌∷◌, ◌++◌, map, length, ◌⊎◌, Option, Some, None}
+use Rattle.std.specs.Prelude.{◌≡◌, ℕ, ◌+◌, ◌≤◌, ◌<◌, true, min, ◌==◌, ◌||◌, not, IsTrue, List, [], ◌∷◌, ◌++◌, map, length, slice_get, ◌⊎◌, Option, Some, None}
 use Rattle.dns_core.specs.declared.message.Query.{Query}
 use Rattle.resolution.specs.Lookups.{Answered, End, PoolRun}
 use Rattle.server_pool.specs.declared.candidate.Candidate.{Candidate}
@@ -7,6 +7,9 @@ use Rattle.server_pool.specs.declared.rounds.Sending.{Sending}
 use Rattle.server_pool.specs.declared.rounds.Phase.{Phase}
 use Rattle.server_pool.specs.declared.rounds.Phase.TheVariants.{Asking, Asleep, Decided, Told}
 use Rattle.server_pool.specs.declared.rounds.Rounds.{Rounds}
+use Rattle.server_core.specs.Sending.{Comes, end_of}
+use Rattle.server_core.specs.declared.order.Outcome.{Outcome}
+use Rattle.server_core.specs.declared.server_send.ServerSend.{ServerSend}
 use Rattle.server_pool.specs.Agenda.{rules_of, class_of_sent, end_at, may_sleep, sleep_time, PlanStands}
 
 -- the servers of the sends that have not ended
@@ -46,3 +49,20 @@ MayBeLate ends r now = r.start + r.timeout ≤ now → IsTrue (not (length ends 
 -- a sleep that begins at this moment ends so much later, and at the deadline at the latest
 abbrev pub wakes_at : Rounds → ℕ → ℕ
 wakes_at r now = min (now + sleep_time r.agenda.sleeps) (r.start + r.timeout)
+
+-- the outcome of its order ended the send so
+pub record HasEnded (s : Sending) (outcome : Outcome) (e : End Candidate) : Type 0 where
+  pub next : ServerSend
+  pub comes : Comes s.send outcome next
+  pub ended : end_of next.stage ≡ Some e.outcome
+  pub at : e.server ≡ s.candidate
+
+-- the send at a place took the outcome of its order
+pub record IsFed (s : Sending) (place : ℕ) (outcome : Outcome) (r : Rounds) : Type 0 where
+  pub next : ServerSend
+  pub comes : Comes s.send outcome next
+  pub there : slice_get r.sends.items place ≡ Some (record s { send = next })
+
+-- It stands by the ends that there were, or by these and one more.
+abbrev pub StandsStill : List Candidate → List (End Candidate) → (End Candidate → Type 0) → Rounds → Type 0
+StandsStill pool ends IsNew r = RoundsStand pool ends r ⊎ ((e : End Candidate) × IsNew e × RoundsStand pool (ends ++ e ∷ []) r)

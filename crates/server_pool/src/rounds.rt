@@ -1,18 +1,20 @@
 //! The rounds of one lookup at a pool: some servers are asked side by side, and when all of them have
 //! ended, the next ones, until an end decides the lookup, no server is left, or its time is over.
-ghost use Rattle.std.specs.Prelude.{◌≡◌, ◌≤◌, ◌<◌, ◌+◌, ◌-◌, ◌^◌, ℕ, nat_le, min, [], ◌∷◌, ◌++◌, List, true, false, length, slice_get, Some, Err, IfOk, OnOk, OnErr, IsTrue};
+ghost use Rattle.std.specs.Prelude.{◌≡◌, ◌≤◌, ◌<◌, ◌+◌, ◌-◌, ◌^◌, ℕ, nat_le, min, [], ◌∷◌, ◌++◌, List, true, false, length, slice_get, Some, Err, IfOk, OnOk, OnErr, IsTrue, ◌↔◌, ◌==◌, ◌&&◌};
+ghost use Rattle.std.specs.List.{position};
 ghost use Rattle.resolution.specs.Lookups.{End};
+ghost use Rattle.server_core.specs.Sending.{is_open, end_of};
 ghost use Rattle.server_pool.specs.declared.candidate.Candidate.{Candidate};
 ghost use Rattle.server_pool.specs.Agenda.{may_sleep, sleep_time, end_at};
 ghost use Rattle.server_pool.specs.Ordering.{side_by_side};
-ghost use Rattle.server_pool.specs.Rounds.{Goes, RoundsStand, IsSameLookup, MayBeLate, wakes_at};
+ghost use Rattle.server_pool.specs.Rounds.{Goes, RoundsStand, IsSameLookup, MayBeLate, IsFed, HasEnded, StandsStill, wakes_at};
 
 use crate::agenda::Agenda;
 use crate::candidate::{Candidate, Hearing};
 use crate::ordering::side_by_side;
 use dns_core::{DnsRequest, Message, NetError, NoMemory, TryClone};
 use resolver_settings::ResolverOpts;
-use server_core::{ConnectionPolicy, ServerSend, Stage};
+use server_core::{After, ConnectionPolicy, Outcome, ServerSend, ServerTable, Stage, Tick};
 use std::alloc::Global;
 
 /// A send to a server that has not ended: `order` is the number of its last order, 0 before the first.
@@ -264,5 +266,45 @@ impl Rounds {
                 Err(NoMemory)
             }
         }
+    }
+
+    fn is_asking(&self) -> bool
+        ensures { IsTrue result ↔ (self.now.phase ≡ Phase.Asking) }
+    {
+        matches!(self.phase, Phase::Asking)
+    }
+
+    /// The place of the send of which this is the open order.
+    fn place_of(&self, number: u64) -> Option<usize>
+        ensures { result ≡ position (λ s. s.order == number && is_open s.send.stage) self.now.sends.items }
+    {
+        self.sends
+            .iter()
+            .position(|s| s.order == number && s.send.stage.is_open())
+    }
+
+    /// Feeds the outcome of its order to the send at a place.
+    fn feed(
+        &mut self,
+        alloc: Global,
+        table: &mut ServerTable,
+        place: usize,
+        outcome: Outcome,
+        tick: Tick,
+    ) -> Result<After, NoMemory>
+        requires { place < length self.old.sends.items }
+        ensures goes { (pool : List Candidate) (ends : List (End Candidate)) → Goes pool ends self.old → Goes pool ends self.new }
+        ensures same { IsSameLookup self.old self.new }
+        ensures phase { self.new.phase ≡ self.old.phase }
+        ensures fed { (s : Sending) → slice_get self.old.sends.items place ≡ Some s → IsTrue (is_open s.send.stage) → s.send.server < length table.old
+            → OnOk result (IsFed s place outcome self.new) }
+        ensures count { length self.new.sends.items ≡ length self.old.sends.items }
+        ensures table { length table.new ≡ length table.old }
+    {
+        let sending = &mut self.sends[place];
+        if sending.send.server as usize >= table.len() {
+            return Ok(After::Late);
+        }
+        sending.send.put(alloc, table, outcome, tick)
     }
 }

@@ -35,7 +35,7 @@ returns-in-Answers-clause-stands c = λ pool ends s there st.
     record {
       at = c.args.now;
       run = subst (λ (x : Candidate). PoolRun (rules_of t) (class_of_sent q) pool (ends ++ end_at x o ∷ []) c.in-Answers.answer r.start c.args.now) at
-          (c.in-Answers.ensures.stands t r.start c.args.now pool ends rest first)
+          (c.in-Answers.ensures.stands t r.start c.args.now pool ends rest first);
     }
 
 pub returns-in-Wanting-clause-want : goal.returns-in-Wanting-clause-want
