@@ -36,3 +36,7 @@ more_is_some (y ∷ xs) x h = cc
 -- a lookup that goes on after an end
 pub goes_after : (pool : List Candidate) (ends : List (End Candidate)) (r : Rounds) → r.phase ≡ Asking → (ends ≡ [] → ⊥) → Goes pool ends r → RoundsStand pool ends r
 goes_after pool ends r p h g = subst (λ (x : Phase). StandsIn pool ends r x) (sym p) (g, (λ none. absurd (h none)))
+
+-- what is so while it asks
+pub goes_now : (pool : List Candidate) (ends : List (End Candidate)) (r : Rounds) → r.phase ≡ Asking → RoundsStand pool ends r → Goes pool ends r
+goes_now pool ends r p st = let x = subst (λ (y : Phase). StandsIn pool ends r y) p st in x.0

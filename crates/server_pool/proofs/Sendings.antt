@@ -14,7 +14,7 @@ use Rattle.server_core.specs.declared.server_send.ServerSend.{ServerSend}
 use Rattle.server_pool.specs.declared.rounds.Sending.{Sending}
 use Rattle.server_pool.specs.declared.rounds.Rounds.{Rounds}
 use Rattle.server_pool.specs.Agenda.{Plan, PlanStands, among, own, may_sleep, same_candidate, rules_of, class_of_sent}
-use Rattle.server_pool.specs.Rounds.{under_way, IsFed}
+use Rattle.server_pool.specs.Rounds.{under_way, IsFed, IsStillAt}
 use Rattle.server_pool.proofs.Standing.{or_left}
 use Rattle.server_pool.proofs.Plans.{same_self}
 use Rattle.server_pool.proofs.Moving.{IsSameList, stands_moved, first_last, picked_first}
@@ -55,6 +55,16 @@ fed_send sends i s lent next o r there is new comes =
     record {
       next = next;
       comes = subst (λ (x : Sending). Comes x.send o next) same comes;
+      there = ap (λ (l : List Sending). slice_get l i) new ∙ written ∙ ap (λ (x : Sending). Some (record x { send = next })) same;
+    }
+
+pub still_send : (sends : List Sending) (i : ℕ) (s lent : Sending) (next : ServerSend) (r : Rounds) → slice_get sends i ≡ Some s → lent ≡ get_or sends i lent
+    → r.sends.items ≡ set sends i (record lent { send = next }) → IsStillAt s i r
+still_send sends i s lent next r there is new =
+    let same : lent ≡ s = is ∙ get_or_from_slice_get sends i s lent there in
+    let written : slice_get (set sends i (record lent { send = next })) i ≡ Some (record lent { send = next }) = get_set sends i (record lent { send = next }) s there in
+    record {
+      next = next;
       there = ap (λ (l : List Sending). slice_get l i) new ∙ written ∙ ap (λ (x : Sending). Some (record x { send = next })) same
     }
 

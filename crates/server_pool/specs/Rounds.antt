@@ -63,6 +63,11 @@ pub record IsFed (s : Sending) (place : ℕ) (outcome : Outcome) (r : Rounds) : 
   pub comes : Comes s.send outcome next
   pub there : slice_get r.sends.items place ≡ Some (record s { send = next })
 
+-- a send to the same server is at the place
+pub record IsStillAt (s : Sending) (place : ℕ) (r : Rounds) : Type 0 where
+  pub next : ServerSend
+  pub there : slice_get r.sends.items place ≡ Some (record s { send = next })
+
 -- It stands by the ends that there were, or by these and one more.
 abbrev pub StandsStill : List Candidate → List (End Candidate) → (End Candidate → Type 0) → Rounds → Type 0
 StandsStill pool ends IsNew r = RoundsStand pool ends r ⊎ ((e : End Candidate) × IsNew e × RoundsStand pool (ends ++ e ∷ []) r)

@@ -5,9 +5,10 @@ ghost use Rattle.std.specs.List.{position};
 ghost use Rattle.resolution.specs.Lookups.{End};
 ghost use Rattle.server_core.specs.Sending.{is_open, end_of};
 ghost use Rattle.server_pool.specs.declared.candidate.Candidate.{Candidate};
+ghost use Rattle.server_pool.specs.declared.rounds.Sending.{Sending};
 ghost use Rattle.server_pool.specs.Agenda.{may_sleep, sleep_time, end_at};
 ghost use Rattle.server_pool.specs.Ordering.{side_by_side};
-ghost use Rattle.server_pool.specs.Rounds.{Goes, RoundsStand, IsSameLookup, MayBeLate, IsFed, HasEnded, StandsStill, wakes_at};
+ghost use Rattle.server_pool.specs.Rounds.{Goes, RoundsStand, IsSameLookup, MayBeLate, IsFed, IsStillAt, HasEnded, StandsStill, wakes_at};
 
 use crate::agenda::Agenda;
 use crate::candidate::{Candidate, Hearing};
@@ -306,5 +307,32 @@ impl Rounds {
             return Ok(After::Late);
         }
         sending.send.put(alloc, table, outcome, tick)
+    }
+
+    /// Takes what the send at a place ended with, where that was not heard yet.
+    fn take_end(&mut self, place: usize) -> Option<Result<Message, NetError>>
+        requires { place < length self.old.sends.items }
+        ensures goes { (pool : List Candidate) (ends : List (End Candidate)) → Goes pool ends self.old → Goes pool ends self.new }
+        ensures same { IsSameLookup self.old self.new }
+        ensures phase { self.new.phase ≡ self.old.phase }
+        ensures count { length self.new.sends.items ≡ length self.old.sends.items }
+        ensures end { (s : Sending) → slice_get self.old.sends.items place ≡ Some s → result ≡ end_of s.send.stage }
+        ensures there { (s : Sending) → slice_get self.old.sends.items place ≡ Some s → IsStillAt s place self.new }
+    {
+        let sending = &mut self.sends[place];
+        sending.send.take_end()
+    }
+
+    /// The next round begins where all sends of the last one have ended.
+    fn go_on(&mut self, alloc: Global, now: u64) -> Result<(), NoMemory>
+        ensures stands { (pool : List Candidate) (ends : List (End Candidate)) → (ends ≡ [] → ⊥) → RoundsStand pool ends self.old → RoundsStand pool ends self.new }
+        ensures same { IsSameLookup self.old self.new }
+        ensures asks { OnOk result (self.new.phase ≡ Phase.Asking → 0 < length self.new.sends.items) }
+    {
+        if self.is_asking() && self.sends.is_empty() {
+            self.begin(alloc, now)
+        } else {
+            Ok(())
+        }
     }
 }
