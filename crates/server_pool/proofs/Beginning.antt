@@ -40,3 +40,10 @@ goes_after pool ends r p h g = subst (λ (x : Phase). StandsIn pool ends r x) (s
 -- what is so while it asks
 pub goes_now : (pool : List Candidate) (ends : List (End Candidate)) (r : Rounds) → r.phase ≡ Asking → RoundsStand pool ends r → Goes pool ends r
 goes_now pool ends r p st = let x = subst (λ (y : Phase). StandsIn pool ends r y) p st in x.0
+
+-- it asks as before, with as many sends
+pub asks_still : (pool : List Candidate) (ends : List (End Candidate)) (old new : Rounds) → old.phase ≡ Asking → RoundsStand pool ends old → new.phase ≡ Asking → length new.sends.items ≡ length old.sends.items
+    → Goes pool ends new → RoundsStand pool ends new
+asks_still pool ends old new p st n count goes =
+    let before = subst (λ (y : Phase). StandsIn pool ends old y) p st in
+    subst (λ (y : Phase). StandsIn pool ends new y) (sym n) (goes, (λ none. subst (λ (k : ℕ). 0 < k) (sym count) (before.1 none)))

@@ -65,7 +65,7 @@ still_send sends i s lent next r there is new =
     let written : slice_get (set sends i (record lent { send = next })) i ≡ Some (record lent { send = next }) = get_set sends i (record lent { send = next }) s there in
     record {
       next = next;
-      there = ap (λ (l : List Sending). slice_get l i) new ∙ written ∙ ap (λ (x : Sending). Some (record x { send = next })) same
+      there = ap (λ (l : List Sending). slice_get l i) new ∙ written ∙ ap (λ (x : Sending). Some (record x { send = next })) same;
     }
 
 -- one that has ended

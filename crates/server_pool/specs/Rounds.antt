@@ -50,6 +50,11 @@ MayBeLate ends r now = r.start + r.timeout ≤ now → IsTrue (not (length ends 
 abbrev pub wakes_at : Rounds → ℕ → ℕ
 wakes_at r now = min (now + sleep_time r.agenda.sleeps) (r.start + r.timeout)
 
+-- the send has ended so
+pub record IsEndOf (s : Sending) (e : End Candidate) : Type 0 where
+  pub ended : end_of s.send.stage ≡ Some e.outcome
+  pub at : e.server ≡ s.candidate
+
 -- the outcome of its order ended the send so
 pub record HasEnded (s : Sending) (outcome : Outcome) (e : End Candidate) : Type 0 where
   pub next : ServerSend

@@ -8,7 +8,7 @@ ghost use Rattle.server_pool.specs.declared.candidate.Candidate.{Candidate};
 ghost use Rattle.server_pool.specs.declared.rounds.Sending.{Sending};
 ghost use Rattle.server_pool.specs.Agenda.{may_sleep, sleep_time, end_at};
 ghost use Rattle.server_pool.specs.Ordering.{side_by_side};
-ghost use Rattle.server_pool.specs.Rounds.{Goes, RoundsStand, IsSameLookup, MayBeLate, IsFed, IsStillAt, HasEnded, StandsStill, wakes_at};
+ghost use Rattle.server_pool.specs.Rounds.{Goes, RoundsStand, IsSameLookup, MayBeLate, IsFed, IsStillAt, IsEndOf, HasEnded, StandsStill, wakes_at};
 
 use crate::agenda::Agenda;
 use crate::candidate::{Candidate, Hearing};
@@ -230,6 +230,7 @@ impl Rounds {
         ensures same { IsSameLookup self.old self.new }
         ensures phase { self.new.phase ≡ self.old.phase }
         ensures agenda { self.new.agenda ≡ self.old.agenda }
+        ensures count { length self.new.sends.items ≡ length self.old.sends.items }
     {
         let sending = &mut self.sends[place];
         sending.send.stage = Stage::Ended(outcome);
@@ -250,6 +251,7 @@ impl Rounds {
         ensures want { (pool : List Candidate) (ends : List (End Candidate)) → Goes pool ends self.old → OnErr result (Goes pool ends self.new) }
         ensures same { IsSameLookup self.old self.new }
         ensures phase { OnErr result (self.new.phase ≡ self.old.phase) }
+        ensures count { OnErr result (length self.new.sends.items ≡ length self.old.sends.items) }
     {
         let candidate = self.sends[place].candidate;
         match self.agenda.hear(candidate, outcome, &self.request.query) {
@@ -333,6 +335,23 @@ impl Rounds {
             self.begin(alloc, now)
         } else {
             Ok(())
+        }
+    }
+
+    /// Hears the end of the send at a place, if it has ended, and goes on.
+    fn end(&mut self, alloc: Global, place: usize, now: u64) -> Result<(), NoMemory>
+        requires place { place < length self.old.sends.items }
+        requires asks { self.old.phase ≡ Phase.Asking }
+        ensures stands { (pool : List Candidate) (ends : List (End Candidate)) (s : Sending) → slice_get self.old.sends.items place ≡ Some s → RoundsStand pool ends self.old
+            → StandsStill pool ends (IsEndOf s) self.new }
+        ensures same { IsSameLookup self.old self.new }
+    {
+        match self.take_end(place) {
+            Some(outcome) => {
+                self.hear(place, outcome, now)?;
+                self.go_on(alloc, now)
+            }
+            None => Ok(()),
         }
     }
 }
