@@ -1,14 +1,16 @@
 -- A round that begins after another, whether there is memory or not.
-use Rattle.std.proofs.Common.{◌≡◌, ◌∙◌, ℕ, suc, ◌+◌, ◌≤◌, ◌<◌, ◌==◌, ◌||◌, not, length, Bool, true, false, List, [], ◌∷◌, ◌++◌, refl, ap, sym, subst, arith, Result, Ok, Err, OnOk, OnErr}
+use Rattle.std.proofs.Common.{◌≡◌, ◌∙◌, ℕ, suc, ◌+◌, ◌≤◌, ◌<◌, ◌==◌, ◌||◌, not, length, Bool, true, false, List, [], ◌∷◌, ◌++◌, refl, ap, sym, subst, arith, Result, Ok, Err, OnOk, OnErr, inl, inr}
 use Rattle.std.proofs.lemmas.Bool.{eqb-true}
 use Rattle.dns_core.specs.declared.message.Query.{Query}
 use Rattle.dns_core.specs.declared.errors.NoMemory.{NoMemory}
 use Rattle.resolution.specs.Lookups.{End}
 use Rattle.server_pool.specs.declared.candidate.Candidate.{Candidate}
+use Rattle.server_core.specs.declared.order.Outcome.{Outcome}
+use Rattle.server_pool.specs.declared.rounds.Sending.{Sending}
 use Rattle.server_pool.specs.declared.rounds.Phase.{Phase}
 use Rattle.server_pool.specs.declared.rounds.Phase.TheVariants.{Asking}
 use Rattle.server_pool.specs.declared.rounds.Rounds.{Rounds}
-use Rattle.server_pool.specs.Rounds.{Goes, StandsIn, RoundsStand}
+use Rattle.server_pool.specs.Rounds.{Goes, StandsIn, RoundsStand, IsFed, IsEndOf, HasEnded, StandsStill}
 use Rattle.server_pool.proofs.Standing.{or_left}
 
 -- where there was an end
@@ -47,3 +49,9 @@ pub asks_still : (pool : List Candidate) (ends : List (End Candidate)) (old new 
 asks_still pool ends old new p st n count goes =
     let before = subst (λ (y : Phase). StandsIn pool ends old y) p st in
     subst (λ (y : Phase). StandsIn pool ends new y) (sym n) (goes, (λ none. subst (λ (k : ℕ). 0 < k) (sym count) (before.1 none)))
+
+-- the end of a send that was fed is what the outcome of its order came to
+pub fed_on : (pool : List Candidate) (ends : List (End Candidate)) (s : Sending) (o : Outcome) (place : ℕ) (mid r : Rounds) (fed : IsFed s place o mid) → StandsStill pool ends (IsEndOf (record s { send = fed.next })) r
+    → StandsStill pool ends (HasEnded s o) r
+fed_on pool ends s o place mid r fed (inl h) = inl h
+fed_on pool ends s o place mid r fed (inr (e, d, h)) = inr (e, record { next = fed.next; comes = fed.comes; ended = d.ended; at = d.at }, h)

@@ -1,6 +1,6 @@
 //! The rounds of one lookup at a pool: some servers are asked side by side, and when all of them have
 //! ended, the next ones, until an end decides the lookup, no server is left, or its time is over.
-ghost use Rattle.std.specs.Prelude.{◌≡◌, ◌≤◌, ◌<◌, ◌+◌, ◌-◌, ◌^◌, ℕ, nat_le, min, [], ◌∷◌, ◌++◌, List, true, false, length, slice_get, Some, Err, IfOk, OnOk, OnErr, IsTrue, ◌↔◌, ◌==◌, ◌&&◌};
+ghost use Rattle.std.specs.Prelude.{◌≡◌, ◌≤◌, ◌<◌, ◌+◌, ◌-◌, ◌^◌, ℕ, nat_le, min, [], ◌∷◌, ◌++◌, List, true, false, length, slice_get, Some, Err, IfOk, IfSome, OnOk, OnErr, IsTrue, ◌↔◌, ◌==◌, ◌&&◌};
 ghost use Rattle.std.specs.List.{position};
 ghost use Rattle.resolution.specs.Lookups.{End};
 ghost use Rattle.server_core.specs.Sending.{is_open, end_of};
@@ -352,6 +352,39 @@ impl Rounds {
                 self.go_on(alloc, now)
             }
             None => Ok(()),
+        }
+    }
+
+    /// Takes the outcome of the open order of the send at a place.
+    fn put_at(
+        &mut self,
+        alloc: Global,
+        table: &mut ServerTable,
+        place: usize,
+        outcome: Outcome,
+        tick: Tick,
+    ) -> Result<After, NoMemory>
+        requires place { place < length self.old.sends.items }
+        requires asks { self.old.phase ≡ Phase.Asking }
+        ensures stands { (pool : List Candidate) (ends : List (End Candidate)) (s : Sending) → slice_get self.old.sends.items place ≡ Some s → IsTrue (is_open s.send.stage)
+            → s.send.server < length table.old → RoundsStand pool ends self.old → StandsStill pool ends (HasEnded s outcome) self.new }
+        ensures same { IsSameLookup self.old self.new }
+        ensures table { length table.new ≡ length table.old }
+    {
+        let after = self.feed(alloc, table, place, outcome, tick)?;
+        self.end(alloc, place, tick.now)?;
+        Ok(after)
+    }
+
+    /// The place of the send of which this is the open order, while the lookup asks.
+    fn open_place(&self, number: u64) -> Option<usize>
+        ensures some { IfSome result (λ place. (place < length self.now.sends.items) × (self.now.phase ≡ Phase.Asking)) }
+        ensures place { self.now.phase ≡ Phase.Asking → result ≡ position (λ s. s.order == number && is_open s.send.stage) self.now.sends.items }
+    {
+        if self.is_asking() {
+            self.place_of(number)
+        } else {
+            None
         }
     }
 }
