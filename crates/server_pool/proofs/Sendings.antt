@@ -1,6 +1,7 @@
 -- The sends of a round, as they begin and end.
 use Rattle.std.proofs.Common.{◌≡◌, ◌∙◌, ℕ, zero, suc, ◌+◌, ◌≤◌, ◌&&◌, ◌==◌, nat_lt, not, length, Bool, true, false, List, [], ◌∷◌, ◌++◌, map, refl, ap, sym, subst, arith, get_or, slice_get, Some}
-use Rattle.std.specs.List.{remove}
+use Rattle.std.specs.List.{remove, position}
+use Rattle.std.proofs.lemmas.List.Quantifiers.{position-Some}
 use Rattle.std.proofs.lemmas.Option.{get_or_from_slice_get}
 use Rattle.std.proofs.Math.Seq.{map-set_same}
 use Rattle.std.proofs.Math.ListN.{set}
@@ -8,13 +9,13 @@ use Rattle.std.proofs.lemmas.List.{map-append}
 use Rattle.dns_core.specs.declared.message.Query.{Query}
 use Rattle.resolution.specs.Lookups.{End}
 use Rattle.server_pool.specs.declared.candidate.Candidate.{Candidate}
-use Rattle.server_core.specs.Sending.{Comes}
+use Rattle.server_core.specs.Sending.{Comes, is_open}
 use Rattle.server_core.specs.declared.order.Outcome.{Outcome}
 use Rattle.server_core.specs.declared.server_send.ServerSend.{ServerSend}
 use Rattle.server_pool.specs.declared.rounds.Sending.{Sending}
 use Rattle.server_pool.specs.declared.rounds.Rounds.{Rounds}
 use Rattle.server_pool.specs.Agenda.{Plan, PlanStands, among, own, may_sleep, same_candidate, rules_of, class_of_sent}
-use Rattle.server_pool.specs.Rounds.{under_way, IsFed, IsStillAt}
+use Rattle.server_pool.specs.Rounds.{under_way, IsFed, IsStillAt, IsOpenAt}
 use Rattle.server_pool.proofs.Standing.{or_left}
 use Rattle.server_pool.proofs.Plans.{same_self}
 use Rattle.server_pool.proofs.Moving.{IsSameList, stands_moved, first_last, picked_first}
@@ -100,3 +101,20 @@ module _ (q : Query) (timeout : ℕ) (ends : List (End Candidate)) where
 
   pub slept_after : (pool under : List Candidate) (p : Plan) → PlanStands q timeout pool ends under p → may_sleep p ≡ true → ends ≡ [] → ⊥
   slept_after pool under p st h e = had_end p.busy p.sleeps st.delayed h e
+
+-- the place that was found is that of the order
+same_place : (a b : ℕ) → Some a ≡ Some b → a ≡ b
+same_place a b h = cc
+
+pub found_there : (number place found : ℕ) (s : Sending) (r : Rounds) (at : IsOpenAt number place s r) → Some found ≡ position (λ x. x.order == number && is_open x.send.stage) r.sends.items → slice_get r.sends.items found ≡ Some s
+found_there number place found s r at h = ap (slice_get r.sends.items) (same_place found place (h ∙ at.first)) ∙ at.there
+
+second : (a b : Bool) → (a && b) ≡ true → b ≡ true
+second true b h = h
+second false b h = cc
+
+pub found_open : (number place : ℕ) (s : Sending) (r : Rounds) (at : IsOpenAt number place s r) → is_open s.send.stage ≡ true
+found_open number place s r at =
+    let p : Sending → Bool = λ x. x.order == number && is_open x.send.stage in
+    let passes = (position-Some p r.sends.items place s at.first).1 in
+    second (s.order == number) (is_open s.send.stage) (ap p (sym (get_or_from_slice_get r.sends.items place s s at.there)) ∙ passes)

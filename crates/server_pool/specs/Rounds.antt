@@ -1,5 +1,6 @@
 -- How a lookup stands between its steps.
-use Rattle.std.specs.Prelude.{◌≡◌, ℕ, ◌+◌, ◌≤◌, ◌<◌, true, min, ◌==◌, ◌||◌, not, IsTrue, List, [], ◌∷◌, ◌++◌, map, length, slice_get, ◌⊎◌, Option, Some, None}
+use Rattle.std.specs.Prelude.{◌≡◌, ℕ, ◌+◌, ◌≤◌, ◌<◌, true, min, ◌==◌, ◌&&◌, ◌||◌, not, IsTrue, List, [], ◌∷◌, ◌++◌, map, length, slice_get, ◌⊎◌, Option, Some, None}
+use Rattle.std.specs.List.{position}
 use Rattle.dns_core.specs.declared.message.Query.{Query}
 use Rattle.resolution.specs.Lookups.{Answered, End, PoolRun}
 use Rattle.server_pool.specs.declared.candidate.Candidate.{Candidate}
@@ -7,7 +8,7 @@ use Rattle.server_pool.specs.declared.rounds.Sending.{Sending}
 use Rattle.server_pool.specs.declared.rounds.Phase.{Phase}
 use Rattle.server_pool.specs.declared.rounds.Phase.TheVariants.{Asking, Asleep, Decided, Told}
 use Rattle.server_pool.specs.declared.rounds.Rounds.{Rounds}
-use Rattle.server_core.specs.Sending.{Comes, end_of}
+use Rattle.server_core.specs.Sending.{is_open, Comes, end_of}
 use Rattle.server_core.specs.declared.order.Outcome.{Outcome}
 use Rattle.server_core.specs.declared.server_send.ServerSend.{ServerSend}
 use Rattle.server_pool.specs.Agenda.{rules_of, class_of_sent, end_at, may_sleep, sleep_time, PlanStands}
@@ -49,6 +50,12 @@ MayBeLate ends r now = r.start + r.timeout ≤ now → IsTrue (not (length ends 
 -- a sleep that begins at this moment ends so much later, and at the deadline at the latest
 abbrev pub wakes_at : Rounds → ℕ → ℕ
 wakes_at r now = min (now + sleep_time r.agenda.sleeps) (r.start + r.timeout)
+
+-- the lookup asks, and the order of the number is the open one of the send at the place
+pub record IsOpenAt (number place : ℕ) (s : Sending) (r : Rounds) : Type 0 where
+  pub asks : r.phase ≡ Asking
+  pub first : position (λ x. x.order == number && is_open x.send.stage) r.sends.items ≡ Some place
+  pub there : slice_get r.sends.items place ≡ Some s
 
 -- the send has ended so
 pub record IsEndOf (s : Sending) (e : End Candidate) : Type 0 where

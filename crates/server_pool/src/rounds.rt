@@ -1,14 +1,14 @@
 //! The rounds of one lookup at a pool: some servers are asked side by side, and when all of them have
 //! ended, the next ones, until an end decides the lookup, no server is left, or its time is over.
-ghost use Rattle.std.specs.Prelude.{◌≡◌, ◌≤◌, ◌<◌, ◌+◌, ◌-◌, ◌^◌, ℕ, nat_le, min, [], ◌∷◌, ◌++◌, List, true, false, length, slice_get, Some, Err, IfOk, IfSome, OnOk, OnErr, IsTrue, ◌↔◌, ◌==◌, ◌&&◌};
+ghost use Rattle.std.specs.Prelude.{◌≡◌, ◌≤◌, ◌<◌, ◌+◌, ◌-◌, ◌^◌, ℕ, nat_le, min, [], ◌∷◌, ◌++◌, List, true, false, length, slice_get, Some, None, Ok, Err, IfOk, IfSome, OnOk, OnErr, IsTrue, ◌↔◌, ◌==◌, ◌&&◌};
 ghost use Rattle.std.specs.List.{position};
 ghost use Rattle.resolution.specs.Lookups.{End};
-ghost use Rattle.server_core.specs.Sending.{is_open, end_of};
+ghost use Rattle.server_core.specs.Sending.{is_open, end_of, after_put};
 ghost use Rattle.server_pool.specs.declared.candidate.Candidate.{Candidate};
 ghost use Rattle.server_pool.specs.declared.rounds.Sending.{Sending};
 ghost use Rattle.server_pool.specs.Agenda.{may_sleep, sleep_time, end_at};
 ghost use Rattle.server_pool.specs.Ordering.{side_by_side};
-ghost use Rattle.server_pool.specs.Rounds.{Goes, RoundsStand, IsSameLookup, MayBeLate, IsFed, IsStillAt, IsEndOf, HasEnded, StandsStill, wakes_at};
+ghost use Rattle.server_pool.specs.Rounds.{Goes, RoundsStand, IsSameLookup, MayBeLate, IsFed, IsOpenAt, IsStillAt, IsEndOf, HasEnded, StandsStill, wakes_at};
 
 use crate::agenda::Agenda;
 use crate::candidate::{Candidate, Hearing};
@@ -299,6 +299,8 @@ impl Rounds {
         ensures goes { (pool : List Candidate) (ends : List (End Candidate)) → Goes pool ends self.old → Goes pool ends self.new }
         ensures same { IsSameLookup self.old self.new }
         ensures phase { self.new.phase ≡ self.old.phase }
+        ensures after { (s : Sending) → slice_get self.old.sends.items place ≡ Some s → s.send.server < length table.old
+            → IfOk result (λ a. a ≡ after_put tick.patience s.send.stage outcome) }
         ensures fed { (s : Sending) → slice_get self.old.sends.items place ≡ Some s → IsTrue (is_open s.send.stage) → s.send.server < length table.old
             → OnOk result (IsFed s place outcome self.new) }
         ensures count { length self.new.sends.items ≡ length self.old.sends.items }
@@ -366,6 +368,8 @@ impl Rounds {
     ) -> Result<After, NoMemory>
         requires place { place < length self.old.sends.items }
         requires asks { self.old.phase ≡ Phase.Asking }
+        ensures after { (s : Sending) → slice_get self.old.sends.items place ≡ Some s → s.send.server < length table.old
+            → IfOk result (λ a. a ≡ after_put tick.patience s.send.stage outcome) }
         ensures stands { (pool : List Candidate) (ends : List (End Candidate)) (s : Sending) → slice_get self.old.sends.items place ≡ Some s → IsTrue (is_open s.send.stage)
             → s.send.server < length table.old → RoundsStand pool ends self.old → StandsStill pool ends (HasEnded s outcome) self.new }
         ensures same { IsSameLookup self.old self.new }
@@ -385,6 +389,33 @@ impl Rounds {
             self.place_of(number)
         } else {
             None
+        }
+    }
+
+    /// Takes the outcome of an order by its number, in a step of a moment. An order that is not open, or
+    /// whose lookup is decided, is late. Where the outcome ends its send, that is heard, and the next
+    /// round may begin. Where memory is wanting, the end is still to be heard, or the next round to
+    /// begin.
+    pub fn put(
+        &mut self,
+        alloc: Global,
+        table: &mut ServerTable,
+        number: u64,
+        outcome: Outcome,
+        tick: Tick,
+    ) -> Result<After, NoMemory>
+        ensures after { (place : ℕ) (s : Sending) → IsOpenAt number place s self.old → s.send.server < length table.old
+            → IfOk result (λ a. a ≡ after_put tick.patience s.send.stage outcome) }
+        ensures stands { (pool : List Candidate) (ends : List (End Candidate)) (place : ℕ) (s : Sending) → IsOpenAt number place s self.old → s.send.server < length table.old
+            → RoundsStand pool ends self.old → StandsStill pool ends (HasEnded s outcome) self.new }
+        ensures late { (self.old.phase ≡ Phase.Asking → position (λ s. s.order == number && is_open s.send.stage) self.old.sends.items ≡ None)
+            → (result ≡ Ok After.Late) × (self.new ≡ self.old) × (table.new ≡ table.old) }
+        ensures same { IsSameLookup self.old self.new }
+        ensures table { length table.new ≡ length table.old }
+    {
+        match self.open_place(number) {
+            Some(place) => self.put_at(alloc, table, place, outcome, tick),
+            None => Ok(After::Late),
         }
     }
 }
