@@ -29,3 +29,5 @@ mod answer_filter_tests;
 mod kept_error_tests;
 #[cfg(test)]
 mod ordering_tests;
+#[cfg(test)]
+mod rounds_tests;
