@@ -1,16 +1,17 @@
 -- A round that begins after another, whether there is memory or not.
-use Rattle.std.proofs.Common.{◌≡◌, ◌∙◌, ℕ, suc, ◌+◌, ◌≤◌, ◌<◌, ◌==◌, ◌||◌, not, length, Bool, true, false, List, [], ◌∷◌, ◌++◌, refl, ap, sym, subst, arith, Result, Ok, Err, OnOk, OnErr, inl, inr}
+use Rattle.std.proofs.Common.{◌≡◌, ◌∙◌, ℕ, suc, ◌+◌, ◌≤◌, ◌<◌, ◌==◌, ◌||◌, not, length, Bool, true, false, List, [], ◌∷◌, ◌++◌, refl, ap, sym, subst, arith, Result, Ok, Err, OnOk, OnErr, inl, inr, Option, Some, None}
 use Rattle.std.proofs.lemmas.Bool.{eqb-true}
 use Rattle.dns_core.specs.declared.message.Query.{Query}
 use Rattle.dns_core.specs.declared.errors.NoMemory.{NoMemory}
-use Rattle.resolution.specs.Lookups.{End}
+use Rattle.resolution.specs.Lookups.{Answered, End}
 use Rattle.server_pool.specs.declared.candidate.Candidate.{Candidate}
 use Rattle.server_core.specs.declared.order.Outcome.{Outcome}
 use Rattle.server_pool.specs.declared.rounds.Sending.{Sending}
 use Rattle.server_pool.specs.declared.rounds.Phase.{Phase}
 use Rattle.server_pool.specs.declared.rounds.Phase.TheVariants.{Asking}
 use Rattle.server_pool.specs.declared.rounds.Rounds.{Rounds}
-use Rattle.server_pool.specs.Rounds.{Goes, StandsIn, RoundsStand, IsFed, IsEndOf, HasEnded, StandsStill}
+use Rattle.server_pool.specs.Agenda.{end_at}
+use Rattle.server_pool.specs.Rounds.{Goes, StandsIn, RoundsStand, IsFed, IsEndOf, HasEnded, StandsAtEnd, StandsStill}
 use Rattle.server_pool.proofs.Standing.{or_left}
 
 -- where there was an end
@@ -55,3 +56,19 @@ pub fed_on : (pool : List Candidate) (ends : List (End Candidate)) (s : Sending)
     → StandsStill pool ends (HasEnded s o) r
 fed_on pool ends s o place mid r fed (inl h) = inl h
 fed_on pool ends s o place mid r fed (inr (e, d, h)) = inr (e, record { next = fed.next; comes = fed.comes; ended = d.ended; at = d.at }, h)
+
+-- what holds whatever the result
+pub on_ok_always : {T E P : Type 0} (r : Result T E) → P → OnOk r P
+on_ok_always (Ok x) p = p
+on_ok_always (Err e) p = tt
+
+pub on_err_always : {T E P : Type 0} (r : Result T E) → P → OnErr r P
+on_err_always (Ok x) p = tt
+on_err_always (Err e) p = p
+
+-- it stands by the end of a send
+pub at_some_end : (c : Candidate) (o : Answered) (end : Option Answered) (pool : List Candidate) (ends : List (End Candidate)) (r : Rounds) → Some o ≡ end → RoundsStand pool (ends ++ end_at c o ∷ []) r → StandsAtEnd c end pool ends r
+at_some_end c o end pool ends r h st = subst (λ (x : Option Answered). StandsAtEnd c x pool ends r) h st
+
+pub at_no_end : (c : Candidate) (end : Option Answered) (pool : List Candidate) (ends : List (End Candidate)) (r : Rounds) → None ≡ end → RoundsStand pool ends r → StandsAtEnd c end pool ends r
+at_no_end c end pool ends r h st = subst (λ (x : Option Answered). StandsAtEnd c x pool ends r) h st

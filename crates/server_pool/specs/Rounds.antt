@@ -80,6 +80,17 @@ pub record IsStillAt (s : Sending) (place : ℕ) (r : Rounds) : Type 0 where
   pub next : ServerSend
   pub there : slice_get r.sends.items place ≡ Some (record s { send = next })
 
+-- it stands by the ends that there were, and by the end of a send to the server, if there is one
+abbrev pub StandsAtEnd : Candidate → Option Answered → List Candidate → List (End Candidate) → Rounds → Type 0
+StandsAtEnd c None pool ends r = RoundsStand pool ends r
+StandsAtEnd c (Some o) pool ends r = RoundsStand pool (ends ++ end_at c o ∷ []) r
+
+-- the send took the outcome of its order, and the lookup stands by what that came to
+pub record StandsBy (s : Sending) (outcome : Outcome) (pool : List Candidate) (ends : List (End Candidate)) (r : Rounds) : Type 0 where
+  pub next : ServerSend
+  pub comes : Comes s.send outcome next
+  pub stands : StandsAtEnd s.candidate (end_of next.stage) pool ends r
+
 -- It stands by the ends that there were, or by these and one more.
 abbrev pub StandsStill : List Candidate → List (End Candidate) → (End Candidate → Type 0) → Rounds → Type 0
 StandsStill pool ends IsNew r = RoundsStand pool ends r ⊎ ((e : End Candidate) × IsNew e × RoundsStand pool (ends ++ e ∷ []) r)

@@ -8,7 +8,7 @@ ghost use Rattle.server_pool.specs.declared.candidate.Candidate.{Candidate};
 ghost use Rattle.server_pool.specs.declared.rounds.Sending.{Sending};
 ghost use Rattle.server_pool.specs.Agenda.{may_sleep, sleep_time, end_at};
 ghost use Rattle.server_pool.specs.Ordering.{side_by_side};
-ghost use Rattle.server_pool.specs.Rounds.{Goes, RoundsStand, IsSameLookup, MayBeLate, IsFed, IsOpenAt, IsStillAt, IsEndOf, HasEnded, StandsStill, wakes_at};
+ghost use Rattle.server_pool.specs.Rounds.{Goes, RoundsStand, IsSameLookup, MayBeLate, IsFed, IsOpenAt, IsStillAt, IsEndOf, HasEnded, StandsAtEnd, StandsBy, StandsStill, wakes_at};
 
 use crate::agenda::Agenda;
 use crate::candidate::{Candidate, Hearing};
@@ -345,7 +345,9 @@ impl Rounds {
         requires place { place < length self.old.sends.items }
         requires asks { self.old.phase ≡ Phase.Asking }
         ensures stands { (pool : List Candidate) (ends : List (End Candidate)) (s : Sending) → slice_get self.old.sends.items place ≡ Some s → RoundsStand pool ends self.old
-            → StandsStill pool ends (IsEndOf s) self.new }
+            → OnOk result (StandsAtEnd s.candidate (end_of s.send.stage) pool ends self.new) }
+        ensures want { (pool : List Candidate) (ends : List (End Candidate)) (s : Sending) → slice_get self.old.sends.items place ≡ Some s → RoundsStand pool ends self.old
+            → OnErr result (StandsStill pool ends (IsEndOf s) self.new) }
         ensures same { IsSameLookup self.old self.new }
     {
         match self.take_end(place) {
@@ -371,7 +373,9 @@ impl Rounds {
         ensures after { (s : Sending) → slice_get self.old.sends.items place ≡ Some s → s.send.server < length table.old
             → IfOk result (λ a. a ≡ after_put tick.patience s.send.stage outcome) }
         ensures stands { (pool : List Candidate) (ends : List (End Candidate)) (s : Sending) → slice_get self.old.sends.items place ≡ Some s → IsTrue (is_open s.send.stage)
-            → s.send.server < length table.old → RoundsStand pool ends self.old → StandsStill pool ends (HasEnded s outcome) self.new }
+            → s.send.server < length table.old → RoundsStand pool ends self.old → OnOk result (StandsBy s outcome pool ends self.new) }
+        ensures want { (pool : List Candidate) (ends : List (End Candidate)) (s : Sending) → slice_get self.old.sends.items place ≡ Some s → IsTrue (is_open s.send.stage)
+            → s.send.server < length table.old → RoundsStand pool ends self.old → OnErr result (StandsStill pool ends (HasEnded s outcome) self.new) }
         ensures same { IsSameLookup self.old self.new }
         ensures table { length table.new ≡ length table.old }
     {
@@ -407,7 +411,9 @@ impl Rounds {
         ensures after { (place : ℕ) (s : Sending) → IsOpenAt number place s self.old → s.send.server < length table.old
             → IfOk result (λ a. a ≡ after_put tick.patience s.send.stage outcome) }
         ensures stands { (pool : List Candidate) (ends : List (End Candidate)) (place : ℕ) (s : Sending) → IsOpenAt number place s self.old → s.send.server < length table.old
-            → RoundsStand pool ends self.old → StandsStill pool ends (HasEnded s outcome) self.new }
+            → RoundsStand pool ends self.old → OnOk result (StandsBy s outcome pool ends self.new) }
+        ensures want { (pool : List Candidate) (ends : List (End Candidate)) (place : ℕ) (s : Sending) → IsOpenAt number place s self.old → s.send.server < length table.old
+            → RoundsStand pool ends self.old → OnErr result (StandsStill pool ends (HasEnded s outcome) self.new) }
         ensures late { (self.old.phase ≡ Phase.Asking → position (λ s. s.order == number && is_open s.send.stage) self.old.sends.items ≡ None)
             → (result ≡ Ok After.Late) × (self.new ≡ self.old) × (table.new ≡ table.old) }
         ensures same { IsSameLookup self.old self.new }
