@@ -1,0 +1,45 @@
+use Rattle.std.proofs.Common.{◌≡◌, ◌∙◌, ap, sym, subst, List, [], ◌∷◌, ◌++◌}
+use Rattle.std.specs.List.{remove}
+use Rattle.std.proofs.lemmas.Option.{get_or_from_slice_get}
+use Rattle.resolution.specs.Lookups.{PoolRun}
+use Rattle.server_pool.specs.declared.candidate.Candidate.{Candidate}
+use Rattle.server_pool.specs.declared.rounds.Sending.{Sending}
+use Rattle.server_pool.specs.Agenda.{Plan, PlanStands, rules_of, class_of_sent, end_at}
+use Rattle.server_pool.specs.Rounds.{under_way}
+use Rattle.server_pool.proofs.Sendings.{same_sends, ended_send}
+use Rattle.server_pool.proofs.Beginning.{goes_after, more_is_some}
+use Rattle.server_pool.proofs.rounds.Rounds.hear.Goals as goal
+
+pub returns-in-GoesOn-clause-stands : goal.returns-in-GoesOn-clause-stands
+returns-in-GoesOn-clause-stands c = λ pool ends s there st.
+    let r = c.args.self.now in
+    let q = r.request.query in
+    let t = r.timeout in
+    let o = c.args.outcome in
+    let rest = under_way (remove r.sends.items c.args.place) in
+    let at : c.index.result.now.candidate ≡ s.candidate = ap (λ (x : Sending). x.candidate) (c.index.ensures ∙ get_or_from_slice_get r.sends.items c.args.place s c.index.result.now there) in
+    let first = subst (λ (x : Candidate). PlanStands q t pool ends (x ∷ rest) r.agenda) (sym at) (ended_send q t pool ends r.sends.items c.args.place s r.agenda there st) in
+    let next = subst (λ (x : Candidate). PlanStands q t pool (ends ++ end_at x o ∷ []) rest c.hear.new.self) at (c.in-GoesOn.ensures.stands t r.start c.args.now pool ends rest first) in
+    let goes = same_sends q t pool (ends ++ end_at s.candidate o ∷ []) (remove r.sends.items c.args.place) c.remove.new.self.items c.hear.new.self c.remove.ensures.items next in
+    goes_after pool (ends ++ end_at s.candidate o ∷ []) (record r { agenda = c.hear.new.self; sends = c.remove.new.self }) c.requires.asks (more_is_some ends (end_at s.candidate o)) goes
+
+pub returns-in-Answers-clause-stands : goal.returns-in-Answers-clause-stands
+returns-in-Answers-clause-stands c = λ pool ends s there st.
+    let r = c.args.self.now in
+    let q = r.request.query in
+    let t = r.timeout in
+    let o = c.args.outcome in
+    let rest = under_way (remove r.sends.items c.args.place) in
+    let at : c.index.result.now.candidate ≡ s.candidate = ap (λ (x : Sending). x.candidate) (c.index.ensures ∙ get_or_from_slice_get r.sends.items c.args.place s c.index.result.now there) in
+    let first = subst (λ (x : Candidate). PlanStands q t pool ends (x ∷ rest) r.agenda) (sym at) (ended_send q t pool ends r.sends.items c.args.place s r.agenda there st) in
+    record {
+      at = c.args.now;
+      run = subst (λ (x : Candidate). PoolRun (rules_of t) (class_of_sent q) pool (ends ++ end_at x o ∷ []) c.in-Answers.answer r.start c.args.now) at
+          (c.in-Answers.ensures.stands t r.start c.args.now pool ends rest first);
+    }
+
+pub returns-in-Wanting-clause-want : goal.returns-in-Wanting-clause-want
+returns-in-Wanting-clause-want c = λ pool ends st.
+    let r = c.args.self.now in
+    c.give_back.ensures.goes pool ends
+    (subst (λ (p : Plan). PlanStands r.request.query r.timeout pool ends (under_way r.sends.items) p) (sym c.in-Wanting.ensures.heard.1) st)

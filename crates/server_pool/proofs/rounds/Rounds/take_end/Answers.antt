@@ -1,0 +1,22 @@
+use Rattle.std.proofs.Common.{◌≡◌, ◌∙◌, ap, refl}
+use Rattle.std.proofs.lemmas.Option.{get_or_from_slice_get}
+use Rattle.server_core.specs.Sending.{end_of}
+use Rattle.server_pool.specs.declared.rounds.Sending.{Sending}
+use Rattle.server_pool.proofs.Sendings.{written_send, still_send}
+use Rattle.server_pool.proofs.rounds.Rounds.take_end.Goals as goal
+
+pub returns-clause-goes : goal.returns-clause-goes
+returns-clause-goes c = λ pool ends st.
+    let r = c.args.self.now in
+    let lent = c.index_mut-sending.result.now in
+    written_send r.request.query r.timeout pool ends r.sends.items c.args.place _ lent r.agenda (ap (λ (s : Sending). s.candidate) c.index_mut-sending.ensures.value) st
+
+pub returns-clause-end : goal.returns-clause-end
+returns-clause-end c = λ s there.
+    let lent = c.index_mut-sending.result.now in
+    let same : lent ≡ s = c.index_mut-sending.ensures.value ∙ get_or_from_slice_get c.args.self.now.sends.items c.args.place s lent there in
+    c.take_end.ensures.end ∙ ap (λ (x : Sending). end_of x.send.stage) same
+
+pub returns-clause-there : goal.returns-clause-there
+returns-clause-there c = λ s there.
+    still_send c.args.self.now.sends.items c.args.place s c.index_mut-sending.result.now c.take_end.new.self _ there c.index_mut-sending.ensures.value refl

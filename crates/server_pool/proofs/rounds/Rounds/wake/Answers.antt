@@ -1,0 +1,13 @@
+use Rattle.server_pool.proofs.Sendings.{no_sends, without_sends}
+use Rattle.server_pool.proofs.Beginning.{not_first, stands_anyway}
+use Rattle.server_pool.proofs.rounds.Rounds.wake.Goals as goal
+
+pub returns-clause-stands : goal.returns-clause-stands
+returns-clause-stands c = λ pool ends st some.
+    let r = c.args.self.now in
+    let q = r.request.query in
+    let t = r.timeout in
+    let woken = c.wake.ensures.stands q t pool ends (no_sends q t pool ends r.sends.items r.agenda c.requires.sends st) in
+    let goes = without_sends q t pool ends r.sends.items c.wake.new.self c.requires.sends woken in
+    stands_anyway pool ends c.begin.new.self c.begin.result some
+    (c.begin.ensures.stands pool ends goes (λ late. not_first ends t some)) (c.begin.ensures.want pool ends goes) c.begin.ensures.phase

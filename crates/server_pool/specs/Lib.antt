@@ -1,0 +1,6 @@
+pub mod KeptError
+pub mod Statistics
+pub mod Ordering
+pub mod AnswerFilter
+pub mod Agenda
+pub mod Rounds

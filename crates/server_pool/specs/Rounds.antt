@@ -1,0 +1,96 @@
+-- How a lookup stands between its steps.
+use Rattle.std.specs.Prelude.{◌≡◌, ℕ, ◌+◌, ◌≤◌, ◌<◌, true, min, ◌==◌, ◌&&◌, ◌||◌, not, IsTrue, List, [], ◌∷◌, ◌++◌, map, length, slice_get, ◌⊎◌, Option, Some, None}
+use Rattle.std.specs.List.{position}
+use Rattle.dns_core.specs.declared.message.Query.{Query}
+use Rattle.resolution.specs.Lookups.{Answered, End, PoolRun}
+use Rattle.server_pool.specs.declared.candidate.Candidate.{Candidate}
+use Rattle.server_pool.specs.declared.rounds.Sending.{Sending}
+use Rattle.server_pool.specs.declared.rounds.Phase.{Phase}
+use Rattle.server_pool.specs.declared.rounds.Phase.TheVariants.{Asking, Asleep, Decided, Told}
+use Rattle.server_pool.specs.declared.rounds.Rounds.{Rounds}
+use Rattle.server_core.specs.Sending.{is_open, Comes, end_of}
+use Rattle.server_core.specs.declared.order.Outcome.{Outcome}
+use Rattle.server_core.specs.declared.server_send.ServerSend.{ServerSend}
+use Rattle.server_pool.specs.Agenda.{rules_of, class_of_sent, end_at, may_sleep, sleep_time, PlanStands}
+
+-- the servers of the sends that have not ended
+abbrev pub under_way : List Sending → List Candidate
+under_way sends = map (λ s. s.candidate) sends
+
+-- no end of these decided the lookup, and its plan stands so
+abbrev pub Goes : List Candidate → List (End Candidate) → Rounds → Type 0
+Goes pool ends r = PlanStands r.request.query r.timeout pool ends (under_way r.sends.items) r.agenda
+
+-- the step of a moment decided it by these ends
+pub record IsAnswered (pool : List Candidate) (ends : List (End Candidate)) (r : Rounds) (answer : Answered) : Type 0 where
+  pub at : ℕ
+  pub run : PoolRun (rules_of r.timeout) (class_of_sent r.request.query) pool ends answer r.start at
+
+-- Sends are under way, or a round after the first is to begin; or the lookup sleeps before it asks the busy ones again; or it is decided.
+abbrev pub StandsIn : List Candidate → List (End Candidate) → Rounds → Phase → Type 0
+StandsIn pool ends r Asking = Goes pool ends r × (ends ≡ [] → 0 < length r.sends.items)
+StandsIn pool ends r (Asleep until) = Goes pool ends r × (length r.sends.items ≡ 0) × (r.agenda.waiting ≡ []) × (may_sleep r.agenda ≡ true) × (ends ≡ [] → ⊥)
+StandsIn pool ends r (Decided answer) = IsAnswered pool ends r answer
+StandsIn pool ends r Told = Unit {0}
+
+abbrev pub RoundsStand : List Candidate → List (End Candidate) → Rounds → Type 0
+RoundsStand pool ends r = StandsIn pool ends r r.phase
+
+-- it is of the same request, and began at the same moment
+pub record IsSameLookup (old new : Rounds) : Type 0 where
+  pub request : new.request ≡ old.request
+  pub together : new.together ≡ old.together
+  pub timeout : new.timeout ≡ old.timeout
+  pub start : new.start ≡ old.start
+
+-- where the deadline is reached at this moment, there is an end, or there was no time
+abbrev pub MayBeLate : List (End Candidate) → Rounds → ℕ → Type 0
+MayBeLate ends r now = r.start + r.timeout ≤ now → IsTrue (not (length ends == 0) || r.timeout == 0)
+
+-- a sleep that begins at this moment ends so much later, and at the deadline at the latest
+abbrev pub wakes_at : Rounds → ℕ → ℕ
+wakes_at r now = min (now + sleep_time r.agenda.sleeps) (r.start + r.timeout)
+
+-- the lookup asks, and the order of the number is the open one of the send at the place
+pub record IsOpenAt (number place : ℕ) (s : Sending) (r : Rounds) : Type 0 where
+  pub asks : r.phase ≡ Asking
+  pub first : position (λ x. x.order == number && is_open x.send.stage) r.sends.items ≡ Some place
+  pub there : slice_get r.sends.items place ≡ Some s
+
+-- the send has ended so
+pub record IsEndOf (s : Sending) (e : End Candidate) : Type 0 where
+  pub ended : end_of s.send.stage ≡ Some e.outcome
+  pub at : e.server ≡ s.candidate
+
+-- the outcome of its order ended the send so
+pub record HasEnded (s : Sending) (outcome : Outcome) (e : End Candidate) : Type 0 where
+  pub next : ServerSend
+  pub comes : Comes s.send outcome next
+  pub ended : end_of next.stage ≡ Some e.outcome
+  pub at : e.server ≡ s.candidate
+
+-- the send at a place took the outcome of its order
+pub record IsFed (s : Sending) (place : ℕ) (outcome : Outcome) (r : Rounds) : Type 0 where
+  pub next : ServerSend
+  pub comes : Comes s.send outcome next
+  pub there : slice_get r.sends.items place ≡ Some (record s { send = next })
+
+-- a send to the same server is at the place
+pub record IsStillAt (s : Sending) (place : ℕ) (r : Rounds) : Type 0 where
+  pub next : ServerSend
+  pub there : slice_get r.sends.items place ≡ Some (record s { send = next })
+
+-- it stands by the ends that there were, and by the end of a send to the server, if there is one
+abbrev pub StandsAtEnd : Candidate → Option Answered → List Candidate → List (End Candidate) → Rounds → Type 0
+StandsAtEnd c None pool ends r = RoundsStand pool ends r
+StandsAtEnd c (Some o) pool ends r = RoundsStand pool (ends ++ end_at c o ∷ []) r
+
+-- the send took the outcome of its order, and the lookup stands by what that came to
+pub record StandsBy (s : Sending) (outcome : Outcome) (pool : List Candidate) (ends : List (End Candidate)) (r : Rounds) : Type 0 where
+  pub next : ServerSend
+  pub comes : Comes s.send outcome next
+  pub stands : StandsAtEnd s.candidate (end_of next.stage) pool ends r
+
+-- It stands by the ends that there were, or by these and one more.
+abbrev pub StandsStill : List Candidate → List (End Candidate) → (End Candidate → Type 0) → Rounds → Type 0
+StandsStill pool ends IsNew r = RoundsStand pool ends r ⊎ ((e : End Candidate) × IsNew e × RoundsStand pool (ends ++ e ∷ []) r)

@@ -1,0 +1,30 @@
+//! A server of a pool as a lookup sees it, and what the end of a send to it does.
+
+use dns_core::{Message, NetError};
+
+/// A server of a pool, by its number: whether it is reached over another protocol than UDP, and
+/// whether it is believed that a name does not exist.
+#[derive(Clone, Copy, Debug, PartialEq, Eq)]
+pub struct Candidate {
+    pub server: u32,
+    pub beyond_udp: bool,
+    pub trusted: bool,
+}
+
+/// What the end of a send does: it turns UDP off, passes the question on to another server, or ends
+/// the lookup.
+#[derive(Clone, Copy, Debug, PartialEq, Eq)]
+pub enum Ending {
+    Turns,
+    Passes,
+    Ends,
+}
+
+/// What an end that was heard came to: the lookup goes on, or answers this; or memory is wanting, and
+/// the end is given back unheard.
+#[derive(Drop, Debug)]
+pub enum Hearing {
+    GoesOn,
+    Answers(Result<Message, NetError>),
+    Wanting(Result<Message, NetError>),
+}

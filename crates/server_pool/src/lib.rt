@@ -1,0 +1,33 @@
+//! A pool of servers: in which order they are asked, which of their errors is kept, and what is left
+//! of the answer.
+#![tactic(auto)]
+
+mod agenda;
+mod agenda_laws;
+mod answer_filter;
+mod candidate;
+mod kept_error;
+mod kept_error_laws;
+mod ordering;
+mod rounds;
+mod statistics;
+
+pub use agenda::Agenda;
+pub use agenda_laws::{a_deadline_ends_a_lookup, a_lookup_makes_few_sends};
+pub use answer_filter::filtered;
+pub use candidate::{Candidate, Ending, Hearing};
+pub use kept_error::most_specific;
+pub use kept_error_laws::{the_earlier_negative_is_kept, the_kept_error_is_what_is_left};
+pub use ordering::ordered;
+pub use statistics::sort_servers_by_query_statistics;
+
+#[cfg(test)]
+mod agenda_tests;
+#[cfg(test)]
+mod answer_filter_tests;
+#[cfg(test)]
+mod kept_error_tests;
+#[cfg(test)]
+mod ordering_tests;
+#[cfg(test)]
+mod rounds_tests;

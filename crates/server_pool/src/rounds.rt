@@ -1,0 +1,427 @@
+//! The rounds of one lookup at a pool: some servers are asked side by side, and when all of them have
+//! ended, the next ones, until an end decides the lookup, no server is left, or its time is over.
+ghost use Rattle.std.specs.Prelude.{◌≡◌, ◌≤◌, ◌<◌, ◌+◌, ◌-◌, ◌^◌, ℕ, nat_le, min, [], ◌∷◌, ◌++◌, List, true, false, length, slice_get, Some, None, Ok, Err, IfOk, IfSome, OnOk, OnErr, IsTrue, ◌↔◌, ◌==◌, ◌&&◌};
+ghost use Rattle.std.specs.List.{position};
+ghost use Rattle.resolution.specs.Lookups.{End};
+ghost use Rattle.server_core.specs.Sending.{is_open, end_of, after_put};
+ghost use Rattle.server_pool.specs.declared.candidate.Candidate.{Candidate};
+ghost use Rattle.server_pool.specs.declared.rounds.Sending.{Sending};
+ghost use Rattle.server_pool.specs.Agenda.{may_sleep, sleep_time, end_at};
+ghost use Rattle.server_pool.specs.Ordering.{side_by_side};
+ghost use Rattle.server_pool.specs.Rounds.{Goes, RoundsStand, IsSameLookup, MayBeLate, IsFed, IsOpenAt, IsStillAt, IsEndOf, HasEnded, StandsAtEnd, StandsBy, StandsStill, wakes_at};
+
+use crate::agenda::Agenda;
+use crate::candidate::{Candidate, Hearing};
+use crate::ordering::side_by_side;
+use dns_core::{DnsRequest, Message, NetError, NoMemory, TryClone};
+use resolver_settings::ResolverOpts;
+use server_core::{After, ConnectionPolicy, Outcome, ServerSend, ServerTable, Stage, Tick};
+use std::alloc::Global;
+
+/// A send to a server that has not ended: `order` is the number of its last order, 0 before the first.
+#[derive(Drop, Debug)]
+pub struct Sending {
+    pub candidate: Candidate,
+    pub order: u64,
+    pub send: ServerSend,
+}
+
+/// What a lookup is at: a round goes on or is to begin, it sleeps until a moment, or it is decided,
+/// which is told once.
+#[derive(Drop, Debug)]
+pub enum Phase {
+    Asking,
+    Asleep { until: u64 },
+    Decided(Result<Message, NetError>),
+    Told,
+}
+
+/// A lookup: its request, how many servers it asks side by side, its time and when it began, in
+/// microseconds, what is still to be asked, and the sends that have not ended.
+#[derive(Drop, Debug)]
+pub struct Rounds {
+    pub request: DnsRequest,
+    pub together: usize,
+    pub timeout: u64,
+    pub start: u64,
+    pub agenda: Agenda,
+    pub sends: Vec<Sending>,
+    pub phase: Phase,
+}
+
+fn new_sending(candidate: Candidate, request: DnsRequest, policy: ConnectionPolicy) -> Sending
+    ensures { result.candidate ≡ candidate }
+{
+    Sending {
+        candidate,
+        order: 0,
+        send: ServerSend::new(candidate.server, request, policy),
+    }
+}
+
+impl Rounds {
+    fn is_late(&self, now: u64) -> bool
+        ensures { result ≡ nat_le (self.now.start + self.now.timeout) now }
+    {
+        self.start <= now && self.timeout <= now - self.start
+    }
+
+    /// Sends to one more server, if one is left. Where memory is wanting, nothing has changed.
+    fn send_one(&mut self, alloc: Global) -> Result<bool, NoMemory>
+        ensures goes { (pool : List Candidate) (ends : List (End Candidate)) → Goes pool ends self.old → Goes pool ends self.new }
+        ensures same { IsSameLookup self.old self.new }
+        ensures phase { self.new.phase ≡ self.old.phase }
+        ensures more { length self.old.sends.items ≤ length self.new.sends.items }
+        ensures sent { IfOk result (λ sent. sent ≡ true → 0 < length self.new.sends.items) }
+        ensures none { IfOk result (λ sent. sent ≡ false → self.new.agenda.waiting ≡ []) }
+    {
+        let request = self.request.try_clone(alloc)?;
+        self.sends.reserve(1)?;
+        let policy = self.agenda.policy();
+        match self.agenda.take() {
+            Some(candidate) => {
+                self.sends
+                    .push_reserved(new_sending(candidate, request, policy));
+                Ok(true)
+            }
+            None => Ok(false),
+        }
+    }
+
+    /// Sends to the others that are asked side by side with the first.
+    fn send_others(&mut self, alloc: Global) -> Result<(), NoMemory>
+        ensures goes { (pool : List Candidate) (ends : List (End Candidate)) → Goes pool ends self.old → Goes pool ends self.new }
+        ensures same { IsSameLookup self.old self.new }
+        ensures phase { self.new.phase ≡ self.old.phase }
+        ensures more { length self.old.sends.items ≤ length self.new.sends.items }
+    {
+        'others: for _other in 1..self.together {
+            if !self.send_one(alloc)? {
+                break;
+            }
+        }
+        Ok(())
+    }
+
+    /// Sends to as many servers as are asked side by side, or to those that are left.
+    fn send_all(&mut self, alloc: Global) -> Result<(), NoMemory>
+        ensures goes { (pool : List Candidate) (ends : List (End Candidate)) → Goes pool ends self.old → Goes pool ends self.new }
+        ensures same { IsSameLookup self.old self.new }
+        ensures phase { self.new.phase ≡ self.old.phase }
+        ensures none { OnOk result (length self.new.sends.items ≡ 0 → self.new.agenda.waiting ≡ []) }
+    {
+        if self.send_one(alloc)? {
+            self.send_others(alloc)?;
+        }
+        Ok(())
+    }
+
+    /// When a sleep ends that begins at this moment.
+    fn wakes_at(&self, now: u64) -> u64
+        requires { self.now.agenda.sleeps ≤ 4 }
+        ensures { result ≡ min (wakes_at self.now now) (2 ^ 64 - 1) }
+    {
+        let deadline = self.start.saturating_add(self.timeout);
+        deadline.min(now.saturating_add(self.agenda.sleep_time()))
+    }
+
+    /// Where no send is under way and no server is left: the lookup sleeps, or the error that is kept
+    /// is its answer.
+    fn pause(&mut self, now: u64)
+        requires sends { length self.old.sends.items ≡ 0 }
+        requires waiting { self.old.agenda.waiting ≡ [] }
+        ensures stands { (pool : List Candidate) (ends : List (End Candidate)) → Goes pool ends self.old → RoundsStand pool ends self.new }
+        ensures same { IsSameLookup self.old self.new }
+        ensures sleeps { may_sleep self.old.agenda ≡ true → self.new.phase ≡ Phase.Asleep (min (wakes_at self.old now) (2 ^ 64 - 1)) }
+        ensures spent { may_sleep self.old.agenda ≡ false → self.new.phase ≡ Phase.Decided (Err self.old.agenda.kept) }
+    {
+        if self.agenda.may_sleep() {
+            self.phase = Phase::Asleep {
+                until: self.wakes_at(now),
+            };
+        } else {
+            let error = self.agenda.give_up();
+            self.phase = Phase::Decided(Err(error));
+        }
+    }
+
+    /// What follows after the sends of a round were begun.
+    fn settle(&mut self, now: u64)
+        requires { length self.old.sends.items ≡ 0 → self.old.agenda.waiting ≡ [] }
+        ensures stands { (pool : List Candidate) (ends : List (End Candidate)) → Goes pool ends self.old → RoundsStand pool ends self.new }
+        ensures same { IsSameLookup self.old self.new }
+        ensures asks { 0 < length self.old.sends.items → self.new ≡ record self.old { phase = Phase.Asking } }
+        ensures sleeps { length self.old.sends.items ≡ 0 → may_sleep self.old.agenda ≡ true → self.new.phase ≡ Phase.Asleep (min (wakes_at self.old now) (2 ^ 64 - 1)) }
+        ensures spent { length self.old.sends.items ≡ 0 → may_sleep self.old.agenda ≡ false → self.new.phase ≡ Phase.Decided (Err self.old.agenda.kept) }
+    {
+        if self.sends.is_empty() {
+            self.pause(now);
+        } else {
+            self.phase = Phase::Asking;
+        }
+    }
+
+    /// A round begins: the time is over, or servers are asked, or none is left. Where memory is wanting
+    /// some servers may be asked already, and the round is to begin once more.
+    fn begin(&mut self, alloc: Global, now: u64) -> Result<(), NoMemory>
+        ensures stands { (pool : List Candidate) (ends : List (End Candidate)) → Goes pool ends self.old → MayBeLate ends self.old now → OnOk result (RoundsStand pool ends self.new) }
+        ensures want { (pool : List Candidate) (ends : List (End Candidate)) → Goes pool ends self.old → OnErr result (Goes pool ends self.new) }
+        ensures same { IsSameLookup self.old self.new }
+        ensures phase { OnErr result (self.new.phase ≡ self.old.phase) }
+        ensures late { self.old.start + self.old.timeout ≤ now → OnOk result (self.new.phase ≡ Phase.Decided (Err NetError.Timeout)) }
+        ensures asks { OnOk result (self.new.phase ≡ Phase.Asking → 0 < length self.new.sends.items) }
+    {
+        if self.is_late(now) {
+            self.phase = Phase::Decided(Err(NetError::Timeout));
+            return Ok(());
+        }
+        self.send_all(alloc)?;
+        self.settle(now);
+        Ok(())
+    }
+
+    /// A lookup of a request at the servers of a pool, in their order. Its first round begins.
+    pub fn new(
+        alloc: Global,
+        pool: &[Candidate],
+        request: DnsRequest,
+        options: &ResolverOpts,
+        now: u64,
+    ) -> Result<Self, NoMemory>
+        ensures stands { IfOk result (λ r. RoundsStand pool.now [] r) }
+        ensures request { IfOk result (λ r. r.request ≡ request) }
+        ensures time { IfOk result (λ r. (r.start ≡ now) × (r.timeout ≡ options.now.timeout)) }
+        ensures together { IfOk result (λ r. r.together ≡ side_by_side options.now) }
+        ensures asks { IfOk result (λ r. r.phase ≡ Phase.Asking → 0 < length r.sends.items) }
+        ensures late { options.now.timeout ≡ 0 → IfOk result (λ r. r.phase ≡ Phase.Decided (Err NetError.Timeout)) }
+    {
+        let mut rounds = Rounds {
+            request,
+            together: side_by_side(options),
+            timeout: options.timeout,
+            start: now,
+            agenda: Agenda::new(alloc, pool)?,
+            sends: Vec::new(alloc),
+            phase: Phase::Asking,
+        };
+        rounds.begin(alloc, now)?;
+        Ok(rounds)
+    }
+
+    /// After a sleep, the servers that were busy are asked again in a round of their own.
+    fn wake(&mut self, alloc: Global, now: u64) -> Result<(), NoMemory>
+        requires few { self.old.agenda.sleeps < 4 }
+        requires empty { self.old.agenda.waiting ≡ [] }
+        requires sends { length self.old.sends.items ≡ 0 }
+        ensures stands { (pool : List Candidate) (ends : List (End Candidate)) → Goes pool ends self.old → (ends ≡ [] → ⊥) → RoundsStand pool ends self.new }
+        ensures same { IsSameLookup self.old self.new }
+        ensures late { self.old.start + self.old.timeout ≤ now → OnOk result (self.new.phase ≡ Phase.Decided (Err NetError.Timeout)) }
+        ensures asks { OnOk result (self.new.phase ≡ Phase.Asking → 0 < length self.new.sends.items) }
+    {
+        self.agenda.wake();
+        self.phase = Phase::Asking;
+        self.begin(alloc, now)
+    }
+
+    /// Puts an end back that could not be heard.
+    fn give_back(&mut self, place: usize, outcome: Result<Message, NetError>)
+        requires { place < length self.old.sends.items }
+        ensures goes { (pool : List Candidate) (ends : List (End Candidate)) → Goes pool ends self.old → Goes pool ends self.new }
+        ensures same { IsSameLookup self.old self.new }
+        ensures phase { self.new.phase ≡ self.old.phase }
+        ensures agenda { self.new.agenda ≡ self.old.agenda }
+        ensures count { length self.new.sends.items ≡ length self.old.sends.items }
+    {
+        let sending = &mut self.sends[place];
+        sending.send.stage = Stage::Ended(outcome);
+    }
+
+    /// Hears with what the send at a place ended. Where memory is wanting, the send stays, and its end
+    /// is to be heard once more.
+    fn hear(
+        &mut self,
+        place: usize,
+        outcome: Result<Message, NetError>,
+        now: u64,
+    ) -> Result<(), NoMemory>
+        requires place { place < length self.old.sends.items }
+        requires asks { self.old.phase ≡ Phase.Asking }
+        ensures stands { (pool : List Candidate) (ends : List (End Candidate)) (s : Sending) → slice_get self.old.sends.items place ≡ Some s → Goes pool ends self.old
+            → OnOk result (RoundsStand pool (ends ++ end_at s.candidate outcome ∷ []) self.new) }
+        ensures want { (pool : List Candidate) (ends : List (End Candidate)) → Goes pool ends self.old → OnErr result (Goes pool ends self.new) }
+        ensures same { IsSameLookup self.old self.new }
+        ensures phase { OnErr result (self.new.phase ≡ self.old.phase) }
+        ensures count { OnErr result (length self.new.sends.items ≡ length self.old.sends.items) }
+    {
+        let candidate = self.sends[place].candidate;
+        match self.agenda.hear(candidate, outcome, &self.request.query) {
+            Hearing::GoesOn => {
+                self.sends.remove(place);
+                Ok(())
+            }
+            Hearing::Answers(answer) => {
+                self.sends.remove(place);
+                self.phase = Phase::Decided(answer);
+                Ok(())
+            }
+            Hearing::Wanting(outcome) => {
+                self.give_back(place, outcome);
+                Err(NoMemory)
+            }
+        }
+    }
+
+    fn is_asking(&self) -> bool
+        ensures { IsTrue result ↔ (self.now.phase ≡ Phase.Asking) }
+    {
+        matches!(self.phase, Phase::Asking)
+    }
+
+    /// The place of the send of which this is the open order.
+    fn place_of(&self, number: u64) -> Option<usize>
+        ensures { result ≡ position (λ s. s.order == number && is_open s.send.stage) self.now.sends.items }
+    {
+        self.sends
+            .iter()
+            .position(|s| s.order == number && s.send.stage.is_open())
+    }
+
+    /// Feeds the outcome of its order to the send at a place.
+    fn feed(
+        &mut self,
+        alloc: Global,
+        table: &mut ServerTable,
+        place: usize,
+        outcome: Outcome,
+        tick: Tick,
+    ) -> Result<After, NoMemory>
+        requires { place < length self.old.sends.items }
+        ensures goes { (pool : List Candidate) (ends : List (End Candidate)) → Goes pool ends self.old → Goes pool ends self.new }
+        ensures same { IsSameLookup self.old self.new }
+        ensures phase { self.new.phase ≡ self.old.phase }
+        ensures after { (s : Sending) → slice_get self.old.sends.items place ≡ Some s → s.send.server < length table.old
+            → IfOk result (λ a. a ≡ after_put tick.patience s.send.stage outcome) }
+        ensures fed { (s : Sending) → slice_get self.old.sends.items place ≡ Some s → IsTrue (is_open s.send.stage) → s.send.server < length table.old
+            → OnOk result (IsFed s place outcome self.new) }
+        ensures count { length self.new.sends.items ≡ length self.old.sends.items }
+        ensures table { length table.new ≡ length table.old }
+    {
+        let sending = &mut self.sends[place];
+        if sending.send.server as usize >= table.len() {
+            return Ok(After::Late);
+        }
+        sending.send.put(alloc, table, outcome, tick)
+    }
+
+    /// Takes what the send at a place ended with, where that was not heard yet.
+    fn take_end(&mut self, place: usize) -> Option<Result<Message, NetError>>
+        requires { place < length self.old.sends.items }
+        ensures goes { (pool : List Candidate) (ends : List (End Candidate)) → Goes pool ends self.old → Goes pool ends self.new }
+        ensures same { IsSameLookup self.old self.new }
+        ensures phase { self.new.phase ≡ self.old.phase }
+        ensures count { length self.new.sends.items ≡ length self.old.sends.items }
+        ensures end { (s : Sending) → slice_get self.old.sends.items place ≡ Some s → result ≡ end_of s.send.stage }
+        ensures there { (s : Sending) → slice_get self.old.sends.items place ≡ Some s → IsStillAt s place self.new }
+    {
+        let sending = &mut self.sends[place];
+        sending.send.take_end()
+    }
+
+    /// The next round begins where all sends of the last one have ended.
+    fn go_on(&mut self, alloc: Global, now: u64) -> Result<(), NoMemory>
+        ensures stands { (pool : List Candidate) (ends : List (End Candidate)) → (ends ≡ [] → ⊥) → RoundsStand pool ends self.old → RoundsStand pool ends self.new }
+        ensures same { IsSameLookup self.old self.new }
+        ensures asks { OnOk result (self.new.phase ≡ Phase.Asking → 0 < length self.new.sends.items) }
+    {
+        if self.is_asking() && self.sends.is_empty() {
+            self.begin(alloc, now)
+        } else {
+            Ok(())
+        }
+    }
+
+    /// Hears the end of the send at a place, if it has ended, and goes on.
+    fn end(&mut self, alloc: Global, place: usize, now: u64) -> Result<(), NoMemory>
+        requires place { place < length self.old.sends.items }
+        requires asks { self.old.phase ≡ Phase.Asking }
+        ensures stands { (pool : List Candidate) (ends : List (End Candidate)) (s : Sending) → slice_get self.old.sends.items place ≡ Some s → RoundsStand pool ends self.old
+            → OnOk result (StandsAtEnd s.candidate (end_of s.send.stage) pool ends self.new) }
+        ensures want { (pool : List Candidate) (ends : List (End Candidate)) (s : Sending) → slice_get self.old.sends.items place ≡ Some s → RoundsStand pool ends self.old
+            → OnErr result (StandsStill pool ends (IsEndOf s) self.new) }
+        ensures same { IsSameLookup self.old self.new }
+    {
+        match self.take_end(place) {
+            Some(outcome) => {
+                self.hear(place, outcome, now)?;
+                self.go_on(alloc, now)
+            }
+            None => Ok(()),
+        }
+    }
+
+    /// Takes the outcome of the open order of the send at a place.
+    fn put_at(
+        &mut self,
+        alloc: Global,
+        table: &mut ServerTable,
+        place: usize,
+        outcome: Outcome,
+        tick: Tick,
+    ) -> Result<After, NoMemory>
+        requires place { place < length self.old.sends.items }
+        requires asks { self.old.phase ≡ Phase.Asking }
+        ensures after { (s : Sending) → slice_get self.old.sends.items place ≡ Some s → s.send.server < length table.old
+            → IfOk result (λ a. a ≡ after_put tick.patience s.send.stage outcome) }
+        ensures stands { (pool : List Candidate) (ends : List (End Candidate)) (s : Sending) → slice_get self.old.sends.items place ≡ Some s → IsTrue (is_open s.send.stage)
+            → s.send.server < length table.old → RoundsStand pool ends self.old → OnOk result (StandsBy s outcome pool ends self.new) }
+        ensures want { (pool : List Candidate) (ends : List (End Candidate)) (s : Sending) → slice_get self.old.sends.items place ≡ Some s → IsTrue (is_open s.send.stage)
+            → s.send.server < length table.old → RoundsStand pool ends self.old → OnErr result (StandsStill pool ends (HasEnded s outcome) self.new) }
+        ensures same { IsSameLookup self.old self.new }
+        ensures table { length table.new ≡ length table.old }
+    {
+        let after = self.feed(alloc, table, place, outcome, tick)?;
+        self.end(alloc, place, tick.now)?;
+        Ok(after)
+    }
+
+    /// The place of the send of which this is the open order, while the lookup asks.
+    fn open_place(&self, number: u64) -> Option<usize>
+        ensures some { IfSome result (λ place. (place < length self.now.sends.items) × (self.now.phase ≡ Phase.Asking)) }
+        ensures place { self.now.phase ≡ Phase.Asking → result ≡ position (λ s. s.order == number && is_open s.send.stage) self.now.sends.items }
+    {
+        if self.is_asking() {
+            self.place_of(number)
+        } else {
+            None
+        }
+    }
+
+    /// Takes the outcome of an order by its number, in a step of a moment. An order that is not open, or
+    /// whose lookup is decided, is late. Where the outcome ends its send, that is heard, and the next
+    /// round may begin. Where memory is wanting, the end is still to be heard, or the next round to
+    /// begin.
+    pub fn put(
+        &mut self,
+        alloc: Global,
+        table: &mut ServerTable,
+        number: u64,
+        outcome: Outcome,
+        tick: Tick,
+    ) -> Result<After, NoMemory>
+        ensures after { (place : ℕ) (s : Sending) → IsOpenAt number place s self.old → s.send.server < length table.old
+            → IfOk result (λ a. a ≡ after_put tick.patience s.send.stage outcome) }
+        ensures stands { (pool : List Candidate) (ends : List (End Candidate)) (place : ℕ) (s : Sending) → IsOpenAt number place s self.old → s.send.server < length table.old
+            → RoundsStand pool ends self.old → OnOk result (StandsBy s outcome pool ends self.new) }
+        ensures want { (pool : List Candidate) (ends : List (End Candidate)) (place : ℕ) (s : Sending) → IsOpenAt number place s self.old → s.send.server < length table.old
+            → RoundsStand pool ends self.old → OnErr result (StandsStill pool ends (HasEnded s outcome) self.new) }
+        ensures late { (self.old.phase ≡ Phase.Asking → position (λ s. s.order == number && is_open s.send.stage) self.old.sends.items ≡ None)
+            → (result ≡ Ok After.Late) × (self.new ≡ self.old) × (table.new ≡ table.old) }
+        ensures same { IsSameLookup self.old self.new }
+        ensures table { length table.new ≡ length table.old }
+    {
+        match self.open_place(number) {
+            Some(place) => self.put_at(alloc, table, place, outcome, tick),
+            None => Ok(After::Late),
+        }
+    }
+}
