@@ -22,12 +22,8 @@ pub use ordering::ordered;
 pub use statistics::sort_servers_by_query_statistics;
 
 #[cfg(test)]
-mod agenda_tests;
-#[cfg(test)]
 mod answer_filter_tests;
 #[cfg(test)]
 mod kept_error_tests;
 #[cfg(test)]
 mod ordering_tests;
-#[cfg(test)]
-mod rounds_tests;
