@@ -15,12 +15,12 @@ use Rattle.resolution.specs.Serving.{Serves}
 use Rattle.resolution.proofs.Keeping.{Serves-later}
 use Rattle.server_core.specs.Sending.{is_open, pendings}
 use Rattle.server_core.specs.declared.order.Order.{Order}
-use Rattle.server_core.specs.declared.order.Order.TheVariants.{Open, Ask}
+use Rattle.server_core.specs.declared.order.Order.TheVariants.{Open, Ask, Sleep}
 use Rattle.server_core.specs.declared.server_send.Stage.{Stage}
 use Rattle.server_core.specs.declared.server_send.Stage.TheVariants as stage
 use Rattle.server_core.specs.declared.server_send.ServerSend.{ServerSend}
 use Rattle.recursor_core.specs.Servers.{GoesTo, send_left}
-use Rattle.recursor_core.specs.Order.{GoesToServer}
+use Rattle.server_pool.specs.Fits.{GoesToServer}
 use Rattle.recursor_core.specs.Replies.{Terms, given_of}
 use Rattle.recursor_core.specs.Lookup.{send_want, present, send_steps, steps, rank}
 use Rattle.recursor_core.specs.Derived.{IsUnder, SendHolds, LookupHolds, servers_of}
@@ -232,3 +232,4 @@ module _ (terms : Terms) (greatest moment t0 : ℕ) (log : Log) (zone : DomainNa
         above = subst (λ (q : Query). IsTrue (is_above zone (walk q))) (sym (ap (λ (r : DnsRequest). r.query) e.1 ∙ under.asks)) h.above;
         serves = subst (λ (x : IpAddr). Serves (given_of terms) log (greatest + 1) x zone) (sym e.0) serves;
       }
+      by (Sleep until) e = absurd e

@@ -17,9 +17,6 @@ pub mod Earlier
 pub mod Timed
 pub mod Standing
 pub mod Playing
-pub mod Growing
-pub mod Patience
-pub mod Slots
 pub mod Lowered
 pub mod Recalling
 pub mod Remembering

@@ -11,13 +11,14 @@ use Rattle.dns_core.specs.declared.request.Turn.{Turn}
 use Rattle.dns_core.specs.declared.provider.ConnectionProvider.{Ghosts}
 use Rattle.recursor_core.specs.Replies.{Terms, terms_with, Timer, ReplyHolds}
 use Rattle.recursor_core.specs.Tried.{machine_timer}
-use Rattle.recursor_core.specs.Carrying.{TellsThat, Grown}
+use Rattle.server_pool.specs.Carrying.{TellsThat, Grown}
 use Rattle.recursor_core.specs.Derived.{terms_of}
 use Rattle.recursor_core.specs.Machine.{Begun, begun_at}
 use Rattle.recursor_core.specs.Standing.{Moves, ReplyTold, IsTimely, first_moment, last_moment, begin_moment, run_moments, run_timer, PlayHolds, PlaysHold, RepliesHold}
 use Rattle.recursor_core.specs.Turns.{Begins, BeginsIf, BeginsAt, IsRefused, ReplyOf}
+use Rattle.server_core.specs.declared.order.Order.{Order}
 use Rattle.recursor_core.specs.declared.setting.Setting.{Setting}
-use Rattle.recursor_core.specs.declared.carrier.Carrier.{Carrier}
+use Rattle.server_pool.specs.declared.carrier.Carrier.{Carrier}
 use Rattle.recursor_core.specs.declared.error.RecursorError.TheVariants as error
 use Rattle.recursor_core.specs.declared.machine.RecursorCore.{RecursorCore}
 use Rattle.recursor_core.specs.declared.reply.Reply.{Reply}
@@ -35,7 +36,7 @@ same_or_not (suc k) zero = inr (λ e. omega arith)
 same_or_not (suc k) (suc n) = ⊎_elim (λ e. inl (ap suc e)) (λ ne. inr (λ e. ne (omega arith))) (same_or_not k n)
 
 -- what is set at a place stands there
-slice_get-set_same : {X : Type 0} (xs : List X) (i : ℕ) (x : X) → i < length xs → slice_get (set xs i x) i ≡ Some x
+pub slice_get-set_same : {X : Type 0} (xs : List X) (i : ℕ) (x : X) → i < length xs → slice_get (set xs i x) i ≡ Some x
 slice_get-set_same [] i x h = absurd (omega arith)
 slice_get-set_same (y ∷ xs) zero x h = refl
 slice_get-set_same (y ∷ xs) (suc i) x h = slice_get-set_same xs i x (omega arith)
@@ -106,7 +107,7 @@ pub begins_else : (question : Option Question) (now : ℕ) (core : RecursorCore)
 begins_else None now core old ne = refl
 begins_else (Some x) now core None ne = refl
 begins_else (Some x) now core (Some played.Waiting) ne = absurd (ne refl)
-begins_else (Some x) now core (Some (played.Begun r)) ne = refl
+begins_else (Some x) now core (Some (played.Begun r o)) ne = refl
 begins_else (Some x) now core (Some (played.Answered a)) ne = refl
 
 -- where there was a turn, less is left
@@ -126,7 +127,7 @@ play_on : (now : ℕ) (core new : RecursorCore) (told later : Option (List LogEn
     → (p ≡ played.Waiting → first_moment rest q ≡ first_moment left q)
     → PlayHolds core told start turns rest q question p → PlayHolds new later start turns left q question p
 play_on now core new told later start turns rest left q question played.Waiting setting begun grown same h = h ∙ same refl
-play_on now core new told later start turns rest left q question (played.Begun r) setting begun grown same h =
+play_on now core new told later start turns rest left q question (played.Begun r o) setting begun grown same h =
     record { begun = h.begun; is = begun r h.begun h.is; question = h.question; late = h.late }
 play_on now core new told later start turns rest left q question (played.Answered reply) setting begun grown same h =
     subst (λ (held : Setting). TellsThat later (λ log. ReplyHolds (terms_with held) machine_timer log
@@ -142,13 +143,13 @@ begin_here : (core new : RecursorCore) (told : Option (List LogEntry)) (start : 
     → PlayHolds new told start turns left q question p
 begin_here core new told start turns rest left q now question None p setting begun due begins h = cc
 begin_here core new told start turns rest left q now question (Some played.Waiting) played.Waiting setting begun due begins h = absurd begins
-begin_here core new told start turns rest left q now question (Some played.Waiting) (played.Begun r) setting begun due begins h =
+begin_here core new told start turns rest left q now question (Some played.Waiting) (played.Begun r o) setting begun due begins h =
     record { begun = record { question = question; moment = now }; is = begins; question = refl; late = due (h played.Waiting refl) }
 begin_here core new told start turns rest left q now question (Some played.Waiting) (played.Answered reply) setting begun due begins h =
     λ es t. refused_holds (terms_of new) machine_timer (log_of es) (begin_moment start turns q) question reply begins
-begin_here core new told start turns rest left q now question (Some (played.Begun r)) p setting begun due begins h =
+begin_here core new told start turns rest left q now question (Some (played.Begun r o)) p setting begun due begins h =
     subst (λ (x : Played). PlayHolds new told start turns left q question x) (sym (same_Some _ _ begins))
-    (play_on now core new told told start turns rest left q question (played.Begun r) setting begun (Grown-refl now told) (λ e. cc) (h (played.Begun r) refl))
+    (play_on now core new told told start turns rest left q question (played.Begun r o) setting begun (Grown-refl now told) (λ e. cc) (h (played.Begun r o) refl))
 begin_here core new told start turns rest left q now question (Some (played.Answered reply)) p setting begun due begins h =
     subst (λ (x : Played). PlayHolds new told start turns left q question x) (sym (same_Some _ _ begins))
     (play_on now core new told told start turns rest left q question (played.Answered reply) setting begun (Grown-refl now told) (λ e. cc)
@@ -184,17 +185,17 @@ module _ {P C F E : Type 0} (p : Ghosts P C F E) (patience now : ℕ) (core new 
       (λ e. refl) (h q question play asks at)
 
   -- one has its reply
-  pub plays_answered : (start : ℕ) (turns rest : List Turn) (questions : List Question) (plays : List Played) (q r : ℕ) (reply : Reply)
-      → slice_get plays q ≡ Some (played.Begun r) → ReplyTold (terms_of core) (p.log later.provider) (begun_at core r) reply
+  pub plays_answered : (start : ℕ) (turns rest : List Turn) (questions : List Question) (plays : List Played) (q r : ℕ) (order : Option Order) (reply : Reply)
+      → slice_get plays q ≡ Some (played.Begun r order) → ReplyTold (terms_of core) (p.log later.provider) (begun_at core r) reply
       → PlaysHold core (p.log c.provider) start turns rest questions plays
       → PlaysHold new (p.log later.provider) start turns rest questions (set plays q (played.Answered reply))
-  plays_answered start turns rest questions plays q r reply at told h k question play asks play_k = ⊎_elim
+  plays_answered start turns rest questions plays q r order reply at told h k question play asks play_k = ⊎_elim
       (λ (same : k ≡ q).
       let told_now = p.log later.provider in
       let asks_q : slice_get questions q ≡ Some question = subst (λ i. slice_get questions i ≡ Some question) same asks in
       let is : play ≡ played.Answered reply = same_Some _ _ (sym play_k ∙
       (ap (slice_get (set plays q (played.Answered reply))) same ∙ slice_get-set_same plays q (played.Answered reply) (slice_get_within plays q _ at))) in
-      let f = h q question (played.Begun r) asks_q at in
+      let f = h q question (played.Begun r order) asks_q at in
       let b = f.begun in
       let holds : TellsThat told_now (λ log. ReplyHolds (terms_of core) machine_timer log b.moment b.question reply) = rw f.is at told in
       let given : PlayHolds new told_now start turns rest q question (played.Answered reply) = λ es t.
@@ -206,6 +207,21 @@ module _ {P C F E : Type 0} (p : Ghosts P C F E) (patience now : ℕ) (core new 
       (λ ne. plays_moved start turns rest questions plays h k question play asks (sym (slice_get-set_other plays q k (played.Answered reply) ne) ∙ play_k))
       (same_or_not k q)
 
+-- the order that is kept for a question changes nothing
+pub plays_ordered : (core : RecursorCore) (told : Option (List LogEntry)) (start : ℕ) (turns rest : List Turn) (questions : List Question)
+    (plays : List Played) (q r : ℕ) (old new : Option Order) → slice_get plays q ≡ Some (played.Begun r old)
+    → PlaysHold core told start turns rest questions plays → PlaysHold core told start turns rest questions (set plays q (played.Begun r new))
+plays_ordered core told start turns rest questions plays q r old new at h k question play asks play_k = ⊎_elim
+    (λ (same : k ≡ q).
+    let asks_q : slice_get questions q ≡ Some question = subst (λ i. slice_get questions i ≡ Some question) same asks in
+    let is : play ≡ played.Begun r new = same_Some _ _ (sym play_k ∙
+    (ap (slice_get (set plays q (played.Begun r new))) same ∙ slice_get-set_same plays q (played.Begun r new) (slice_get_within plays q _ at))) in
+    let given : PlayHolds core told start turns rest q question (played.Begun r new) = h q question (played.Begun r old) asks_q at in
+    subst (λ i. PlayHolds core told start turns rest i question play) (sym same)
+    (subst (λ (x : Played). PlayHolds core told start turns rest q question x) (sym is) given))
+    (λ ne. h k question play asks (sym (slice_get-set_other plays q k (played.Begun r new) ne) ∙ play_k))
+    (same_or_not k q)
+
 -- the reply that a question is given at last
 reply_of_play : (core : RecursorCore) (told : Option (List LogEntry)) (start : ℕ) (turns rest : List Turn) (q : ℕ) (question : Question)
     (found : Option Played) (reply : Reply) (es : List LogEntry)
@@ -216,7 +232,7 @@ reply_of_play core told start turns rest q question None reply es t timely of h 
     memory_holds (terms_of core) (run_timer start turns) (log_of es) (begin_moment start turns q) question reply of.0 of.1
 reply_of_play core told start turns rest q question (Some played.Waiting) reply es t timely of h =
     memory_holds (terms_of core) (run_timer start turns) (log_of es) (begin_moment start turns q) question reply of.0 of.1
-reply_of_play core told start turns rest q question (Some (played.Begun r)) reply es t timely of h =
+reply_of_play core told start turns rest q question (Some (played.Begun r o)) reply es t timely of h =
     memory_holds (terms_of core) (run_timer start turns) (log_of es) (begin_moment start turns q) question reply of.0 of.1
 reply_of_play core told start turns rest q question (Some (played.Answered a)) reply es t timely of h =
     subst (λ (x : Reply). ReplyHolds (terms_of core) (run_timer start turns) (log_of es) (begin_moment start turns q) question x) (sym of)

@@ -32,7 +32,8 @@ use Rattle.resolution.specs.Timing.{is_send}
 use Rattle.resolution.proofs.Members.{Has-from_Contains}
 use Rattle.resolution.proofs.Caseless.{both}
 use Rattle.resolution.proofs.PlainServed.{same_ip-itself}
-use Rattle.recursor_core.specs.Order.{entry_for, IsSent, OutcomeIs, IsFor, IsLost}
+use Rattle.server_pool.specs.Fits.{entry_for, IsSent, OutcomeIs}
+use Rattle.recursor_core.specs.Order.{IsFor, IsLost}
 use Rattle.recursor_core.specs.Replies.{Terms, given_of}
 use Rattle.recursor_core.specs.Lookup.{present, IsSentOver, IsSentBy, IsOf}
 use Rattle.recursor_core.specs.Tried.{BeganBy, Tried, Came}

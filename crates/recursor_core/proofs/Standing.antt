@@ -8,19 +8,19 @@ use Rattle.resolution.specs.Given.{Given, with_patience}
 use Rattle.resolution.specs.Telling.{Logged}
 use Rattle.resolution.specs.Asking.{AsksServers}
 use Rattle.resolution.proofs.Keeping.{Serves-later, Serves-extend}
-use Rattle.recursor_core.specs.Order.{Fits, GoesToServer}
+use Rattle.server_pool.specs.Fits.{Fits, GoesToServer}
 use Rattle.recursor_core.specs.Replies.{Terms, terms_with, given_of, ReplyHolds}
 use Rattle.recursor_core.specs.Tried.{machine_timer}
-use Rattle.recursor_core.specs.Carrying.{TellsThat, Grown, CarrierHolds}
+use Rattle.server_pool.specs.Carrying.{TellsThat, Grown, CarrierHolds}
 use Rattle.recursor_core.specs.Derived.{terms_of, Derived}
-use Rattle.recursor_core.specs.Patience.{IsPatient}
+use Rattle.server_pool.specs.Patience.{IsPatient}
 use Rattle.recursor_core.specs.Remembered.{CacheHolds}
 use Rattle.recursor_core.specs.Setting.{with_patience as setting_with}
 use Rattle.recursor_core.specs.Machine.{Begun, begun_at, ReplyGiven, StepGives}
 use Rattle.recursor_core.specs.Standing.{IsPast, Holds, Rests, Moves, ReplyTold}
 use Rattle.recursor_core.specs.Turns.{TurnFalls}
 use Rattle.recursor_core.specs.declared.setting.Setting.{Setting}
-use Rattle.recursor_core.specs.declared.carrier.Carrier.{Carrier}
+use Rattle.server_pool.specs.declared.carrier.Carrier.{Carrier}
 use Rattle.recursor_core.specs.declared.machine.RecursorCore.{RecursorCore}
 use Rattle.recursor_core.specs.declared.machine.Step.{Step}
 use Rattle.recursor_core.specs.declared.machine.Step.TheVariants as step
@@ -28,10 +28,10 @@ use Rattle.recursor_core.specs.declared.turns.Turned.{Turned}
 use Rattle.recursor_core.specs.declared.turns.Turned.TheVariants as turned
 use Rattle.dns_core.specs.declared.errors.NoMemory.{NoMemory}
 use Rattle.server_core.specs.declared.order.Order.{Order}
-use Rattle.server_core.specs.declared.order.Order.TheVariants.{Open, Ask}
+use Rattle.server_core.specs.declared.order.Order.TheVariants.{Open, Ask, Sleep}
 use Rattle.server_core.specs.declared.order.Outcome.{Outcome}
 use Rattle.recursor_core.specs.declared.reply.Reply.{Reply}
-use Rattle.recursor_core.proofs.Patience.{IsPatient-refl, IsPatient-trans}
+use Rattle.server_pool.proofs.Patience.{IsPatient-refl, IsPatient-trans}
 use Rattle.recursor_core.proofs.Kept.{Derived-extends, ReplyHolds-extends}
 
 -- ---- growing logs
@@ -122,6 +122,7 @@ moment_later a b now le = ⊎_elim (λ same. omega (arith, same)) (λ at. omega 
 GoesToServer-later : (given : Given) (log : Log) (n m : ℕ) (order : Order) → n ≤ m → GoesToServer given log n order → GoesToServer given log m order
 GoesToServer-later given log n m (Open ip config) le h = record { zone = h.zone; serves = Serves-later given log le h.serves }
 GoesToServer-later given log n m (Ask conn ip protocol request) le h = record { zone = h.zone; above = h.above; serves = Serves-later given log le h.serves }
+GoesToServer-later given log n m (Sleep until) le h = tt
 
 module _ (core new : RecursorCore) (told : Option (List LogEntry)) where
   -- an order that the machine gives goes to a server by all that is told

@@ -22,13 +22,14 @@ use Rattle.server_core.specs.Sending.{is_open, pendings, asked_of, opening_of, e
 use Rattle.server_core.specs.declared.order.After.{After}
 use Rattle.server_core.specs.declared.order.After.TheVariants as after
 use Rattle.server_core.specs.declared.order.Outcome.{Outcome}
-use Rattle.server_core.specs.declared.order.Outcome.TheVariants.{Pending, Connected, Told, Failed, GaveUp}
+use Rattle.server_core.specs.declared.order.Outcome.TheVariants.{Pending, Connected, Told, Failed, GaveUp, Slept}
 use Rattle.server_core.specs.declared.order.Sent.{Sent}
 use Rattle.server_core.specs.declared.server_send.Asked.{Asked}
 use Rattle.server_core.specs.declared.server_send.Stage.{Stage}
 use Rattle.server_core.specs.declared.server_send.Stage.TheVariants as stage
 use Rattle.server_core.specs.declared.server_send.ServerSend.{ServerSend}
-use Rattle.recursor_core.specs.Order.{Fits, OutcomeIs, IsLost}
+use Rattle.server_pool.specs.Fits.{Fits, OutcomeIs}
+use Rattle.recursor_core.specs.Order.{IsLost}
 use Rattle.recursor_core.specs.Replies.{Terms, given_of}
 use Rattle.recursor_core.specs.Servers.{try_left, send_left}
 use Rattle.recursor_core.specs.Lookup.{IsOpening, IsSentOver, IsOf, MayTake, MayTakeAt, IsTaken, is_told, ended, failed, after_end_of, send_steps, polls_left, rank}
@@ -205,6 +206,7 @@ module _ (terms : Terms) (greatest moment begun now : ℕ) (log longer : Log) (z
     taken-so patience (GaveUp entry sent polls) next taken most opens may t lt fits =
         lost-so entry sent net.Timeout t.came next taken.end lt t.end t.goes_on t.same (lost u.send t.came net.Timeout t.comes) may.1
         (lost-gave_up (given_of terms) longer now entry sent polls (let enough = may.0 in omega arith) fits.is)
+    taken-so patience Slept next taken most opens may t lt fits = absurd may
 
     -- where it may be
     pub taken-holds : (patience : ℕ) (o : Outcome) (next : Under) (taken : Taken) → terms.patience ≤ patience → IsTrue (is_open u.send.stage)
@@ -297,6 +299,7 @@ progress patience s next (Told entry sent message) did opens comes after =
     let ends = heard-ends s next (asked_of s.stage) (classify_of message) comes in inl ends
 progress patience s next (Failed entry sent refused error) did opens comes after = lost-progress error (lost s next error comes)
 progress patience s next (GaveUp entry sent polls) did opens comes after = lost-progress net.Timeout (lost s next net.Timeout comes)
+progress patience s next Slept did opens comes after = lost-progress (net.Io Other) (lost s next (net.Io Other) comes)
 
 -- the rank of a lookup with so many steps of its servers
 abbrev rank_with : ℕ → ℕ → Send → ℕ

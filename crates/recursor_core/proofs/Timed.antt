@@ -17,7 +17,7 @@ use Rattle.resolution.specs.Ending.EndSends.{no_send, and_send}
 use Rattle.resolution.specs.Timing.{DriveTimed}
 use Rattle.recursor_core.specs.Replies.{Terms, given_of, ReplyHolds}
 use Rattle.recursor_core.specs.Tried.{IsTimed, machine_timer}
-use Rattle.recursor_core.specs.Carrying.{TellsThat, Grown}
+use Rattle.server_pool.specs.Carrying.{TellsThat, Grown}
 use Rattle.recursor_core.specs.Standing.{IsPast, IsTimely, last_moment, run_moments, run_timer}
 use Rattle.recursor_core.specs.declared.reply.Reply.{Reply}
 use Rattle.recursor_core.proofs.Earlier.{outcome-earlier}

@@ -14,8 +14,6 @@ pub mod Remembered
 pub mod Derived
 pub mod Machine
 pub mod Turns
-pub mod Carrying
-pub mod Patience
 pub mod Standing
 pub mod Options
 pub mod Recursor

@@ -7,7 +7,7 @@ use Rattle.dns_core.specs.declared.net_error.NetError.{NetError}
 use Rattle.dns_core.specs.declared.net_error.NetError.TheVariants as net
 use Rattle.server_core.specs.declared.order.Sent.{Sent}
 use Rattle.server_core.specs.declared.order.Outcome.{Outcome}
-use Rattle.server_core.specs.declared.order.Outcome.TheVariants.{Pending, Connected, Told, Failed, GaveUp}
+use Rattle.server_core.specs.declared.order.Outcome.TheVariants.{Pending, Connected, Told, Failed, GaveUp, Slept}
 use Rattle.server_core.specs.declared.server_send.Stage.{Stage}
 use Rattle.server_core.specs.declared.server_send.Stage.TheVariants as stage
 use Rattle.server_core.specs.declared.server_send.ServerSend.{ServerSend}
@@ -92,6 +92,7 @@ MayTake patience q begun now (Connected entry) u = IsOpening u.send.stage
 MayTake patience q begun now (Told entry sent message) u = IsOf sent q begun now u
 MayTake patience q begun now (Failed entry sent refused error) u = IsOf sent q begun now u
 MayTake patience q begun now (GaveUp entry sent polls) u = (patience ≤ polls) × IsOf sent q begun now u
+MayTake patience q begun now Slept u = ⊥
 
 -- so it is with a send
 abbrev pub MayTakeAt : ℕ → Query → ℕ → ℕ → Outcome → Send → Type 0
@@ -118,6 +119,7 @@ is_told (Connected entry) = false
 is_told (Told entry sent message) = true
 is_told (Failed entry sent refused error) = false
 is_told (GaveUp entry sent polls) = false
+is_told Slept = false
 
 -- a send that ended with an error: a response was told, or it failed
 abbrev pub failed : IpAddr → ℕ → ℕ → Bool → NetError → Send

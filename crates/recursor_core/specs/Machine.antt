@@ -6,7 +6,7 @@ use Rattle.dns_core.specs.Log.{Log}
 use Rattle.dns_core.specs.declared.message.Query.{Query}
 use Rattle.dns_core.specs.declared.request.Question.{Question}
 use Rattle.server_core.specs.declared.server_send.ServerSend.{ServerSend}
-use Rattle.recursor_core.specs.Order.{GoesToServer}
+use Rattle.server_pool.specs.Fits.{GoesToServer}
 use Rattle.recursor_core.specs.Replies.{Terms, given_of, ReplyHolds}
 use Rattle.recursor_core.specs.Tried.{machine_timer}
 use Rattle.recursor_core.specs.Derived.{terms_of}

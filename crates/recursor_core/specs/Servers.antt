@@ -7,7 +7,7 @@ use Rattle.dns_core.specs.declared.request.DnsRequest.{DnsRequest}
 use Rattle.server_core.specs.Delays.{read_fixed}
 use Rattle.server_core.specs.Servers.{Server}
 use Rattle.server_core.specs.declared.order.Order.{Order}
-use Rattle.server_core.specs.declared.order.Order.TheVariants.{Open, Ask}
+use Rattle.server_core.specs.declared.order.Order.TheVariants.{Open, Ask, Sleep}
 use Rattle.server_core.specs.declared.server_send.Stage.{Stage}
 use Rattle.server_core.specs.declared.server_send.Stage.TheVariants as stage
 use Rattle.server_core.specs.declared.server_send.ServerSend.{ServerSend}
@@ -51,6 +51,7 @@ pub record IsBegun (request : DnsRequest) (s : ServerSend) : Type 0 where
 abbrev pub GoesTo : IpAddr → DnsRequest → Order → Type 0
 GoesTo ip request (Open to config) = to ≡ ip
 GoesTo ip request (Ask conn to protocol asked) = (to ≡ ip) × (asked ≡ request)
+GoesTo ip request (Sleep until) = ⊥
 
 -- how many steps a try has before it
 abbrev pub try_left : Stage → ℕ

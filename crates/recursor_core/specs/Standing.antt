@@ -13,12 +13,12 @@ use Rattle.resolution.specs.Asking.{AsksServers}
 use Rattle.resolution.specs.Timing.{known_to_drive}
 use Rattle.recursor_core.specs.Replies.{Terms, Timer, given_of, ReplyHolds}
 use Rattle.recursor_core.specs.Tried.{machine_timer}
-use Rattle.recursor_core.specs.Carrying.{TellsThat, Grown, CarrierHolds}
+use Rattle.server_pool.specs.Carrying.{TellsThat, Grown, CarrierHolds}
 use Rattle.recursor_core.specs.Derived.{terms_of, Derived}
-use Rattle.recursor_core.specs.Patience.{IsPatient}
+use Rattle.server_pool.specs.Patience.{IsPatient}
 use Rattle.recursor_core.specs.Remembered.{CacheHolds}
 use Rattle.recursor_core.specs.Machine.{Begun, begun_at}
-use Rattle.recursor_core.specs.declared.carrier.Carrier.{Carrier}
+use Rattle.server_pool.specs.declared.carrier.Carrier.{Carrier}
 use Rattle.recursor_core.specs.declared.machine.RecursorCore.{RecursorCore}
 use Rattle.recursor_core.specs.declared.reply.Reply.{Reply}
 use Rattle.recursor_core.specs.declared.turns.Turned.{Turned}
@@ -116,7 +116,7 @@ pub record IsBegunFrom (core : RecursorCore) (r : ℕ) (q : Question) (moment : 
 -- A question that waits is named by no turn so far; one under way has begun at or after its moment; the reply of one that is answered holds.
 abbrev pub PlayHolds : RecursorCore → Option (List LogEntry) → ℕ → List Turn → List Turn → ℕ → Question → Played → Type 0
 PlayHolds core told start turns rest q question played.Waiting = first_moment turns q ≡ first_moment rest q
-PlayHolds core told start turns rest q question (played.Begun r) = IsBegunFrom core r question (begin_moment start turns q)
+PlayHolds core told start turns rest q question (played.Begun r order) = IsBegunFrom core r question (begin_moment start turns q)
 PlayHolds core told start turns rest q question (played.Answered reply) =
     TellsThat told (λ log. ReplyHolds (terms_of core) machine_timer log (begin_moment start turns q) question reply)
 

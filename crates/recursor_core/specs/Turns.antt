@@ -1,6 +1,7 @@
 -- How much is left of the questions of a run.
 use Rattle.std.specs.Prelude.{◌≡◌, ◌≤◌, ◌<◌, ◌+◌, ℕ, List, [], Option, Some, None, Err, slice_get, sum_by, ◌⊎◌, false}
 use Rattle.dns_core.specs.declared.request.Question.{Question}
+use Rattle.server_core.specs.declared.order.Order.{Order}
 use Rattle.recursor_core.specs.Machine as machine
 use Rattle.recursor_core.specs.Machine.{rank}
 use Rattle.recursor_core.specs.declared.error.MessageKind.TheVariants as kind
@@ -21,7 +22,7 @@ TurnFalls new old turned.Ended = new ≤ old
 
 abbrev pub open_play : Played → ℕ
 open_play played.Waiting = 0
-open_play (played.Begun r) = 1
+open_play (played.Begun r order) = 1
 open_play (played.Answered reply) = 0
 
 -- how many questions are under way
@@ -34,11 +35,11 @@ work patience core plays = rank patience core + open_plays plays
 
 -- the question at a place is under way
 abbrev pub IsBegunAt : List Played → ℕ → Type 0
-IsBegunAt plays q = (r : ℕ) × (slice_get plays q ≡ Some (played.Begun r))
+IsBegunAt plays q = (r : ℕ) × (order : Option Order) × (slice_get plays q ≡ Some (played.Begun r order))
 
 abbrev pub IsUnderWay : List Played → ℕ → Option ℕ → Type 0
 IsUnderWay plays q None = Unit {0}
-IsUnderWay plays q (Some r) = slice_get plays q ≡ Some (played.Begun r)
+IsUnderWay plays q (Some r) = (order : Option Order) × (slice_get plays q ≡ Some (played.Begun r order))
 
 -- The reply refuses the question, whose name is not fully qualified; or memory is wanting.
 abbrev pub IsRefused : Question → Reply → Type 0
@@ -48,7 +49,7 @@ IsRefused question reply =
 -- A question as it begins: under way, or refused.
 abbrev pub Begins : Question → ℕ → RecursorCore → Played → Type 0
 Begins question now core played.Waiting = ⊥
-Begins question now core (played.Begun r) = machine.IsBegunAt core r question now
+Begins question now core (played.Begun r order) = machine.IsBegunAt core r question now
 Begins question now core (played.Answered reply) = IsRefused question reply
 
 -- the reply of a question, or want of memory where it has none

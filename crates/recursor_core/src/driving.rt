@@ -5,8 +5,8 @@ ghost use Rattle.dns_core.specs.declared.log.LogEntry.{LogEntry};
 ghost use Rattle.dns_core.specs.declared.request.Turn.{Turn};
 ghost use Rattle.resolution.specs.Asking.{AsksServers};
 ghost use Rattle.recursor_core.specs.Replies.{given_of};
-ghost use Rattle.recursor_core.specs.Carrying.{TellsThat, Grown};
-ghost use Rattle.recursor_core.specs.Patience.{IsPatient};
+ghost use Rattle.server_pool.specs.Carrying.{TellsThat, Grown};
+ghost use Rattle.server_pool.specs.Patience.{IsPatient};
 ghost use Rattle.recursor_core.specs.Derived.{terms_of, Derived};
 ghost use Rattle.recursor_core.specs.Machine.{Begun, begun_at};
 ghost use Rattle.recursor_core.specs.Standing.{Holds, run_terms, IsTimely, PlaysHold, RepliesHold, last_moment};
@@ -14,13 +14,13 @@ ghost use Rattle.recursor_core.specs.Turns.{work, BeginsAt, ReplyOf};
 ghost use Rattle.recursor_core.specs.declared.reply.Reply.{Reply};
 ghost use Rattle.dns_core.specs.declared.request.Question.{Question};
 
-use crate::carrier::Carrier;
 use crate::machine::RecursorCore;
 use crate::recursor::Recursor;
 use crate::reply::Reply;
 use crate::turns::{Played, begun, play, take_reply};
 use dns_core::{ConnectionProvider, NoMemory, Question, Turn};
 use server_core::Tick;
+use server_pool::Carrier;
 use std::alloc::Global;
 
 /// Begins a question that has not begun.

@@ -1,7 +1,6 @@
 //! The recursor: it goes from the roots down the delegations to the servers of a name, and asks them.
 #![tactic(auto)]
 
-mod carrier;
 mod counted;
 mod driving;
 mod error;
@@ -13,7 +12,6 @@ mod reply;
 mod resolving;
 mod servers;
 mod setting;
-mod slot;
 mod turns;
 mod walk;
 

@@ -10,7 +10,7 @@ ghost use Rattle.resolution.specs.Ending.{is_timeout};
 ghost use Rattle.recursor_core.specs.Tried.{last_error};
 ghost use Rattle.server_core.specs.Order.{entry_of};
 ghost use Rattle.server_core.specs.Sending.{is_open};
-ghost use Rattle.recursor_core.specs.Order.{Fits, GoesToServer};
+ghost use Rattle.server_pool.specs.Fits.{Fits, GoesToServer};
 ghost use Rattle.recursor_core.specs.Servers.{GoesTo, send_left, IsMet, delay_of};
 ghost use Rattle.recursor_core.specs.Replies.{Terms, given_of};
 ghost use Rattle.recursor_core.specs.Lookup.{under_want, send_want, present, is_told, ended, failed, after_end_of, steps, rank, IsWaiting, IsSentBy, IsOf, MayTake, MayTakeAt, IsTaken};
@@ -235,6 +235,7 @@ impl Under {
             Outcome::GaveUp { sent, polls, .. } => {
                 tick.patience <= *polls && self.sends_between(asked, sent, begun, tick.now)
             }
+            Outcome::Slept => false,
         }
     }
 

@@ -2,7 +2,7 @@
 ghost use Rattle.std.specs.Prelude.{◌≡◌, ◌≢◌, ◌≤◌, ◌<◌, ◌+◌, ◌⊎◌, ◌↔◌, ℕ, [], true, false, max, length, None, Some, Ok, Err, IfOk, IfSome, IfNone, IfErr, IsSome, OnOk, OnErr, IsTrue};
 ghost use Rattle.dns_core.specs.Log.{Log, Extends};
 ghost use Rattle.server_core.specs.Order.{entry_of};
-ghost use Rattle.recursor_core.specs.Order.{Fits};
+ghost use Rattle.server_pool.specs.Fits.{Fits};
 ghost use Rattle.resolver_settings.specs.Ttl.{has_reversed};
 ghost use Rattle.recursor_core.specs.Setting.{with_patience};
 ghost use Rattle.recursor_core.specs.Remembered.{CacheHolds, remembered};

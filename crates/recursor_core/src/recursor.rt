@@ -7,11 +7,11 @@ ghost use Rattle.recursor_core.specs.Recursor.{IsSetupError};
 ghost use Rattle.recursor_core.specs.Setting.{server_filter_of};
 ghost use Rattle.recursor_core.specs.Standing.{Standing, Rests};
 
-use crate::carrier::Carrier;
 use crate::error::{MessageKind, RecursorError};
 use crate::machine::RecursorCore;
 use crate::options::RecursorOptions;
 use dns_core::{ConnectOptions, ConnectionProvider, NoMemory, TryClone};
+use server_pool::Carrier;
 use std::alloc::Global;
 use std::marker::Model;
 use std::net::IpAddr;

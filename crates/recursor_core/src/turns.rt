@@ -4,20 +4,23 @@ ghost use Rattle.dns_core.specs.Log.{Log};
 ghost use Rattle.dns_core.specs.declared.log.LogEntry.{LogEntry};
 ghost use Rattle.dns_core.specs.declared.request.Question.{Question};
 ghost use Rattle.dns_core.specs.declared.request.Turn.{Turn};
-ghost use Rattle.recursor_core.specs.Order.{Fits, GoesToServer};
+ghost use Rattle.server_pool.specs.Fits.{Fits, GoesToServer};
 ghost use Rattle.recursor_core.specs.Replies.{given_of};
-ghost use Rattle.recursor_core.specs.Carrying.{TellsThat};
+ghost use Rattle.server_pool.specs.Carrying.{TellsThat};
+ghost use Rattle.server_pool.specs.Key.{key_of};
+ghost use Rattle.server_pool.specs.Stands.{stand_at};
+ghost use Rattle.server_pool.specs.Stands.Stand.{Unseen};
 ghost use Rattle.recursor_core.specs.Derived.{terms_of, Derived};
 ghost use Rattle.recursor_core.specs.Machine.{rank, Begun, begun_at};
 ghost use Rattle.recursor_core.specs.Standing.{Holds, Moves, ReplyTold, TurnedTold, PlaysHold};
 ghost use Rattle.recursor_core.specs.Turns.{TurnFalls, work, open_plays, IsBegunAt, IsUnderWay, Begins, ReplyOf};
 
-use crate::carrier::Carrier;
 use crate::error::RecursorError;
 use crate::machine::{RecursorCore, Step};
 use crate::reply::Reply;
 use dns_core::{ConnectionProvider, NoMemory, Numbers, Question, TryClone};
 use server_core::{After, Order, Outcome, Tick};
+use server_pool::Carrier;
 use std::alloc::Global;
 use std::mem;
 
@@ -30,11 +33,12 @@ pub enum Turned {
     Ended,
 }
 
-/// A question: not begun, under way as the resolution at a place, or answered.
+/// A question: not begun, under way as the resolution at a place, with the order that was given for it
+/// last, or answered.
 #[derive(Drop, Debug)]
 pub enum Played {
     Waiting,
-    Begun(usize),
+    Begun { place: usize, order: Option<Order> },
     Answered(Reply),
 }
 
@@ -106,18 +110,20 @@ fn settle<P: ConnectionProvider>(
     }
 }
 
-/// Starts an order that the machine gave.
-fn start_order<P: ConnectionProvider>(
+/// Carries an order. One that patience allows no further poll is given up in place of that; in a run
+/// the machine gives an order up before, at the last poll that patience allows.
+fn carry_order<P: ConnectionProvider>(
     alloc: Global,
     core: &mut RecursorCore,
     carrier: &mut Carrier<P>,
     number: u64,
-    order: Order,
+    order: &Order,
     tick: Tick,
 ) -> Result<Turned, NoMemory>
     requires holds { Holds P.ConnectionProvider tick.patience core.old carrier.old }
     requires moment { core.old.moment ≡ tick.now }
-    requires goes { TellsThat (P.log carrier.old.provider) (λ log. GoesToServer (given_of (terms_of core.old)) log log.next order) }
+    requires goes { stand_at carrier.old.slots (key_of number order.now) ≡ Unseen
+        → TellsThat (P.log carrier.old.provider) (λ log. GoesToServer (given_of (terms_of core.old)) log log.next order.now) }
     ensures vouches { (es : List LogEntry) → P.vouches carrier.new.provider es → P.vouches carrier.old.provider es }
     ensures holds { Holds P.ConnectionProvider tick.patience core.new carrier.new }
     ensures moves { Moves P.ConnectionProvider tick.patience tick.now core.old core.new carrier.old carrier.new }
@@ -126,7 +132,12 @@ fn start_order<P: ConnectionProvider>(
     ensures keeps { rank tick.patience core.new ≤ rank tick.patience core.old }
     ensures told { (b : Option Begun) → IfOk result (TurnedTold (terms_of core.old) (P.log carrier.new.provider) b) }
 {
-    let outcome = carrier.start(number, order, tick.now)?;
+    if carrier.polls(number, order) >= tick.patience.max(1) {
+        return give_up_order(alloc, core, carrier, number, tick);
+    }
+    let Some(outcome) = carrier.carry(alloc, number, order, tick.now)? else {
+        return Err(NoMemory);
+    };
     settle(alloc, core, carrier, number, outcome, tick)
 }
 
@@ -136,6 +147,7 @@ fn poll_order<P: ConnectionProvider>(
     core: &mut RecursorCore,
     carrier: &mut Carrier<P>,
     number: u64,
+    order: &Order,
     tick: Tick,
 ) -> Result<Turned, NoMemory>
     requires holds { Holds P.ConnectionProvider tick.patience core.old carrier.old }
@@ -148,16 +160,20 @@ fn poll_order<P: ConnectionProvider>(
     ensures keeps { rank tick.patience core.new ≤ rank tick.patience core.old }
     ensures told { (b : Option Begun) → IfOk result (TurnedTold (terms_of core.old) (P.log carrier.new.provider) b) }
 {
-    let outcome = carrier.poll(number, tick.now, tick.patience)?;
-    settle(alloc, core, carrier, number, outcome, tick)
+    if !carrier.is_under_way(number, order) {
+        return Err(NoMemory);
+    }
+    carry_order(alloc, core, carrier, number, order, tick)
 }
 
-/// One step of a question: an order is started, or polled, or its reply given.
+/// One step of a question: an order is started, or polled, or its reply given. The order that was
+/// given last is kept, to be handed in again.
 fn step<P: ConnectionProvider>(
     alloc: Global,
     core: &mut RecursorCore,
     carrier: &mut Carrier<P>,
     r: usize,
+    open: &mut Option<Order>,
     tick: Tick,
 ) -> Result<Turned, NoMemory>
     requires holds { Holds P.ConnectionProvider tick.patience core.old carrier.old }
@@ -172,8 +188,15 @@ fn step<P: ConnectionProvider>(
 {
     let next = core.next(alloc, r)?;
     match next {
-        Step::Order { number, order } => start_order(alloc, core, carrier, number, order, tick),
-        Step::Waiting { number } => poll_order(alloc, core, carrier, number, tick),
+        Step::Order { number, order } => {
+            let turned = carry_order(alloc, core, carrier, number, &order, tick);
+            *open = Some(order);
+            turned
+        }
+        Step::Waiting { number } => match open {
+            Some(order) => poll_order(alloc, core, carrier, number, order, tick),
+            None => Err(NoMemory),
+        },
         Step::Done(reply) => Ok(Turned::Done(reply)),
         Step::Ended => Ok(Turned::Ended),
     }
@@ -185,6 +208,7 @@ fn turn<P: ConnectionProvider>(
     core: &mut RecursorCore,
     carrier: &mut Carrier<P>,
     r: usize,
+    open: &mut Option<Order>,
     tick: Tick,
 ) -> Result<Turned, NoMemory>
     requires holds { Holds P.ConnectionProvider tick.patience core.old carrier.old }
@@ -198,7 +222,7 @@ fn turn<P: ConnectionProvider>(
     ensures keeps { rank tick.patience core.new ≤ rank tick.patience core.old }
 {
     'steps: loop {
-        match step(alloc, core, carrier, r, tick)? {
+        match step(alloc, core, carrier, r, open, tick)? {
             Turned::Again => {}
             Turned::Pending => return Ok(Turned::Pending),
             Turned::Done(reply) => return Ok(Turned::Done(reply)),
@@ -234,6 +258,7 @@ fn answer_of<P: ConnectionProvider>(
     core: &mut RecursorCore,
     carrier: &mut Carrier<P>,
     r: usize,
+    open: &mut Option<Order>,
     tick: Tick,
 ) -> Option<Reply>
     requires holds { Holds P.ConnectionProvider tick.patience core.old carrier.old }
@@ -247,7 +272,7 @@ fn answer_of<P: ConnectionProvider>(
     ensures keeps { rank tick.patience core.new ≤ rank tick.patience core.old }
 {
     core.reach(tick.now);
-    match turn(alloc, core, carrier, r, tick) {
+    match turn(alloc, core, carrier, r, open, tick) {
         Ok(Turned::Pending) => None,
         Ok(Turned::Done(reply)) => Some(reply),
         Ok(_) => Some(no_memory(alloc)),
@@ -270,7 +295,7 @@ pub fn begun(alloc: Global, core: &mut RecursorCore, question: &Question, now: u
         return Played::Answered(no_memory(alloc));
     };
     match core.begin(question, now) {
-        Ok(r) => Played::Begun(r),
+        Ok(place) => Played::Begun { place, order: None },
         Err(error) => Played::Answered(Reply {
             outcome: Err(error),
             grounds: Numbers::empty(alloc),
@@ -283,7 +308,7 @@ fn under_way(plays: &[Played], q: usize) -> Option<usize>
     ensures { IsUnderWay plays.now q result }
 {
     match plays.get(q) {
-        Some(Played::Begun(r)) => Some(*r),
+        Some(Played::Begun { place, .. }) => Some(*place),
         _ => None,
     }
 }
@@ -295,6 +320,29 @@ fn put_answer(plays: &mut Vec<Played>, q: usize, reply: Reply)
     ensures count { vec_len plays.new ≡ vec_len plays.old }
 {
     plays[q] = Played::Answered(reply);
+}
+
+/// Takes out the order that was given last for a question that is under way.
+fn take_order(plays: &mut Vec<Played>, q: usize, place: usize) -> Option<Order>
+    requires { IsUnderWay plays.old.items q (Some place) }
+    ensures set { plays.new.items ≡ slice_set plays.old.items q (Played.Begun place None) }
+    ensures open { open_plays plays.new.items ≡ open_plays plays.old.items }
+    ensures count { vec_len plays.new ≡ vec_len plays.old }
+{
+    match mem::replace(&mut plays[q], Played::Begun { place, order: None }) {
+        Played::Begun { order, .. } => order,
+        _ => None,
+    }
+}
+
+/// Keeps the order that was given last for a question that is under way.
+fn keep_order(plays: &mut Vec<Played>, q: usize, place: usize, order: Option<Order>)
+    requires { IsUnderWay plays.old.items q (Some place) }
+    ensures set { plays.new.items ≡ slice_set plays.old.items q (Played.Begun place order) }
+    ensures open { open_plays plays.new.items ≡ open_plays plays.old.items }
+    ensures count { vec_len plays.new ≡ vec_len plays.old }
+{
+    plays[q] = Played::Begun { place, order };
 }
 
 /// Gives a question that is under way a turn. It answers whether there was one.
@@ -320,8 +368,10 @@ pub fn play<P: ConnectionProvider>(
     let Some(r) = under_way(plays, q) else {
         return false;
     };
-    if let Some(reply) = answer_of(alloc, core, carrier, r, tick) {
-        put_answer(plays, q, reply);
+    let mut open = take_order(plays, q, r);
+    match answer_of(alloc, core, carrier, r, &mut open, tick) {
+        Some(reply) => put_answer(plays, q, reply),
+        None => keep_order(plays, q, r, open),
     }
     true
 }

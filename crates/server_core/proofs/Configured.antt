@@ -10,7 +10,7 @@ use Rattle.server_core.specs.Hearing.{after_heard, without_dead, with_opened, ch
 use Rattle.server_core.specs.Sending.{lost_put, told_put, heard_put, after_step, after_want}
 use Rattle.server_core.specs.declared.heard.Heard.{Heard}
 use Rattle.server_core.specs.declared.order.Outcome.{Outcome}
-use Rattle.server_core.specs.declared.order.Outcome.TheVariants.{Pending, Connected, Told, Failed, GaveUp}
+use Rattle.server_core.specs.declared.order.Outcome.TheVariants.{Pending, Connected, Told, Failed, GaveUp, Slept}
 use Rattle.server_core.specs.declared.server_send.Asked.{Asked}
 use Rattle.server_core.specs.declared.server_send.Stage.{Stage}
 use Rattle.server_core.specs.declared.server_send.Stage.TheVariants as stage
@@ -40,6 +40,7 @@ put_configured asked now (Connected entry) s = lost_configured asked now _ s
 put_configured asked now (Told entry sent message) s = told_configured asked now _ s
 put_configured asked now (Failed entry sent refused error) s = lost_configured asked now error s
 put_configured asked now (GaveUp entry sent polls) s = lost_configured asked now _ s
+put_configured asked now Slept s = lost_configured asked now _ s
 
 -- a step
 pub step_configured : (at : Stage) (s : Server) → (after_step at s).config ≡ s.config

@@ -35,6 +35,7 @@ heard_nothing now (outcome.Connected entry) n xs = sym (changed_same n xs)
 heard_nothing now (outcome.Told entry sent message) n xs = sym (changed_same n xs)
 heard_nothing now (outcome.Failed entry sent refused error) n xs = sym (changed_same n xs)
 heard_nothing now (outcome.GaveUp entry sent polls) n xs = sym (changed_same n xs)
+heard_nothing now outcome.Slept n xs = sym (changed_same n xs)
 
 -- where no order is open there is no question
 pub heard_late : (s : Stage) (now : ℕ) (o : Outcome) (n : ℕ) (xs : List Server) → is_open s ≡ false → xs ≡ changed_at (heard_put (asked_of s) now o) n xs

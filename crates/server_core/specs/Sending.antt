@@ -16,9 +16,9 @@ use Rattle.server_core.specs.Servers.{Server}
 use Rattle.server_core.specs.Hearing.{after_told, after_failed, without_dead, with_opened}
 use Rattle.server_core.specs.declared.order.After.{After}
 use Rattle.server_core.specs.declared.order.After.TheVariants.{Kept, Ended, GiveUp, Late}
-use Rattle.server_core.specs.declared.order.Order.TheVariants.{Open, Ask}
+use Rattle.server_core.specs.declared.order.Order.TheVariants.{Open, Ask, Sleep}
 use Rattle.server_core.specs.declared.order.Outcome.{Outcome}
-use Rattle.server_core.specs.declared.order.Outcome.TheVariants.{Pending, Connected, Told, Failed, GaveUp}
+use Rattle.server_core.specs.declared.order.Outcome.TheVariants.{Pending, Connected, Told, Failed, GaveUp, Slept}
 use Rattle.server_core.specs.declared.server_send.Asked.{Asked}
 use Rattle.server_core.specs.declared.server_send.Stage.{Stage}
 use Rattle.server_core.specs.declared.server_send.Stage.TheVariants as stage
@@ -184,6 +184,7 @@ TellsEnd stage.Over made next = ⊥
 abbrev pub asks_of : SendStep → ℕ
 asks_of (step.Order (Ask conn ip protocol request)) = 1
 asks_of (step.Order (Open ip config)) = 0
+asks_of (step.Order (Sleep until)) = 0
 asks_of step.Waiting = 0
 asks_of (step.Done result) = 0
 
@@ -194,6 +195,7 @@ after_outcome patience s (Connected entry) = Ended
 after_outcome patience s (Told entry sent message) = Ended
 after_outcome patience s (Failed entry sent refused error) = Ended
 after_outcome patience s (GaveUp entry sent polls) = Ended
+after_outcome patience s Slept = Ended
 
 abbrev pub after_put : ℕ → Stage → Outcome → After
 after_put patience s outcome = if is_open s then after_outcome patience s outcome else Late
@@ -205,6 +207,7 @@ IsTold (Connected entry) = ⊥
 IsTold (Told entry sent message) = Unit {0}
 IsTold (Failed entry sent refused error) = ⊥
 IsTold (GaveUp entry sent polls) = ⊥
+IsTold Slept = ⊥
 
 -- what an error does to the server: only that of a question does anything
 abbrev pub lost_put : Option Asked → ℕ → NetError → Server → Server
@@ -216,13 +219,14 @@ abbrev pub told_put : Option Asked → ℕ → Result Message DnsError → Serve
 told_put None now class server = server
 told_put (Some asked) now class server = after_told asked.conn (now - asked.at) now class server
 
--- what an outcome does to the server; one that a question cannot have counts as a fault of transport
+-- what an outcome does to the server; one that a question cannot have counts as another fault of transport
 abbrev pub heard_put : Option Asked → ℕ → Outcome → Server → Server
 heard_put asked now (Pending entry) server = server
 heard_put asked now (Connected entry) server = lost_put asked now (Io Other) server
 heard_put asked now (Told entry sent message) server = told_put asked now (classify_of message) server
 heard_put asked now (Failed entry sent refused error) server = lost_put asked now error server
 heard_put asked now (GaveUp entry sent polls) server = lost_put asked now Timeout server
+heard_put asked now Slept server = lost_put asked now (Io Other) server
 
 -- what a send ends with where a response is told
 abbrev pub result_of : Result Message DnsError → Result Message NetError
@@ -269,6 +273,7 @@ Comes s (Connected entry) next = IsConnected s (opening_of s.stage) next
 Comes s (Told entry sent message) next = IsHeard s (asked_of s.stage) (classify_of message) next
 Comes s (Failed entry sent refused error) next = IsLost s (asked_of s.stage) error next
 Comes s (GaveUp entry sent polls) next = IsLost s (asked_of s.stage) Timeout next
+Comes s Slept next = IsLost s (asked_of s.stage) (Io Other) next
 
 -- it goes to the same server, with the same request and policy
 pub record IsSameSend (s next : ServerSend) : Type 0 where

@@ -11,6 +11,7 @@ mod heard;
 mod name_server;
 mod order;
 mod policy;
+mod same_orders;
 mod server_send;
 mod server_table;
 mod status;
@@ -35,6 +36,8 @@ mod context_tests;
 mod delays_tests;
 #[cfg(test)]
 mod end_tests;
+#[cfg(test)]
+mod order_tests;
 #[cfg(test)]
 mod policy_tests;
 #[cfg(test)]

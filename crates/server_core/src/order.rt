@@ -1,9 +1,13 @@
 //! Orders and their outcomes: the one language between what decides what is sent and whoever carries
 //! the orders out.
-ghost use Rattle.std.specs.Prelude.{◌≡◌};
+ghost use Rattle.std.specs.Prelude.{◌≡◌, ◌↔◌, IsTrue};
 ghost use Rattle.server_core.specs.Order.{entry_of};
 
-use dns_core::{ConnectionConfig, DnsRequest, Message, NetError, Protocol, Query};
+use crate::same_orders::{same_config, same_request};
+use dns_core::{
+    ConnectionConfig, DnsRequest, Message, NetError, NoMemory, Protocol, Query, TryClone,
+};
+use std::alloc::Global;
 use std::net::IpAddr;
 
 /// The moment of a step, in microseconds, and how many polls an order may be pending.
@@ -13,7 +17,8 @@ pub struct Tick {
     pub patience: u32,
 }
 
-/// What is to be done outside. `conn` is the number of the order that made the connection.
+/// What is to be done outside. `conn` is the number of the order that made the connection. A sleep
+/// ends at a moment, in microseconds.
 #[derive(Drop, Debug)]
 pub enum Order {
     Open {
@@ -26,6 +31,73 @@ pub enum Order {
         protocol: Protocol,
         request: DnsRequest,
     },
+    Sleep {
+        until: u64,
+    },
+}
+
+impl Order {
+    /// Whether two orders are equal, the names in them with case.
+    pub fn identical(&self, other: &Order) -> bool
+        ensures { IsTrue result ↔ (self.now ≡ other.now) }
+    {
+        match (self, other) {
+            (
+                Order::Open { ip, config },
+                Order::Open {
+                    ip: other_ip,
+                    config: other_config,
+                },
+            ) => *ip == *other_ip && same_config(config, other_config),
+            (
+                Order::Ask {
+                    conn,
+                    ip,
+                    protocol,
+                    request,
+                },
+                Order::Ask {
+                    conn: other_conn,
+                    ip: other_ip,
+                    protocol: other_protocol,
+                    request: other_request,
+                },
+            ) => {
+                *conn == *other_conn
+                    && *ip == *other_ip
+                    && *protocol == *other_protocol
+                    && same_request(request, other_request)
+            }
+            (Order::Sleep { until }, Order::Sleep { until: other_until }) => *until == *other_until,
+            _ => false,
+        }
+    }
+}
+
+impl TryClone for Order {
+    fn try_clone(&self, alloc: Global) -> Result<Self, NoMemory> {
+        match self {
+            Order::Open { ip, config } => {
+                let config = config.try_clone(alloc)?;
+                Ok(Order::Open { ip: *ip, config })
+            }
+            Order::Ask {
+                conn,
+                ip,
+                protocol,
+                request,
+            } => {
+                let request = request.try_clone(alloc)?;
+                Ok(Order::Ask {
+                    conn: *conn,
+                    ip: *ip,
+                    protocol: *protocol,
+                    request,
+                })
+            }
+            Order::Sleep { until } => Ok(Order::Sleep { until: *until }),
+        }
+    }
 }
 
 /// What was sent to an address: the number of the log entry that says so, the moment, and the question,
@@ -38,8 +110,9 @@ pub struct Sent {
     pub query: Option<Query>,
 }
 
-/// What came of it, with the number of the log entry that says so. `refused` tells a call that failed
-/// at once, and `polls` how many found nothing before a give-up.
+/// What came of it, with the number of the log entry that says so; of a sleep no entry says anything,
+/// and the number is 0. `refused` tells a call that failed at once, and `polls` how many found nothing
+/// before a give-up.
 #[derive(Drop, Debug)]
 pub enum Outcome {
     Pending {
@@ -64,6 +137,7 @@ pub enum Outcome {
         sent: Sent,
         polls: u32,
     },
+    Slept,
 }
 
 impl Outcome {
@@ -76,6 +150,7 @@ impl Outcome {
             Outcome::Told { entry, .. } => *entry,
             Outcome::Failed { entry, .. } => *entry,
             Outcome::GaveUp { entry, .. } => *entry,
+            Outcome::Slept => 0,
         }
     }
 }

@@ -37,6 +37,7 @@ pub enum Seen {
     Waits,
     Answers,
     Ends(End),
+    Sleeps,
 }
 
 fn end_of(error: &NetError) -> End {
@@ -53,6 +54,7 @@ fn seen_of(step: &SendStep) -> Seen {
     match step {
         SendStep::Order(Order::Open { config, .. }) => Seen::Opens(config.protocol.to_protocol()),
         SendStep::Order(Order::Ask { conn, .. }) => Seen::Asks(*conn),
+        SendStep::Order(Order::Sleep { .. }) => Seen::Sleeps,
         SendStep::Waiting => Seen::Waits,
         SendStep::Done(Ok(_)) => Seen::Answers,
         SendStep::Done(Err(error)) => Seen::Ends(end_of(error)),

@@ -2,7 +2,7 @@ use crate::send_samples::{
     BOTH, Course, End, NO_UDP, Seen, closed, connected, failed, gave_up, pending, told,
 };
 use crate::server_samples::{address, of_udp, server, unopened};
-use crate::{After, NameServer};
+use crate::{After, NameServer, Outcome};
 use dns_core::{IoKind, NetError, NoMemory, Protocol, Records};
 use resolver_settings::{NameServerConfig, ResolverOpts, ServerOrderingStrategy};
 use std::alloc::Global;
@@ -145,5 +145,21 @@ fn a_server_with_no_allowed_configuration_is_not_asked(rt: HostRuntime) -> Resul
     let alloc = rt.alloc();
     let mut course = Course::new(alloc, of_udp(alloc)?, NO_UDP)?;
     assert_eq!(rt; course.next(alloc, 7), Ok(Seen::Ends(End::NoConnections)));
+    Ok(())
+}
+
+/// A sleep is no order of a send.
+#[test]
+fn an_outcome_of_another_form_ends_the_send(rt: HostRuntime) -> Result<(), Fail> {
+    let alloc = rt.alloc();
+    let mut opening = Course::new(alloc, unopened(alloc)?, BOTH)?;
+    assert_eq!(rt; opening.next(alloc, 7), Ok(Seen::Opens(Protocol::Udp)));
+    assert_eq!(rt; opening.put(alloc, Outcome::Slept, 8), Ok(After::Ended));
+    assert_eq!(rt; opening.next(alloc, 9), Ok(Seen::Ends(End::Other)));
+    let connections = vec![in alloc; (Protocol::Udp, 3)]?;
+    let mut asking = Course::new(alloc, opened(alloc, connections)?, BOTH)?;
+    assert_eq!(rt; asking.next(alloc, 7), Ok(Seen::Asks(3)));
+    assert_eq!(rt; asking.put(alloc, Outcome::Slept, 8), Ok(After::Ended));
+    assert_eq!(rt; asking.next(alloc, 9), Ok(Seen::Ends(End::Other)));
     Ok(())
 }

@@ -452,6 +452,7 @@ impl ServerSend {
             }
             Outcome::Failed { error, .. } => Ok(self.lose(table, error, tick.now)),
             Outcome::GaveUp { .. } => Ok(self.lose(table, NetError::Timeout, tick.now)),
+            Outcome::Slept => Ok(self.lose(table, NetError::Io(IoKind::Other), tick.now)),
         }
     }
 

@@ -9,3 +9,8 @@ pub mod Plans
 pub mod Moving
 pub mod Sendings
 pub mod Beginning
+pub mod Growing
+pub mod Patience
+mod Keys
+mod Slots
+mod Carried

@@ -4,3 +4,8 @@ pub mod Ordering
 pub mod AnswerFilter
 pub mod Agenda
 pub mod Rounds
+pub mod Key
+pub mod Fits
+pub mod Carrying
+pub mod Patience
+pub mod Stands

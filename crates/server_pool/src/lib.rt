@@ -1,21 +1,26 @@
-//! A pool of servers: in which order they are asked, which of their errors is kept, and what is left
-//! of the answer.
+//! A pool of servers: in which order they are asked, which of their errors is kept, what is left of
+//! the answer, and how what is ordered for a pool is carried out over a provider.
 #![tactic(auto)]
 
 mod agenda;
 mod agenda_laws;
 mod answer_filter;
 mod candidate;
+mod carrier;
+mod giving_up;
 mod kept_error;
 mod kept_error_laws;
+mod key;
 mod ordering;
 mod rounds;
+mod slot;
 mod statistics;
 
 pub use agenda::Agenda;
 pub use agenda_laws::{a_deadline_ends_a_lookup, a_lookup_makes_few_sends};
 pub use answer_filter::filtered;
 pub use candidate::{Candidate, Ending, Hearing};
+pub use carrier::Carrier;
 pub use kept_error::most_specific;
 pub use kept_error_laws::{the_earlier_negative_is_kept, the_kept_error_is_what_is_left};
 pub use ordering::ordered;

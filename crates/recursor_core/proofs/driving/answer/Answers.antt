@@ -1,11 +1,11 @@
 use Rattle.std.proofs.Common.{◌≡◌, ◌≤◌, ◌∙◌, [], Contains, arith, subst, max}
 use Rattle.std.proofs.lemmas.Result.{IfOk-weaker}
-use Rattle.recursor_core.specs.Carrying.{TellsThat}
+use Rattle.server_pool.specs.Carrying.{TellsThat}
 use Rattle.recursor_core.specs.Standing.{RepliesHold, last_moment, run_moments}
 use Rattle.recursor_core.specs.declared.setting.Setting.{Setting}
 use Rattle.recursor_core.specs.Replies.{terms_with}
 use Rattle.recursor_core.proofs.Standing.{Grown-trans}
-use Rattle.recursor_core.proofs.Patience.{IsPatient-trans}
+use Rattle.server_pool.proofs.Patience.{IsPatient-trans}
 use Rattle.recursor_core.proofs.Playing.{plays_wait, replies_hold}
 use Rattle.recursor_core.proofs.Timed.{timely_first, run_first, run_turns, run_last, contains_max, IsTimely-grown}
 use Rattle.recursor_core.proofs.driving.answer.Goals as goal

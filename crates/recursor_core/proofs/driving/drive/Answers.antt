@@ -1,5 +1,5 @@
 use Rattle.std.proofs.Common.{◌<◌, ◌∙◌, ℕ, length, IfOk, sym, subst}
-use Rattle.recursor_core.specs.Carrying.{TellsThat}
+use Rattle.server_pool.specs.Carrying.{TellsThat}
 use Rattle.recursor_core.specs.Standing.{Standing, run_terms, RepliesHold}
 use Rattle.recursor_core.specs.Replies.{terms_with}
 use Rattle.recursor_core.specs.Setting.{with_patience}

@@ -1,5 +1,5 @@
 use Rattle.std.proofs.Common.{◌≡◌, ◌≤◌, ◌+◌, ◌-◌, ◌∷◌, ℕ, Contains, arith, max, subst, sym}
-use Rattle.recursor_core.proofs.Patience.{IsPatient-trans}
+use Rattle.server_pool.proofs.Patience.{IsPatient-trans}
 use Rattle.recursor_core.proofs.Standing.{holds_derived, moment_later}
 use Rattle.recursor_core.proofs.Playing.{plays_skip, plays_turn}
 use Rattle.recursor_core.proofs.Timed.{IsTimely-grown, contains_max, contains_moment}

@@ -3,7 +3,7 @@ use Rattle.std.proofs.Math.ListN.{drop_of_length-le}
 use Rattle.std.proofs.lemmas.List.{drop_more}
 use Rattle.dns_core.specs.declared.request.Turn.{Turn}
 use Rattle.recursor_core.specs.Standing.{PlaysHold}
-use Rattle.recursor_core.proofs.Patience.{IsPatient-trans}
+use Rattle.server_pool.proofs.Patience.{IsPatient-trans}
 use Rattle.recursor_core.proofs.driving.play_turns.Goals as goal
 
 pub loop-turn-preserved : goal.loop-turn-preserved

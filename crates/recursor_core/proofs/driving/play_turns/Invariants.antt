@@ -1,7 +1,7 @@
 use Rattle.std.proofs.Common.{◌≡◌, ◌≤◌, ℕ, max, List, All, Contains, drop, vec_len}
 use Rattle.dns_core.specs.declared.log.LogEntry.{LogEntry}
-use Rattle.recursor_core.specs.Carrying.{TellsThat}
-use Rattle.recursor_core.specs.Patience.{IsPatient}
+use Rattle.server_pool.specs.Carrying.{TellsThat}
+use Rattle.server_pool.specs.Patience.{IsPatient}
 use Rattle.recursor_core.specs.Standing.{Holds, IsTimely, PlaysHold}
 use Rattle.recursor_core.proofs.driving.play_turns.Given as goal
 

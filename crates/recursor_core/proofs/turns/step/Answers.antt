@@ -14,8 +14,8 @@ returns-in_err-next-clause-holds g c =
     holds_derived g.P.ConnectionProvider patience c.args.core.now c.next.new.self c.args.carrier.now c.next.ensures.same.setting (omega (arith, same))
     (λ log d. (c.next.ensures.gives log d).0) c.requires.holds
 
-pub start_order-requires-clause-holds : goal.start_order-requires-clause-holds
-start_order-requires-clause-holds g c =
+pub carry_order-turned-requires-clause-holds : goal.carry_order-turned-requires-clause-holds
+carry_order-turned-requires-clause-holds g c =
     let patience = c.args.tick.patience in
     let same : c.next.new.self.moment ≡ c.args.core.now.moment = c.next.ensures.same.moment in
     holds_derived g.P.ConnectionProvider patience c.args.core.now c.next.new.self c.args.carrier.now c.next.ensures.same.setting (omega (arith, same))
@@ -42,8 +42,8 @@ returns-in-Ended-clause-holds g c =
     holds_derived g.P.ConnectionProvider patience c.args.core.now c.next.new.self c.args.carrier.now c.next.ensures.same.setting (omega (arith, same))
     (λ log d. (c.next.ensures.gives log d).0) c.requires.holds
 
-pub start_order-requires-clause-goes : goal.start_order-requires-clause-goes
-start_order-requires-clause-goes g c =
+pub carry_order-turned-requires-clause-goes : goal.carry_order-turned-requires-clause-goes
+carry_order-turned-requires-clause-goes g c unseen =
     let patience = c.args.tick.patience in
     step_goes c.args.core.now c.next.new.self (g.P.ConnectionProvider.log c.args.carrier.now.provider) c.args.r c.in-Order.number c.in_ok-next.next
     c.in-Order.order
@@ -58,27 +58,34 @@ returns-in-Done-clause-told g c =
 pub returns-in-Order-clause-told : goal.returns-in-Order-clause-told
 returns-in-Order-clause-told g c =
     let b = begun_at c.args.core.now c.args.r in
-    let told = g.P.ConnectionProvider.log c.start_order.new.carrier.provider in
-    subst (λ (held : Setting). IfOk c.start_order.result (TurnedTold (terms_with held) told b))
-    c.next.ensures.same.setting (c.start_order.ensures.told b)
+    let told = g.P.ConnectionProvider.log c.carry_order-turned.new.carrier.provider in
+    subst (λ (held : Setting). IfOk c.carry_order-turned.result (TurnedTold (terms_with held) told b))
+    c.next.ensures.same.setting (c.carry_order-turned.ensures.told b)
 
 pub returns-in-Order-clause-falls : goal.returns-in-Order-clause-falls
 returns-in-Order-clause-falls g c =
     let patience = c.args.tick.patience in
     let falls = subst (λ (s : Step). StepFalls c.args.core.now c.next.new.self s) c.in-Order.is c.in_ok-next.ensures.steps in
-    turn_falls (rank patience c.start_order.new.core) (rank patience c.next.new.self) (rank patience c.args.core.now) c.start_order.result
-    c.start_order.ensures.falls (omega (arith, falls patience))
+    turn_falls (rank patience c.carry_order-turned.new.core) (rank patience c.next.new.self) (rank patience c.args.core.now) c.carry_order-turned.result
+    c.carry_order-turned.ensures.falls (omega (arith, falls patience))
 
-pub returns-in-Waiting-clause-told : goal.returns-in-Waiting-clause-told
-returns-in-Waiting-clause-told g c =
+pub returns-in-Some-clause-told : goal.returns-in-Some-clause-told
+returns-in-Some-clause-told g c =
     let b = begun_at c.args.core.now c.args.r in
     let told = g.P.ConnectionProvider.log c.poll_order.new.carrier.provider in
     subst (λ (held : Setting). IfOk c.poll_order.result (TurnedTold (terms_with held) told b))
     c.next.ensures.same.setting (c.poll_order.ensures.told b)
 
-pub returns-in-Waiting-clause-falls : goal.returns-in-Waiting-clause-falls
-returns-in-Waiting-clause-falls g c =
+pub returns-in-Some-clause-falls : goal.returns-in-Some-clause-falls
+returns-in-Some-clause-falls g c =
     let patience = c.args.tick.patience in
     let falls = subst (λ (s : Step). StepFalls c.args.core.now c.next.new.self s) c.in-Waiting.is c.in_ok-next.ensures.steps in
     turn_falls (rank patience c.poll_order.new.core) (rank patience c.next.new.self) (rank patience c.args.core.now) c.poll_order.result
     c.poll_order.ensures.falls (falls.0 patience)
+
+pub returns-in-None-clause-holds : goal.returns-in-None-clause-holds
+returns-in-None-clause-holds g c =
+    let patience = c.args.tick.patience in
+    let same : c.next.new.self.moment ≡ c.args.core.now.moment = c.next.ensures.same.moment in
+    holds_derived g.P.ConnectionProvider patience c.args.core.now c.next.new.self c.args.carrier.now c.next.ensures.same.setting (omega (arith, same))
+    (λ log d. (c.next.ensures.gives log d).0) c.requires.holds

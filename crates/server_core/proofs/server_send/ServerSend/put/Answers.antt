@@ -33,6 +33,10 @@ pub returns-in-Failed-clause-count : goal.returns-in-Failed-clause-count
 returns-in-Failed-clause-count c =
     same_count _ c.args.self.now.server c.args.table.now c.lose.new.table c.lose.ensures.table
 
+pub returns-in-GaveUp-clause-count : goal.returns-in-GaveUp-clause-count
+returns-in-GaveUp-clause-count c =
+    same_count _ c.args.self.now.server c.args.table.now c.lose-in-GaveUp.new.table c.lose-in-GaveUp.ensures.table
+
 pub returns-clause-count : goal.returns-clause-count
 returns-clause-count c =
-    same_count _ c.args.self.now.server c.args.table.now c.lose-in-GaveUp.new.table c.lose-in-GaveUp.ensures.table
+    same_count _ c.args.self.now.server c.args.table.now c.lose-in-Slept.new.table c.lose-in-Slept.ensures.table
