@@ -14,3 +14,5 @@ pub mod Patience
 mod Keys
 mod Slots
 mod Carried
+pub mod Beside
+pub mod ByAddress

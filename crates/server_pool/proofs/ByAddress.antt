@@ -1,0 +1,221 @@
+-- A run of a lookup by the servers of its pool is one by their addresses.
+use Rattle.std.proofs.Common.{◌≡◌, ℕ, ◌+◌, ◌≤◌, Bool, true, false, not, ◌&&◌, ◌||◌, ◌==◌, List, map, filter, length, refl, ap, sym, subst, ◌∙◌, Option, Some, None, Err}
+use Rattle.std.specs.Prelude.{nat_le}
+use Rattle.std.specs.List.{list_any, last_or, after_first, AllByRecursion}
+use Rattle.dns_core.specs.declared.net_error.NetError.{NetError}
+use Rattle.resolution.specs.Lookups.{Answered, End, Rules, is_turn, is_retryable, is_busy, answer_of, least_bad, class_of_end, turns, the_turn, has_turned, but_turn, retries, none_is_final, is_at, all_were_tried, turn_was_repeated, busy_were_retried, what_is_left, IsDecided, IsSpent, IsLate, PoolRun}
+use Rattle.resolution.specs.Lookups.PoolRun.{decided, spent, late}
+use Rattle.resolution.specs.declared.class.Class.{Class}
+use Rattle.resolution.specs.declared.class.Class.TheVariants.{Truncated}
+use Rattle.server_pool.proofs.Beside.{Beside, BesideOption, beside_parted, beside_length, beside_map, beside_last, beside_any, beside_all, beside_filter, beside_find, beside_after, beside_but, beside_image, beside_and}
+use Rattle.server_pool.proofs.Beside.BesideOption.{neither, both}
+
+-- ---- ends beside ends
+
+module _ {S T : Type 0} (f : S → T) (class class' : Answered → Class) where
+  -- at the image of the server, with an outcome of the same class
+  pub record IsSameEnd (e : End S) (e' : End T) : Type 0 where
+    pub server : e'.server ≡ f e.server
+    pub outcome : class e.outcome ≡ class' e'.outcome
+
+  -- each end is the one beside it
+  abbrev pub SameEnds : List (End S) → List (End T) → Type 0
+  SameEnds ends ends' = Beside IsSameEnd ends ends'
+
+-- ---- what a run is made of
+
+module _ {S T : Type 0} (rules : Rules S) (rules' : Rules T) (class class' : Answered → Class) (f : S → T) (P : S → Type 0)
+    (same : (a b : S) → P a → P b → rules.same a b ≡ rules'.same (f a) (f b))
+    (trusts : (a : S) → P a → rules.trusts a ≡ rules'.trusts (f a))
+    (beyond_udp : (a : S) → P a → rules.beyond_udp a ≡ rules'.beyond_udp (f a))
+    (timeout : rules.timeout ≡ rules'.timeout) where
+  -- a server and its image, and an end and the one beside it, at servers that are known
+  abbrev Image : S → T → Type 0
+  Image s t = (t ≡ f s) × P s
+
+  abbrev Both : End S → End T → Type 0
+  Both e e' = IsSameEnd f class class' e e' × P e.server
+
+  -- the tests agree
+  same_turns : (e : End S) (e' : End T) → Both e e' → turns rules class e ≡ turns rules' class' e'
+  same_turns e e' b = ap is_turn b.0.outcome
+
+  same_retries : (e : End S) (e' : End T) → Both e e' → retries rules class e ≡ retries rules' class' e'
+  same_retries e e' b =
+      ap (λ (t : Bool). is_retryable t (class e.outcome)) (trusts e.server b.1 ∙ ap rules'.trusts (sym b.0.server))
+      ∙ ap (is_retryable (rules'.trusts e'.server)) b.0.outcome
+
+  same_beyond : (s : S) (t : T) → Image s t → rules.beyond_udp s ≡ rules'.beyond_udp t
+  same_beyond s t i = beyond_udp s i.1 ∙ ap rules'.beyond_udp (sym i.0)
+
+  same_at : (s : S) (t : T) → Image s t → (e : End S) (e' : End T) → Both e e' → is_at rules class s e ≡ is_at rules' class' t e'
+  same_at s t i e e' b =
+      same s e.server i.1 b.1
+      ∙ ap (λ (x : T). rules'.same x (f e.server)) (sym i.0)
+      ∙ ap (rules'.same t) (sym b.0.server)
+
+  -- the image of the server of an end
+  image_of : (e : End S) (e' : End T) → Both e e' → Image e.server e'.server
+  image_of e e' b = (b.0.server, b.1)
+
+  module _ {ends : List (End S)} {ends' : List (End T)} (beside : Beside Both ends ends') where
+    same_turned : has_turned rules class ends ≡ has_turned rules' class' ends'
+    same_turned = beside_any Both (turns rules class) (turns rules' class') same_turns beside
+
+    but_beside : Beside Both (but_turn rules class ends) (but_turn rules' class' ends')
+    but_beside = beside_but Both (turns rules class) (turns rules' class') same_turns beside
+
+    after_beside : Beside Both (after_first (turns rules class) ends) (after_first (turns rules' class') ends')
+    after_beside = beside_after Both (turns rules class) (turns rules' class') same_turns beside
+
+    turn_beside : BesideOption Both (the_turn rules class ends) (the_turn rules' class' ends')
+    turn_beside = beside_find Both (turns rules class) (turns rules' class') same_turns beside
+
+    pub same_final : none_is_final rules class ends ≡ none_is_final rules' class' ends'
+    same_final = beside_all Both (retries rules class) (retries rules' class') same_retries but_beside
+
+    -- the policy allows it no more
+    same_refused : (s : S) (t : T) → Image s t → (has_turned rules class ends && not (rules.beyond_udp s)) ≡ (has_turned rules' class' ends' && not (rules'.beyond_udp t))
+    same_refused s t i =
+        ap (λ (b : Bool). b && not (rules.beyond_udp s)) same_turned
+        ∙ ap (λ (b : Bool). has_turned rules' class' ends' && not b) (same_beyond s t i)
+
+    was_tried : (s : S) (t : T) → Image s t
+        → ((has_turned rules class ends && not (rules.beyond_udp s)) || list_any (is_at rules class s) (but_turn rules class ends))
+        ≡ ((has_turned rules' class' ends' && not (rules'.beyond_udp t)) || list_any (is_at rules' class' t) (but_turn rules' class' ends'))
+    was_tried s t i =
+        ap (λ (b : Bool). b || list_any (is_at rules class s) (but_turn rules class ends)) (same_refused s t i)
+        ∙ ap (λ (b : Bool). (has_turned rules' class' ends' && not (rules'.beyond_udp t)) || b)
+        (beside_any Both (is_at rules class s) (is_at rules' class' t) (same_at s t i) but_beside)
+
+    pub same_tried : {pool : List S} {pool' : List T} → Beside Image pool pool' → all_were_tried rules class pool ends ≡ all_were_tried rules' class' pool' ends'
+    same_tried p = beside_all Image (λ s. (has_turned rules class ends && not (rules.beyond_udp s)) || list_any (is_at rules class s) (but_turn rules class ends))
+        (λ t. (has_turned rules' class' ends' && not (rules'.beyond_udp t)) || list_any (is_at rules' class' t) (but_turn rules' class' ends')) was_tried p
+
+    -- the server of the turn was asked again
+    abbrev repeated_of : Option (End S) → Bool
+    repeated_of o = elim o [ None ↦ true | Some e ↦ not (rules.beyond_udp e.server) || list_any (is_at rules class e.server) (after_first (turns rules class) ends) ]
+
+    abbrev repeated_of' : Option (End T) → Bool
+    repeated_of' o = elim o [ None ↦ true | Some e ↦ not (rules'.beyond_udp e.server) || list_any (is_at rules' class' e.server) (after_first (turns rules' class') ends') ]
+
+    repeated_beside : {o : Option (End S)} {o' : Option (End T)} → BesideOption Both o o' → repeated_of o ≡ repeated_of' o'
+    repeated_beside neither = refl
+    repeated_beside (both {x = e} {y = e'} b) =
+        ap (λ (t : Bool). not t || list_any (is_at rules class e.server) (after_first (turns rules class) ends)) (same_beyond e.server e'.server (image_of e e' b))
+        ∙ ap (λ (t : Bool). not (rules'.beyond_udp e'.server) || t)
+        (beside_any Both (is_at rules class e.server) (is_at rules' class' e'.server) (same_at e.server e'.server (image_of e e' b)) after_beside)
+
+    pub same_repeated : turn_was_repeated rules class ends ≡ turn_was_repeated rules' class' ends'
+    same_repeated = repeated_beside turn_beside
+
+    -- the last end of a server was not that it is busy, or it was asked so often
+    abbrev retried_of : ℕ → Option (End S) → Bool
+    retried_of n o = elim o [ None ↦ true | Some e ↦ not (is_busy (class_of_end rules class e)) || nat_le 5 n ]
+
+    abbrev retried_of' : ℕ → Option (End T) → Bool
+    retried_of' n o = elim o [ None ↦ true | Some e ↦ not (is_busy (class_of_end rules' class' e)) || nat_le 5 n ]
+
+    retried_beside : (n : ℕ) {o : Option (End S)} {o' : Option (End T)} → BesideOption Both o o' → retried_of n o ≡ retried_of' n o'
+    retried_beside n neither = refl
+    retried_beside n (both b) = ap (λ (c : Class). not (is_busy c) || nat_le 5 n) b.0.outcome
+
+    own_beside : (s : S) (t : T) → Image s t → Beside Both (filter (is_at rules class s) (but_turn rules class ends)) (filter (is_at rules' class' t) (but_turn rules' class' ends'))
+    own_beside s t i = beside_filter Both (is_at rules class s) (is_at rules' class' t) (same_at s t i) but_beside
+
+    was_retried : (s : S) (t : T) → Image s t
+        → retried_of (length (filter (is_at rules class s) (but_turn rules class ends))) (last_or None (filter (is_at rules class s) (but_turn rules class ends)))
+        ≡ retried_of' (length (filter (is_at rules' class' t) (but_turn rules' class' ends'))) (last_or None (filter (is_at rules' class' t) (but_turn rules' class' ends')))
+    was_retried s t i =
+        retried_beside (length (filter (is_at rules class s) (but_turn rules class ends))) (beside_last Both (own_beside s t i) neither)
+        ∙ ap (λ (n : ℕ). retried_of' n (last_or None (filter (is_at rules' class' t) (but_turn rules' class' ends')))) (beside_length Both (own_beside s t i))
+
+    pub same_retried : {pool : List S} {pool' : List T} → Beside Image pool pool' → busy_were_retried rules class pool ends ≡ busy_were_retried rules' class' pool' ends'
+    same_retried p = beside_all Image
+        (λ s. (has_turned rules class ends && not (rules.beyond_udp s))
+        || retried_of (length (filter (is_at rules class s) (but_turn rules class ends))) (last_or None (filter (is_at rules class s) (but_turn rules class ends))))
+        (λ t. (has_turned rules' class' ends' && not (rules'.beyond_udp t))
+        || retried_of' (length (filter (is_at rules' class' t) (but_turn rules' class' ends'))) (last_or None (filter (is_at rules' class' t) (but_turn rules' class' ends'))))
+        (λ s t i.
+        ap (λ (b : Bool). b || retried_of (length (filter (is_at rules class s) (but_turn rules class ends))) (last_or None (filter (is_at rules class s) (but_turn rules class ends)))) (same_refused s t i)
+        ∙ ap (λ (b : Bool). (has_turned rules' class' ends' && not (rules'.beyond_udp t)) || b) (was_retried s t i)) p
+
+    -- what ends of these classes leave, after a turn of a class
+    abbrev class_left : List Class → List Class → Class → NetError
+    class_left after but c = elim c [ Truncated ↦ least_bad true after | _ ↦ least_bad false but ]
+
+    classes_beside : {es : List (End S)} {es' : List (End T)} → Beside Both es es' → map (class_of_end rules class) es ≡ map (class_of_end rules' class') es'
+    classes_beside b = beside_map Both (class_of_end rules class) (class_of_end rules' class') (λ e e' h. h.0.outcome) b
+
+    abbrev left_of : Option (End S) → NetError
+    left_of o = elim o [
+      | None ↦ least_bad false (map (class_of_end rules class) ends)
+      | Some e ↦ class_left (map (class_of_end rules class) (after_first (turns rules class) ends)) (map (class_of_end rules class) (but_turn rules class ends)) (class_of_end rules class e)
+    ]
+
+    abbrev left_of' : Option (End T) → NetError
+    left_of' o = elim o [
+      | None ↦ least_bad false (map (class_of_end rules' class') ends')
+      | Some e ↦ class_left (map (class_of_end rules' class') (after_first (turns rules' class') ends')) (map (class_of_end rules' class') (but_turn rules' class' ends')) (class_of_end rules' class' e)
+    ]
+
+    left_beside : {o : Option (End S)} {o' : Option (End T)} → BesideOption Both o o' → left_of o ≡ left_of' o'
+    left_beside neither = ap (least_bad false) (classes_beside beside)
+    left_beside (both {x = e} {y = e'} b) =
+        ap (λ (cs : List Class). class_left cs (map (class_of_end rules class) (but_turn rules class ends)) (class_of_end rules class e)) (classes_beside after_beside)
+        ∙ ap (λ (cs : List Class). class_left (map (class_of_end rules' class') (after_first (turns rules' class') ends')) cs (class_of_end rules class e)) (classes_beside but_beside)
+        ∙ ap (class_left (map (class_of_end rules' class') (after_first (turns rules' class') ends')) (map (class_of_end rules' class') (but_turn rules' class' ends'))) b.0.outcome
+
+    pub same_left : what_is_left rules class ends ≡ what_is_left rules' class' ends'
+    same_left = left_beside turn_beside
+
+  -- ---- the three ways in which a lookup ends
+
+  is_decided : {ends : List (End S)} {ends' : List (End T)} {result : Answered} → Beside Both ends ends' → IsDecided rules class ends result → IsDecided rules' class' ends' result
+  is_decided {ends' = ends'} beside d =
+      let parted = beside_parted Both d.earlier d.last (subst (λ (l : List (End S)). Beside Both l ends') d.whole beside) in
+      record {
+        earlier = parted.earlier;
+        last = parted.last;
+        whole = parted.whole;
+        before = sym (same_final parted.before) ∙ d.before;
+        final =
+            sym (ap (λ (b : Bool). not b && (not (turns rules class d.last) || has_turned rules class d.earlier)) (same_retries d.last parted.last parted.at_last)
+            ∙ ap (λ (b : Bool). not (retries rules' class' parted.last) && (not b || has_turned rules class d.earlier)) (same_turns d.last parted.last parted.at_last)
+            ∙ ap (λ (b : Bool). not (retries rules' class' parted.last) && (not (turns rules' class' parted.last) || b)) (same_turned parted.before))
+            ∙ d.final;
+        answers = d.answers ∙ ap answer_of parted.at_last.0.outcome;
+      }
+
+  is_spent : {pool : List S} {pool' : List T} {ends : List (End S)} {ends' : List (End T)} {result : Answered}
+      → Beside Image pool pool' → Beside Both ends ends' → IsSpent rules class pool ends result → IsSpent rules' class' pool' ends' result
+  is_spent servers beside s = record {
+    none = sym (same_final beside) ∙ s.none;
+    tried = sym (same_tried beside servers) ∙ s.tried;
+    again = sym (same_repeated beside) ∙ s.again;
+    busy = sym (same_retried beside servers) ∙ s.busy;
+    answers = s.answers ∙ ap Err (same_left beside);
+  }
+
+  is_late : {ends : List (End S)} {ends' : List (End T)} {result : Answered} {start now : ℕ} → Beside Both ends ends' → IsLate rules class ends result start now → IsLate rules' class' ends' result start now
+  is_late {ends' = ends'} {start = start} {now = now} beside l = record {
+    none = sym (same_final beside) ∙ l.none;
+    answers = l.answers;
+    reached = subst (λ (n : ℕ). start + n ≤ now) timeout l.reached;
+    some =
+        sym (ap (λ (n : ℕ). not (n == 0) || rules.timeout == 0) (beside_length Both beside)
+        ∙ ap (λ (n : ℕ). not (length ends' == 0) || n == 0) timeout)
+        ∙ l.some;
+  }
+
+  run_beside : {pool : List S} {pool' : List T} {ends : List (End S)} {ends' : List (End T)} {result : Answered} {start now : ℕ}
+      → Beside Image pool pool' → Beside Both ends ends' → PoolRun rules class pool ends result start now → PoolRun rules' class' pool' ends' result start now
+  run_beside servers beside (decided d) = decided (is_decided beside d)
+  run_beside servers beside (spent s) = spent (is_spent servers beside s)
+  run_beside servers beside (late l) = late (is_late beside l)
+
+  -- A run over servers that are known is one over their images.
+  pub run_of_images : (pool : List S) {ends : List (End S)} {ends' : List (End T)} {result : Answered} {start now : ℕ}
+      → AllByRecursion P pool → AllByRecursion (λ e. P e.server) ends → SameEnds f class class' ends ends'
+      → PoolRun rules class pool ends result start now → PoolRun rules' class' (map f pool) ends' result start now
+  run_of_images pool known at ends run = run_beside (beside_image f P pool known) (beside_and (IsSameEnd f class class') (λ e. P e.server) ends at) run
