@@ -1,12 +1,19 @@
 -- A run of a lookup by the servers of its pool is one by their addresses.
-use Rattle.std.proofs.Common.{◌≡◌, ℕ, ◌+◌, ◌≤◌, Bool, true, false, not, ◌&&◌, ◌||◌, ◌==◌, List, map, filter, length, refl, ap, sym, subst, ◌∙◌, Option, Some, None, Err}
-use Rattle.std.specs.Prelude.{nat_le}
+use Rattle.std.proofs.Common.{◌≡◌, ℕ, ◌+◌, ◌≤◌, Bool, true, false, not, ◌&&◌, ◌||◌, ◌==◌, List, [], ◌∷◌, map, filter, length, refl, ap, sym, subst, ◌∙◌, Option, Some, None, Err, inl, inr, eqb-true, eq-eqb}
+use Rattle.std.specs.Prelude.{nat_le, Contains}
+use Rattle.std.specs.Bool.{beq}
+use Rattle.std.specs.declared.net.ip_addr.IpAddr.{IpAddr}
 use Rattle.std.specs.List.{list_any, last_or, after_first, AllByRecursion}
 use Rattle.dns_core.specs.declared.net_error.NetError.{NetError}
+use Rattle.resolution.specs.Ending.{same_ip, by_address}
 use Rattle.resolution.specs.Lookups.{Answered, End, Rules, is_turn, is_retryable, is_busy, answer_of, least_bad, class_of_end, turns, the_turn, has_turned, but_turn, retries, none_is_final, is_at, all_were_tried, turn_was_repeated, busy_were_retried, what_is_left, IsDecided, IsSpent, IsLate, PoolRun}
 use Rattle.resolution.specs.Lookups.PoolRun.{decided, spent, late}
 use Rattle.resolution.specs.declared.class.Class.{Class}
 use Rattle.resolution.specs.declared.class.Class.TheVariants.{Truncated}
+use Rattle.resolution.proofs.Members.{Has, Has-from_Contains, Contains-from_Has}
+use Rattle.resolution.proofs.PlainServed.{same_ip-true, same_ip-itself}
+use Rattle.server_pool.specs.Agenda.{rules_of}
+use Rattle.server_pool.specs.declared.candidate.Candidate.{Candidate}
 use Rattle.server_pool.proofs.Beside.{Beside, BesideOption, beside_parted, beside_length, beside_map, beside_last, beside_any, beside_all, beside_filter, beside_find, beside_after, beside_but, beside_image, beside_and}
 use Rattle.server_pool.proofs.Beside.BesideOption.{neither, both}
 
@@ -219,3 +226,66 @@ module _ {S T : Type 0} (rules : Rules S) (rules' : Rules T) (class class' : Ans
       → AllByRecursion P pool → AllByRecursion (λ e. P e.server) ends → SameEnds f class class' ends ends'
       → PoolRun rules class pool ends result start now → PoolRun rules' class' (map f pool) ends' result start now
   run_of_images pool known at ends run = run_beside (beside_image f P pool known) (beside_and (IsSameEnd f class class') (λ e. P e.server) ends at) run
+
+-- ---- candidates and their addresses
+
+all_each : {X : Type 0} (P : X → Type 0) (xs : List X) → ((x : X) → Has xs x → P x) → AllByRecursion P xs
+all_each P [] f = tt
+all_each P (x ∷ xs) f = (f x (inl refl), all_each P xs (λ y h. f y (inr h)))
+
+each_of : {X : Type 0} (P : X → Type 0) (xs : List X) → AllByRecursion P xs → (x : X) → Has xs x → P x
+each_of P [] a x h = elim h [ ]
+each_of P (y ∷ ys) a x (inl e) = subst P e a.0
+each_of P (y ∷ ys) a x (inr h) = each_of P ys a.1 x h
+
+all_map : {X : Type 0} (P Q : X → Type 0) → ((x : X) → P x → Q x) → (xs : List X) → AllByRecursion P xs → AllByRecursion Q xs
+all_map P Q f [] a = tt
+all_map P Q f (x ∷ xs) a = (f x a.0, all_map P Q f xs a.1)
+
+-- reached over another protocol than UDP too, with negatives that are trusted
+pub record IsTrustedBeyondUdp (c : Candidate) : Type 0 where
+  pub beyond_udp : c.beyond_udp ≡ true
+  pub trusted : c.trusted ≡ true
+
+-- two servers of the pool at one address are one
+abbrev pub IsOneEach : (ℕ → IpAddr) → List Candidate → Type 0
+IsOneEach ip_of pool = (a b : Candidate) → Contains pool a → Contains pool b → ip_of a.server ≡ ip_of b.server → a.server ≡ b.server
+
+-- the address of a candidate
+abbrev pub at_address : (ℕ → IpAddr) → Candidate → IpAddr
+at_address ip_of c = ip_of c.server
+
+module _ (timeout : ℕ) (ip_of : ℕ → IpAddr) (pool : List Candidate) where
+  -- a candidate of the pool
+  abbrev Known : Candidate → Type 0
+  Known c = IsTrustedBeyondUdp c × Contains pool c
+
+  by_number : (n : Bool) (a b : Candidate) → IsTrustedBeyondUdp a → IsTrustedBeyondUdp b → (n && (beq a.beyond_udp b.beyond_udp && beq a.trusted b.trusted)) ≡ n
+  by_number false a b g h = refl
+  by_number true a b g h = rw (g.beyond_udp, g.trusted, h.beyond_udp, h.trusted) refl
+
+  number_is_address : (a b : Candidate) → IsOneEach ip_of pool → Contains pool a → Contains pool b → (a.server == b.server) ≡ same_ip (ip_of a.server) (ip_of b.server)
+  number_is_address a b one g h = either (a.server == b.server) (same_ip (ip_of a.server) (ip_of b.server)) refl refl
+    where
+      either : (n i : Bool) → (a.server == b.server) ≡ n → same_ip (ip_of a.server) (ip_of b.server) ≡ i → n ≡ i
+      either true true e k = refl
+      either false false e k = refl
+      either true false e k =
+          let n : a.server ≡ b.server = eqb-true a.server b.server e in
+          sym (same_ip-itself (ip_of a.server)) ∙ ap (λ (x : ℕ). same_ip (ip_of a.server) (ip_of x)) n ∙ k
+      either false true e k =
+          sym e ∙ eq-eqb a.server b.server (one a b g h (same_ip-true (ip_of a.server) (ip_of b.server) k))
+
+  known : AllByRecursion IsTrustedBeyondUdp pool → (c : Candidate) → Contains pool c → Known c
+  known plain c h = (each_of IsTrustedBeyondUdp pool plain c (Has-from_Contains pool c h), h)
+
+  -- A run over a pool of such candidates is one over their addresses.
+  pub run_by_address : (class class' : Answered → Class) {ends : List (End Candidate)} {ends' : List (End IpAddr)} {result : Answered} {start now : ℕ}
+      → AllByRecursion IsTrustedBeyondUdp pool → IsOneEach ip_of pool → AllByRecursion (λ e. Contains pool e.server) ends
+      → SameEnds (at_address ip_of) class class' ends ends'
+      → PoolRun (rules_of timeout) class pool ends result start now → PoolRun (by_address timeout) class' (map (at_address ip_of) pool) ends' result start now
+  run_by_address class class' plain one at beside run =
+      run_of_images (rules_of timeout) (by_address timeout) class class' (at_address ip_of) Known
+      (λ a b g h. by_number (a.server == b.server) a b g.0 h.0 ∙ number_is_address a b one g.1 h.1)
+      (λ a g. g.0.trusted) (λ a g. g.0.beyond_udp) refl
+      pool (all_each Known pool (λ c h. known plain c (Contains-from_Has pool c h))) (all_map (λ e. Contains pool e.server) (λ e. Known e.server) (λ e h. known plain e.server h) _ at) beside run
