@@ -1,18 +1,28 @@
 -- A run of a lookup by the servers of its pool is one by their addresses.
-use Rattle.std.proofs.Common.{◌≡◌, ℕ, ◌+◌, ◌≤◌, Bool, true, false, not, ◌&&◌, ◌||◌, ◌==◌, List, [], ◌∷◌, map, filter, length, refl, ap, sym, subst, ◌∙◌, Option, Some, None, Err, inl, inr, eqb-true, eq-eqb}
-use Rattle.std.specs.Prelude.{nat_le, Contains}
+use Rattle.std.proofs.Common.{◌≡◌, ℕ, ◌+◌, ◌≤◌, Bool, true, false, not, ◌&&◌, ◌||◌, ◌==◌, List, [], ◌∷◌, map, filter, length, refl, ap, sym, subst, ◌∙◌, Option, Some, None, Ok, Err, inl, inr, eqb-true, eq-eqb}
+use Rattle.std.specs.Prelude.{nat_le, Result, Contains}
 use Rattle.std.specs.Bool.{beq}
 use Rattle.std.specs.declared.net.ip_addr.IpAddr.{IpAddr}
 use Rattle.std.specs.List.{list_any, last_or, after_first, AllByRecursion}
+use Rattle.dns_core.specs.Classifying.{classify_of}
+use Rattle.dns_core.specs.declared.message.Query.{Query}
+use Rattle.dns_core.specs.declared.message.Message.{Message}
 use Rattle.dns_core.specs.declared.net_error.NetError.{NetError}
+use Rattle.dns_core.specs.declared.net_error.DnsError.{DnsError}
+use Rattle.dns_core.specs.declared.net_error.DnsError.TheVariants as dns
+use Rattle.resolution.specs.Names.{same_query}
+use Rattle.resolution.specs.Class.{class_of_classified}
 use Rattle.resolution.specs.Ending.{same_ip, by_address}
-use Rattle.resolution.specs.Lookups.{Answered, End, Rules, is_turn, is_retryable, is_busy, answer_of, least_bad, class_of_end, turns, the_turn, has_turned, but_turn, retries, none_is_final, is_at, all_were_tried, turn_was_repeated, busy_were_retried, what_is_left, IsDecided, IsSpent, IsLate, PoolRun}
+use Rattle.resolution.specs.Lookups.{Answered, class_of_answer, End, Rules, is_turn, is_retryable, is_busy, answer_of, least_bad, class_of_end, turns, the_turn, has_turned, but_turn, retries, none_is_final, is_at, all_were_tried, turn_was_repeated, busy_were_retried, what_is_left, IsDecided, IsSpent, IsLate, PoolRun}
 use Rattle.resolution.specs.Lookups.PoolRun.{decided, spent, late}
 use Rattle.resolution.specs.declared.class.Class.{Class}
 use Rattle.resolution.specs.declared.class.Class.TheVariants.{Truncated}
 use Rattle.resolution.proofs.Members.{Has, Has-from_Contains, Contains-from_Has}
 use Rattle.resolution.proofs.PlainServed.{same_ip-true, same_ip-itself}
-use Rattle.server_pool.specs.Agenda.{rules_of}
+use Rattle.resolution.proofs.Classified.{class_of_message-itself}
+use Rattle.resolution.proofs.Caseless.{class_of_message-same, classified-same}
+use Rattle.server_core.specs.Sending.{result_of}
+use Rattle.server_pool.specs.Agenda.{rules_of, class_of_sent, end_at}
 use Rattle.server_pool.specs.declared.candidate.Candidate.{Candidate}
 use Rattle.server_pool.proofs.Beside.{Beside, BesideOption, beside_parted, beside_length, beside_map, beside_last, beside_any, beside_all, beside_filter, beside_find, beside_after, beside_but, beside_image, beside_and}
 use Rattle.server_pool.proofs.Beside.BesideOption.{neither, both}
@@ -289,3 +299,32 @@ module _ (timeout : ℕ) (ip_of : ℕ → IpAddr) (pool : List Candidate) where
       (λ a b g h. by_number (a.server == b.server) a b g.0 h.0 ∙ number_is_address a b one g.1 h.1)
       (λ a g. g.0.trusted) (λ a g. g.0.beyond_udp) refl
       pool (all_each Known pool (λ c h. known plain c (Contains-from_Has pool c h))) (all_map (λ e. Contains pool e.server) (λ e. Known e.server) (λ e h. known plain e.server h) _ at) beside run
+
+-- ---- what a send ended with, and what was told
+
+-- a classified response, as a send ends with it
+class_of_result : (q : Query) (r : Result Message DnsError) → class_of_sent q (result_of r) ≡ class_of_classified q r
+class_of_result q (Ok m) = refl
+class_of_result q (Err (dns.NoRecordsFound found)) = refl
+class_of_result q (Err (dns.ResponseCode code)) = refl
+
+-- A send that ended by a message for its question, in any case, has the class of the message.
+pub told_class : (q : Query) (m : Message) → same_query m.query q ≡ true → class_of_sent q (result_of (classify_of m)) ≡ class_of_answer q (Ok m)
+told_class q m same =
+    class_of_result q (classify_of m)
+    ∙ sym (classified-same m.query q same (classify_of m))
+    ∙ sym (class_of_message-itself m)
+    ∙ class_of_message-same m.query q same m
+
+-- One that ended by an error has the class of the error.
+pub failed_class : (q : Query) (e : NetError) → class_of_sent q (Err e) ≡ class_of_answer q (Err e)
+failed_class q e = refl
+
+-- the end of a send by a message or by an error, and the end at the server's address
+pub told_end : (ip_of : ℕ → IpAddr) (q : Query) (c : Candidate) (m : Message) → same_query m.query q ≡ true
+    → IsSameEnd (at_address ip_of) (class_of_sent q) (class_of_answer q) (end_at c (result_of (classify_of m))) (record { server = ip_of c.server; outcome = Ok m })
+told_end ip_of q c m same = record { server = refl; outcome = told_class q m same }
+
+pub failed_end : (ip_of : ℕ → IpAddr) (q : Query) (c : Candidate) (e : NetError)
+    → IsSameEnd (at_address ip_of) (class_of_sent q) (class_of_answer q) (end_at c (Err e)) (record { server = ip_of c.server; outcome = Err e })
+failed_end ip_of q c e = record { server = refl; outcome = refl }
