@@ -16,3 +16,4 @@ mod Slots
 mod Carried
 pub mod Beside
 pub mod ByAddress
+pub mod FromPool
