@@ -42,7 +42,6 @@ module _ {S T : Type 0} (f : S → T) (class class' : Answered → Class) where
 -- ---- what a run is made of
 
 module _ {S T : Type 0} (rules : Rules S) (rules' : Rules T) (class class' : Answered → Class) (f : S → T) (P : S → Type 0)
-    (same : (a b : S) → P a → P b → rules.same a b ≡ rules'.same (f a) (f b))
     (trusts : (a : S) → P a → rules.trusts a ≡ rules'.trusts (f a))
     (beyond_udp : (a : S) → P a → rules.beyond_udp a ≡ rules'.beyond_udp (f a))
     (timeout : rules.timeout ≡ rules'.timeout) where
@@ -65,15 +64,41 @@ module _ {S T : Type 0} (rules : Rules S) (rules' : Rules T) (class class' : Ans
   same_beyond : (s : S) (t : T) → Image s t → rules.beyond_udp s ≡ rules'.beyond_udp t
   same_beyond s t i = beyond_udp s i.1 ∙ ap rules'.beyond_udp (sym i.0)
 
-  same_at : (s : S) (t : T) → Image s t → (e : End S) (e' : End T) → Both e e' → is_at rules class s e ≡ is_at rules' class' t e'
-  same_at s t i e e' b =
-      same s e.server i.1 b.1
-      ∙ ap (λ (x : T). rules'.same x (f e.server)) (sym i.0)
-      ∙ ap (rules'.same t) (sym b.0.server)
-
   -- the image of the server of an end
   image_of : (e : End S) (e' : End T) → Both e e' → Image e.server e'.server
   image_of e e' b = (b.0.server, b.1)
+
+  -- the ends of a server but the turn
+  abbrev own : S → List (End S) → List (End S)
+  own s ends = filter (is_at rules class s) (but_turn rules class ends)
+
+  abbrev own' : T → List (End T) → List (End T)
+  own' t ends = filter (is_at rules' class' t) (but_turn rules' class' ends)
+
+  -- the policy allows the server no more
+  abbrev refuses : List (End S) → S → Bool
+  refuses ends s = has_turned rules class ends && not (rules.beyond_udp s)
+
+  abbrev refuses' : List (End T) → T → Bool
+  refuses' ends t = has_turned rules' class' ends && not (rules'.beyond_udp t)
+
+  -- the server of the turn was asked again
+  abbrev repeated_of : List (End S) → Option (End S) → Bool
+  repeated_of after o = elim o [ None ↦ true | Some e ↦ not (rules.beyond_udp e.server) || list_any (is_at rules class e.server) after ]
+
+  abbrev repeated_of' : List (End T) → Option (End T) → Bool
+  repeated_of' after o = elim o [ None ↦ true | Some e ↦ not (rules'.beyond_udp e.server) || list_any (is_at rules' class' e.server) after ]
+
+  -- the last end of a server was not that it is busy, or it was asked so often
+  abbrev retried_of : ℕ → Option (End S) → Bool
+  retried_of n o = elim o [ None ↦ true | Some e ↦ not (is_busy (class_of_end rules class e)) || nat_le 5 n ]
+
+  abbrev retried_of' : ℕ → Option (End T) → Bool
+  retried_of' n o = elim o [ None ↦ true | Some e ↦ not (is_busy (class_of_end rules' class' e)) || nat_le 5 n ]
+
+  -- what ends of these classes leave, after a turn of a class
+  abbrev class_left : List Class → List Class → Class → NetError
+  class_left after but c = elim c [ Truncated ↦ least_bad true after | _ ↦ least_bad false but ]
 
   module _ {ends : List (End S)} {ends' : List (End T)} (beside : Beside Both ends ends') where
     same_turned : has_turned rules class ends ≡ has_turned rules' class' ends'
@@ -88,78 +113,13 @@ module _ {S T : Type 0} (rules : Rules S) (rules' : Rules T) (class class' : Ans
     turn_beside : BesideOption Both (the_turn rules class ends) (the_turn rules' class' ends')
     turn_beside = beside_find Both (turns rules class) (turns rules' class') same_turns beside
 
-    pub same_final : none_is_final rules class ends ≡ none_is_final rules' class' ends'
+    same_final : none_is_final rules class ends ≡ none_is_final rules' class' ends'
     same_final = beside_all Both (retries rules class) (retries rules' class') same_retries but_beside
 
-    -- the policy allows it no more
-    same_refused : (s : S) (t : T) → Image s t → (has_turned rules class ends && not (rules.beyond_udp s)) ≡ (has_turned rules' class' ends' && not (rules'.beyond_udp t))
+    same_refused : (s : S) (t : T) → Image s t → refuses ends s ≡ refuses' ends' t
     same_refused s t i =
         ap (λ (b : Bool). b && not (rules.beyond_udp s)) same_turned
         ∙ ap (λ (b : Bool). has_turned rules' class' ends' && not b) (same_beyond s t i)
-
-    was_tried : (s : S) (t : T) → Image s t
-        → ((has_turned rules class ends && not (rules.beyond_udp s)) || list_any (is_at rules class s) (but_turn rules class ends))
-        ≡ ((has_turned rules' class' ends' && not (rules'.beyond_udp t)) || list_any (is_at rules' class' t) (but_turn rules' class' ends'))
-    was_tried s t i =
-        ap (λ (b : Bool). b || list_any (is_at rules class s) (but_turn rules class ends)) (same_refused s t i)
-        ∙ ap (λ (b : Bool). (has_turned rules' class' ends' && not (rules'.beyond_udp t)) || b)
-        (beside_any Both (is_at rules class s) (is_at rules' class' t) (same_at s t i) but_beside)
-
-    pub same_tried : {pool : List S} {pool' : List T} → Beside Image pool pool' → all_were_tried rules class pool ends ≡ all_were_tried rules' class' pool' ends'
-    same_tried p = beside_all Image (λ s. (has_turned rules class ends && not (rules.beyond_udp s)) || list_any (is_at rules class s) (but_turn rules class ends))
-        (λ t. (has_turned rules' class' ends' && not (rules'.beyond_udp t)) || list_any (is_at rules' class' t) (but_turn rules' class' ends')) was_tried p
-
-    -- the server of the turn was asked again
-    abbrev repeated_of : Option (End S) → Bool
-    repeated_of o = elim o [ None ↦ true | Some e ↦ not (rules.beyond_udp e.server) || list_any (is_at rules class e.server) (after_first (turns rules class) ends) ]
-
-    abbrev repeated_of' : Option (End T) → Bool
-    repeated_of' o = elim o [ None ↦ true | Some e ↦ not (rules'.beyond_udp e.server) || list_any (is_at rules' class' e.server) (after_first (turns rules' class') ends') ]
-
-    repeated_beside : {o : Option (End S)} {o' : Option (End T)} → BesideOption Both o o' → repeated_of o ≡ repeated_of' o'
-    repeated_beside neither = refl
-    repeated_beside (both {x = e} {y = e'} b) =
-        ap (λ (t : Bool). not t || list_any (is_at rules class e.server) (after_first (turns rules class) ends)) (same_beyond e.server e'.server (image_of e e' b))
-        ∙ ap (λ (t : Bool). not (rules'.beyond_udp e'.server) || t)
-        (beside_any Both (is_at rules class e.server) (is_at rules' class' e'.server) (same_at e.server e'.server (image_of e e' b)) after_beside)
-
-    pub same_repeated : turn_was_repeated rules class ends ≡ turn_was_repeated rules' class' ends'
-    same_repeated = repeated_beside turn_beside
-
-    -- the last end of a server was not that it is busy, or it was asked so often
-    abbrev retried_of : ℕ → Option (End S) → Bool
-    retried_of n o = elim o [ None ↦ true | Some e ↦ not (is_busy (class_of_end rules class e)) || nat_le 5 n ]
-
-    abbrev retried_of' : ℕ → Option (End T) → Bool
-    retried_of' n o = elim o [ None ↦ true | Some e ↦ not (is_busy (class_of_end rules' class' e)) || nat_le 5 n ]
-
-    retried_beside : (n : ℕ) {o : Option (End S)} {o' : Option (End T)} → BesideOption Both o o' → retried_of n o ≡ retried_of' n o'
-    retried_beside n neither = refl
-    retried_beside n (both b) = ap (λ (c : Class). not (is_busy c) || nat_le 5 n) b.0.outcome
-
-    own_beside : (s : S) (t : T) → Image s t → Beside Both (filter (is_at rules class s) (but_turn rules class ends)) (filter (is_at rules' class' t) (but_turn rules' class' ends'))
-    own_beside s t i = beside_filter Both (is_at rules class s) (is_at rules' class' t) (same_at s t i) but_beside
-
-    was_retried : (s : S) (t : T) → Image s t
-        → retried_of (length (filter (is_at rules class s) (but_turn rules class ends))) (last_or None (filter (is_at rules class s) (but_turn rules class ends)))
-        ≡ retried_of' (length (filter (is_at rules' class' t) (but_turn rules' class' ends'))) (last_or None (filter (is_at rules' class' t) (but_turn rules' class' ends')))
-    was_retried s t i =
-        retried_beside (length (filter (is_at rules class s) (but_turn rules class ends))) (beside_last Both (own_beside s t i) neither)
-        ∙ ap (λ (n : ℕ). retried_of' n (last_or None (filter (is_at rules' class' t) (but_turn rules' class' ends')))) (beside_length Both (own_beside s t i))
-
-    pub same_retried : {pool : List S} {pool' : List T} → Beside Image pool pool' → busy_were_retried rules class pool ends ≡ busy_were_retried rules' class' pool' ends'
-    same_retried p = beside_all Image
-        (λ s. (has_turned rules class ends && not (rules.beyond_udp s))
-        || retried_of (length (filter (is_at rules class s) (but_turn rules class ends))) (last_or None (filter (is_at rules class s) (but_turn rules class ends))))
-        (λ t. (has_turned rules' class' ends' && not (rules'.beyond_udp t))
-        || retried_of' (length (filter (is_at rules' class' t) (but_turn rules' class' ends'))) (last_or None (filter (is_at rules' class' t) (but_turn rules' class' ends'))))
-        (λ s t i.
-        ap (λ (b : Bool). b || retried_of (length (filter (is_at rules class s) (but_turn rules class ends))) (last_or None (filter (is_at rules class s) (but_turn rules class ends)))) (same_refused s t i)
-        ∙ ap (λ (b : Bool). (has_turned rules' class' ends' && not (rules'.beyond_udp t)) || b) (was_retried s t i)) p
-
-    -- what ends of these classes leave, after a turn of a class
-    abbrev class_left : List Class → List Class → Class → NetError
-    class_left after but c = elim c [ Truncated ↦ least_bad true after | _ ↦ least_bad false but ]
 
     classes_beside : {es : List (End S)} {es' : List (End T)} → Beside Both es es' → map (class_of_end rules class) es ≡ map (class_of_end rules' class') es'
     classes_beside b = beside_map Both (class_of_end rules class) (class_of_end rules' class') (λ e e' h. h.0.outcome) b
@@ -183,10 +143,10 @@ module _ {S T : Type 0} (rules : Rules S) (rules' : Rules T) (class class' : Ans
         ∙ ap (λ (cs : List Class). class_left (map (class_of_end rules' class') (after_first (turns rules' class') ends')) cs (class_of_end rules class e)) (classes_beside but_beside)
         ∙ ap (class_left (map (class_of_end rules' class') (after_first (turns rules' class') ends')) (map (class_of_end rules' class') (but_turn rules' class' ends'))) b.0.outcome
 
-    pub same_left : what_is_left rules class ends ≡ what_is_left rules' class' ends'
+    same_left : what_is_left rules class ends ≡ what_is_left rules' class' ends'
     same_left = left_beside turn_beside
 
-  -- ---- the three ways in which a lookup ends
+  -- ---- an end decides, or the deadline does
 
   is_decided : {ends : List (End S)} {ends' : List (End T)} {result : Answered} → Beside Both ends ends' → IsDecided rules class ends result → IsDecided rules' class' ends' result
   is_decided {ends' = ends'} beside d =
@@ -204,16 +164,6 @@ module _ {S T : Type 0} (rules : Rules S) (rules' : Rules T) (class class' : Ans
         answers = d.answers ∙ ap answer_of parted.at_last.0.outcome;
       }
 
-  is_spent : {pool : List S} {pool' : List T} {ends : List (End S)} {ends' : List (End T)} {result : Answered}
-      → Beside Image pool pool' → Beside Both ends ends' → IsSpent rules class pool ends result → IsSpent rules' class' pool' ends' result
-  is_spent servers beside s = record {
-    none = sym (same_final beside) ∙ s.none;
-    tried = sym (same_tried beside servers) ∙ s.tried;
-    again = sym (same_repeated beside) ∙ s.again;
-    busy = sym (same_retried beside servers) ∙ s.busy;
-    answers = s.answers ∙ ap Err (same_left beside);
-  }
-
   is_late : {ends : List (End S)} {ends' : List (End T)} {result : Answered} {start now : ℕ} → Beside Both ends ends' → IsLate rules class ends result start now → IsLate rules' class' ends' result start now
   is_late {ends' = ends'} {start = start} {now = now} beside l = record {
     none = sym (same_final beside) ∙ l.none;
@@ -225,17 +175,79 @@ module _ {S T : Type 0} (rules : Rules S) (rules' : Rules T) (class class' : Ans
         ∙ l.some;
   }
 
-  run_beside : {pool : List S} {pool' : List T} {ends : List (End S)} {ends' : List (End T)} {result : Answered} {start now : ℕ}
-      → Beside Image pool pool' → Beside Both ends ends' → PoolRun rules class pool ends result start now → PoolRun rules' class' pool' ends' result start now
-  run_beside servers beside (decided d) = decided (is_decided beside d)
-  run_beside servers beside (spent s) = spent (is_spent servers beside s)
-  run_beside servers beside (late l) = late (is_late beside l)
+  -- what is known of the servers, of the pool and of the ends
+  images : (pool : List S) → AllByRecursion P pool → Beside Image pool (map f pool)
+  images pool known = beside_image f P pool known
 
-  -- A run over servers that are known is one over their images.
-  pub run_of_images : (pool : List S) {ends : List (End S)} {ends' : List (End T)} {result : Answered} {start now : ℕ}
-      → AllByRecursion P pool → AllByRecursion (λ e. P e.server) ends → SameEnds f class class' ends ends'
-      → PoolRun rules class pool ends result start now → PoolRun rules' class' (map f pool) ends' result start now
-  run_of_images pool known at ends run = run_beside (beside_image f P pool known) (beside_and (IsSameEnd f class class') (λ e. P e.server) ends at) run
+  ends_beside : {ends : List (End S)} {ends' : List (End T)} → AllByRecursion (λ e. P e.server) ends → SameEnds f class class' ends ends' → Beside Both ends ends'
+  ends_beside at ends = beside_and (IsSameEnd f class class') (λ e. P e.server) ends at
+
+  -- ---- no server is left, where two servers are the same if and only if their images are
+
+  module _ (same : (a b : S) → P a → P b → rules.same a b ≡ rules'.same (f a) (f b)) where
+    same_at : (s : S) (t : T) → Image s t → (e : End S) (e' : End T) → Both e e' → is_at rules class s e ≡ is_at rules' class' t e'
+    same_at s t i e e' b =
+        same s e.server i.1 b.1
+        ∙ ap (λ (x : T). rules'.same x (f e.server)) (sym i.0)
+        ∙ ap (rules'.same t) (sym b.0.server)
+
+    module _ {ends : List (End S)} {ends' : List (End T)} (beside : Beside Both ends ends') where
+      was_tried : (s : S) (t : T) → Image s t
+          → (refuses ends s || list_any (is_at rules class s) (but_turn rules class ends)) ≡ (refuses' ends' t || list_any (is_at rules' class' t) (but_turn rules' class' ends'))
+      was_tried s t i =
+          ap (λ (b : Bool). b || list_any (is_at rules class s) (but_turn rules class ends)) (same_refused beside s t i)
+          ∙ ap (λ (b : Bool). refuses' ends' t || b) (beside_any Both (is_at rules class s) (is_at rules' class' t) (same_at s t i) (but_beside beside))
+
+      same_tried : {pool : List S} {pool' : List T} → Beside Image pool pool' → all_were_tried rules class pool ends ≡ all_were_tried rules' class' pool' ends'
+      same_tried p =
+          beside_all Image (λ s. refuses ends s || list_any (is_at rules class s) (but_turn rules class ends)) (λ t. refuses' ends' t || list_any (is_at rules' class' t) (but_turn rules' class' ends')) was_tried p
+
+      repeated_beside : {o : Option (End S)} {o' : Option (End T)} → BesideOption Both o o' → repeated_of (after_first (turns rules class) ends) o ≡ repeated_of' (after_first (turns rules' class') ends') o'
+      repeated_beside neither = refl
+      repeated_beside (both {x = e} {y = e'} b) =
+          ap (λ (t : Bool). not t || list_any (is_at rules class e.server) (after_first (turns rules class) ends)) (same_beyond e.server e'.server (image_of e e' b))
+          ∙ ap (λ (t : Bool). not (rules'.beyond_udp e'.server) || t)
+          (beside_any Both (is_at rules class e.server) (is_at rules' class' e'.server) (same_at e.server e'.server (image_of e e' b)) (after_beside beside))
+
+      same_repeated : turn_was_repeated rules class ends ≡ turn_was_repeated rules' class' ends'
+      same_repeated = repeated_beside (turn_beside beside)
+
+      retried_beside : (n : ℕ) {o : Option (End S)} {o' : Option (End T)} → BesideOption Both o o' → retried_of n o ≡ retried_of' n o'
+      retried_beside n neither = refl
+      retried_beside n (both b) = ap (λ (c : Class). not (is_busy c) || nat_le 5 n) b.0.outcome
+
+      own_beside : (s : S) (t : T) → Image s t → Beside Both (own s ends) (own' t ends')
+      own_beside s t i = beside_filter Both (is_at rules class s) (is_at rules' class' t) (same_at s t i) (but_beside beside)
+
+      was_retried : (s : S) (t : T) → Image s t → retried_of (length (own s ends)) (last_or None (own s ends)) ≡ retried_of' (length (own' t ends')) (last_or None (own' t ends'))
+      was_retried s t i =
+          retried_beside (length (own s ends)) (beside_last Both (own_beside s t i) neither)
+          ∙ ap (λ (n : ℕ). retried_of' n (last_or None (own' t ends'))) (beside_length Both (own_beside s t i))
+
+      same_retried : {pool : List S} {pool' : List T} → Beside Image pool pool' → busy_were_retried rules class pool ends ≡ busy_were_retried rules' class' pool' ends'
+      same_retried p =
+          beside_all Image (λ s. refuses ends s || retried_of (length (own s ends)) (last_or None (own s ends))) (λ t. refuses' ends' t || retried_of' (length (own' t ends')) (last_or None (own' t ends')))
+          (λ s t i.
+          ap (λ (b : Bool). b || retried_of (length (own s ends)) (last_or None (own s ends))) (same_refused beside s t i)
+          ∙ ap (λ (b : Bool). refuses' ends' t || b) (was_retried s t i)) p
+
+    is_spent : {pool : List S} {pool' : List T} {ends : List (End S)} {ends' : List (End T)} {result : Answered}
+        → Beside Image pool pool' → Beside Both ends ends' → IsSpent rules class pool ends result → IsSpent rules' class' pool' ends' result
+    is_spent servers beside s = record {
+      none = sym (same_final beside) ∙ s.none;
+      tried = sym (same_tried beside servers) ∙ s.tried;
+      again = sym (same_repeated beside) ∙ s.again;
+      busy = sym (same_retried beside servers) ∙ s.busy;
+      answers = s.answers ∙ ap Err (same_left beside);
+    }
+
+    -- A run over servers that are known is one over their images.
+    pub run_of_images : (pool : List S) {ends : List (End S)} {ends' : List (End T)} {result : Answered} {start now : ℕ}
+        → AllByRecursion P pool → AllByRecursion (λ e. P e.server) ends → SameEnds f class class' ends ends'
+        → PoolRun rules class pool ends result start now → PoolRun rules' class' (map f pool) ends' result start now
+    run_of_images pool known at ends (decided d) = decided (is_decided (ends_beside at ends) d)
+    run_of_images pool known at ends (spent s) = spent (is_spent (images pool known) (ends_beside at ends) s)
+    run_of_images pool known at ends (late l) = late (is_late (ends_beside at ends) l)
 
 -- ---- candidates and their addresses
 
@@ -296,8 +308,8 @@ module _ (timeout : ℕ) (ip_of : ℕ → IpAddr) (pool : List Candidate) where
       → PoolRun (rules_of timeout) class pool ends result start now → PoolRun (by_address timeout) class' (map (at_address ip_of) pool) ends' result start now
   run_by_address class class' plain one at beside run =
       run_of_images (rules_of timeout) (by_address timeout) class class' (at_address ip_of) Known
-      (λ a b g h. by_number (a.server == b.server) a b g.0 h.0 ∙ number_is_address a b one g.1 h.1)
       (λ a g. g.0.trusted) (λ a g. g.0.beyond_udp) refl
+      (λ a b g h. by_number (a.server == b.server) a b g.0 h.0 ∙ number_is_address a b one g.1 h.1)
       pool (all_each Known pool (λ c h. known plain c (Contains-from_Has pool c h))) (all_map (λ e. Contains pool e.server) (λ e. Known e.server) (λ e h. known plain e.server h) _ at) beside run
 
 -- ---- what a send ended with, and what was told

@@ -15,5 +15,6 @@ mod Keys
 mod Slots
 mod Carried
 pub mod Beside
+pub mod Narrowed
 pub mod ByAddress
 pub mod FromPool
