@@ -1,9 +1,8 @@
 -- A run of a lookup by the servers of its pool is one by their addresses.
-use Rattle.std.proofs.Common.{◌≡◌, ℕ, ◌+◌, ◌≤◌, Bool, true, false, not, ◌&&◌, ◌||◌, ◌==◌, List, [], ◌∷◌, map, filter, length, refl, ap, sym, subst, ◌∙◌, Option, Some, None, Ok, Err, inl, inr, eqb-true, eq-eqb}
+use Rattle.std.proofs.Common.{◌≡◌, ℕ, ◌+◌, ◌≤◌, Bool, true, false, not, ◌&&◌, ◌||◌, ◌==◌, List, [], ◌∷◌, map, filter, length, refl, ap, sym, subst, ◌∙◌, Option, Some, None, Ok, Err, inl, inr, arith, le-leb, leb-true}
 use Rattle.std.specs.Prelude.{nat_le, Result, Contains}
-use Rattle.std.specs.Bool.{beq}
 use Rattle.std.specs.declared.net.ip_addr.IpAddr.{IpAddr}
-use Rattle.std.specs.List.{list_any, last_or, after_first, AllByRecursion}
+use Rattle.std.specs.List.{list_any, list_all, last_or, after_first, AllByRecursion}
 use Rattle.dns_core.specs.Classifying.{classify_of}
 use Rattle.dns_core.specs.declared.message.Query.{Query}
 use Rattle.dns_core.specs.declared.message.Message.{Message}
@@ -12,7 +11,7 @@ use Rattle.dns_core.specs.declared.net_error.DnsError.{DnsError}
 use Rattle.dns_core.specs.declared.net_error.DnsError.TheVariants as dns
 use Rattle.resolution.specs.Names.{same_query}
 use Rattle.resolution.specs.Class.{class_of_classified}
-use Rattle.resolution.specs.Ending.{same_ip, by_address}
+use Rattle.resolution.specs.Ending.{by_address}
 use Rattle.resolution.specs.Lookups.{Answered, class_of_answer, End, Rules, is_turn, is_retryable, is_busy, answer_of, least_bad, class_of_end, turns, the_turn, has_turned, but_turn, retries, none_is_final, is_at, all_were_tried, turn_was_repeated, busy_were_retried, what_is_left, IsDecided, IsSpent, IsLate, PoolRun}
 use Rattle.resolution.specs.Lookups.PoolRun.{decided, spent, late}
 use Rattle.resolution.specs.declared.class.Class.{Class}
@@ -25,6 +24,9 @@ use Rattle.server_core.specs.Sending.{result_of}
 use Rattle.server_pool.specs.Agenda.{rules_of, class_of_sent, end_at}
 use Rattle.server_pool.specs.declared.candidate.Candidate.{Candidate}
 use Rattle.server_pool.proofs.Beside.{Beside, BesideOption, beside_parted, beside_length, beside_map, beside_last, beside_any, beside_all, beside_filter, beside_find, beside_after, beside_but, beside_image, beside_and}
+use Rattle.server_pool.proofs.Narrowed.{or_follows, last_passing, IsNarrower, length_narrowed, last_narrowed, any_follows, all_follow}
+use Rattle.server_pool.proofs.Standing.{or_right}
+use Rattle.server_pool.proofs.Plans.{same_self, same_is}
 use Rattle.server_pool.proofs.Beside.BesideOption.{neither, both}
 
 -- ---- ends beside ends
@@ -38,6 +40,33 @@ module _ {S T : Type 0} (f : S → T) (class class' : Answered → Class) where
   -- each end is the one beside it
   abbrev pub SameEnds : List (End S) → List (End T) → Type 0
   SameEnds ends ends' = Beside IsSameEnd ends ends'
+
+-- ---- what holds of all
+
+all_each : {X : Type 0} (P : X → Type 0) (xs : List X) → ((x : X) → Has xs x → P x) → AllByRecursion P xs
+all_each P [] f = tt
+all_each P (x ∷ xs) f = (f x (inl refl), all_each P xs (λ y h. f y (inr h)))
+
+each_of : {X : Type 0} (P : X → Type 0) (xs : List X) → AllByRecursion P xs → (x : X) → Has xs x → P x
+each_of P [] a x h = elim h [ ]
+each_of P (y ∷ ys) a x (inl e) = subst P e a.0
+each_of P (y ∷ ys) a x (inr h) = each_of P ys a.1 x h
+
+all_map : {X : Type 0} (P Q : X → Type 0) → ((x : X) → P x → Q x) → (xs : List X) → AllByRecursion P xs → AllByRecursion Q xs
+all_map P Q f [] a = tt
+all_map P Q f (x ∷ xs) a = (f x a.0, all_map P Q f xs a.1)
+
+all_at : {X : Type 0} (p : X → Bool) (xs : List X) → list_all p xs ≡ true → (x : X) → Has xs x → p x ≡ true
+all_at p [] a x h = elim h [ ]
+all_at {X} p (y ∷ ys) a x h = at_head (p y) refl a h (all_at p ys)
+  where
+    at_head : (b : Bool) → p y ≡ b → (b && list_all p ys) ≡ true → Has (y ∷ ys) x → (list_all p ys ≡ true → (z : X) → Has ys z → p z ≡ true) → p x ≡ true
+    at_head true e k (inl same) next = ap p (sym same) ∙ e
+    at_head true e k (inr there) next = next k x there
+    at_head false e k there next = cc
+
+at_least_five : (m n : ℕ) → m ≤ n → nat_le 5 m ≡ true → nat_le 5 n ≡ true
+at_least_five m n le h = let five : 5 ≤ m = leb-true 5 m h in le-leb 5 n (omega (arith, five, le))
 
 -- ---- what a run is made of
 
@@ -249,29 +278,118 @@ module _ {S T : Type 0} (rules : Rules S) (rules' : Rules T) (class class' : Ans
     run_of_images pool known at ends (spent s) = spent (is_spent (images pool known) (ends_beside at ends) s)
     run_of_images pool known at ends (late l) = late (is_late (ends_beside at ends) l)
 
+  -- ---- the same, where two servers may have one image
+
+  module _ (pool : List S) (listed : (a : S) → P a → Contains pool a)
+      (itself : (a : S) → rules.same a a ≡ true)
+      (joins : (a b : S) → rules.same a b ≡ true → f a ≡ f b)
+      (itself' : (t : T) → rules'.same t t ≡ true)
+      (equal : (t u : T) → rules'.same t u ≡ true → t ≡ u) where
+    at_image : (s : S) (t : T) → Image s t → (e : End S) (e' : End T) → Both e e' → is_at rules class s e ≡ true → is_at rules' class' t e' ≡ true
+    at_image s t i e e' b h =
+        let there : t ≡ e'.server = i.0 ∙ joins s e.server h ∙ sym b.0.server in
+        subst (λ (u : T). rules'.same t u ≡ true) there (itself' t)
+
+    -- the end is at a server with this image
+    abbrev has_image : T → End S → Bool
+    has_image t e = rules'.same t (f e.server)
+
+    module _ {ends : List (End S)} {ends' : List (End T)} (beside : Beside Both ends ends') where
+      abbrev rest : List (End S)
+      rest = but_turn rules class ends
+
+      abbrev rest' : List (End T)
+      rest' = but_turn rules' class' ends'
+
+      abbrev tries : S → Bool
+      tries s = refuses ends s || list_any (is_at rules class s) rest
+
+      abbrev tries' : T → Bool
+      tries' t = refuses' ends' t || list_any (is_at rules' class' t) rest'
+
+      image_tried : (s : S) (t : T) → Image s t → tries s ≡ true → tries' t ≡ true
+      image_tried s t i h =
+          or_follows (refuses ends s) (list_any (is_at rules class s) rest) (refuses' ends' t) (list_any (is_at rules' class' t) rest') (same_refused beside s t i)
+          (any_follows Both (is_at rules' class' t) (is_at rules class s) (at_image s t i) (but_beside beside)) h
+
+      images_tried : {pool' : List T} → Beside Image pool pool' → all_were_tried rules class pool ends ≡ true → all_were_tried rules' class' pool' ends' ≡ true
+      images_tried p h = all_follow Image tries' (λ s t i. image_tried s t i (all_at tries pool h s (Has-from_Contains pool s (listed s i.1)))) p
+
+      image_repeated : {o : Option (End S)} {o' : Option (End T)} → BesideOption Both o o'
+          → repeated_of (after_first (turns rules class) ends) o ≡ true → repeated_of' (after_first (turns rules' class') ends') o' ≡ true
+      image_repeated neither h = refl
+      image_repeated (both {x = e} {y = e'} b) h =
+          let i = image_of e e' b in
+          or_follows (not (rules.beyond_udp e.server)) (list_any (is_at rules class e.server) (after_first (turns rules class) ends))
+          (not (rules'.beyond_udp e'.server)) (list_any (is_at rules' class' e'.server) (after_first (turns rules' class') ends')) (ap not (same_beyond e.server e'.server i))
+          (any_follows Both (is_at rules' class' e'.server) (is_at rules class e.server) (at_image e.server e'.server i) (after_beside beside)) h
+
+      -- the ends at servers with an image
+      abbrev those : T → List (End S)
+      those t = filter (has_image t) rest
+
+      those_beside : (t : T) → Beside Both (those t) (own' t ends')
+      those_beside t = beside_filter Both (has_image t) (is_at rules' class' t) (λ e e' b. ap (rules'.same t) (sym b.0.server)) (but_beside beside)
+
+      -- those of one server among them
+      narrower : (s : S) (t : T) → t ≡ f s → IsNarrower (is_at rules class s) (has_image t) rest
+      narrower s t e =
+          all_each (λ (x : End S). is_at rules class s x ≡ true → has_image t x ≡ true) rest
+          (λ x h k. let there : t ≡ f x.server = e ∙ joins s x.server k in subst (λ (u : T). rules'.same t u ≡ true) there (itself' t))
+
+      abbrev retried : S → Bool
+      retried s = refuses ends s || retried_of (length (own s ends)) (last_or None (own s ends))
+
+      abbrev retried' : T → Bool
+      retried' t = refuses' ends' t || retried_of' (length (own' t ends')) (last_or None (own' t ends'))
+
+      -- the server of the last of them was asked so often, if it was busy
+      image_retried : list_all retried pool ≡ true → (t : T) {o : Option (End S)} {o' : Option (End T)} → last_or None (those t) ≡ o → BesideOption Both o o'
+          → (refuses' ends' t || retried_of' (length (own' t ends')) o') ≡ true
+      image_retried h t is neither = or_right (refuses' ends' t) true refl
+      image_retried h t is (both {x = e} {y = e'} b) =
+          let s = e.server in
+          let passes : has_image t e ≡ true = last_passing (has_image t) rest None (λ x k. none_is_some x k) e is in
+          let image : t ≡ f s = equal t (f s) passes in
+          let last : last_or None (own s ends) ≡ Some e = last_narrowed (is_at rules class s) (has_image t) rest (narrower s t image) None None (λ x k i. k) e is (itself s) in
+          let fact : (refuses ends s || retried_of (length (own s ends)) (Some e)) ≡ true =
+          subst (λ (o : Option (End S)). (refuses ends s || retried_of (length (own s ends)) o) ≡ true) last (all_at retried pool h s (Has-from_Contains pool s (listed s b.1))) in
+          let longer : length (own s ends) ≤ length (own' t ends') =
+          subst (λ (n : ℕ). length (own s ends) ≤ n) (beside_length Both (those_beside t)) (length_narrowed (is_at rules class s) (has_image t) rest (narrower s t image)) in
+          or_follows (refuses ends s) (retried_of (length (own s ends)) (Some e)) (refuses' ends' t) (retried_of' (length (own' t ends')) (Some e')) (same_refused beside s t (image, b.1))
+          (or_follows (not (is_busy (class e.outcome))) (nat_le 5 (length (own s ends))) (not (is_busy (class' e'.outcome))) (nat_le 5 (length (own' t ends'))) (ap (λ (c : Class). not (is_busy c)) b.0.outcome)
+          (at_least_five (length (own s ends)) (length (own' t ends')) longer)) fact
+        where
+          none_is_some : (x : End S) → None ≡ Some x → has_image t x ≡ true
+          none_is_some x k = cc
+
+      images_retried : {pool' : List T} → Beside Image pool pool' → busy_were_retried rules class pool ends ≡ true → busy_were_retried rules' class' pool' ends' ≡ true
+      images_retried p h = all_follow Image retried' (λ s t i. image_retried h t refl (beside_last Both (those_beside t) neither)) p
+
+    images_spent : {ends : List (End S)} {ends' : List (End T)} {result : Answered} → AllByRecursion P pool → Beside Both ends ends'
+        → IsSpent rules class pool ends result → IsSpent rules' class' (map f pool) ends' result
+    images_spent known beside s = record {
+      none = sym (same_final beside) ∙ s.none;
+      tried = images_tried beside (images pool known) s.tried;
+      again = image_repeated beside (turn_beside beside) s.again;
+      busy = images_retried beside (images pool known) s.busy;
+      answers = s.answers ∙ ap Err (same_left beside);
+    }
+
+    -- A run over a pool is one over the images of its servers.
+    pub run_of_joined : {ends : List (End S)} {ends' : List (End T)} {result : Answered} {start now : ℕ}
+        → AllByRecursion P pool → AllByRecursion (λ e. P e.server) ends → SameEnds f class class' ends ends'
+        → PoolRun rules class pool ends result start now → PoolRun rules' class' (map f pool) ends' result start now
+    run_of_joined known at ends (decided d) = decided (is_decided (ends_beside at ends) d)
+    run_of_joined known at ends (spent s) = spent (images_spent known (ends_beside at ends) s)
+    run_of_joined known at ends (late l) = late (is_late (ends_beside at ends) l)
+
 -- ---- candidates and their addresses
-
-all_each : {X : Type 0} (P : X → Type 0) (xs : List X) → ((x : X) → Has xs x → P x) → AllByRecursion P xs
-all_each P [] f = tt
-all_each P (x ∷ xs) f = (f x (inl refl), all_each P xs (λ y h. f y (inr h)))
-
-each_of : {X : Type 0} (P : X → Type 0) (xs : List X) → AllByRecursion P xs → (x : X) → Has xs x → P x
-each_of P [] a x h = elim h [ ]
-each_of P (y ∷ ys) a x (inl e) = subst P e a.0
-each_of P (y ∷ ys) a x (inr h) = each_of P ys a.1 x h
-
-all_map : {X : Type 0} (P Q : X → Type 0) → ((x : X) → P x → Q x) → (xs : List X) → AllByRecursion P xs → AllByRecursion Q xs
-all_map P Q f [] a = tt
-all_map P Q f (x ∷ xs) a = (f x a.0, all_map P Q f xs a.1)
 
 -- reached over another protocol than UDP too, with negatives that are trusted
 pub record IsTrustedBeyondUdp (c : Candidate) : Type 0 where
   pub beyond_udp : c.beyond_udp ≡ true
   pub trusted : c.trusted ≡ true
-
--- two servers of the pool at one address are one
-abbrev pub IsOneEach : (ℕ → IpAddr) → List Candidate → Type 0
-IsOneEach ip_of pool = (a b : Candidate) → Contains pool a → Contains pool b → ip_of a.server ≡ ip_of b.server → a.server ≡ b.server
 
 -- the address of a candidate
 abbrev pub at_address : (ℕ → IpAddr) → Candidate → IpAddr
@@ -282,35 +400,19 @@ module _ (timeout : ℕ) (ip_of : ℕ → IpAddr) (pool : List Candidate) where
   abbrev Known : Candidate → Type 0
   Known c = IsTrustedBeyondUdp c × Contains pool c
 
-  by_number : (n : Bool) (a b : Candidate) → IsTrustedBeyondUdp a → IsTrustedBeyondUdp b → (n && (beq a.beyond_udp b.beyond_udp && beq a.trusted b.trusted)) ≡ n
-  by_number false a b g h = refl
-  by_number true a b g h = rw (g.beyond_udp, g.trusted, h.beyond_udp, h.trusted) refl
-
-  number_is_address : (a b : Candidate) → IsOneEach ip_of pool → Contains pool a → Contains pool b → (a.server == b.server) ≡ same_ip (ip_of a.server) (ip_of b.server)
-  number_is_address a b one g h = either (a.server == b.server) (same_ip (ip_of a.server) (ip_of b.server)) refl refl
-    where
-      either : (n i : Bool) → (a.server == b.server) ≡ n → same_ip (ip_of a.server) (ip_of b.server) ≡ i → n ≡ i
-      either true true e k = refl
-      either false false e k = refl
-      either true false e k =
-          let n : a.server ≡ b.server = eqb-true a.server b.server e in
-          sym (same_ip-itself (ip_of a.server)) ∙ ap (λ (x : ℕ). same_ip (ip_of a.server) (ip_of x)) n ∙ k
-      either false true e k =
-          sym e ∙ eq-eqb a.server b.server (one a b g h (same_ip-true (ip_of a.server) (ip_of b.server) k))
-
   known : AllByRecursion IsTrustedBeyondUdp pool → (c : Candidate) → Contains pool c → Known c
   known plain c h = (each_of IsTrustedBeyondUdp pool plain c (Has-from_Contains pool c h), h)
 
-  -- A run over a pool of such candidates is one over their addresses.
+  -- A run over a pool of such candidates is one over their addresses; several may have one address.
   pub run_by_address : (class class' : Answered → Class) {ends : List (End Candidate)} {ends' : List (End IpAddr)} {result : Answered} {start now : ℕ}
-      → AllByRecursion IsTrustedBeyondUdp pool → IsOneEach ip_of pool → AllByRecursion (λ e. Contains pool e.server) ends
-      → SameEnds (at_address ip_of) class class' ends ends'
+      → AllByRecursion IsTrustedBeyondUdp pool → AllByRecursion (λ e. Contains pool e.server) ends → SameEnds (at_address ip_of) class class' ends ends'
       → PoolRun (rules_of timeout) class pool ends result start now → PoolRun (by_address timeout) class' (map (at_address ip_of) pool) ends' result start now
-  run_by_address class class' plain one at beside run =
-      run_of_images (rules_of timeout) (by_address timeout) class class' (at_address ip_of) Known
+  run_by_address class class' plain at beside run =
+      run_of_joined (rules_of timeout) (by_address timeout) class class' (at_address ip_of) Known
       (λ a g. g.0.trusted) (λ a g. g.0.beyond_udp) refl
-      (λ a b g h. by_number (a.server == b.server) a b g.0 h.0 ∙ number_is_address a b one g.1 h.1)
-      pool (all_each Known pool (λ c h. known plain c (Contains-from_Has pool c h))) (all_map (λ e. Contains pool e.server) (λ e. Known e.server) (λ e h. known plain e.server h) _ at) beside run
+      pool (λ a g. g.1) same_self (λ a b h. ap (at_address ip_of) (same_is a b h)) same_ip-itself same_ip-true
+      (all_each Known pool (λ c h. known plain c (Contains-from_Has pool c h)))
+      (all_map (λ e. Contains pool e.server) (λ e. Known e.server) (λ e h. known plain e.server h) _ at) beside run
 
 -- ---- what a send ended with, and what was told
 
