@@ -430,15 +430,21 @@ told_class q m same =
     ∙ sym (class_of_message-itself m)
     ∙ class_of_message-same m.query q same m
 
+-- the same, where the message has the question itself
+pub told_class_itself : (q : Query) (m : Message) → m.query ≡ q → class_of_sent q (result_of (classify_of m)) ≡ class_of_answer q (Ok m)
+told_class_itself q m itself =
+    subst (λ (p : Query). class_of_sent p (result_of (classify_of m)) ≡ class_of_answer p (Ok m)) itself
+    (class_of_result m.query (classify_of m) ∙ sym (class_of_message-itself m))
+
 -- One that ended by an error has the class of the error.
 pub failed_class : (q : Query) (e : NetError) → class_of_sent q (Err e) ≡ class_of_answer q (Err e)
 failed_class q e = refl
 
--- the end of a send by a message or by an error, and the end at the server's address
-pub told_end : (ip_of : ℕ → IpAddr) (q : Query) (c : Candidate) (m : Message) → same_query m.query q ≡ true
+-- the end of a send, by a message or by an error, and the one at its server's address
+pub told_end : (ip_of : ℕ → IpAddr) (q : Query) (c : Candidate) (m : Message) → m.query ≡ q
     → IsSameEnd (at_address ip_of) (class_of_sent q) (class_of_answer q) (end_at c (result_of (classify_of m))) (record { server = ip_of c.server; outcome = Ok m })
-told_end ip_of q c m same = record { server = refl; outcome = told_class q m same }
+told_end ip_of q c m itself = record { server = refl; outcome = told_class_itself q m itself }
 
 pub failed_end : (ip_of : ℕ → IpAddr) (q : Query) (c : Candidate) (e : NetError)
     → IsSameEnd (at_address ip_of) (class_of_sent q) (class_of_answer q) (end_at c (Err e)) (record { server = ip_of c.server; outcome = Err e })
-failed_end ip_of q c e = record { server = refl; outcome = refl }
+failed_end ip_of q c e = record { server = refl; outcome = failed_class q e }
