@@ -448,3 +448,12 @@ told_end ip_of q c m itself = record { server = refl; outcome = told_class_itsel
 pub failed_end : (ip_of : ℕ → IpAddr) (q : Query) (c : Candidate) (e : NetError)
     → IsSameEnd (at_address ip_of) (class_of_sent q) (class_of_answer q) (end_at c (Err e)) (record { server = ip_of c.server; outcome = Err e })
 failed_end ip_of q c e = record { server = refl; outcome = failed_class q e }
+
+-- the address of a candidate of the pool is one of those of the pool
+pub address_from_pool : (ip_of : ℕ → IpAddr) (pool : List Candidate) (c : Candidate) → Contains pool c → Contains (map (at_address ip_of) pool) (ip_of c.server)
+address_from_pool ip_of pool c h = Contains-from_Has _ _ (has_image_of pool (Has-from_Contains pool c h))
+  where
+    has_image_of : (cs : List Candidate) → Has cs c → Has (map (at_address ip_of) cs) (ip_of c.server)
+    has_image_of [] k = elim k [ ]
+    has_image_of (x ∷ xs) (inl e) = inl (ap (at_address ip_of) e)
+    has_image_of (x ∷ xs) (inr k) = inr (has_image_of xs k)
