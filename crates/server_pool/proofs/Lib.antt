@@ -18,3 +18,5 @@ pub mod Beside
 pub mod Narrowed
 pub mod ByAddress
 pub mod FromPool
+pub mod Stepping
+pub mod Working

@@ -42,7 +42,7 @@ pub written_send : (q : Query) (timeout : ℕ) (pool : List Candidate) (ends : L
 written_send q timeout pool ends sends i x d p e st =
     subst (λ (l : List Candidate). PlanStands q timeout pool ends l p) (sym (map-set_same (λ (s : Sending). s.candidate) sends i x d e)) st
 
-get_set : {X : Type 0} (xs : List X) (i : ℕ) (x s : X) → slice_get xs i ≡ Some s → slice_get (set xs i x) i ≡ Some x
+pub get_set : {X : Type 0} (xs : List X) (i : ℕ) (x s : X) → slice_get xs i ≡ Some s → slice_get (set xs i x) i ≡ Some x
 get_set [] i x s h = cc
 get_set (y ∷ xs) zero x s h = refl
 get_set (y ∷ xs) (suc i) x s h = get_set xs i x s h

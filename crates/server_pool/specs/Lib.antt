@@ -9,3 +9,4 @@ pub mod Fits
 pub mod Carrying
 pub mod Patience
 pub mod Stands
+pub mod NextStep

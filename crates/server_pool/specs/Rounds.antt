@@ -1,5 +1,5 @@
 -- How a lookup stands between its steps.
-use Rattle.std.specs.Prelude.{◌≡◌, ℕ, ◌+◌, ◌≤◌, ◌<◌, true, min, ◌==◌, ◌&&◌, ◌||◌, not, IsTrue, List, [], ◌∷◌, ◌++◌, map, length, slice_get, ◌⊎◌, Option, Some, None}
+use Rattle.std.specs.Prelude.{◌≡◌, ℕ, ◌+◌, ◌-◌, ◌*◌, ◌≤◌, ◌<◌, Bool, true, if◌then◌else◌, min, ◌==◌, ◌&&◌, ◌||◌, not, IsTrue, List, [], ◌∷◌, ◌++◌, map, length, slice_get, ◌⊎◌, Option, Some, None}
 use Rattle.std.specs.List.{position}
 use Rattle.dns_core.specs.declared.message.Query.{Query}
 use Rattle.resolution.specs.Lookups.{Answered, End, PoolRun}
@@ -36,12 +36,40 @@ StandsIn pool ends r Told = Unit {0}
 abbrev pub RoundsStand : List Candidate → List (End Candidate) → Rounds → Type 0
 RoundsStand pool ends r = StandsIn pool ends r r.phase
 
+-- nothing is under way or waits, and it may sleep
+pub record CanWake (r : Rounds) : Type 0 where
+  pub sends : length r.sends.items ≡ 0
+  pub waiting : r.agenda.waiting ≡ []
+  pub sleeps : may_sleep r.agenda ≡ true
+
 -- it is of the same request, and began at the same moment
 pub record IsSameLookup (old new : Rounds) : Type 0 where
   pub request : new.request ≡ old.request
   pub together : new.together ≡ old.together
   pub timeout : new.timeout ≡ old.timeout
   pub start : new.start ≡ old.start
+
+-- What is left to be done: one that is asked or waits may be asked after each sleep that is left too, one that was busy after each of them,
+-- while UDP is on one may be asked again, and each sleep counts.
+unfoldable pub work_of : (active busy turns sleeps : ℕ) → ℕ
+work_of active busy turns sleeps = active * (sleeps + 1) + busy * sleeps + turns * (sleeps + 1) + sleeps
+
+abbrev pub turns_left : Bool → ℕ
+turns_left off = if off then 0 else 1
+
+abbrev pub work : Rounds → ℕ
+work r = work_of (length r.agenda.waiting + length r.sends.items) (length r.agenda.busy) (turns_left r.agenda.off) (4 - r.agenda.sleeps)
+
+-- a round that is to begin
+abbrev pub due : Phase → ℕ → ℕ
+due Asking sends = if sends == 0 then 1 else 0
+due (Asleep until) sends = 0
+due (Decided answer) sends = 0
+due Told sends = 0
+
+-- No more steps than that hear an end or begin a round.
+abbrev pub steps_left : Rounds → ℕ
+steps_left r = 2 * work r + due r.phase (length r.sends.items)
 
 -- where the deadline is reached at this moment, there is an end, or there was no time
 abbrev pub MayBeLate : List (End Candidate) → Rounds → ℕ → Type 0

@@ -1,6 +1,6 @@
 //! What a lookup has still to ask: which servers, in which order, and what it answers where none of
 //! them decides it.
-ghost use Rattle.std.specs.Prelude.{◌≡◌, ◌≤◌, ◌<◌, ◌+◌, ℕ, [], ◌∷◌, ◌++◌, List, true, false, if◌then◌else◌, OnOk, Ok, Err, find, IfOk, IfSome, IfNone, OnErr, IsTrue};
+ghost use Rattle.std.specs.Prelude.{◌≡◌, ◌≤◌, ◌<◌, ◌+◌, ℕ, [], ◌∷◌, ◌++◌, List, true, false, if◌then◌else◌, OnOk, Ok, Err, find, IfOk, IfSome, IfNone, OnErr, IsTrue, ◌↔◌};
 ghost use Rattle.std.specs.List.{after_first};
 ghost use Rattle.dns_core.specs.declared.message.Query.{Query};
 ghost use Rattle.resolution.specs.Class.{class_of_error};
@@ -261,6 +261,12 @@ impl Agenda {
         ensures { result ≡ may_sleep self.now }
     {
         !self.busy.is_empty() && self.sleeps < MOST_SLEEPS
+    }
+
+    pub fn has_none_waiting(&self) -> bool
+        ensures { IsTrue result ↔ (self.now.waiting ≡ []) }
+    {
+        self.waiting.is_empty()
     }
 
     /// How long the next sleep is, in microseconds.

@@ -11,6 +11,7 @@ mod giving_up;
 mod kept_error;
 mod kept_error_laws;
 mod key;
+mod next_step;
 mod ordering;
 mod rounds;
 mod slot;
@@ -23,6 +24,7 @@ pub use candidate::{Candidate, Ending, Hearing};
 pub use carrier::Carrier;
 pub use kept_error::most_specific;
 pub use kept_error_laws::{the_earlier_negative_is_kept, the_kept_error_is_what_is_left};
+pub use next_step::RoundStep;
 pub use ordering::ordered;
 pub use statistics::sort_servers_by_query_statistics;
 

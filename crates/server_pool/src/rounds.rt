@@ -2,13 +2,13 @@
 //! ended, the next ones, until an end decides the lookup, no server is left, or its time is over.
 ghost use Rattle.std.specs.Prelude.{◌≡◌, ◌≤◌, ◌<◌, ◌+◌, ◌-◌, ◌^◌, ℕ, nat_le, min, [], ◌∷◌, ◌++◌, List, true, false, length, slice_get, Some, None, Ok, Err, IfOk, IfSome, OnOk, OnErr, IsTrue, ◌↔◌, ◌==◌, ◌&&◌};
 ghost use Rattle.std.specs.List.{position};
-ghost use Rattle.resolution.specs.Lookups.{End};
+ghost use Rattle.resolution.specs.Lookups.{Answered, End};
 ghost use Rattle.server_core.specs.Sending.{is_open, end_of, after_put};
 ghost use Rattle.server_pool.specs.declared.candidate.Candidate.{Candidate};
 ghost use Rattle.server_pool.specs.declared.rounds.Sending.{Sending};
 ghost use Rattle.server_pool.specs.Agenda.{may_sleep, sleep_time, end_at};
 ghost use Rattle.server_pool.specs.Ordering.{side_by_side};
-ghost use Rattle.server_pool.specs.Rounds.{Goes, RoundsStand, IsSameLookup, MayBeLate, IsFed, IsOpenAt, IsStillAt, IsEndOf, HasEnded, StandsAtEnd, StandsBy, StandsStill, wakes_at};
+ghost use Rattle.server_pool.specs.Rounds.{Goes, RoundsStand, IsSameLookup, MayBeLate, IsFed, IsOpenAt, IsStillAt, IsEndOf, HasEnded, StandsAtEnd, StandsBy, StandsStill, wakes_at, work, steps_left};
 
 use crate::agenda::Agenda;
 use crate::candidate::{Candidate, Hearing};
@@ -70,6 +70,7 @@ impl Rounds {
     fn send_one(&mut self, alloc: Global) -> Result<bool, NoMemory>
         ensures goes { (pool : List Candidate) (ends : List (End Candidate)) → Goes pool ends self.old → Goes pool ends self.new }
         ensures same { IsSameLookup self.old self.new }
+        ensures work { work self.new ≤ work self.old }
         ensures phase { self.new.phase ≡ self.old.phase }
         ensures more { length self.old.sends.items ≤ length self.new.sends.items }
         ensures sent { IfOk result (λ sent. sent ≡ true → 0 < length self.new.sends.items) }
@@ -92,6 +93,7 @@ impl Rounds {
     fn send_others(&mut self, alloc: Global) -> Result<(), NoMemory>
         ensures goes { (pool : List Candidate) (ends : List (End Candidate)) → Goes pool ends self.old → Goes pool ends self.new }
         ensures same { IsSameLookup self.old self.new }
+        ensures work { work self.new ≤ work self.old }
         ensures phase { self.new.phase ≡ self.old.phase }
         ensures more { length self.old.sends.items ≤ length self.new.sends.items }
     {
@@ -107,6 +109,7 @@ impl Rounds {
     fn send_all(&mut self, alloc: Global) -> Result<(), NoMemory>
         ensures goes { (pool : List Candidate) (ends : List (End Candidate)) → Goes pool ends self.old → Goes pool ends self.new }
         ensures same { IsSameLookup self.old self.new }
+        ensures work { work self.new ≤ work self.old }
         ensures phase { self.new.phase ≡ self.old.phase }
         ensures none { OnOk result (length self.new.sends.items ≡ 0 → self.new.agenda.waiting ≡ []) }
     {
@@ -132,6 +135,7 @@ impl Rounds {
         requires waiting { self.old.agenda.waiting ≡ [] }
         ensures stands { (pool : List Candidate) (ends : List (End Candidate)) → Goes pool ends self.old → RoundsStand pool ends self.new }
         ensures same { IsSameLookup self.old self.new }
+        ensures work { work self.new ≡ work self.old }
         ensures sleeps { may_sleep self.old.agenda ≡ true → self.new.phase ≡ Phase.Asleep (min (wakes_at self.old now) (2 ^ 64 - 1)) }
         ensures spent { may_sleep self.old.agenda ≡ false → self.new.phase ≡ Phase.Decided (Err self.old.agenda.kept) }
     {
@@ -150,6 +154,7 @@ impl Rounds {
         requires { length self.old.sends.items ≡ 0 → self.old.agenda.waiting ≡ [] }
         ensures stands { (pool : List Candidate) (ends : List (End Candidate)) → Goes pool ends self.old → RoundsStand pool ends self.new }
         ensures same { IsSameLookup self.old self.new }
+        ensures work { work self.new ≡ work self.old }
         ensures asks { 0 < length self.old.sends.items → self.new ≡ record self.old { phase = Phase.Asking } }
         ensures sleeps { length self.old.sends.items ≡ 0 → may_sleep self.old.agenda ≡ true → self.new.phase ≡ Phase.Asleep (min (wakes_at self.old now) (2 ^ 64 - 1)) }
         ensures spent { length self.old.sends.items ≡ 0 → may_sleep self.old.agenda ≡ false → self.new.phase ≡ Phase.Decided (Err self.old.agenda.kept) }
@@ -167,6 +172,7 @@ impl Rounds {
         ensures stands { (pool : List Candidate) (ends : List (End Candidate)) → Goes pool ends self.old → MayBeLate ends self.old now → OnOk result (RoundsStand pool ends self.new) }
         ensures want { (pool : List Candidate) (ends : List (End Candidate)) → Goes pool ends self.old → OnErr result (Goes pool ends self.new) }
         ensures same { IsSameLookup self.old self.new }
+        ensures work { work self.new ≤ work self.old }
         ensures phase { OnErr result (self.new.phase ≡ self.old.phase) }
         ensures late { self.old.start + self.old.timeout ≤ now → OnOk result (self.new.phase ≡ Phase.Decided (Err NetError.Timeout)) }
         ensures asks { OnOk result (self.new.phase ≡ Phase.Asking → 0 < length self.new.sends.items) }
@@ -209,12 +215,13 @@ impl Rounds {
     }
 
     /// After a sleep, the servers that were busy are asked again in a round of their own.
-    fn wake(&mut self, alloc: Global, now: u64) -> Result<(), NoMemory>
+    pub(crate) fn wake(&mut self, alloc: Global, now: u64) -> Result<(), NoMemory>
         requires few { self.old.agenda.sleeps < 4 }
         requires empty { self.old.agenda.waiting ≡ [] }
         requires sends { length self.old.sends.items ≡ 0 }
         ensures stands { (pool : List Candidate) (ends : List (End Candidate)) → Goes pool ends self.old → (ends ≡ [] → ⊥) → RoundsStand pool ends self.new }
         ensures same { IsSameLookup self.old self.new }
+        ensures work { work self.new < work self.old }
         ensures late { self.old.start + self.old.timeout ≤ now → OnOk result (self.new.phase ≡ Phase.Decided (Err NetError.Timeout)) }
         ensures asks { OnOk result (self.new.phase ≡ Phase.Asking → 0 < length self.new.sends.items) }
     {
@@ -228,6 +235,7 @@ impl Rounds {
         requires { place < length self.old.sends.items }
         ensures goes { (pool : List Candidate) (ends : List (End Candidate)) → Goes pool ends self.old → Goes pool ends self.new }
         ensures same { IsSameLookup self.old self.new }
+        ensures work { work self.new ≡ work self.old }
         ensures phase { self.new.phase ≡ self.old.phase }
         ensures agenda { self.new.agenda ≡ self.old.agenda }
         ensures count { length self.new.sends.items ≡ length self.old.sends.items }
@@ -250,6 +258,7 @@ impl Rounds {
             → OnOk result (RoundsStand pool (ends ++ end_at s.candidate outcome ∷ []) self.new) }
         ensures want { (pool : List Candidate) (ends : List (End Candidate)) → Goes pool ends self.old → OnErr result (Goes pool ends self.new) }
         ensures same { IsSameLookup self.old self.new }
+        ensures work { OnOk result (work self.new < work self.old) }
         ensures phase { OnErr result (self.new.phase ≡ self.old.phase) }
         ensures count { OnErr result (length self.new.sends.items ≡ length self.old.sends.items) }
     {
@@ -318,6 +327,7 @@ impl Rounds {
         requires { place < length self.old.sends.items }
         ensures goes { (pool : List Candidate) (ends : List (End Candidate)) → Goes pool ends self.old → Goes pool ends self.new }
         ensures same { IsSameLookup self.old self.new }
+        ensures agenda { self.new.agenda ≡ self.old.agenda }
         ensures phase { self.new.phase ≡ self.old.phase }
         ensures count { length self.new.sends.items ≡ length self.old.sends.items }
         ensures end { (s : Sending) → slice_get self.old.sends.items place ≡ Some s → result ≡ end_of s.send.stage }
@@ -328,9 +338,10 @@ impl Rounds {
     }
 
     /// The next round begins where all sends of the last one have ended.
-    fn go_on(&mut self, alloc: Global, now: u64) -> Result<(), NoMemory>
+    pub(crate) fn go_on(&mut self, alloc: Global, now: u64) -> Result<(), NoMemory>
         ensures stands { (pool : List Candidate) (ends : List (End Candidate)) → (ends ≡ [] → ⊥) → RoundsStand pool ends self.old → RoundsStand pool ends self.new }
         ensures same { IsSameLookup self.old self.new }
+        ensures work { work self.new ≤ work self.old }
         ensures asks { OnOk result (self.new.phase ≡ Phase.Asking → 0 < length self.new.sends.items) }
     {
         if self.is_asking() && self.sends.is_empty() {
@@ -341,7 +352,7 @@ impl Rounds {
     }
 
     /// Hears the end of the send at a place, if it has ended, and goes on.
-    fn end(&mut self, alloc: Global, place: usize, now: u64) -> Result<(), NoMemory>
+    pub(crate) fn end(&mut self, alloc: Global, place: usize, now: u64) -> Result<(), NoMemory>
         requires place { place < length self.old.sends.items }
         requires asks { self.old.phase ≡ Phase.Asking }
         ensures stands { (pool : List Candidate) (ends : List (End Candidate)) (s : Sending) → slice_get self.old.sends.items place ≡ Some s → RoundsStand pool ends self.old
@@ -349,6 +360,7 @@ impl Rounds {
         ensures want { (pool : List Candidate) (ends : List (End Candidate)) (s : Sending) → slice_get self.old.sends.items place ≡ Some s → RoundsStand pool ends self.old
             → OnErr result (StandsStill pool ends (IsEndOf s) self.new) }
         ensures same { IsSameLookup self.old self.new }
+        ensures falls { (s : Sending) (o : Answered) → slice_get self.old.sends.items place ≡ Some s → end_of s.send.stage ≡ Some o → OnOk result (steps_left self.new < steps_left self.old) }
     {
         match self.take_end(place) {
             Some(outcome) => {

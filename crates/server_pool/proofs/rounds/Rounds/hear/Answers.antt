@@ -1,4 +1,5 @@
-use Rattle.std.proofs.Common.{◌≡◌, ◌∙◌, ap, sym, subst, List, [], ◌∷◌, ◌++◌}
+use Rattle.std.proofs.Common.{◌≡◌, ◌∙◌, ◌+◌, length, ap, sym, subst, arith, List, [], ◌∷◌, ◌++◌}
+use Rattle.std.proofs.lemmas.List.Edits.{length-remove}
 use Rattle.std.specs.List.{remove}
 use Rattle.std.proofs.lemmas.Option.{get_or_from_slice_get}
 use Rattle.resolution.specs.Lookups.{PoolRun}
@@ -8,6 +9,7 @@ use Rattle.server_pool.specs.Agenda.{Plan, PlanStands, rules_of, class_of_sent, 
 use Rattle.server_pool.specs.Rounds.{under_way}
 use Rattle.server_pool.proofs.Sendings.{same_sends, ended_send}
 use Rattle.server_pool.proofs.Beginning.{goes_after, more_is_some}
+use Rattle.server_pool.proofs.Working.{heard_work}
 use Rattle.server_pool.proofs.rounds.Rounds.hear.Goals as goal
 
 pub returns-in-GoesOn-clause-stands : goal.returns-in-GoesOn-clause-stands
@@ -43,3 +45,21 @@ returns-in-Wanting-clause-want c = λ pool ends st.
     let r = c.args.self.now in
     c.give_back.ensures.goes pool ends
     (subst (λ (p : Plan). PlanStands r.request.query r.timeout pool ends (under_way r.sends.items) p) (sym c.in-Wanting.ensures.heard.1) st)
+
+pub returns-in-GoesOn-clause-work : goal.returns-in-GoesOn-clause-work
+returns-in-GoesOn-clause-work c =
+    let r = c.args.self.now in
+    let left : length c.remove.new.self.items ≡ length (remove r.sends.items c.args.place) = ap length c.remove.ensures.items in
+    let one = length-remove r.sends.items c.args.place c.requires.place in
+    let count : length r.sends.items ≡ length c.remove.new.self.items + 1 = omega (arith, left, one) in
+    heard_work c.index.result.now.candidate (class_of_sent r.request.query c.args.outcome) r.agenda c.hear.new.self (length c.remove.new.self.items) (length r.sends.items)
+    c.in-GoesOn.ensures.heard.1 count
+
+pub returns-in-Answers-clause-work : goal.returns-in-Answers-clause-work
+returns-in-Answers-clause-work c =
+    let r = c.args.self.now in
+    let left : length c.remove-in-Answers.new.self.items ≡ length (remove r.sends.items c.args.place) = ap length c.remove-in-Answers.ensures.items in
+    let one = length-remove r.sends.items c.args.place c.requires.place in
+    let count : length r.sends.items ≡ length c.remove-in-Answers.new.self.items + 1 = omega (arith, left, one) in
+    heard_work c.index.result.now.candidate (class_of_sent r.request.query c.args.outcome) r.agenda c.hear.new.self (length c.remove-in-Answers.new.self.items) (length r.sends.items)
+    c.in-Answers.ensures.heard.1 count

@@ -1,6 +1,8 @@
-use Rattle.std.proofs.Common.{◌∙◌, ap, [], ◌∷◌, ◌++◌}
+use Rattle.std.proofs.Common.{◌≡◌, ◌∙◌, ◌+◌, length, length-append, ap, sym, arith, [], ◌∷◌, ◌++◌}
+use Rattle.server_pool.specs.Agenda.{may_ask}
 use Rattle.server_pool.specs.Rounds.{under_way}
 use Rattle.server_pool.proofs.Sendings.{same_sends, one_more_send}
+use Rattle.server_pool.proofs.Working.{taken_work, taken_fewer, left_fewer}
 use Rattle.server_pool.proofs.rounds.Rounds.send_one.Goals as goal
 
 pub returns-in_err-reserve-clause-goes : goal.returns-in_err-reserve-clause-goes
@@ -20,3 +22,20 @@ returns-in-None-clause-goes c = λ pool ends st.
     let r = c.args.self.now in
     same_sends r.request.query r.timeout pool ends r.sends.items c.reserve.new.self.items c.take.new.self c.reserve.ensures.items
     (c.in-None.ensures.none r.request.query r.timeout pool ends (under_way r.sends.items) st)
+
+pub returns-in-Some-clause-work : goal.returns-in-Some-clause-work
+returns-in-Some-clause-work c =
+    let r = c.args.self.now in
+    let p = may_ask r.agenda.off in
+    let grown : length c.push_reserved.new.self.items ≡ length r.sends.items + 1 =
+    ap length (c.push_reserved.ensures.items ∙ ap (λ l. l ++ c.new_sending.result ∷ []) c.reserve.ensures.items) ∙ length-append r.sends.items (c.new_sending.result ∷ []) in
+    let fewer = taken_fewer p r.agenda.waiting c.in-Some.candidate (sym c.in-Some.ensures.taken) in
+    taken_work p r.agenda c.take.new.self (length r.sends.items) (length c.push_reserved.new.self.items) c.in-Some.ensures.plan (omega (arith, grown, fewer))
+
+pub returns-in-None-clause-work : goal.returns-in-None-clause-work
+returns-in-None-clause-work c =
+    let r = c.args.self.now in
+    let p = may_ask r.agenda.off in
+    let same : length c.reserve.new.self.items ≡ length r.sends.items = ap length c.reserve.ensures.items in
+    let fewer = left_fewer p r.agenda.waiting in
+    taken_work p r.agenda c.take.new.self (length r.sends.items) (length c.reserve.new.self.items) c.in-None.ensures.plan (omega (arith, same, fewer))

@@ -1,0 +1,303 @@
+-- The next step of a lookup: which send gives an order, and that there is an open one where none does.
+use Rattle.std.proofs.Common.{◌≡◌, ◌∙◌, ℕ, zero, suc, ◌+◌, ◌≤◌, ◌<◌, ◌||◌, nat_lt, not, length, Bool, true, false, List, [], ◌∷◌, ◌++◌, refl, ap, sym, subst, cond, arith, get_or, slice_get, Option, Some, None, Result, Ok, Err, IfOk, OnOk, OnErr, ◌⊎◌, inl, inr}
+use Rattle.std.specs.List.{list_any, position, position_or_len, find}
+use Rattle.std.proofs.Math.ListN.{set}
+use Rattle.std.proofs.lemmas.Bool.{ltb-false, ltb-true}
+use Rattle.std.proofs.lemmas.List.Folds.{find_at}
+use Rattle.std.proofs.lemmas.Option.{get_or_from_slice_get, slice_get_past, slice_get_cases}
+use Rattle.dns_core.specs.declared.errors.NoMemory.{NoMemory}
+use Rattle.dns_core.specs.declared.net_error.NetError.TheVariants.{NoConnections}
+use Rattle.resolution.specs.Lookups.{Answered, End}
+use Rattle.server_core.specs.Sending.{is_open, end_of, after_step, after_want, StepIs}
+use Rattle.server_core.specs.Servers.{Server}
+use Rattle.server_core.specs.Hearing.{changed_at}
+use Rattle.server_core.specs.declared.order.Order.{Order}
+use Rattle.server_core.specs.declared.order.Order.TheVariants.{Ask}
+use Rattle.server_core.specs.declared.server_send.SendStep.{SendStep}
+use Rattle.server_core.specs.declared.server_send.SendStep.TheVariants as step
+use Rattle.server_core.specs.declared.server_send.Stage.{Stage}
+use Rattle.server_core.specs.declared.server_send.Stage.TheVariants as stage
+use Rattle.server_pool.specs.declared.candidate.Candidate.{Candidate}
+use Rattle.server_pool.specs.declared.rounds.Sending.{Sending}
+use Rattle.server_pool.specs.declared.rounds.Phase.{Phase}
+use Rattle.server_pool.specs.declared.rounds.Phase.TheVariants.{Asking, Asleep, Decided, Told}
+use Rattle.server_pool.specs.declared.rounds.Rounds.{Rounds}
+use Rattle.server_pool.specs.declared.next_step.Doing.{Doing}
+use Rattle.server_pool.specs.declared.next_step.Doing.TheVariants as doing
+use Rattle.server_pool.specs.declared.next_step.RoundStep.{RoundStep}
+use Rattle.server_pool.specs.declared.next_step.RoundStep.TheVariants as given
+use Rattle.server_pool.specs.Agenda.{end_at, may_sleep}
+use Rattle.server_pool.specs.Rounds.{Goes, RoundsStand, IsSameLookup, steps_left, StandsIn, StandsAtEnd, StandsStill, IsEndOf, CanWake}
+use Rattle.server_pool.specs.NextStep.{is_idle, IsTaken, Steps, StepsBy, StepsAt, Tells, doing_of, IsFirstIdle, HasHeard, Gives, GoesOn, BeginsRound, NextStands, IsHalted, stepping, changed_for, stepped_table, HasGone, HasCome, HasGiven}
+use Rattle.server_pool.specs.NextStep.BeginsRound.{due, woken}
+use Rattle.server_pool.specs.NextStep.HasGone.{heard, began}
+use Rattle.server_pool.proofs.Standing.{or_left}
+use Rattle.server_pool.proofs.Sendings.{get_set}
+
+-- ---- places in a list
+
+-- there is one at a place within
+pub some_at : {X : Type 0} (xs : List X) (i : ℕ) → i < length xs → (x : X) × (slice_get xs i ≡ Some x)
+some_at [] i h = absurd (omega (arith, h))
+some_at (y ∷ ys) zero h = (y, refl)
+some_at (y ∷ ys) (suc i) h = some_at ys i (omega (arith, h))
+
+chosen : (b : Bool) (k i : ℕ) → cond b (Some k) None ≡ Some i → k ≡ i
+chosen true k i h = cc
+chosen false k i h = cc
+
+unchosen : (b : Bool) (k : ℕ) → cond b (Some k) None ≡ None → b ≡ false
+unchosen true k h = cc
+unchosen false k h = refl
+
+-- the first that passes stands at the place
+pub found_at : {X : Type 0} (p : X → Bool) (xs : List X) (i : ℕ) (x : X) → position p xs ≡ Some i → slice_get xs i ≡ Some x → find p xs ≡ Some x
+found_at p xs i x h there = find_at p xs ∙ ap (slice_get xs) (chosen (nat_lt (position_or_len p xs) (length xs)) (position_or_len p xs) i h) ∙ there
+
+within_at : (b : Bool) (k i n : ℕ) → nat_lt k n ≡ b → cond b (Some k) None ≡ Some i → i < n
+within_at true k i n e h = subst (λ (x : ℕ). x < n) (chosen true k i h) (ltb-true k n e)
+within_at false k i n e h = cc
+
+-- there is one at the place
+pub some_found : {X : Type 0} (p : X → Bool) (xs : List X) (i : ℕ) → position p xs ≡ Some i → (x : X) × (slice_get xs i ≡ Some x)
+some_found p xs i h = some_at xs i (within_at (nat_lt (position_or_len p xs) (length xs)) (position_or_len p xs) i (length xs) refl h)
+
+-- where there is no place, none passes
+pub found_nowhere : {X : Type 0} (p : X → Bool) (xs : List X) → position p xs ≡ None → find p xs ≡ None
+found_nowhere p xs h =
+    let past : length xs ≤ position_or_len p xs = ltb-false (position_or_len p xs) (length xs) (unchosen (nat_lt (position_or_len p xs) (length xs)) (position_or_len p xs) h) in
+    find_at p xs ∙ slice_get_past xs (position_or_len p xs) past
+
+-- where no send is idle, and there is one, one is open
+pub some_open : (sends : List Sending) → position is_idle sends ≡ None → (length sends ≡ 0 → ⊥) → list_any (λ s. is_open s.send.stage) sends ≡ true
+some_open [] h n = absurd (n refl)
+some_open (x ∷ xs) h n = at_head (is_open x.send.stage) refl
+  where
+    at_head : (b : Bool) → is_open x.send.stage ≡ b → list_any (λ s. is_open s.send.stage) (x ∷ xs) ≡ true
+    at_head true e = or_left (is_open x.send.stage) _ e
+    at_head false e =
+        let first : position_or_len is_idle (x ∷ xs) ≡ 0 = ap (λ (b : Bool). cond (not (not b)) (1 + position_or_len is_idle xs) 0) e in
+        let past : length (x ∷ xs) ≤ position_or_len is_idle (x ∷ xs) =
+        ltb-false (position_or_len is_idle (x ∷ xs)) (length (x ∷ xs)) (unchosen (nat_lt (position_or_len is_idle (x ∷ xs)) (length (x ∷ xs))) (position_or_len is_idle (x ∷ xs)) h) in
+        absurd (omega (arith, first, past))
+
+-- ---- the step of a send
+
+-- the step of a send that was written back to its place
+pub stepped_at : (result : Result (Option Order) NoMemory) (sends : List Sending) (place number now : ℕ) (table : List Server) (server : Server) (s lent next : Sending) (r : Rounds) → slice_get sends place ≡ Some s
+    → lent ≡ get_or sends place lent → slice_get table lent.send.server ≡ Some server → next.candidate ≡ lent.candidate → r.sends.items ≡ set sends place next
+    → IfOk result (λ made. Steps number now server lent made next) → IfOk result (λ made. StepsAt place number now table s made r)
+stepped_at (Ok made) sends place number now table server s lent next r there is at candidate new steps =
+    let same : lent ≡ s = is ∙ get_or_from_slice_get sends place s lent there in
+    let by : StepsBy number now (slice_get table lent.send.server) lent made next = subst (λ (o : Option Server). StepsBy number now o lent made next) (sym at) steps in
+    record {
+      next = next;
+      steps = subst (λ (x : Sending). StepsBy number now (slice_get table x.send.server) x made next) same by;
+      candidate = candidate ∙ ap (λ (x : Sending). x.candidate) same;
+      there = ap (λ (l : List Sending). slice_get l place) new ∙ get_set sends place next s there;
+    }
+stepped_at (Err e) sends place number now table server s lent next r there is at candidate new steps = tt
+
+-- the same where the server is not there
+pub ended_at : (sends : List Sending) (place number now : ℕ) (table : List Server) (s lent next : Sending) (r : Rounds) → slice_get sends place ≡ Some s
+    → lent ≡ get_or sends place lent → slice_get table lent.send.server ≡ None → next.candidate ≡ lent.candidate → r.sends.items ≡ set sends place next
+    → StepsBy number now None lent None next → StepsAt place number now table s None r
+ended_at sends place number now table s lent next r there is at candidate new steps =
+    let same : lent ≡ s = is ∙ get_or_from_slice_get sends place s lent there in
+    let by : StepsBy number now (slice_get table lent.send.server) lent None next = subst (λ (o : Option Server). StepsBy number now o lent None next) (sym at) steps in
+    record {
+      next = next;
+      steps = subst (λ (x : Sending). StepsBy number now (slice_get table x.send.server) x None next) same by;
+      candidate = candidate ∙ ap (λ (x : Sending). x.candidate) same;
+      there = ap (λ (l : List Sending). slice_get l place) new ∙ get_set sends place next s there;
+    }
+
+-- a send that gives no order has ended
+taken_end : (number : ℕ) (told : SendStep) (old new : Sending) → IsTaken number told old None new → (x : Answered) × (end_of new.send.stage ≡ Some x)
+taken_end number (step.Order order) old new t = let bad : None ≡ Some order = t.0 in cc
+taken_end number (step.Done outcome) old new t = (outcome, ap (λ (s : Sending). end_of s.send.stage) t.1)
+taken_end number step.Waiting old new t = (Err NoConnections, ap (λ (s : Sending). end_of s.send.stage) t.1)
+
+steps_end : (number now : ℕ) (at : Option Server) (old new : Sending) → StepsBy number now at old None new → (x : Answered) × (end_of new.send.stage ≡ Some x)
+steps_end number now None old new t = (Err NoConnections, ap (λ (s : Sending). end_of s.send.stage) t.1)
+steps_end number now (Some server) old new t = taken_end number t.told (record old { send = t.next }) new t.taken
+
+module _ (number now place : ℕ) (table : List Server) (pool : List Candidate) (ends : List (End Candidate)) (old mid new : Rounds) (s : Sending) (at : IsFirstIdle place s old) where
+  heard_by : (sa : StepsAt place number now table s None mid) (e : End Candidate) → IsEndOf sa.next e → RoundsStand pool (ends ++ e ∷ []) new → HasHeard number now table pool ends old e new
+  heard_by sa e ended st = record { place = place; sending = s; idle = at; next = sa.next; steps = sa.steps; candidate = sa.candidate; ended = ended; stands = st }
+
+  heard_so : StepsAt place number now table s None mid → ((x : Sending) → slice_get mid.sends.items place ≡ Some x → StandsAtEnd x.candidate (end_of x.send.stage) pool ends new)
+      → (e : End Candidate) × HasHeard number now table pool ends old e new
+  heard_so sa st =
+      let found = steps_end number now (slice_get table s.send.server) s sa.next sa.steps in
+      let e = end_at sa.next.candidate found.0 in
+      let stands : RoundsStand pool (ends ++ e ∷ []) new = subst (λ (o : Option Answered). StandsAtEnd sa.next.candidate o pool ends new) found.1 (st sa.next sa.there) in
+      (e, heard_by sa e (record { ended = found.1; at = refl }) stands)
+
+  -- the step of the send at a place, with what follows
+  pub step_stands : (made : Option Order) (result : Result (Option RoundStep) NoMemory) → StepsAt place number now table s made mid → RoundsStand pool ends mid
+      → ((order : Order) → made ≡ Some order → (result ≡ Ok (Some (given.Order order))) × (new ≡ mid))
+      → (made ≡ None → IfOk result (λ step. step ≡ None))
+      → (made ≡ None → (x : Sending) → slice_get mid.sends.items place ≡ Some x → OnOk result (StandsAtEnd x.candidate (end_of x.send.stage) pool ends new))
+      → IfOk result (λ step. NextStands number now table pool ends old step new)
+  step_stands (Some order) result sa st ordered goes ended =
+      let told = ordered order refl in
+      subst (λ (x : Result (Option RoundStep) NoMemory). IfOk x (λ step. NextStands number now table pool ends old step new)) (sym told.0) (record {
+        place = place;
+        sending = s;
+        idle = at;
+        steps = subst (λ (m : Rounds). StepsAt place number now table s (Some order) m) (sym told.1) sa;
+        stands = subst (λ (m : Rounds). RoundsStand pool ends m) (sym told.1) st;
+      })
+  step_stands None (Ok step) sa st ordered goes ended =
+      subst (λ (x : Option RoundStep). NextStands number now table pool ends old x new) (sym (goes refl)) (inl (heard_so sa (ended refl)))
+  step_stands None (Err e) sa st ordered goes ended = tt
+
+  halted_so : (sa : StepsAt place number now table s None mid) → StandsStill pool ends (IsEndOf sa.next) new → IsHalted number now table pool ends old new
+  halted_so sa (inl h) = inl h
+  halted_so sa (inr (e, ended, h)) = inr (e, heard_by sa e ended h)
+
+  -- the same where memory is wanting
+  pub step_halts : (made : Option Order) (result : Result (Option RoundStep) NoMemory) → StepsAt place number now table s made mid
+      → ((order : Order) → made ≡ Some order → (result ≡ Ok (Some (given.Order order))) × (new ≡ mid))
+      → ((x : Sending) → slice_get mid.sends.items place ≡ Some x → OnErr result (StandsStill pool ends (IsEndOf x) new))
+      → OnErr result (IsHalted number now table pool ends old new)
+  step_halts (Some order) result sa ordered ended =
+      subst (λ (x : Result (Option RoundStep) NoMemory). OnErr x (IsHalted number now table pool ends old new)) (sym (ordered order refl).0) tt
+  step_halts None (Ok step) sa ordered ended = tt
+  step_halts None (Err e) sa ordered ended = halted_so sa (ended sa.next sa.there)
+
+-- ---- what it is at
+
+-- a lookup that asks with no send under way has had an end
+pub had_one : (pool : List Candidate) (ends : List (End Candidate)) (r : Rounds) → r.phase ≡ Asking → length r.sends.items ≡ 0 → RoundsStand pool ends r → ends ≡ [] → ⊥
+had_one pool ends r p none st e =
+    let x = subst (λ (y : Phase). StandsIn pool ends r y) p st in
+    let more = x.1 e in
+    omega (arith, none, more)
+
+-- one that sleeps can wake
+pub can_wake : (pool : List Candidate) (ends : List (End Candidate)) (r : Rounds) (until : ℕ) → r.phase ≡ Asleep until → RoundsStand pool ends r → CanWake r
+can_wake pool ends r until p st =
+    let x = subst (λ (y : Phase). StandsIn pool ends r y) p st in
+    record { sends = x.1; waiting = x.2; sleeps = x.3 }
+
+pub asleep_goes : (pool : List Candidate) (ends : List (End Candidate)) (r : Rounds) (until : ℕ) → r.phase ≡ Asleep until → RoundsStand pool ends r → Goes pool ends r
+asleep_goes pool ends r until p st = let x = subst (λ (y : Phase). StandsIn pool ends r y) p st in x.0
+
+pub asleep_had : (pool : List Candidate) (ends : List (End Candidate)) (r : Rounds) (until : ℕ) → r.phase ≡ Asleep until → RoundsStand pool ends r → ends ≡ [] → ⊥
+asleep_had pool ends r until p st = let x = subst (λ (y : Phase). StandsIn pool ends r y) p st in x.4
+
+pub at_asks : (p : Phase) → doing.Asks ≡ doing_of p → p ≡ Asking
+at_asks Asking h = refl
+at_asks (Asleep until) h = cc
+at_asks (Decided answer) h = cc
+at_asks Told h = cc
+
+pub at_sleeps : (p : Phase) (until : ℕ) → doing.Sleeps until ≡ doing_of p → p ≡ Asleep until
+at_sleeps Asking until h = cc
+at_sleeps (Asleep u) until h = cc
+at_sleeps (Decided answer) until h = cc
+at_sleeps Told until h = cc
+
+-- what is told of a lookup that is decided
+pub told_stands : (number now : ℕ) (table : List Server) (pool : List Candidate) (ends : List (End Candidate)) (old new : Rounds) (made : RoundStep) (p : Phase) → old.phase ≡ p → doing.Tells ≡ doing_of p
+    → Tells p made old new → StandsIn pool ends old p → Gives number now table pool ends old made new
+told_stands number now table pool ends old new made Asking e d t st = cc
+told_stands number now table pool ends old new made (Asleep until) e d t st = cc
+told_stands number now table pool ends old new made (Decided answer) e d t st = subst (λ (x : RoundStep). Gives number now table pool ends old x new) (sym t.0) (st, e, t.1)
+told_stands number now table pool ends old new made Told e d t st = subst (λ (x : RoundStep). Gives number now table pool ends old x new) (sym t.0) (e, t.1)
+
+pub no_step : (p : Phase) (sends : List Sending) → doing.Tells ≡ doing_of p → stepping p sends ≡ None
+no_step Asking sends d = cc
+no_step (Asleep until) sends d = cc
+no_step (Decided answer) sends d = refl
+no_step Told sends d = refl
+
+-- ---- the table
+
+-- a place past the end has nothing to change
+pub changed_past : (f : Server → Server) (number : ℕ) (table : List Server) → length table ≤ number → changed_at f number table ≡ table
+changed_past f number [] h = refl
+changed_past f zero (s ∷ table) h = absurd (omega (arith, h))
+changed_past f (suc number) (s ∷ table) h = ap (λ (l : List Server). s ∷ l) (changed_past f number table (omega (arith, h)))
+
+-- the change for a send is the same for the one that was lent
+pub changed_same : (f : Stage → Server → Server) (s lent : Sending) (table after : List Server) → lent ≡ s → after ≡ changed_for f (Some lent) table → after ≡ changed_for f (Some s) table
+changed_same f s lent table after e h = subst (λ (x : Sending). after ≡ changed_for f (Some x) table) e h
+
+none_past : {X : Type 0} (xs : List X) (i : ℕ) → slice_get xs i ≡ None → length xs ≤ i
+none_past {X = X} xs i h = either (slice_get_cases xs i).1
+  where
+    either : (((x : X) × (i < length xs) × (slice_get xs i ≡ Some x) × (get_or xs i x ≡ x)) ⊎ ((length xs ≤ i) × (slice_get xs i ≡ None))) → length xs ≤ i
+    either (inl (x, within, there, same)) = let bad : None ≡ Some x = sym h ∙ there in cc
+    either (inr (past, none)) = past
+
+-- a send that gives no order changes the table as one that memory was wanting for
+no_order : (number now : ℕ) (table : List Server) (old next : Sending) (st : Stage) → old.send.stage ≡ st → (o : Option Server) → slice_get table old.send.server ≡ o → StepsBy number now o old None next
+    → changed_at (after_step st) old.send.server table ≡ changed_at (after_want st) old.send.server table
+no_order number now table old next stage.Ready e o at t = refl
+no_order number now table old next (stage.Opening protocol order polls) e o at t = refl
+no_order number now table old next (stage.Opened protocol conn) e None at t =
+    let past : length table ≤ old.send.server = none_past table old.send.server at in
+    changed_past (after_step (stage.Opened protocol conn)) old.send.server table past ∙ sym (changed_past (after_want (stage.Opened protocol conn)) old.send.server table past)
+no_order number now table old next (stage.Opened protocol conn) e (Some server) at t =
+    let step = subst (λ (x : Stage). StepIs old.send x number now server t.told t.next.stage) e t.step in
+    let taken = subst (λ (x : SendStep). IsTaken number x (record old { send = t.next }) None next) step.0 t.taken in
+    let bad : None ≡ Some (Ask conn server.config.ip protocol old.send.request) = taken.0 in
+    cc
+no_order number now table old next (stage.Asking asked polls) e o at t = refl
+no_order number now table old next (stage.Ended outcome) e o at t = refl
+no_order number now table old next stage.Over e o at t = refl
+
+module _ (number now place : ℕ) (table : List Server) (old mid new : Rounds) (s : Sending) where
+  pub step_table : (made : Option Order) (result : Result (Option RoundStep) NoMemory) (after : List Server) → StepsAt place number now table s made mid
+      → ((order : Order) → made ≡ Some order → (result ≡ Ok (Some (given.Order order))) × (new ≡ mid))
+      → after ≡ changed_for after_step (Some s) table → OnErr result (after ≡ changed_for after_want (Some s) table)
+  step_table (Some order) result after sa ordered is =
+      subst (λ (x : Result (Option RoundStep) NoMemory). OnErr x (after ≡ changed_for after_want (Some s) table)) (sym (ordered order refl).0) tt
+  step_table None (Ok step) after sa ordered is = tt
+  step_table None (Err e) after sa ordered is = is ∙ no_order number now table s sa.next s.send.stage refl (slice_get table s.send.server) refl sa.steps
+
+  -- an end that is heard leaves fewer steps
+  pub step_falls : (made : Option Order) (result : Result (Option RoundStep) NoMemory) → StepsAt place number now table s made mid
+      → ((order : Order) → made ≡ Some order → (result ≡ Ok (Some (given.Order order))) × (new ≡ mid))
+      → (made ≡ None → (x : Sending) (o : Answered) → slice_get mid.sends.items place ≡ Some x → end_of x.send.stage ≡ Some o → OnOk result (steps_left new < steps_left mid))
+      → steps_left mid ≡ steps_left old → IfOk result (λ step. step ≡ None → steps_left new < steps_left old)
+  step_falls (Some order) result sa ordered falls same =
+      subst (λ (x : Result (Option RoundStep) NoMemory). IfOk x (λ step. step ≡ None → steps_left new < steps_left old)) (sym (ordered order refl).0)
+      (λ (bad : Some (given.Order order) ≡ None). cc)
+  step_falls None (Ok step) sa ordered falls same =
+      let found = steps_end number now (slice_get table s.send.server) s sa.next sa.steps in
+      λ none. subst (λ (n : ℕ). steps_left new < n) same (falls refl sa.next found.0 sa.there found.1)
+  step_falls None (Err e) sa ordered falls same = tt
+
+-- ---- several steps
+
+pub come_further : (number now : ℕ) (pool : List Candidate) (ends : List (End Candidate)) (table : List Server) (old : Rounds) (before later : List Server) (mid new : Rounds) (come : HasCome number now pool ends table old before mid)
+    → GoesOn number now before pool come.known mid new → later ≡ stepped_table mid before → HasCome number now pool ends table old later new
+come_further number now pool ends table old before later mid new come (inl (e, h)) is =
+    subst (λ (t : List Server). HasCome number now pool ends table old t new) (sym is)
+    (record { known = come.known ++ e ∷ []; gone = heard come.known before mid e new come.gone h; stands = h.stands })
+come_further number now pool ends table old before later mid new come (inr h) is =
+    subst (λ (t : List Server). HasCome number now pool ends table old t new) (sym is)
+    (record { known = come.known; gone = began come.known before mid new come.gone h; stands = stands_begun h })
+  where
+    stands_begun : BeginsRound now pool come.known mid new → RoundsStand pool come.known new
+    stands_begun (due a b st) = st
+    stands_begun (woken until a b st) = st
+
+gives_stands : (number now : ℕ) (table : List Server) (pool : List Candidate) (ends : List (End Candidate)) (mid new : Rounds) (step : RoundStep) → RoundsStand pool ends mid → Gives number now table pool ends mid step new → RoundsStand pool ends new
+gives_stands number now table pool ends mid new (given.Order order) st g = g.stands
+gives_stands number now table pool ends mid new given.Waiting st g = subst (λ (r : Rounds). RoundsStand pool ends r) (sym g.3) st
+gives_stands number now table pool ends mid new (given.Asleep until) st g = subst (λ (r : Rounds). RoundsStand pool ends r) (sym g.2) st
+gives_stands number now table pool ends mid new (given.Done answer) st g = subst (λ (r : Rounds). RoundsStand pool ends r) (sym g.2) tt
+gives_stands number now table pool ends mid new given.Told st g = subst (λ (r : Rounds). RoundsStand pool ends r) (sym g.1) st
+
+pub given_last : (number now : ℕ) (pool : List Candidate) (ends : List (End Candidate)) (table : List Server) (old : Rounds) (before later : List Server) (mid new : Rounds) (step : RoundStep) (come : HasCome number now pool ends table old before mid)
+    → Gives number now before pool come.known mid step new → later ≡ stepped_table mid before → HasGiven number now pool ends table old step later new
+given_last number now pool ends table old before later mid new step come g is =
+    record { before = before; mid = mid; come = come; gives = g; stepped = is; stands = gives_stands number now before pool come.known mid new step come.stands g }
+
+pub same_still : (old mid new : Rounds) → IsSameLookup old mid → IsSameLookup mid new → IsSameLookup old new
+same_still old mid new a b = record { request = b.request ∙ a.request; together = b.together ∙ a.together; timeout = b.timeout ∙ a.timeout; start = b.start ∙ a.start }

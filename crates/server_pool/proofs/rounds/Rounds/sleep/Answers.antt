@@ -1,0 +1,11 @@
+use Rattle.std.proofs.Common.{◌≤◌, inr, arith}
+use Rattle.server_pool.specs.NextStep.BeginsRound.{woken}
+use Rattle.server_pool.proofs.Stepping.{asleep_goes, asleep_had}
+use Rattle.server_pool.proofs.rounds.Rounds.sleep.Goals as goal
+
+pub returns-clause-stands : goal.returns-clause-stands
+returns-clause-stands c = λ number table pool ends st.
+    let r = c.args.self.now in
+    let until = c.args.until in
+    let over : until ≤ c.args.now = omega arith in
+    inr (woken until c.requires.sleeps over (c.wake.ensures.stands pool ends (asleep_goes pool ends r until c.requires.sleeps st) (asleep_had pool ends r until c.requires.sleeps st)))

@@ -1,0 +1,46 @@
+use Rattle.std.proofs.Common.{◌∙◌, inl}
+use Rattle.server_pool.proofs.Beginning.{asks_still, goes_now, on_err_always}
+use Rattle.server_pool.proofs.Stepping.{some_at, step_stands, step_halts, step_table, step_falls}
+use Rattle.server_pool.proofs.Working.{same_steps}
+use Rattle.server_pool.proofs.rounds.Rounds.step_at.Goals as goal
+
+pub returns-in_err-made-clause-want : goal.returns-in_err-made-clause-want
+returns-in_err-made-clause-want c = λ pool ends s at st.
+    let old = c.args.self.now in
+    on_err_always c.from_residual.result (inl (asks_still pool ends old c.step_send.new.self c.requires.asks st (c.step_send.ensures.phase ∙ c.requires.asks) c.step_send.ensures.sends
+    (c.step_send.ensures.goes pool ends (goes_now pool ends old c.requires.asks st))))
+
+pub returns-clause-stands : goal.returns-clause-stands
+returns-clause-stands c = λ pool ends s at st.
+    let old = c.args.self.now in
+    let mid = c.step_send.new.self in
+    let now = asks_still pool ends old mid c.requires.asks st (c.step_send.ensures.phase ∙ c.requires.asks) c.step_send.ensures.sends
+    (c.step_send.ensures.goes pool ends (goes_now pool ends old c.requires.asks st)) in
+    step_stands c.args.number c.args.tick.now c.args.place c.args.table.now pool ends old mid c.after_send.new.self s at c.in_ok-made.made c.after_send.result
+    (c.in_ok-made.ensures.steps s at.there) now (λ order is. c.after_send.ensures.order order is) (λ none. c.after_send.ensures.goes_on none)
+    (λ none x there. c.after_send.ensures.stands none pool ends x there now)
+
+pub returns-clause-want : goal.returns-clause-want
+returns-clause-want c = λ pool ends s at st.
+    let old = c.args.self.now in
+    let mid = c.step_send.new.self in
+    let now = asks_still pool ends old mid c.requires.asks st (c.step_send.ensures.phase ∙ c.requires.asks) c.step_send.ensures.sends
+    (c.step_send.ensures.goes pool ends (goes_now pool ends old c.requires.asks st)) in
+    step_halts c.args.number c.args.tick.now c.args.place c.args.table.now pool ends old mid c.after_send.new.self s at c.in_ok-made.made c.after_send.result
+    (c.in_ok-made.ensures.steps s at.there) (λ order is. c.after_send.ensures.order order is)
+    (λ x there. c.after_send.ensures.want pool ends x there now)
+
+pub returns-clause-falls : goal.returns-clause-falls
+returns-clause-falls c =
+    let old = c.args.self.now in
+    let mid = c.step_send.new.self in
+    let s = some_at old.sends.items c.args.place c.requires.place in
+    step_falls c.args.number c.args.tick.now c.args.place c.args.table.now old mid c.after_send.new.self s.0 c.in_ok-made.made c.after_send.result
+    (c.in_ok-made.ensures.steps s.0 s.1) (λ order is. c.after_send.ensures.order order is)
+    (λ none x o there end. c.after_send.ensures.falls none x o there end)
+    (same_steps old mid c.step_send.ensures.agenda c.step_send.ensures.sends c.step_send.ensures.phase)
+
+pub returns-clause-halted : goal.returns-clause-halted
+returns-clause-halted c = λ s at.
+    step_table c.args.number c.args.tick.now c.args.place c.args.table.now c.args.self.now c.step_send.new.self c.after_send.new.self s c.in_ok-made.made c.after_send.result c.step_send.new.table
+    (c.in_ok-made.ensures.steps s at.there) (λ order is. c.after_send.ensures.order order is) (c.in_ok-made.ensures.table s at.there)

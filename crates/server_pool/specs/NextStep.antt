@@ -1,0 +1,177 @@
+-- What the next step of a lookup is, and what it leaves.
+use Rattle.std.specs.Prelude.{◌≡◌, ℕ, ◌<◌, ◌≤◌, Bool, true, not, find, List, [], ◌∷◌, ◌++◌, length, slice_get, Option, Some, None, Err, ◌⊎◌}
+use Rattle.std.specs.List.{list_any, position}
+use Rattle.dns_core.specs.declared.net_error.NetError.TheVariants as net
+use Rattle.resolution.specs.Lookups.{Answered, End}
+use Rattle.server_core.specs.Servers.{Server}
+use Rattle.server_core.specs.Hearing.{changed_at}
+use Rattle.server_core.specs.Sending.{is_open, StepIs, IsSameSend, after_step, after_want}
+use Rattle.server_core.specs.declared.server_send.ServerSend.{ServerSend}
+use Rattle.server_core.specs.declared.order.Order.{Order}
+use Rattle.server_core.specs.declared.server_send.Stage.{Stage}
+use Rattle.server_core.specs.declared.server_send.Stage.TheVariants as stage
+use Rattle.server_core.specs.declared.server_send.SendStep.{SendStep}
+use Rattle.server_core.specs.declared.server_send.SendStep.TheVariants as step
+use Rattle.server_pool.specs.declared.candidate.Candidate.{Candidate}
+use Rattle.server_pool.specs.declared.rounds.Sending.{Sending}
+use Rattle.server_pool.specs.declared.rounds.Phase.{Phase}
+use Rattle.server_pool.specs.declared.rounds.Phase.TheVariants as phase
+use Rattle.server_pool.specs.declared.rounds.Rounds.{Rounds}
+use Rattle.server_pool.specs.declared.next_step.Doing.{Doing}
+use Rattle.server_pool.specs.declared.next_step.Doing.TheVariants as doing
+use Rattle.server_pool.specs.declared.next_step.RoundStep.{RoundStep}
+use Rattle.server_pool.specs.declared.next_step.RoundStep.TheVariants as given
+use Rattle.server_pool.specs.Rounds.{RoundsStand, IsAnswered, IsEndOf}
+
+-- no order of it is open
+abbrev pub is_idle : Sending → Bool
+is_idle s = not (is_open s.send.stage)
+
+-- the send where it stands at a stage
+abbrev pub at_stage : Sending → Stage → Sending
+at_stage s next = record s { send = record s.send { stage = next } }
+
+-- What a step makes of a send: an order is the one of this number; else it has ended, and where it told that before, without a connection.
+abbrev pub IsTaken : ℕ → SendStep → Sending → Option Order → Sending → Type 0
+IsTaken number (step.Order order) old made new = (made ≡ Some order) × (new ≡ record old { order = number })
+IsTaken number (step.Done outcome) old made new = (made ≡ None) × (new ≡ at_stage old (stage.Ended outcome))
+IsTaken number step.Waiting old made new = (made ≡ None) × (new ≡ at_stage old (stage.Ended (Err net.NoConnections)))
+
+-- the next step of a send at its server gave this order, if any
+pub record Steps (number now : ℕ) (server : Server) (old : Sending) (made : Option Order) (new : Sending) : Type 0 where
+  pub told : SendStep
+  pub next : ServerSend
+  pub same : IsSameSend old.send next
+  pub tries : next.retried ≡ old.send.retried
+  pub step : StepIs old.send old.send.stage number now server told next.stage
+  pub taken : IsTaken number told (record old { send = next }) made new
+
+-- so it is at the server that a table has for it; where it has none, the send has ended
+abbrev pub StepsBy : ℕ → ℕ → Option Server → Sending → Option Order → Sending → Type 0
+StepsBy number now None old made new = (made ≡ None) × (new ≡ at_stage old (stage.Ended (Err net.NoConnections)))
+StepsBy number now (Some server) old made new = Steps number now server old made new
+
+-- so is the step of a send, which is at a place then
+pub record StepsAt (place number now : ℕ) (table : List Server) (old : Sending) (made : Option Order) (r : Rounds) : Type 0 where
+  pub next : Sending
+  pub steps : StepsBy number now (slice_get table old.send.server) old made next
+  pub candidate : next.candidate ≡ old.candidate
+  pub there : slice_get r.sends.items place ≡ Some next
+
+-- what is decided is told once
+abbrev pub Tells : Phase → RoundStep → Rounds → Rounds → Type 0
+Tells (phase.Decided answer) made old new = (made ≡ given.Done answer) × (new ≡ record old { phase = phase.Told })
+Tells phase.Asking made old new = (made ≡ given.Told) × (new ≡ old)
+Tells (phase.Asleep until) made old new = (made ≡ given.Told) × (new ≡ old)
+Tells phase.Told made old new = (made ≡ given.Told) × (new ≡ old)
+
+abbrev pub doing_of : Phase → Doing
+doing_of phase.Asking = doing.Asks
+doing_of (phase.Asleep until) = doing.Sleeps until
+doing_of (phase.Decided answer) = doing.Tells
+doing_of phase.Told = doing.Tells
+
+-- the first send of which no order is open
+pub record IsFirstIdle (place : ℕ) (s : Sending) (r : Rounds) : Type 0 where
+  pub asks : r.phase ≡ phase.Asking
+  pub first : position is_idle r.sends.items ≡ Some place
+  pub there : slice_get r.sends.items place ≡ Some s
+
+-- it gave the order
+pub record HasOrdered (number now : ℕ) (table : List Server) (pool : List Candidate) (ends : List (End Candidate)) (old : Rounds) (order : Order) (new : Rounds) : Type 0 where
+  pub place : ℕ
+  pub sending : Sending
+  pub idle : IsFirstIdle place sending old
+  pub steps : StepsAt place number now table sending (Some order) new
+  pub stands : RoundsStand pool ends new
+
+-- it has ended so, and the lookup stands by that end too
+pub record HasHeard (number now : ℕ) (table : List Server) (pool : List Candidate) (ends : List (End Candidate)) (old : Rounds) (e : End Candidate) (new : Rounds) : Type 0 where
+  pub place : ℕ
+  pub sending : Sending
+  pub idle : IsFirstIdle place sending old
+  pub next : Sending
+  pub steps : StepsBy number now (slice_get table sending.send.server) sending None next
+  pub candidate : next.candidate ≡ sending.candidate
+  pub ended : IsEndOf next e
+  pub stands : RoundsStand pool (ends ++ e ∷ []) new
+
+-- a round begins where no send is under way, or after the sleep is over
+pub data BeginsRound (now : ℕ) (pool : List Candidate) (ends : List (End Candidate)) (old new : Rounds) : Type 0 where
+  due : old.phase ≡ phase.Asking → length old.sends.items ≡ 0 → RoundsStand pool ends new → BeginsRound now pool ends old new
+  woken : (until : ℕ) → old.phase ≡ phase.Asleep until → until ≤ now → RoundsStand pool ends new → BeginsRound now pool ends old new
+
+-- it goes on: an end was heard, or a round began
+abbrev pub GoesOn : ℕ → ℕ → List Server → List Candidate → List (End Candidate) → Rounds → Rounds → Type 0
+GoesOn number now table pool ends old new = ((e : End Candidate) × HasHeard number now table pool ends old e new) ⊎ BeginsRound now pool ends old new
+
+-- What a step tells of a lookup that stood by these ends, and how it stands then.
+abbrev pub Gives : ℕ → ℕ → List Server → List Candidate → List (End Candidate) → Rounds → RoundStep → Rounds → Type 0
+Gives number now table pool ends old (given.Order order) new = HasOrdered number now table pool ends old order new
+Gives number now table pool ends old given.Waiting new = (old.phase ≡ phase.Asking) × (list_any (λ s. is_open s.send.stage) old.sends.items ≡ true) × (position is_idle old.sends.items ≡ None) × (new ≡ old)
+Gives number now table pool ends old (given.Asleep until) new = (old.phase ≡ phase.Asleep until) × (now < until) × (new ≡ old)
+Gives number now table pool ends old (given.Done answer) new = IsAnswered pool ends old answer × (old.phase ≡ phase.Decided answer) × (new ≡ record old { phase = phase.Told })
+Gives number now table pool ends old given.Told new = (old.phase ≡ phase.Told) × (new ≡ old)
+
+-- what one step is: it gives something, or goes on
+abbrev pub NextStands : ℕ → ℕ → List Server → List Candidate → List (End Candidate) → Rounds → Option RoundStep → Rounds → Type 0
+NextStands number now table pool ends old None new = GoesOn number now table pool ends old new
+NextStands number now table pool ends old (Some step) new = Gives number now table pool ends old step new
+
+-- Where memory is wanting, the same step is still to be made, or an end was heard and the next round is to begin.
+abbrev pub IsHalted : ℕ → ℕ → List Server → List Candidate → List (End Candidate) → Rounds → Rounds → Type 0
+IsHalted number now table pool ends old new = RoundsStand pool ends new ⊎ ((e : End Candidate) × HasHeard number now table pool ends old e new)
+
+-- the send that is to step next, while the lookup asks
+abbrev pub stepping : Phase → List Sending → Option Sending
+stepping phase.Asking sends = find is_idle sends
+stepping (phase.Asleep until) sends = None
+stepping (phase.Decided answer) sends = None
+stepping phase.Told sends = None
+
+-- the table with a change by the stage of a send at its server
+abbrev pub changed_for : (Stage → Server → Server) → Option Sending → List Server → List Server
+changed_for f None table = table
+changed_for f (Some s) table = changed_at (f s.send.stage) s.send.server table
+
+-- what the next step does to the table of the servers, and what it does where memory is wanting
+abbrev pub stepped_table : Rounds → List Server → List Server
+stepped_table r table = changed_for after_step (stepping r.phase r.sends.items) table
+
+abbrev pub halted_table : Rounds → List Server → List Server
+halted_table r table = changed_for after_want (stepping r.phase r.sends.items) table
+
+-- ---- the steps of a moment
+
+-- The steps that a lookup made at a moment, from where it stood by these ends: by which ends it stands then, and the table and the lookup.
+pub data HasGone (number now : ℕ) (pool : List Candidate) (ends : List (End Candidate)) (table : List Server) (old : Rounds) : List (End Candidate) → List Server → Rounds → Type 0 where
+  stayed : HasGone number now pool ends table old ends table old
+  heard : (known : List (End Candidate)) (before : List Server) (mid : Rounds) (e : End Candidate) (new : Rounds)
+      → HasGone number now pool ends table old known before mid → HasHeard number now before pool known mid e new
+      → HasGone number now pool ends table old (known ++ e ∷ []) (stepped_table mid before) new
+  began : (known : List (End Candidate)) (before : List Server) (mid new : Rounds)
+      → HasGone number now pool ends table old known before mid → BeginsRound now pool known mid new
+      → HasGone number now pool ends table old known (stepped_table mid before) new
+
+-- it stands by the ends that it has come to
+pub record HasCome (number now : ℕ) (pool : List Candidate) (ends : List (End Candidate)) (table : List Server) (old : Rounds) (later : List Server) (new : Rounds) : Type 0 where
+  pub known : List (End Candidate)
+  pub gone : HasGone number now pool ends table old known later new
+  pub stands : RoundsStand pool known new
+
+-- After the ends that it heard and the rounds that it began it gave this.
+pub record HasGiven (number now : ℕ) (pool : List Candidate) (ends : List (End Candidate)) (table : List Server) (old : Rounds) (step : RoundStep) (later : List Server) (new : Rounds) : Type 0 where
+  pub before : List Server
+  pub mid : Rounds
+  pub come : HasCome number now pool ends table old before mid
+  pub gives : Gives number now before pool come.known mid step new
+  pub stepped : later ≡ stepped_table mid before
+  pub stands : RoundsStand pool come.known new
+
+-- There memory was wanting.
+pub record HasHalted (number now : ℕ) (pool : List Candidate) (ends : List (End Candidate)) (table : List Server) (old : Rounds) (later : List Server) (new : Rounds) : Type 0 where
+  pub before : List Server
+  pub mid : Rounds
+  pub come : HasCome number now pool ends table old before mid
+  pub halts : IsHalted number now before pool come.known mid new
+  pub stepped : later ≡ halted_table mid before
