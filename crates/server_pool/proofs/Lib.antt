@@ -20,3 +20,4 @@ pub mod ByAddress
 pub mod FromPool
 pub mod Stepping
 pub mod Working
+pub mod Taking

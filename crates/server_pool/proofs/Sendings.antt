@@ -77,7 +77,7 @@ ended_send q timeout pool ends sends i s p there st =
     (picked_first (rules_of timeout) (λ (x : Sending). x.candidate) sends i s there) st
 
 -- none at all
-empty_list : {X : Type 0} (xs : List X) → length xs ≡ 0 → xs ≡ []
+pub empty_list : {X : Type 0} (xs : List X) → length xs ≡ 0 → xs ≡ []
 empty_list [] h = refl
 empty_list (x ∷ xs) h = absurd (omega (arith, h))
 

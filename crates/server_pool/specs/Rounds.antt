@@ -1,17 +1,21 @@
 -- How a lookup stands between its steps.
-use Rattle.std.specs.Prelude.{◌≡◌, ℕ, ◌+◌, ◌-◌, ◌*◌, ◌≤◌, ◌<◌, Bool, true, if◌then◌else◌, min, ◌==◌, ◌&&◌, ◌||◌, not, IsTrue, List, [], ◌∷◌, ◌++◌, map, length, slice_get, ◌⊎◌, Option, Some, None}
+use Rattle.std.specs.Prelude.{◌≡◌, ℕ, ◌+◌, ◌-◌, ◌*◌, ◌≤◌, ◌<◌, Bool, true, false, if◌then◌else◌, min, max, filter, take, drop, ◌==◌, ◌&&◌, ◌||◌, not, IsTrue, List, [], ◌∷◌, ◌++◌, map, length, slice_get, ◌⊎◌, Option, Some, None}
 use Rattle.std.specs.List.{position}
 use Rattle.dns_core.specs.declared.message.Query.{Query}
+use Rattle.dns_core.specs.declared.request.DnsRequest.{DnsRequest}
 use Rattle.resolution.specs.Lookups.{Answered, End, PoolRun}
 use Rattle.server_pool.specs.declared.candidate.Candidate.{Candidate}
 use Rattle.server_pool.specs.declared.rounds.Sending.{Sending}
 use Rattle.server_pool.specs.declared.rounds.Phase.{Phase}
 use Rattle.server_pool.specs.declared.rounds.Phase.TheVariants.{Asking, Asleep, Decided, Told}
 use Rattle.server_pool.specs.declared.rounds.Rounds.{Rounds}
-use Rattle.server_core.specs.Sending.{is_open, Comes, end_of}
+use Rattle.server_core.specs.Hearing.{changed_at}
+use Rattle.server_core.specs.Sending.{is_open, Comes, end_of, asked_of, heard_put}
+use Rattle.server_core.specs.Servers.{Server}
 use Rattle.server_core.specs.declared.order.Outcome.{Outcome}
 use Rattle.server_core.specs.declared.server_send.ServerSend.{ServerSend}
-use Rattle.server_pool.specs.Agenda.{rules_of, class_of_sent, end_at, may_sleep, sleep_time, PlanStands}
+use Rattle.server_core.specs.declared.server_send.Stage.TheVariants.{Ready}
+use Rattle.server_pool.specs.Agenda.{Plan, may_ask, rules_of, class_of_sent, end_at, may_sleep, sleep_time, PlanStands}
 
 -- the servers of the sends that have not ended
 abbrev pub under_way : List Sending → List Candidate
@@ -48,6 +52,44 @@ pub record IsSameLookup (old new : Rounds) : Type 0 where
   pub together : new.together ≡ old.together
   pub timeout : new.timeout ≡ old.timeout
   pub start : new.start ≡ old.start
+
+-- those that may be asked, in their order
+abbrev pub allowed : Plan → List Candidate
+allowed p = filter (may_ask p.off) p.waiting
+
+-- a send of the request to a server, which has not begun: with UDP, or where it is off without
+abbrev pub first_send : DnsRequest → Bool → Candidate → Sending
+first_send request off c =
+    record { candidate = c; order = 0; send = record { server = c.server; request = request; policy = record { disable_udp = off }; retried = false; stage = Ready } }
+
+abbrev pub fresh_send : Rounds → Candidate → Sending
+fresh_send r = first_send r.request r.agenda.off
+
+-- The first so many of those that may be asked are asked, in their order, and the others are left.
+pub record Takes (most : ℕ) (old new : Rounds) : Type 0 where
+  pub sends : new.sends.items ≡ old.sends.items ++ map (fresh_send old) (take most (allowed old.agenda))
+  pub waiting : allowed new.agenda ≡ drop most (allowed old.agenda)
+  pub off : new.agenda.off ≡ old.agenda.off
+  pub busy : new.agenda.busy ≡ old.agenda.busy
+  pub sleeps : new.agenda.sleeps ≡ old.agenda.sleeps
+
+-- a round takes as many as are asked side by side, and one at least
+abbrev pub TakesRound : Rounds → Rounds → Type 0
+TakesRound old new = Takes (max old.together 1) old new
+
+-- after its sleep, those that were busy are to be asked
+abbrev pub woken : Plan → Plan
+woken p = record p { waiting = p.busy; busy = []; sleeps = p.sleeps + 1 }
+
+-- The busy ones that may be asked are asked, as many as are asked side by side.
+pub record TakesBusy (old new : Rounds) : Type 0 where
+  pub sends : new.sends.items ≡ map (fresh_send old) (take (max old.together 1) (allowed (woken old.agenda)))
+  pub waiting : allowed new.agenda ≡ drop (max old.together 1) (allowed (woken old.agenda))
+  pub sleeps : new.agenda.sleeps ≡ old.agenda.sleeps + 1
+
+-- the table after the outcome of a send's order was heard at its server
+abbrev pub heard_table : Sending → ℕ → Outcome → List Server → List Server
+heard_table s now outcome table = changed_at (heard_put (asked_of s.send.stage) now outcome) s.send.server table
 
 -- What is left to be done: one that is asked or waits may be asked after each sleep that is left too, one that was busy after each of them,
 -- while UDP is on one may be asked again, and each sleep counts.

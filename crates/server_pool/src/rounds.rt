@@ -1,6 +1,6 @@
 //! The rounds of one lookup at a pool: some servers are asked side by side, and when all of them have
 //! ended, the next ones, until an end decides the lookup, no server is left, or its time is over.
-ghost use Rattle.std.specs.Prelude.{◌≡◌, ◌≤◌, ◌<◌, ◌+◌, ◌-◌, ◌^◌, ℕ, nat_le, min, [], ◌∷◌, ◌++◌, List, true, false, length, slice_get, Some, None, Ok, Err, IfOk, IfSome, OnOk, OnErr, IsTrue, ◌↔◌, ◌==◌, ◌&&◌};
+ghost use Rattle.std.specs.Prelude.{◌≡◌, ◌≤◌, ◌<◌, ◌+◌, ◌-◌, ◌^◌, ℕ, nat_le, min, [], ◌∷◌, ◌++◌, List, true, false, length, slice_get, map, take, Some, None, Ok, Err, IfOk, IfSome, OnOk, OnErr, IsTrue, ◌↔◌, ◌==◌, ◌&&◌, ◌⊎◌};
 ghost use Rattle.std.specs.List.{position};
 ghost use Rattle.resolution.specs.Lookups.{Answered, End};
 ghost use Rattle.server_core.specs.Sending.{is_open, end_of, after_put};
@@ -8,7 +8,7 @@ ghost use Rattle.server_pool.specs.declared.candidate.Candidate.{Candidate};
 ghost use Rattle.server_pool.specs.declared.rounds.Sending.{Sending};
 ghost use Rattle.server_pool.specs.Agenda.{may_sleep, sleep_time, end_at};
 ghost use Rattle.server_pool.specs.Ordering.{side_by_side};
-ghost use Rattle.server_pool.specs.Rounds.{Goes, RoundsStand, IsSameLookup, MayBeLate, IsFed, IsOpenAt, IsStillAt, IsEndOf, HasEnded, StandsAtEnd, StandsBy, StandsStill, wakes_at, work, steps_left};
+ghost use Rattle.server_pool.specs.Rounds.{Goes, RoundsStand, IsSameLookup, MayBeLate, IsFed, IsOpenAt, IsStillAt, IsEndOf, HasEnded, StandsAtEnd, StandsBy, StandsStill, wakes_at, work, steps_left, first_send, Takes, TakesRound, TakesBusy, heard_table};
 
 use crate::agenda::Agenda;
 use crate::candidate::{Candidate, Hearing};
@@ -50,7 +50,7 @@ pub struct Rounds {
 }
 
 fn new_sending(candidate: Candidate, request: DnsRequest, policy: ConnectionPolicy) -> Sending
-    ensures { result.candidate ≡ candidate }
+    ensures { result ≡ first_send request policy.disable_udp candidate }
 {
     Sending {
         candidate,
@@ -70,6 +70,7 @@ impl Rounds {
     fn send_one(&mut self, alloc: Global) -> Result<bool, NoMemory>
         ensures goes { (pool : List Candidate) (ends : List (End Candidate)) → Goes pool ends self.old → Goes pool ends self.new }
         ensures same { IsSameLookup self.old self.new }
+        ensures takes { IfOk result (λ sent. Takes 1 self.old self.new) }
         ensures work { work self.new ≤ work self.old }
         ensures phase { self.new.phase ≡ self.old.phase }
         ensures more { length self.old.sends.items ≤ length self.new.sends.items }
@@ -93,6 +94,7 @@ impl Rounds {
     fn send_others(&mut self, alloc: Global) -> Result<(), NoMemory>
         ensures goes { (pool : List Candidate) (ends : List (End Candidate)) → Goes pool ends self.old → Goes pool ends self.new }
         ensures same { IsSameLookup self.old self.new }
+        ensures takes { OnOk result (Takes (self.old.together - 1) self.old self.new) }
         ensures work { work self.new ≤ work self.old }
         ensures phase { self.new.phase ≡ self.old.phase }
         ensures more { length self.old.sends.items ≤ length self.new.sends.items }
@@ -109,6 +111,7 @@ impl Rounds {
     fn send_all(&mut self, alloc: Global) -> Result<(), NoMemory>
         ensures goes { (pool : List Candidate) (ends : List (End Candidate)) → Goes pool ends self.old → Goes pool ends self.new }
         ensures same { IsSameLookup self.old self.new }
+        ensures takes { OnOk result (TakesRound self.old self.new) }
         ensures work { work self.new ≤ work self.old }
         ensures phase { self.new.phase ≡ self.old.phase }
         ensures none { OnOk result (length self.new.sends.items ≡ 0 → self.new.agenda.waiting ≡ []) }
@@ -135,6 +138,8 @@ impl Rounds {
         requires waiting { self.old.agenda.waiting ≡ [] }
         ensures stands { (pool : List Candidate) (ends : List (End Candidate)) → Goes pool ends self.old → RoundsStand pool ends self.new }
         ensures same { IsSameLookup self.old self.new }
+        ensures sends { self.new.sends ≡ self.old.sends }
+        ensures plan { self.new.agenda ≡ record self.old.agenda { kept = self.new.agenda.kept } }
         ensures work { work self.new ≡ work self.old }
         ensures sleeps { may_sleep self.old.agenda ≡ true → self.new.phase ≡ Phase.Asleep (min (wakes_at self.old now) (2 ^ 64 - 1)) }
         ensures spent { may_sleep self.old.agenda ≡ false → self.new.phase ≡ Phase.Decided (Err self.old.agenda.kept) }
@@ -154,6 +159,8 @@ impl Rounds {
         requires { length self.old.sends.items ≡ 0 → self.old.agenda.waiting ≡ [] }
         ensures stands { (pool : List Candidate) (ends : List (End Candidate)) → Goes pool ends self.old → RoundsStand pool ends self.new }
         ensures same { IsSameLookup self.old self.new }
+        ensures sends { self.new.sends ≡ self.old.sends }
+        ensures plan { self.new.agenda ≡ record self.old.agenda { kept = self.new.agenda.kept } }
         ensures work { work self.new ≡ work self.old }
         ensures asks { 0 < length self.old.sends.items → self.new ≡ record self.old { phase = Phase.Asking } }
         ensures sleeps { length self.old.sends.items ≡ 0 → may_sleep self.old.agenda ≡ true → self.new.phase ≡ Phase.Asleep (min (wakes_at self.old now) (2 ^ 64 - 1)) }
@@ -172,6 +179,7 @@ impl Rounds {
         ensures stands { (pool : List Candidate) (ends : List (End Candidate)) → Goes pool ends self.old → MayBeLate ends self.old now → OnOk result (RoundsStand pool ends self.new) }
         ensures want { (pool : List Candidate) (ends : List (End Candidate)) → Goes pool ends self.old → OnErr result (Goes pool ends self.new) }
         ensures same { IsSameLookup self.old self.new }
+        ensures takes { now < self.old.start + self.old.timeout → OnOk result (TakesRound self.old self.new) }
         ensures work { work self.new ≤ work self.old }
         ensures phase { OnErr result (self.new.phase ≡ self.old.phase) }
         ensures late { self.old.start + self.old.timeout ≤ now → OnOk result (self.new.phase ≡ Phase.Decided (Err NetError.Timeout)) }
@@ -199,6 +207,7 @@ impl Rounds {
         ensures time { IfOk result (λ r. (r.start ≡ now) × (r.timeout ≡ options.now.timeout)) }
         ensures together { IfOk result (λ r. r.together ≡ side_by_side options.now) }
         ensures asks { IfOk result (λ r. r.phase ≡ Phase.Asking → 0 < length r.sends.items) }
+        ensures takes { 0 < options.now.timeout → IfOk result (λ r. r.sends.items ≡ map (first_send request false) (take (side_by_side options.now) pool.now)) }
         ensures late { options.now.timeout ≡ 0 → IfOk result (λ r. r.phase ≡ Phase.Decided (Err NetError.Timeout)) }
     {
         let mut rounds = Rounds {
@@ -221,6 +230,7 @@ impl Rounds {
         requires sends { length self.old.sends.items ≡ 0 }
         ensures stands { (pool : List Candidate) (ends : List (End Candidate)) → Goes pool ends self.old → (ends ≡ [] → ⊥) → RoundsStand pool ends self.new }
         ensures same { IsSameLookup self.old self.new }
+        ensures takes { now < self.old.start + self.old.timeout → OnOk result (TakesBusy self.old self.new) }
         ensures work { work self.new < work self.old }
         ensures late { self.old.start + self.old.timeout ≤ now → OnOk result (self.new.phase ≡ Phase.Decided (Err NetError.Timeout)) }
         ensures asks { OnOk result (self.new.phase ≡ Phase.Asking → 0 < length self.new.sends.items) }
@@ -307,13 +317,15 @@ impl Rounds {
         requires { place < length self.old.sends.items }
         ensures goes { (pool : List Candidate) (ends : List (End Candidate)) → Goes pool ends self.old → Goes pool ends self.new }
         ensures same { IsSameLookup self.old self.new }
+        ensures table { (s : Sending) → slice_get self.old.sends.items place ≡ Some s → OnOk result (table.new ≡ heard_table s tick.now outcome table.old) }
+        ensures err { OnErr result (table.new ≡ table.old) }
         ensures phase { self.new.phase ≡ self.old.phase }
         ensures after { (s : Sending) → slice_get self.old.sends.items place ≡ Some s → s.send.server < length table.old
             → IfOk result (λ a. a ≡ after_put tick.patience s.send.stage outcome) }
         ensures fed { (s : Sending) → slice_get self.old.sends.items place ≡ Some s → IsTrue (is_open s.send.stage) → s.send.server < length table.old
             → OnOk result (IsFed s place outcome self.new) }
         ensures count { length self.new.sends.items ≡ length self.old.sends.items }
-        ensures table { length table.new ≡ length table.old }
+        ensures servers { length table.new ≡ length table.old }
     {
         let sending = &mut self.sends[place];
         if sending.send.server as usize >= table.len() {
@@ -341,6 +353,9 @@ impl Rounds {
     pub(crate) fn go_on(&mut self, alloc: Global, now: u64) -> Result<(), NoMemory>
         ensures stands { (pool : List Candidate) (ends : List (End Candidate)) → (ends ≡ [] → ⊥) → RoundsStand pool ends self.old → RoundsStand pool ends self.new }
         ensures same { IsSameLookup self.old self.new }
+        ensures begins { self.old.phase ≡ Phase.Asking → length self.old.sends.items ≡ 0 → now < self.old.start + self.old.timeout → OnOk result (TakesRound self.old self.new) }
+        ensures late { self.old.phase ≡ Phase.Asking → length self.old.sends.items ≡ 0 → self.old.start + self.old.timeout ≤ now → OnOk result (self.new.phase ≡ Phase.Decided (Err NetError.Timeout)) }
+        ensures rests { (self.old.phase ≡ Phase.Asking → length self.old.sends.items ≡ 0 → ⊥) → self.new ≡ self.old }
         ensures work { work self.new ≤ work self.old }
         ensures asks { OnOk result (self.new.phase ≡ Phase.Asking → 0 < length self.new.sends.items) }
     {
@@ -389,6 +404,8 @@ impl Rounds {
         ensures want { (pool : List Candidate) (ends : List (End Candidate)) (s : Sending) → slice_get self.old.sends.items place ≡ Some s → IsTrue (is_open s.send.stage)
             → s.send.server < length table.old → RoundsStand pool ends self.old → OnErr result (StandsStill pool ends (HasEnded s outcome) self.new) }
         ensures same { IsSameLookup self.old self.new }
+        ensures heard { (s : Sending) → slice_get self.old.sends.items place ≡ Some s → OnOk result (table.new ≡ heard_table s tick.now outcome table.old) }
+        ensures halted { (s : Sending) → slice_get self.old.sends.items place ≡ Some s → OnErr result ((table.new ≡ table.old) ⊎ (table.new ≡ heard_table s tick.now outcome table.old)) }
         ensures table { length table.new ≡ length table.old }
     {
         let after = self.feed(alloc, table, place, outcome, tick)?;
@@ -429,6 +446,8 @@ impl Rounds {
         ensures late { (self.old.phase ≡ Phase.Asking → position (λ s. s.order == number && is_open s.send.stage) self.old.sends.items ≡ None)
             → (result ≡ Ok After.Late) × (self.new ≡ self.old) × (table.new ≡ table.old) }
         ensures same { IsSameLookup self.old self.new }
+        ensures heard { (place : ℕ) (s : Sending) → IsOpenAt number place s self.old → OnOk result (table.new ≡ heard_table s tick.now outcome table.old) }
+        ensures halted { (place : ℕ) (s : Sending) → IsOpenAt number place s self.old → OnErr result ((table.new ≡ table.old) ⊎ (table.new ≡ heard_table s tick.now outcome table.old)) }
         ensures table { length table.new ≡ length table.old }
     {
         match self.open_place(number) {

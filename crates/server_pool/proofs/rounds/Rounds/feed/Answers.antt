@@ -1,6 +1,11 @@
-use Rattle.std.proofs.Common.{ap}
+use Rattle.std.proofs.Common.{◌≡◌, ◌∙◌, ◌≤◌, length, ap, sym, subst, refl, arith, OnOk, IfOk, IsTrue}
+use Rattle.std.proofs.lemmas.Option.{get_or_from_slice_get}
+use Rattle.std.proofs.lemmas.Result.{on_ok_weaker}
+use Rattle.server_core.specs.Sending.{is_open, after_put, asked_of, heard_put}
 use Rattle.server_pool.specs.declared.rounds.Sending.{Sending}
-use Rattle.server_pool.proofs.Sendings.{written_send}
+use Rattle.server_pool.specs.Rounds.{heard_table}
+use Rattle.server_pool.proofs.Sendings.{written_send, fed_send}
+use Rattle.server_pool.proofs.Stepping.{changed_past}
 use Rattle.server_pool.proofs.rounds.Rounds.feed.Goals as goal
 
 pub returns-then-sending-len-clause-goes : goal.returns-then-sending-len-clause-goes
@@ -14,3 +19,46 @@ returns-clause-goes c = λ pool ends st.
     let r = c.args.self.now in
     let lent = c.index_mut-sending.result.now in
     written_send r.request.query r.timeout pool ends r.sends.items c.args.place _ lent r.agenda (ap (λ (s : Sending). s.candidate) c.index_mut-sending.ensures.value) st
+
+pub returns-then-sending-len-clause-table : goal.returns-then-sending-len-clause-table
+returns-then-sending-len-clause-table c = λ s there.
+    let lent = c.index_mut-sending.result.now in
+    let same : lent ≡ s = c.index_mut-sending.ensures.value ∙ get_or_from_slice_get c.args.self.now.sends.items c.args.place s lent there in
+    let past : length c.args.table.now ≤ lent.send.server = omega arith in
+    subst (λ (x : Sending). c.args.table.now ≡ heard_table x c.args.tick.now c.args.outcome c.args.table.now) same
+    (sym (changed_past (heard_put (asked_of lent.send.stage) c.args.tick.now c.args.outcome) lent.send.server c.args.table.now past))
+
+pub returns-then-sending-len-clause-after : goal.returns-then-sending-len-clause-after
+returns-then-sending-len-clause-after c = λ s there live.
+    let lent = c.index_mut-sending.result.now in
+    let same : lent ≡ s = c.index_mut-sending.ensures.value ∙ get_or_from_slice_get c.args.self.now.sends.items c.args.place s lent there in
+    let past : length c.args.table.now ≤ lent.send.server = omega arith in
+    let beyond : length c.args.table.now ≤ s.send.server = subst (λ (x : Sending). length c.args.table.now ≤ x.send.server) same past in
+    absurd (omega (arith, beyond, live))
+
+pub returns-then-sending-len-clause-fed : goal.returns-then-sending-len-clause-fed
+returns-then-sending-len-clause-fed c = λ s there is live.
+    let lent = c.index_mut-sending.result.now in
+    let same : lent ≡ s = c.index_mut-sending.ensures.value ∙ get_or_from_slice_get c.args.self.now.sends.items c.args.place s lent there in
+    let past : length c.args.table.now ≤ lent.send.server = omega arith in
+    let beyond : length c.args.table.now ≤ s.send.server = subst (λ (x : Sending). length c.args.table.now ≤ x.send.server) same past in
+    absurd (omega (arith, beyond, live))
+
+pub returns-clause-table : goal.returns-clause-table
+returns-clause-table c = λ s there.
+    let lent = c.index_mut-sending.result.now in
+    let same : lent ≡ s = c.index_mut-sending.ensures.value ∙ get_or_from_slice_get c.args.self.now.sends.items c.args.place s lent there in
+    subst (λ (x : Sending). OnOk c.put.result (c.put.new.table ≡ heard_table x c.args.tick.now c.args.outcome c.args.table.now)) same c.put.ensures.table
+
+pub returns-clause-after : goal.returns-clause-after
+returns-clause-after c = λ s there live.
+    let lent = c.index_mut-sending.result.now in
+    let same : lent ≡ s = c.index_mut-sending.ensures.value ∙ get_or_from_slice_get c.args.self.now.sends.items c.args.place s lent there in
+    subst (λ (x : Sending). IfOk c.put.result (λ a. a ≡ after_put c.args.tick.patience x.send.stage c.args.outcome)) same c.put.ensures.after
+
+pub returns-clause-fed : goal.returns-clause-fed
+returns-clause-fed c = λ s there is live.
+    let lent = c.index_mut-sending.result.now in
+    let same : lent ≡ s = c.index_mut-sending.ensures.value ∙ get_or_from_slice_get c.args.self.now.sends.items c.args.place s lent there in
+    let open_then = subst (λ (x : Sending). IsTrue (is_open x.send.stage)) (sym same) is in
+    on_ok_weaker c.put.result (λ comes. fed_send c.args.self.now.sends.items c.args.place s lent c.put.new.self c.args.outcome _ there c.index_mut-sending.ensures.value refl comes) (c.put.ensures.comes open_then)

@@ -1,5 +1,6 @@
-use Rattle.std.proofs.Common.{◌≡◌, ℕ, ◌+◌, ◌≤◌, [], arith, eq-eqb}
+use Rattle.std.proofs.Common.{◌≡◌, ℕ, ◌+◌, ◌≤◌, ◌<◌, [], arith, eq-eqb}
 use Rattle.server_pool.proofs.Sendings.{same_sends}
+use Rattle.server_pool.proofs.Taking.{takes_first}
 use Rattle.server_pool.proofs.rounds.Rounds.new.Goals as goal
 
 no_time : (now timeout : ℕ) → now + timeout ≤ now → timeout ≡ 0
@@ -11,3 +12,11 @@ returns-clause-stands c =
     (same_sends c.args.request.query c.args.options.now.timeout c.args.pool.now [] [] c.new-2.result.items c.in_ok-new.field-0 c.new-2.ensures.items
     (c.in_ok-new.ensures.stands c.args.request.query c.args.options.now.timeout))
     (λ late. eq-eqb c.args.options.now.timeout 0 (no_time c.args.now c.args.options.now.timeout late))
+
+in_time : (now timeout : ℕ) → 0 < timeout → now < now + timeout
+in_time now timeout h = omega arith
+
+pub returns-clause-takes : goal.returns-clause-takes
+returns-clause-takes c = λ soon.
+    takes_first c.args.pool.now c.args.options.now.num_concurrent_reqs _ c.begin.new.self (c.in_ok-begin.ensures.takes (in_time c.args.now c.args.options.now.timeout soon)) c.new-2.ensures.items c.in_ok-new.ensures.plan
+    c.side_by_side.ensures
