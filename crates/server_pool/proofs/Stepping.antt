@@ -284,8 +284,8 @@ come_further number now pool ends table old before later mid new come (inr h) is
     (record { known = come.known; gone = began come.known before mid new come.gone h; stands = stands_begun h })
   where
     stands_begun : BeginsRound now pool come.known mid new → RoundsStand pool come.known new
-    stands_begun (due a b st) = st
-    stands_begun (woken until a b st) = st
+    stands_begun (due a b t st) = st
+    stands_begun (woken until a b t st) = st
 
 gives_stands : (number now : ℕ) (table : List Server) (pool : List Candidate) (ends : List (End Candidate)) (mid new : Rounds) (step : RoundStep) → RoundsStand pool ends mid → Gives number now table pool ends mid step new → RoundsStand pool ends new
 gives_stands number now table pool ends mid new (given.Order order) st g = g.stands

@@ -1,5 +1,5 @@
 -- What the next step of a lookup is, and what it leaves.
-use Rattle.std.specs.Prelude.{◌≡◌, ℕ, ◌<◌, ◌≤◌, Bool, true, not, find, List, [], ◌∷◌, ◌++◌, length, slice_get, Option, Some, None, Err, ◌⊎◌}
+use Rattle.std.specs.Prelude.{◌≡◌, ℕ, ◌+◌, ◌<◌, ◌≤◌, Bool, true, not, find, List, [], ◌∷◌, ◌++◌, length, slice_get, Option, Some, None, Err, ◌⊎◌}
 use Rattle.std.specs.List.{list_any, position}
 use Rattle.dns_core.specs.declared.net_error.NetError.TheVariants as net
 use Rattle.resolution.specs.Lookups.{Answered, End}
@@ -21,7 +21,7 @@ use Rattle.server_pool.specs.declared.next_step.Doing.{Doing}
 use Rattle.server_pool.specs.declared.next_step.Doing.TheVariants as doing
 use Rattle.server_pool.specs.declared.next_step.RoundStep.{RoundStep}
 use Rattle.server_pool.specs.declared.next_step.RoundStep.TheVariants as given
-use Rattle.server_pool.specs.Rounds.{RoundsStand, IsAnswered, IsEndOf}
+use Rattle.server_pool.specs.Rounds.{RoundsStand, IsAnswered, IsEndOf, TakesRound, TakesBusy}
 
 -- no order of it is open
 abbrev pub is_idle : Sending → Bool
@@ -96,10 +96,15 @@ pub record HasHeard (number now : ℕ) (table : List Server) (pool : List Candid
   pub ended : IsEndOf next e
   pub stands : RoundsStand pool (ends ++ e ∷ []) new
 
+-- it takes its servers, or the deadline is reached
+pub record TakesInTime (now : ℕ) (old new : Rounds) (Taken : Type 0) : Type 0 where
+  pub in_time : now < old.start + old.timeout → Taken
+  pub late : old.start + old.timeout ≤ now → new.phase ≡ phase.Decided (Err net.Timeout)
+
 -- a round begins where no send is under way, or after the sleep is over
 pub data BeginsRound (now : ℕ) (pool : List Candidate) (ends : List (End Candidate)) (old new : Rounds) : Type 0 where
-  due : old.phase ≡ phase.Asking → length old.sends.items ≡ 0 → RoundsStand pool ends new → BeginsRound now pool ends old new
-  woken : (until : ℕ) → old.phase ≡ phase.Asleep until → until ≤ now → RoundsStand pool ends new → BeginsRound now pool ends old new
+  due : old.phase ≡ phase.Asking → length old.sends.items ≡ 0 → TakesInTime now old new (TakesRound old new) → RoundsStand pool ends new → BeginsRound now pool ends old new
+  woken : (until : ℕ) → old.phase ≡ phase.Asleep until → until ≤ now → TakesInTime now old new (TakesBusy old new) → RoundsStand pool ends new → BeginsRound now pool ends old new
 
 -- it goes on: an end was heard, or a round began
 abbrev pub GoesOn : ℕ → ℕ → List Server → List Candidate → List (End Candidate) → Rounds → Rounds → Type 0

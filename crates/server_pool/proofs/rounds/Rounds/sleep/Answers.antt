@@ -1,4 +1,6 @@
 use Rattle.std.proofs.Common.{◌≤◌, inr, arith}
+use Rattle.server_pool.specs.Rounds.{TakesBusy}
+use Rattle.server_pool.specs.NextStep.{TakesInTime}
 use Rattle.server_pool.specs.NextStep.BeginsRound.{woken}
 use Rattle.server_pool.proofs.Stepping.{asleep_goes, asleep_had}
 use Rattle.server_pool.proofs.rounds.Rounds.sleep.Goals as goal
@@ -8,4 +10,6 @@ returns-clause-stands c = λ number table pool ends st.
     let r = c.args.self.now in
     let until = c.args.until in
     let over : until ≤ c.args.now = omega arith in
-    inr (woken until c.requires.sleeps over (c.wake.ensures.stands pool ends (asleep_goes pool ends r until c.requires.sleeps st) (asleep_had pool ends r until c.requires.sleeps st)))
+    let takes : TakesInTime c.args.now r c.wake.new.self (TakesBusy r c.wake.new.self) =
+    record { in_time = λ soon. c.in_ok-wake.ensures.takes soon; late = λ over. c.in_ok-wake.ensures.late over } in
+    inr (woken until c.requires.sleeps over takes (c.wake.ensures.stands pool ends (asleep_goes pool ends r until c.requires.sleeps st) (asleep_had pool ends r until c.requires.sleeps st)))

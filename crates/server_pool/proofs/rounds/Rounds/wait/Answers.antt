@@ -1,5 +1,7 @@
 use Rattle.std.proofs.Common.{◌≡◌, length, inr, refl, arith}
 use Rattle.std.proofs.lemmas.Grind.{common_steps}
+use Rattle.server_pool.specs.Rounds.{TakesRound}
+use Rattle.server_pool.specs.NextStep.{TakesInTime}
 use Rattle.server_pool.specs.NextStep.BeginsRound.{due}
 use Rattle.server_pool.proofs.Beginning.{on_err_always}
 use Rattle.server_pool.proofs.Stepping.{had_one, some_open}
@@ -15,7 +17,9 @@ pub returns-in_ok-go_on-clause-stands : goal.returns-in_ok-go_on-clause-stands
 returns-in_ok-go_on-clause-stands c = λ number table pool ends st.
     let r = c.args.self.now in
     let none : length r.sends.items ≡ 0 = grind (arith, common_steps) in
-    inr (due c.requires.asks none (c.go_on.ensures.stands pool ends (had_one pool ends r c.requires.asks none st) st))
+    let takes : TakesInTime c.args.now r c.go_on.new.self (TakesRound r c.go_on.new.self) =
+    record { in_time = λ soon. c.in_ok-go_on.ensures.begins c.requires.asks none soon; late = λ over. c.in_ok-go_on.ensures.late c.requires.asks none over } in
+    inr (due c.requires.asks none takes (c.go_on.ensures.stands pool ends (had_one pool ends r c.requires.asks none st) st))
 
 pub returns-else-is_empty-clause-stands : goal.returns-else-is_empty-clause-stands
 returns-else-is_empty-clause-stands c = λ number table pool ends st.
