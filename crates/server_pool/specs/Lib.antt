@@ -10,3 +10,5 @@ pub mod Carrying
 pub mod Patience
 pub mod Stands
 pub mod NextStep
+pub mod Candidates
+pub mod Pool

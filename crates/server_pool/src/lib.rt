@@ -6,6 +6,7 @@ mod agenda;
 mod agenda_laws;
 mod answer_filter;
 mod candidate;
+mod candidates;
 mod carrier;
 mod giving_up;
 mod kept_error;
@@ -13,6 +14,8 @@ mod kept_error_laws;
 mod key;
 mod next_step;
 mod ordering;
+mod pool;
+mod pool_laws;
 mod rounds;
 mod slot;
 mod statistics;
@@ -26,6 +29,8 @@ pub use kept_error::most_specific;
 pub use kept_error_laws::{the_earlier_negative_is_kept, the_kept_error_is_what_is_left};
 pub use next_step::RoundStep;
 pub use ordering::ordered;
+pub use pool::NameServerPool;
+pub use pool_laws::a_pool_expires_after_its_ttl;
 pub use statistics::sort_servers_by_query_statistics;
 
 #[cfg(test)]

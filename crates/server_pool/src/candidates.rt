@@ -1,0 +1,83 @@
+//! The servers of a pool that can be asked, as a lookup sees them.
+ghost use Rattle.std.specs.Prelude.{◌≡◌, slice_get, IfOk, filter, map, true, false, option_map};
+ghost use Rattle.server_pool.specs.Candidates.{candidate_of, candidates, is_reached, is_trusted};
+
+use crate::candidate::Candidate;
+use dns_core::NoMemory;
+use server_core::{ConnectionPolicy, NameServer, ServerTable};
+use std::alloc::Global;
+
+/// The server of a number, where the table has it.
+fn server_of(table: &ServerTable, number: u32) -> Option<&NameServer>
+    ensures { option_map (λ s. s.now) result ≡ slice_get table.now number }
+{
+    if (number as usize) < table.len() {
+        Some(table.get(number))
+    } else {
+        None
+    }
+}
+
+/// Whether a policy allows one of the ways to reach the server of a number.
+fn is_reached(table: &ServerTable, policy: ConnectionPolicy, number: u32) -> bool
+    ensures { result ≡ is_reached policy table.now number }
+{
+    match server_of(table, number) {
+        Some(server) => policy.allows_server(server),
+        None => false,
+    }
+}
+
+fn is_trusted(table: &ServerTable, number: u32) -> bool
+    ensures { result ≡ is_trusted table.now number }
+{
+    match server_of(table, number) {
+        Some(server) => server.trust_negative_responses(),
+        None => false,
+    }
+}
+
+fn candidate_of(table: &ServerTable, number: u32) -> Candidate
+    ensures { result ≡ candidate_of table.now number }
+{
+    Candidate {
+        server: number,
+        beyond_udp: is_reached(table, ConnectionPolicy { disable_udp: true }, number),
+        trusted: is_trusted(table, number),
+    }
+}
+
+/// Keeps the numbers whose servers can be reached at all, in their order.
+fn keep_reached(table: &ServerTable, servers: &mut Vec<u32>)
+    ensures { servers.new.items ≡ filter (is_reached (record { disable_udp = false }) table.now) servers.old.items }
+{
+    servers.retain(|number| is_reached(table, ConnectionPolicy { disable_udp: false }, *number));
+}
+
+/// The servers of these numbers, in their order.
+fn all_candidates(
+    alloc: Global,
+    table: &ServerTable,
+    servers: &[u32],
+) -> Result<Vec<Candidate>, NoMemory>
+    ensures { IfOk result (λ found. found.items ≡ map (candidate_of table.now) servers.now) }
+{
+    let mut found = Vec::with_capacity(alloc, servers.len())?;
+    for number in servers {
+        found.push(candidate_of(table, *number))?;
+    }
+    Ok(found)
+}
+
+/// The servers of these numbers that can be reached at all, in their order.
+pub(crate) fn candidates(
+    alloc: Global,
+    table: &ServerTable,
+    servers: &[u32],
+) -> Result<Vec<Candidate>, NoMemory>
+    ensures { IfOk result (λ found. found.items ≡ candidates table.now servers.now) }
+{
+    let mut reached = Vec::from_slice(alloc, servers)?;
+    keep_reached(table, &mut reached);
+    all_candidates(alloc, table, reached.as_slice())
+}
