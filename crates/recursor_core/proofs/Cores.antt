@@ -1,5 +1,6 @@
 -- The machine after a step of one of its resolutions.
 use Rattle.std.proofs.Common.{◌≡◌, ◌≤◌, ◌<◌, ◌+◌, ℕ, zero, suc, List, [], ◌∷◌, ◌++◌, length, All, get_or, Option, Some, None, Result, Ok, Err, refl, sym, ◌∙◌, ap, subst, arith}
+use Rattle.std.specs.Global.{Box}
 use Rattle.std.specs.Prelude.{slice_get, sum_by, IfSome, IsErr}
 use Rattle.std.proofs.lemmas.List.Elements.{All-set}
 use Rattle.std.proofs.Math.ListN.{set}
@@ -59,10 +60,10 @@ begun-last [] r = refl
 begun-last (x ∷ xs) r = begun-last xs r
 
 -- a reply that holds is one that a step gives
-pub given-some : (terms : Terms) (log : Log) (reply : Option Reply) (here : Option Begun) (b : Begun) → here ≡ Some b
-    → IfSome reply (ReplyHolds terms machine_timer log b.moment b.question) → IfSome reply (ReplyGiven terms log here)
+pub given-some : (terms : Terms) (log : Log) (reply : Option (Box Reply)) (here : Option Begun) (b : Begun) → here ≡ Some b
+    → IfSome reply (λ given. ReplyHolds terms machine_timer log b.moment b.question given.value) → IfSome reply (λ given. ReplyGiven terms log here given.value)
 given-some terms log None here b is h = tt
-given-some terms log (Some reply) here b is h = subst (λ (o : Option Begun). ReplyGiven terms log o reply) (sym is) h
+given-some terms log (Some reply) here b is h = subst (λ (o : Option Begun). ReplyGiven terms log o reply.value) (sym is) h
 
 -- what a step gives holds by the machine before it too, where the two agree
 pub gives-before : (old mid : RecursorCore) (log : Log) (r : ℕ) (s : Step) → SameCore old mid
@@ -72,8 +73,8 @@ gives-before old mid log r (step.Order number order) same h =
     (subst (λ (g : ℕ). GoesToServer (given_of (terms_of mid)) log (g + 1) order) same.greatest h)
 gives-before old mid log r (step.Waiting number) same h = tt
 gives-before old mid log r (step.Done reply) same h =
-    subst (λ (held : Setting). ReplyGiven (terms_with held) log (begun_at old r) reply) same.setting
-    (subst (λ (o : Option Begun). ReplyGiven (terms_of mid) log o reply) (same.begun r) h)
+    subst (λ (held : Setting). ReplyGiven (terms_with held) log (begun_at old r) reply.value) same.setting
+    (subst (λ (o : Option Begun). ReplyGiven (terms_of mid) log o reply.value) (same.begun r) h)
 gives-before old mid log r step.Ended same h = tt
 
 -- so with a step inside the machine

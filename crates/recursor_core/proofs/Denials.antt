@@ -5,6 +5,7 @@ use Rattle.std.proofs.lemmas.Option.{same_Some, none-some}
 use Rattle.std.specs.Prelude.{◌||◌, ◌&&◌, ◌==◌, not, find, option_and_then}
 use Rattle.std.specs.Option.{is_none}
 use Rattle.std.specs.Cmp.{second_so}
+use Rattle.std.specs.Global.{Box}
 use Rattle.std.specs.declared.net.ip_addr.IpAddr.{IpAddr}
 use Rattle.dns_core.specs.Name.{DomainName}
 use Rattle.dns_core.specs.Log.{Log}
@@ -42,7 +43,7 @@ use Rattle.resolution.specs.declared.verdict.Cause.{Cause}
 use Rattle.resolution.proofs.SameDelegations.{Same-is_delegation, Same-glue, Same-strip}
 use Rattle.recursor_walk.specs.Response.{error_of}
 use Rattle.recursor_core.specs.Plain.{IsPlainlyTold}
-use Rattle.recursor_core.specs.Replies.{Terms, given_of, IsToldAnswer, ReplyHolds}
+use Rattle.recursor_core.specs.Replies.{Terms, given_of, IsToldAnswer, ReplyHolds, IsReply}
 use Rattle.recursor_core.specs.Tried.{Concluded, machine_timer}
 use Rattle.recursor_core.specs.Causes.{told_data, is_lookup_error, WalksTo, ErrorHolds, HasFailed, HasNoAddress}
 use Rattle.recursor_core.specs.Causes.IsDenied.{told as denial_told, made as denial_made, told_on_the_way, made_on_the_way}
@@ -176,12 +177,12 @@ told-answer terms greatest t0 log q entry kept dnssec h =
     told-by terms t0 log q entry h.stands.zone kept dnssec h.stands.whole h.stands.base h.current h.stands.walked h.stands.same
 
 -- a reply with the answer
-pub replies : (terms : Terms) (t0 : ℕ) (log : Log) (asked : Question) (r : Result Reply NoMemory) (m : Message) (entry : ℕ)
-    → IfOk r (λ reply. reply ≡ record { outcome = Ok m; grounds = entry ∷ [] })
+pub replies : (terms : Terms) (t0 : ℕ) (log : Log) (asked : Question) (r : Result (Box Reply) NoMemory) (m : Message) (entry : ℕ)
+    → IfOk r (λ reply. reply.value ≡ record { outcome = Ok m; grounds = entry ∷ [] })
     → IsToldAnswer (given_of terms) log t0 asked.query asked.dnssec_ok (entry ∷ []) m
-    → IfOk r (ReplyHolds terms machine_timer log t0 asked)
+    → IfOk r (λ reply. ReplyHolds terms machine_timer log t0 asked reply.value)
 replies terms t0 log asked r m entry is told =
-    IfOk-weaker r _ (ReplyHolds terms machine_timer log t0 asked) (λ reply e. subst (ReplyHolds terms machine_timer log t0 asked) (sym e) told) is
+    IfOk-weaker r _ (λ reply. ReplyHolds terms machine_timer log t0 asked reply.value) (λ reply e. subst (ReplyHolds terms machine_timer log t0 asked) (sym e) told) is
 
 -- one reply with an error that has its cause
 pub denied : (terms : Terms) (t0 : ℕ) (log : Log) (asked : Question) (reply : Reply) (error : RecursorError) (g : List ℕ)
@@ -190,18 +191,24 @@ pub denied : (terms : Terms) (t0 : ℕ) (log : Log) (asked : Question) (reply : 
 denied terms t0 log asked reply error g is cause = subst (ReplyHolds terms machine_timer log t0 asked) (sym is) cause
 
 -- a reply with an error that has its cause
-pub denies : (terms : Terms) (t0 : ℕ) (log : Log) (asked : Question) (r : Result Reply NoMemory) (error : RecursorError) (g : List ℕ)
-    → IfOk r (λ reply. reply ≡ record { outcome = Err error; grounds = g })
+pub denies : (terms : Terms) (t0 : ℕ) (log : Log) (asked : Question) (r : Result (Box Reply) NoMemory) (error : RecursorError) (g : List ℕ)
+    → IfOk r (λ reply. reply.value ≡ record { outcome = Err error; grounds = g })
     → ErrorHolds (given_of terms) (machine_timer log t0) log t0 asked.query g error
-    → IfOk r (ReplyHolds terms machine_timer log t0 asked)
+    → IfOk r (λ reply. ReplyHolds terms machine_timer log t0 asked reply.value)
 denies terms t0 log asked r error g is cause =
-    IfOk-weaker r _ (ReplyHolds terms machine_timer log t0 asked) (λ reply e. denied terms t0 log asked reply error g e cause) is
+    IfOk-weaker r _ (λ reply. ReplyHolds terms machine_timer log t0 asked reply.value) (λ reply e. denied terms t0 log asked reply.value error g e cause) is
+
+-- it is the reply of a walk
+stopped : (terms : Terms) (greatest moment t0 : ℕ) (log : Log) (asked : Question) (w : Walk) (reply : Reply) (given : Option (Box Reply))
+    → IsReply reply given → ReplyHolds terms machine_timer log t0 asked reply → WalkComes terms greatest moment t0 log asked w given
+stopped terms greatest moment t0 log asked w reply None is h = absurd is
+stopped terms greatest moment t0 log asked w reply (Some b) is h = subst (ReplyHolds terms machine_timer log t0 asked) (sym is) h
 
 -- a walk that stops with a reply
-pub stops : (terms : Terms) (greatest moment t0 : ℕ) (log : Log) (asked : Question) (w : Walk) (r : Result (Option Reply) NoMemory) (reply : Reply)
-    → IfOk r (λ x. x ≡ Some reply) → ReplyHolds terms machine_timer log t0 asked reply → IfOk r (WalkComes terms greatest moment t0 log asked w)
+pub stops : (terms : Terms) (greatest moment t0 : ℕ) (log : Log) (asked : Question) (w : Walk) (r : Result (Option (Box Reply)) NoMemory) (reply : Reply)
+    → IfOk r (IsReply reply) → ReplyHolds terms machine_timer log t0 asked reply → IfOk r (WalkComes terms greatest moment t0 log asked w)
 stops terms greatest moment t0 log asked w r reply is h =
-    IfOk-weaker r _ (WalkComes terms greatest moment t0 log asked w) (λ x e. subst (WalkComes terms greatest moment t0 log asked w) (sym e) h) is
+    IfOk-weaker r _ (WalkComes terms greatest moment t0 log asked w) (λ given e. stopped terms greatest moment t0 log asked w reply given e h) is
 
 -- a lookup for a question at the servers of the zone to which its walk went down failed
 pub has-failed : (terms : Terms) (t0 : ℕ) (log : Log) (zone : DomainName) (asked q : Query) (g : List ℕ) (e : NetError)

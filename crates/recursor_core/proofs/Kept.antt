@@ -179,10 +179,10 @@ module _ (terms : Terms) (log longer : Log) (x : Extends log longer) where
       → StateHolds terms g m t0 log question s → StateHolds terms g' m' t0 longer question s
   state-kept g g' m m' t0 question New le later h = h
   state-kept g g' m m' t0 question (Under w) le later h = record {
-    way = way-kept g g' question.query w le h.way;
-    lookup = lookup-kept terms log longer x g g' m m' t0 w.zone w.lookup le later h.lookup;
+    way = way-kept g g' question.query w.value le h.way;
+    lookup = lookup-kept terms log longer x g g' m m' t0 w.value.zone w.value.lookup le later h.lookup;
   }
-  state-kept g g' m m' t0 question (Done reply) le later h = reply-kept t0 question reply h
+  state-kept g g' m m' t0 question (Done reply) le later h = reply-kept t0 question reply.value h
   state-kept g g' m m' t0 question Ended le later h = tt
 
   -- a resolution

@@ -1,5 +1,6 @@
 -- The questions of a run, as their turns are played.
 use Rattle.std.proofs.Common.{◌≡◌, ◌≢◌, ◌≤◌, ◌<◌, ◌+◌, ◌-◌, ◌++◌, ◌∙◌, ◌⊎◌, ⊎_elim, inl, inr, ℕ, zero, suc, max, List, [], ◌∷◌, length, get_or, Bool, true, false, MatchBool, Option, Some, None, Err, refl, sym, ap, subst, arith, slice_get, if◌then◌else◌, eq-eqb, All}
+use Rattle.std.specs.Global.{Box}
 use Rattle.std.proofs.Math.ListN.{set}
 use Rattle.std.proofs.lemmas.Bool.{ne_eqb}
 use Rattle.std.proofs.lemmas.Option.{same_Some, slice_get_within, get_or_from_slice_get}
@@ -109,6 +110,7 @@ begins_else (Some x) now core None ne = refl
 begins_else (Some x) now core (Some played.Waiting) ne = absurd (ne refl)
 begins_else (Some x) now core (Some (played.Begun r o)) ne = refl
 begins_else (Some x) now core (Some (played.Answered a)) ne = refl
+begins_else (Some x) now core (Some played.Unanswered) ne = refl
 
 -- where there was a turn, less is left
 pub work_then : (busy : Bool) (new mid old : ℕ) → MatchBool busy (mid < old) (mid ≤ old) → new < mid → new < old
@@ -131,8 +133,9 @@ play_on now core new told later start turns rest left q question (played.Begun r
     record { begun = h.begun; is = begun r h.begun h.is; question = h.question; late = h.late }
 play_on now core new told later start turns rest left q question (played.Answered reply) setting begun grown same h =
     subst (λ (held : Setting). TellsThat later (λ log. ReplyHolds (terms_with held) machine_timer log
-    (begin_moment start turns q) question reply)) (sym setting)
-    (ReplyHolds-grown now (terms_of core) (begin_moment start turns q) question reply told later grown h)
+    (begin_moment start turns q) question reply.value)) (sym setting)
+    (ReplyHolds-grown now (terms_of core) (begin_moment start turns q) question reply.value told later grown h)
+play_on now core new told later start turns rest left q question played.Unanswered setting begun grown same h = tt
 
 -- a question at the place where one begins
 begin_here : (core new : RecursorCore) (told : Option (List LogEntry)) (start : ℕ) (turns rest left : List Turn) (q now : ℕ)
@@ -146,7 +149,8 @@ begin_here core new told start turns rest left q now question (Some played.Waiti
 begin_here core new told start turns rest left q now question (Some played.Waiting) (played.Begun r o) setting begun due begins h =
     record { begun = record { question = question; moment = now }; is = begins; question = refl; late = due (h played.Waiting refl) }
 begin_here core new told start turns rest left q now question (Some played.Waiting) (played.Answered reply) setting begun due begins h =
-    λ es t. refused_holds (terms_of new) machine_timer (log_of es) (begin_moment start turns q) question reply begins
+    λ es t. refused_holds (terms_of new) machine_timer (log_of es) (begin_moment start turns q) question reply.value begins
+begin_here core new told start turns rest left q now question (Some played.Waiting) played.Unanswered setting begun due begins h = tt
 begin_here core new told start turns rest left q now question (Some (played.Begun r o)) p setting begun due begins h =
     subst (λ (x : Played). PlayHolds new told start turns left q question x) (sym (same_Some _ _ begins))
     (play_on now core new told told start turns rest left q question (played.Begun r o) setting begun (Grown-refl now told) (λ e. cc) (h (played.Begun r o) refl))
@@ -154,6 +158,8 @@ begin_here core new told start turns rest left q now question (Some (played.Answ
     subst (λ (x : Played). PlayHolds new told start turns left q question x) (sym (same_Some _ _ begins))
     (play_on now core new told told start turns rest left q question (played.Answered reply) setting begun (Grown-refl now told) (λ e. cc)
     (h (played.Answered reply) refl))
+begin_here core new told start turns rest left q now question (Some played.Unanswered) p setting begun due begins h =
+    subst (λ (x : Played). PlayHolds new told start turns left q question x) (sym (same_Some _ _ begins)) tt
 
 -- Where a question waits at the place it begins, if its moment has come; the others go on.
 begins_hold : (core new : RecursorCore) (told : Option (List LogEntry)) (start : ℕ) (turns rest left : List Turn) (questions : List Question)
@@ -185,8 +191,8 @@ module _ {P C F E : Type 0} (p : Ghosts P C F E) (patience now : ℕ) (core new 
       (λ e. refl) (h q question play asks at)
 
   -- one has its reply
-  pub plays_answered : (start : ℕ) (turns rest : List Turn) (questions : List Question) (plays : List Played) (q r : ℕ) (order : Option Order) (reply : Reply)
-      → slice_get plays q ≡ Some (played.Begun r order) → ReplyTold (terms_of core) (p.log later.provider) (begun_at core r) reply
+  pub plays_answered : (start : ℕ) (turns rest : List Turn) (questions : List Question) (plays : List Played) (q r : ℕ) (order : Option Order) (reply : Box Reply)
+      → slice_get plays q ≡ Some (played.Begun r order) → ReplyTold (terms_of core) (p.log later.provider) (begun_at core r) reply.value
       → PlaysHold core (p.log c.provider) start turns rest questions plays
       → PlaysHold new (p.log later.provider) start turns rest questions (set plays q (played.Answered reply))
   plays_answered start turns rest questions plays q r order reply at told h k question play asks play_k = ⊎_elim
@@ -197,14 +203,27 @@ module _ {P C F E : Type 0} (p : Ghosts P C F E) (patience now : ℕ) (core new 
       (ap (slice_get (set plays q (played.Answered reply))) same ∙ slice_get-set_same plays q (played.Answered reply) (slice_get_within plays q _ at))) in
       let f = h q question (played.Begun r order) asks_q at in
       let b = f.begun in
-      let holds : TellsThat told_now (λ log. ReplyHolds (terms_of core) machine_timer log b.moment b.question reply) = rw f.is at told in
+      let holds : TellsThat told_now (λ log. ReplyHolds (terms_of core) machine_timer log b.moment b.question reply.value) = rw f.is at told in
       let given : PlayHolds new told_now start turns rest q question (played.Answered reply) = λ es t.
-      ReplyHolds-earlier (terms_of new) (log_of es) (begin_moment start turns q) b.moment question reply f.late
-      (subst (λ (held : Setting). ReplyHolds (terms_with held) machine_timer (log_of es) b.moment question reply) (sym moves.setting)
-      (subst (λ (x : Question). ReplyHolds (terms_of core) machine_timer (log_of es) b.moment x reply) f.question (holds es t))) in
+      ReplyHolds-earlier (terms_of new) (log_of es) (begin_moment start turns q) b.moment question reply.value f.late
+      (subst (λ (held : Setting). ReplyHolds (terms_with held) machine_timer (log_of es) b.moment question reply.value) (sym moves.setting)
+      (subst (λ (x : Question). ReplyHolds (terms_of core) machine_timer (log_of es) b.moment x reply.value) f.question (holds es t))) in
       subst (λ i. PlayHolds new told_now start turns rest i question play) (sym same)
       (subst (λ (x : Played). PlayHolds new told_now start turns rest q question x) (sym is) given))
       (λ ne. plays_moved start turns rest questions plays h k question play asks (sym (slice_get-set_other plays q k (played.Answered reply) ne) ∙ play_k))
+      (same_or_not k q)
+
+  -- memory was wanting for one
+  pub plays_unanswered : (start : ℕ) (turns rest : List Turn) (questions : List Question) (plays : List Played) (q r : ℕ) (order : Option Order)
+      → slice_get plays q ≡ Some (played.Begun r order)
+      → PlaysHold core (p.log c.provider) start turns rest questions plays
+      → PlaysHold new (p.log later.provider) start turns rest questions (set plays q played.Unanswered)
+  plays_unanswered start turns rest questions plays q r order at h k question play asks play_k = ⊎_elim
+      (λ (same : k ≡ q).
+      let is : play ≡ played.Unanswered = same_Some _ _ (sym play_k ∙
+      (ap (slice_get (set plays q played.Unanswered)) same ∙ slice_get-set_same plays q played.Unanswered (slice_get_within plays q _ at))) in
+      subst (λ (x : Played). PlayHolds new (p.log later.provider) start turns rest k question x) (sym is) tt)
+      (λ ne. plays_moved start turns rest questions plays h k question play asks (sym (slice_get-set_other plays q k played.Unanswered ne) ∙ play_k))
       (same_or_not k q)
 
 -- the order that is kept for a question changes nothing
@@ -236,8 +255,10 @@ reply_of_play core told start turns rest q question (Some (played.Begun r o)) re
     memory_holds (terms_of core) (run_timer start turns) (log_of es) (begin_moment start turns q) question reply of.0 of.1
 reply_of_play core told start turns rest q question (Some (played.Answered a)) reply es t timely of h =
     subst (λ (x : Reply). ReplyHolds (terms_of core) (run_timer start turns) (log_of es) (begin_moment start turns q) question x) (sym of)
-    (reply-timed (terms_of core) (log_of es) start turns (begin_moment start turns q) question a timely (begins_in_run start turns q)
+    (reply-timed (terms_of core) (log_of es) start turns (begin_moment start turns q) question a.value timely (begins_in_run start turns q)
     (h (played.Answered a) refl es t))
+reply_of_play core told start turns rest q question (Some played.Unanswered) reply es t timely of h =
+    memory_holds (terms_of core) (run_timer start turns) (log_of es) (begin_moment start turns q) question reply of.0 of.1
 
 -- the replies that are given hold
 pub replies_hold : (core : RecursorCore) (told : Option (List LogEntry)) (start : ℕ) (turns rest : List Turn) (questions : List Question)

@@ -1,5 +1,6 @@
 -- A question that is answered is under way no more.
 use Rattle.std.proofs.Common.{◌≡◌, ◌<◌, ℕ, zero, suc, List, [], ◌∷◌, length, get_or, Option, Some, arith, ap, slice_get}
+use Rattle.std.specs.Global.{Box}
 use Rattle.std.proofs.Math.ListN.{set}
 use Rattle.std.proofs.lemmas.List.Sums.{sum_by-set}
 use Rattle.server_core.specs.declared.order.Order.{Order}
@@ -21,11 +22,20 @@ within (x ∷ xs) zero p h = omega arith
 within (x ∷ xs) (suc q) p h = let inner = within xs q p h in omega arith
 
 -- where a question that is under way is answered, one fewer is under way
-pub answered_falls : (xs : List Played) (q r : ℕ) (order : Option Order) (reply : Reply) → slice_get xs q ≡ Some (played.Begun r order)
+pub answered_falls : (xs : List Played) (q r : ℕ) (order : Option Order) (reply : Box Reply) → slice_get xs q ≡ Some (played.Begun r order)
     → open_plays (set xs q (played.Answered reply)) < open_plays xs
 answered_falls xs q r order reply h =
     let was = found xs q (played.Begun r order) (played.Begun r order) h in
     let moved = sum_by-set open_play xs q (played.Answered reply) (played.Begun r order) (within xs q _ h) in
+    let one = ap open_play was in
+    omega (arith, moved, one)
+
+-- so it is where it stays without an answer
+pub unanswered_falls : (xs : List Played) (q r : ℕ) (order : Option Order) → slice_get xs q ≡ Some (played.Begun r order)
+    → open_plays (set xs q played.Unanswered) < open_plays xs
+unanswered_falls xs q r order h =
+    let was = found xs q (played.Begun r order) (played.Begun r order) h in
+    let moved = sum_by-set open_play xs q played.Unanswered (played.Begun r order) (within xs q _ h) in
     let one = ap open_play was in
     omega (arith, moved, one)
 

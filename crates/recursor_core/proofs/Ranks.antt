@@ -31,7 +31,7 @@ send_polls p (send.Failed ip entry error) = omega arith
 -- so it is with a state
 polls_within : (p : ℕ) (s : State) → state_polls p s ≤ p
 polls_within p New = omega arith
-polls_within p (Under w) = send_polls p w.lookup.send
+polls_within p (Under w) = send_polls p w.value.lookup.send
 polls_within p (Done reply) = omega arith
 polls_within p Ended = omega arith
 

@@ -1,5 +1,6 @@
 -- A resolution after a step.
 use Rattle.std.proofs.Common.{◌≡◌, ◌≤◌, ◌<◌, ℕ, true, Option, Some, None, Result, Ok, Err, IfOk, IfSome, sym, ap, subst, arith}
+use Rattle.std.specs.Global.{Box}
 use Rattle.dns_core.specs.Log.{Log}
 use Rattle.dns_core.specs.declared.message.Query.{Query}
 use Rattle.dns_core.specs.declared.request.Question.{Question}
@@ -33,24 +34,24 @@ way-goes terms greatest log q w l same way = record {
 }
 
 -- a walk whose lookup has gone on
-pub under-holds : (terms : Terms) (greatest moment : ℕ) (log : Log) (question : Question) (begun : ℕ) (w : Walk) (l : Lookup) → begun ≤ moment
-    → WayHolds terms greatest log question.query w → l.query ≡ w.lookup.query → LookupHolds terms greatest moment begun log w.zone l
-    → ResolutionHolds terms greatest moment log (record { question = question; begun = begun; state = Under (record w { lookup = l }) })
-under-holds terms greatest moment log question begun w l early way same h = record {
+pub under-holds : (terms : Terms) (greatest moment : ℕ) (log : Log) (question : Question) (begun : ℕ) (b : Box Walk) (l : Lookup) → begun ≤ moment
+    → WayHolds terms greatest log question.query b.value → l.query ≡ b.value.lookup.query → LookupHolds terms greatest moment begun log b.value.zone l
+    → ResolutionHolds terms greatest moment log (record { question = question; begun = begun; state = Under (record b { value = record b.value { lookup = l } }) })
+under-holds terms greatest moment log question begun b l early way same h = record {
   begun = early;
-  state = record { way = way-goes terms greatest log question.query w l same way; lookup = h };
+  state = record { way = way-goes terms greatest log question.query b.value l same way; lookup = h };
 }
 
 -- a walk that goes on, or has its reply, or has ended for want of memory
-settled-state : (terms : Terms) (greatest moment t0 : ℕ) (log : Log) (question : Question) (w : Walk) (came : Result (Option Reply) NoMemory) (state : State)
-    → IsSettled came (Under w) state → IfOk came (WalkComes terms greatest moment t0 log question w) → StateHolds terms greatest moment t0 log question state
+settled-state : (terms : Terms) (greatest moment t0 : ℕ) (log : Log) (question : Question) (w : Box Walk) (came : Result (Option (Box Reply)) NoMemory) (state : State)
+    → IsSettled came (Under w) state → IfOk came (WalkComes terms greatest moment t0 log question w.value) → StateHolds terms greatest moment t0 log question state
 settled-state terms greatest moment t0 log question w (Ok None) state is h = subst (StateHolds terms greatest moment t0 log question) (sym is) h
 settled-state terms greatest moment t0 log question w (Ok (Some reply)) state is h = subst (StateHolds terms greatest moment t0 log question) (sym is) h
 settled-state terms greatest moment t0 log question w (Err e) state is h = subst (StateHolds terms greatest moment t0 log question) (sym is) tt
 
 -- so it is with its resolution
-pub settled-holds : (terms : Terms) (greatest moment : ℕ) (log : Log) (old new : Resolution) (w : Walk) (came : Result (Option Reply) NoMemory)
-    → SameBegun old new → IsSettled came (Under w) new.state → old.begun ≤ moment → IfOk came (WalkComes terms greatest moment old.begun log old.question w)
+pub settled-holds : (terms : Terms) (greatest moment : ℕ) (log : Log) (old new : Resolution) (w : Box Walk) (came : Result (Option (Box Reply)) NoMemory)
+    → SameBegun old new → IsSettled came (Under w) new.state → old.begun ≤ moment → IfOk came (WalkComes terms greatest moment old.begun log old.question w.value)
     → ResolutionHolds terms greatest moment log new
 settled-holds terms greatest moment log old new w came same is early h = record {
   begun = subst (λ (t : ℕ). t ≤ moment) (sym same.1) early;
@@ -60,15 +61,15 @@ settled-holds terms greatest moment log old new w came same is early h = record 
 }
 
 -- it has less before it
-settled-less : (q : Query) (old w : Walk) (came : Result (Option Reply) NoMemory) (state : State) → IsSettled came (Under w) state → Goes old w came
+settled-less : (q : Query) (old w : Box Walk) (came : Result (Option (Box Reply)) NoMemory) (state : State) → IsSettled came (Under w) state → Goes old.value w.value came
     → state_steps q state < state_steps q (Under old)
 settled-less q old w (Ok None) state is h = let left = ap (state_steps q) is in omega (arith, left, h)
 settled-less q old w (Ok (Some reply)) state is h = let left = ap (state_steps q) is in omega (arith, left)
 settled-less q old w (Err e) state is h = let left = ap (state_steps q) is in omega (arith, left)
 
 -- and so has its resolution
-pub settled-falls : (old new : Resolution) (was w : Walk) (came : Result (Option Reply) NoMemory) → old.state ≡ Under was → SameBegun old new
-    → IsSettled came (Under w) new.state → Goes was w came → steps new < steps old
+pub settled-falls : (old new : Resolution) (was w : Box Walk) (came : Result (Option (Box Reply)) NoMemory) → old.state ≡ Under was → SameBegun old new
+    → IsSettled came (Under w) new.state → Goes was.value w.value came → steps new < steps old
 settled-falls old new was w came began same is h =
     let less = settled-less old.question.query was w came new.state is h in
     let here = ap (state_steps old.question.query) began in

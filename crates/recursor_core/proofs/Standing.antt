@@ -1,5 +1,6 @@
 -- What holds of the machine and its provider goes on holding at each step of the two.
 use Rattle.std.proofs.Common.{◌≡◌, ◌≤◌, ◌<◌, ◌+◌, ◌∙◌, ◌⊎◌, ⊎_elim, inl, inr, ℕ, zero, suc, List, length, Option, Some, None, Result, Ok, Err, OnOk, IfOk, refl, sym, subst, arith, min, max}
+use Rattle.std.specs.Global.{Box}
 use Rattle.dns_core.specs.Log.{Log, Extends, log_of}
 use Rattle.dns_core.specs.declared.log.LogEntry.{LogEntry}
 use Rattle.dns_core.specs.declared.request.Question.{Question}
@@ -142,11 +143,11 @@ module _ (core new : RecursorCore) (told : Option (List LogEntry)) where
   reply_told (Some b) reply h = h
 
   -- a reply that it gives is told
-  pub step_replies : (r : ℕ) (next : Step) (reply : Reply) → next ≡ step.Done reply → TellsThat told (Derived core)
+  pub step_replies : (r : ℕ) (next : Step) (reply : Box Reply) → next ≡ step.Done reply → TellsThat told (Derived core)
       → ((log : Log) → Derived core log → Derived new log × StepGives core log r next)
-      → ReplyTold (terms_of core) told (begun_at core r) reply
+      → ReplyTold (terms_of core) told (begun_at core r) reply.value
   step_replies r next reply is d gives =
-      reply_told (begun_at core r) reply (λ es t. subst (λ (s : Step). StepGives core (log_of es) r s) is (gives (log_of es) (d es t)).1)
+      reply_told (begun_at core r) reply.value (λ es t. subst (λ (s : Step). StepGives core (log_of es) r s) is (gives (log_of es) (d es t)).1)
 
 -- who is a server does not depend on patience
 AsksServers-patience : (given : Given) (patience : ℕ) (log : Log) → AsksServers given log → AsksServers (with_patience patience given) log

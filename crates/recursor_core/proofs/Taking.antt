@@ -1,7 +1,6 @@
 -- What the outcome of its open order does to a lookup: what it holds then, and how much of it is left.
 use Rattle.std.proofs.Common.{◌&&◌, not, ◌≡◌, ◌≢◌, ◌≤◌, ◌<◌, ◌+◌, ◌-◌, ◌*◌, ◌⊎◌, ◌∙◌, ℕ, Bool, true, false, if◌then◌else◌, Option, Some, None, IfNone, Result, Ok, Err, IsTrue, inl, inr, refl, sym, ap, subst, arith, vec_len}
 use Rattle.std.specs.Prelude.{nat_le, min}
-use Rattle.std.proofs.Math.Nat.{mul-le-mul_left}
 use Rattle.std.proofs.Math.Nat.{min-eq_left, min-eq_right}
 use Rattle.std.proofs.lemmas.Bool.{leb-false}
 use Rattle.std.proofs.lemmas.Bool.Decides.{leb_tells}

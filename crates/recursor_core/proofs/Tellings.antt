@@ -41,7 +41,7 @@ send-untold zone q (send.Failed ip entry error) h = absurd (h refl)
 
 state-untold : (s : State) → (order_of (state_want s) ≡ None → ⊥) → telling_in s ≡ None
 state-untold New h = refl
-state-untold (Under w) h = send-untold w.zone w.lookup.query w.lookup.send h
+state-untold (Under w) h = send-untold w.value.zone w.value.lookup.query w.value.lookup.send h
 state-untold (Done reply) h = refl
 state-untold Ended h = refl
 
@@ -82,8 +82,8 @@ state-tells : (terms : Terms) (greatest moment t0 : ℕ) (log : Log) (question :
     → StateHolds terms greatest moment t0 log question s → TellingHolds terms greatest log t
 state-tells terms greatest moment t0 log question New t is h = cc
 state-tells terms greatest moment t0 log question (Under w) t is h =
-    send-tells terms greatest moment t0 log w.zone w.lookup.query w.lookup.ends h.lookup.tried.moments w.lookup.send t
-    (stage-walked terms greatest moment t0 log question.query w w.stage refl h) is h.lookup.send
+    send-tells terms greatest moment t0 log w.value.zone w.value.lookup.query w.value.lookup.ends h.lookup.tried.moments w.value.lookup.send t
+    (stage-walked terms greatest moment t0 log question.query w.value w.value.stage refl h) is h.lookup.send
 state-tells terms greatest moment t0 log question (Done reply) t is h = cc
 state-tells terms greatest moment t0 log question Ended t is h = cc
 

@@ -1,5 +1,6 @@
 -- How a walk goes on.
 use Rattle.std.proofs.Common.{◌≡◌, ◌≤◌, ◌<◌, ◌+◌, ◌-◌, ◌↔◌, ℕ, Bool, true, false, cond, List, length, Option, Some, None, Contains, refl, sym, ◌∙◌, ap, subst, arith, inl, inr, Result, Ok, Err, OnOk, IfOk, IfNone}
+use Rattle.std.specs.Global.{Box}
 use Rattle.std.proofs.lemmas.List.Elements.{All-weaker, All-contains_itself, recursion_from_All}
 use Rattle.std.proofs.lemmas.List.FromFn.{get_or-map-range_with_len, length-map-range_with_len}
 use Rattle.std.proofs.lemmas.Bool.Decides.{nat_tests}
@@ -433,7 +434,7 @@ way-looked terms greatest log q w l same way = record {
 }
 
 -- less is left, where a walk goes on
-pub goes : (r : Result (Option Reply) NoMemory) (P : Type 0) → OnOk r P → IfOk r (λ reply. IfNone reply P)
+pub goes : (r : Result (Option (Box Reply)) NoMemory) (P : Type 0) → OnOk r P → IfOk r (λ reply. IfNone reply P)
 goes (Ok None) P h = h
 goes (Ok (Some reply)) P h = tt
 goes (Err e) P h = tt

@@ -1,5 +1,6 @@
 -- What the machine keeps, as derived from a log.
 use Rattle.std.specs.Prelude.{◌≡◌, ℕ, ◌+◌, ◌≤◌, ◌<◌, List, ◌++◌, length, map, true, IsTrue, Option, Some, None, Result, Ok, Err, All, Contains}
+use Rattle.std.specs.Global.{Box}
 use Rattle.std.specs.declared.net.ip_addr.IpAddr.{IpAddr}
 use Rattle.dns_core.specs.Name.{DomainName, last_labels}
 use Rattle.dns_core.specs.Log.{Log}
@@ -164,16 +165,16 @@ pub record WalkHolds (terms : Terms) (greatest moment t0 : ℕ) (log : Log) (q :
   pub lookup : LookupHolds terms greatest moment t0 log w.zone w.lookup
 
 -- it goes on, or has its reply
-abbrev pub WalkComes : Terms → ℕ → ℕ → ℕ → Log → Question → Walk → Option Reply → Type 0
+abbrev pub WalkComes : Terms → ℕ → ℕ → ℕ → Log → Question → Walk → Option (Box Reply) → Type 0
 WalkComes terms greatest moment t0 log question w None = WalkHolds terms greatest moment t0 log question.query w
-WalkComes terms greatest moment t0 log question w (Some reply) = ReplyHolds terms machine_timer log t0 question reply
+WalkComes terms greatest moment t0 log question w (Some reply) = ReplyHolds terms machine_timer log t0 question reply.value
 
 -- ---- the machine
 
 abbrev pub StateHolds : Terms → ℕ → ℕ → ℕ → Log → Question → State → Type 0
 StateHolds terms greatest moment t0 log question state.New = question.query.name.fqdn ≡ true
-StateHolds terms greatest moment t0 log question (state.Under w) = WalkHolds terms greatest moment t0 log question.query w
-StateHolds terms greatest moment t0 log question (state.Done reply) = ReplyHolds terms machine_timer log t0 question reply
+StateHolds terms greatest moment t0 log question (state.Under w) = WalkHolds terms greatest moment t0 log question.query w.value
+StateHolds terms greatest moment t0 log question (state.Done reply) = ReplyHolds terms machine_timer log t0 question reply.value
 StateHolds terms greatest moment t0 log question state.Ended = Unit {0}
 
 pub record ResolutionHolds (terms : Terms) (greatest moment : ℕ) (log : Log) (r : Resolution) : Type 0 where

@@ -114,7 +114,7 @@ ReplyGiven terms log (Some b) reply = ReplyHolds terms machine_timer log b.momen
 abbrev pub StepGives : RecursorCore → Log → ℕ → Step → Type 0
 StepGives core log r (step.Order number order) = GoesToServer (given_of (terms_of core)) log (core.greatest + 1) order
 StepGives core log r (step.Waiting number) = Unit {0}
-StepGives core log r (step.Done reply) = ReplyGiven (terms_of core) log (begun_at core r) reply
+StepGives core log r (step.Done reply) = ReplyGiven (terms_of core) log (begun_at core r) reply.value
 StepGives core log r step.Ended = Unit {0}
 
 abbrev pub Gives : RecursorCore → Log → ℕ → Progress → Type 0

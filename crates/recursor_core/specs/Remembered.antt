@@ -67,7 +67,7 @@ telling_of_walk w = telling w.zone w.lookup.query w.lookup.send
 
 abbrev pub telling_in : State → Option Telling
 telling_in New = None
-telling_in (Under w) = telling_of_walk w
+telling_in (Under w) = telling_of_walk w.value
 telling_in (Done reply) = None
 telling_in Ended = None
 

@@ -1,5 +1,6 @@
 -- What is given to the recursor, and what its replies rest on.
-use Rattle.std.specs.Prelude.{◌≡◌, ℕ, Bool, true, List, [], ◌∷◌, Result, Ok, Err}
+use Rattle.std.specs.Prelude.{◌≡◌, ℕ, Bool, true, List, [], ◌∷◌, Result, Ok, Err, Option, Some, None}
+use Rattle.std.specs.Global.{Box}
 use Rattle.std.specs.declared.net.ip_addr.IpAddr.{IpAddr}
 use Rattle.dns_core.specs.Name.{DomainName}
 use Rattle.dns_core.specs.Log.{Log}
@@ -79,3 +80,8 @@ Timer = Log → ℕ → Known
 
 abbrev pub ReplyHolds : Terms → Timer → Log → ℕ → Question → Reply → Type 0
 ReplyHolds terms timer log t0 question reply = OutcomeHolds (given_of terms) (timer log t0) log t0 question reply.grounds reply.outcome
+
+-- it is given in a box
+abbrev pub IsReply : Reply → Option (Box Reply) → Type 0
+IsReply reply None = ⊥
+IsReply reply (Some given) = given.value ≡ reply

@@ -1,5 +1,6 @@
 -- What a resolution needs, and how much of it is left.
 use Rattle.std.specs.Prelude.{◌≡◌, ℕ, ◌+◌, ◌*◌, IsTrue, Option, Some, None, Result, Ok, Err}
+use Rattle.std.specs.Global.{Box}
 use Rattle.server_core.specs.declared.server_send.ServerSend.{ServerSend}
 use Rattle.dns_core.specs.declared.message.Query.{Query}
 use Rattle.recursor_core.specs.Counted.{may_answer}
@@ -17,7 +18,7 @@ use Rattle.recursor_core.specs.declared.resolving.Resolution.{Resolution}
 
 abbrev pub state_want : State → Need
 state_want New = need.SetOut
-state_want (Under w) = need.Send (lookup.send_want w.lookup.send)
+state_want (Under w) = need.Send (lookup.send_want w.value.lookup.send)
 state_want (Done reply) = need.Reply
 state_want Ended = need.Nothing
 
@@ -41,7 +42,7 @@ waits_for r = order_of (want_of r)
 
 abbrev pub state_steps : Query → State → ℕ
 state_steps q New = walk.begin_steps q
-state_steps q (Under w) = walk.steps w
+state_steps q (Under w) = walk.steps w.value
 state_steps q (Done reply) = 1
 state_steps q Ended = 0
 
@@ -51,7 +52,7 @@ steps r = state_steps r.question.query r.state
 
 abbrev pub state_polls : ℕ → State → ℕ
 state_polls patience New = 0
-state_polls patience (Under w) = lookup.polls_left patience w.lookup.send
+state_polls patience (Under w) = lookup.polls_left patience w.value.lookup.send
 state_polls patience (Done reply) = 0
 state_polls patience Ended = 0
 
@@ -62,7 +63,7 @@ rank patience r = (patience + 1) * steps r + state_polls patience r.state
 -- the question that it asks now
 abbrev pub asked_of : State → Option Query
 asked_of New = None
-asked_of (Under w) = Some w.lookup.query
+asked_of (Under w) = Some w.value.lookup.query
 asked_of (Done reply) = None
 asked_of Ended = None
 
@@ -75,7 +76,7 @@ abbrev pub SameBegun : Resolution → Resolution → Type 0
 SameBegun old new = (new.question ≡ old.question) × (new.begun ≡ old.begun)
 
 -- it is as it was where it goes on; it has its reply, or has ended for want of memory
-abbrev pub IsSettled : Result (Option Reply) NoMemory → State → State → Type 0
+abbrev pub IsSettled : Result (Option (Box Reply)) NoMemory → State → State → Type 0
 IsSettled (Ok None) old new = new ≡ old
 IsSettled (Ok (Some reply)) old new = new ≡ Done reply
 IsSettled (Err e) old new = new ≡ Ended

@@ -81,7 +81,7 @@ ReplyTold terms told (Some b) reply = TellsThat told (λ log. ReplyHolds terms m
 abbrev pub TurnedTold : Terms → Option (List LogEntry) → Option Begun → Turned → Type 0
 TurnedTold terms told b turned.Again = Unit {0}
 TurnedTold terms told b turned.Pending = Unit {0}
-TurnedTold terms told b (turned.Done reply) = ReplyTold terms told b reply
+TurnedTold terms told b (turned.Done reply) = ReplyTold terms told b reply.value
 TurnedTold terms told b turned.Ended = Unit {0}
 
 -- the moment of the first turn of the question at a place
@@ -113,12 +113,14 @@ pub record IsBegunFrom (core : RecursorCore) (r : ℕ) (q : Question) (moment : 
   pub question : begun.question ≡ q
   pub late : moment ≤ begun.moment
 
--- A question that waits is named by no turn so far; one under way has begun at or after its moment; the reply of one that is answered holds.
+-- A question that waits is named by no turn so far; one under way has begun at or after its moment; the reply of one that is answered holds, and
+-- for one that is not answered memory was wanting.
 abbrev pub PlayHolds : RecursorCore → Option (List LogEntry) → ℕ → List Turn → List Turn → ℕ → Question → Played → Type 0
 PlayHolds core told start turns rest q question played.Waiting = first_moment turns q ≡ first_moment rest q
 PlayHolds core told start turns rest q question (played.Begun r order) = IsBegunFrom core r question (begin_moment start turns q)
 PlayHolds core told start turns rest q question (played.Answered reply) =
-    TellsThat told (λ log. ReplyHolds (terms_of core) machine_timer log (begin_moment start turns q) question reply)
+    TellsThat told (λ log. ReplyHolds (terms_of core) machine_timer log (begin_moment start turns q) question reply.value)
+PlayHolds core told start turns rest q question played.Unanswered = Unit {0}
 
 -- so it is with each question, where `rest` are the turns that are not played yet
 abbrev pub PlaysHold : RecursorCore → Option (List LogEntry) → ℕ → List Turn → List Turn → List Question → List Played → Type 0

@@ -24,6 +24,7 @@ abbrev pub open_play : Played → ℕ
 open_play played.Waiting = 0
 open_play (played.Begun r order) = 1
 open_play (played.Answered reply) = 0
+open_play played.Unanswered = 0
 
 -- how many questions are under way
 abbrev pub open_plays : List Played → ℕ
@@ -50,11 +51,12 @@ IsRefused question reply =
 abbrev pub Begins : Question → ℕ → RecursorCore → Played → Type 0
 Begins question now core played.Waiting = ⊥
 Begins question now core (played.Begun r order) = machine.IsBegunAt core r question now
-Begins question now core (played.Answered reply) = IsRefused question reply
+Begins question now core (played.Answered reply) = IsRefused question reply.value
+Begins question now core played.Unanswered = Unit {0}
 
 -- the reply of a question, or want of memory where it has none
 abbrev pub ReplyOf : Option Played → Reply → Type 0
-ReplyOf (Some (played.Answered reply)) given = given ≡ reply
+ReplyOf (Some (played.Answered reply)) given = given ≡ reply.value
 ReplyOf _ given = (given.outcome ≡ Err error.NoMemory) × (given.grounds ≡ [])
 
 abbrev pub BeginsIf : Option Question → ℕ → RecursorCore → Option Played → Option Played → Type 0

@@ -1,6 +1,7 @@
 -- Where a walk stands, and how much of it is left.
 use Rattle.std.specs.Prelude.{ℕ, Bool, ◌+◌, ◌-◌, ◌*◌, ◌<◌, ◌^◌, ◌==◌, ◌&&◌, nat_lt, if◌then◌else◌, length, Option, Some, None, Result, IfOk, IfNone, IsSome, IsTrue}
 use Rattle.std.specs.Option.{is_none}
+use Rattle.std.specs.Global.{Box}
 use Rattle.dns_core.specs.Name.{DomainName, last_labels}
 use Rattle.dns_core.specs.declared.message.Query.{Query}
 use Rattle.dns_core.specs.declared.net_error.NoRecords.{NoRecords}
@@ -60,10 +61,10 @@ abbrev pub begin_steps : Query → ℕ
 begin_steps q = 2 + (length (name_walked q).labels + 1) * 2 ^ 70
 
 -- The walk went on by a step, or has its reply.
-abbrev pub Goes : Walk → Walk → Result (Option Reply) NoMemory → Type 0
+abbrev pub Goes : Walk → Walk → Result (Option (Box Reply)) NoMemory → Type 0
 Goes old new result = IfOk result (λ reply. IfNone reply (steps new < steps old))
 
 -- What the cache has for the question itself, and may be answered, is the reply.
-abbrev pub Recalls : Walk → Option Counted → Result (Option Reply) NoMemory → Type 0
+abbrev pub Recalls : Walk → Option Counted → Result (Option (Box Reply)) NoMemory → Type 0
 Recalls w None result = Unit {0}
 Recalls w (Some c) result = (IsCandidate w.stage → ⊥) → IsTrue (may_answer c.verdict) → IfOk result IsSome

@@ -236,7 +236,7 @@ fn waiting(alloc: Global, questions: &[Question]) -> Result<Vec<Played>, NoMemor
     ensures count { IfOk result (λ plays. vec_len plays ≡ length questions.now) }
     ensures waits { IfOk result (λ plays. All (λ p. p ≡ Played.Waiting) plays.items) }
 {
-    let mut plays = Vec::new(alloc);
+    let mut plays = Vec::with_capacity(alloc, questions.len())?;
     for _question in questions {
         plays.push(Played::Waiting)?;
     }
@@ -247,7 +247,7 @@ fn replies(alloc: Global, plays: &mut Vec<Played>) -> Result<Vec<Reply>, NoMemor
     ensures count { IfOk result (λ replies. vec_len replies ≡ vec_len plays.old) }
     ensures each { IfOk result (λ replies. (q : ℕ) (reply : Reply) → slice_get replies.items q ≡ Some reply → ReplyOf (slice_get plays.old.items q) reply) }
 {
-    let mut replies = Vec::new(alloc);
+    let mut replies = Vec::with_capacity(alloc, plays.len())?;
     for place in 0..plays.len() {
         let reply = take_reply(alloc, plays, place);
         replies.push(reply)?;

@@ -27,7 +27,7 @@ use std::net::IpAddr;
 pub enum Step {
     Order { number: u64, order: Order },
     Waiting { number: u64 },
-    Done(Reply),
+    Done(Box<Reply>),
     Ended,
 }
 
@@ -274,7 +274,7 @@ impl RecursorCore {
         resolution.order(alloc, &mut self.servers, number, since, now)
     }
 
-    fn take_reply(&mut self, r: usize) -> Option<Reply>
+    fn take_reply(&mut self, r: usize) -> Option<Box<Reply>>
         requires { need_at self.old r ≡ Need.Reply }
         ensures falls { (p : ℕ) → rank p self.new < rank p self.old }
         ensures some { IsSome result }

@@ -30,8 +30,8 @@ use std::net::IpAddr;
 #[derive(Drop, Debug)]
 pub enum State {
     New,
-    Under(Walk),
-    Done(Reply),
+    Under(Box<Walk>),
+    Done(Box<Reply>),
     Ended,
 }
 
@@ -72,7 +72,7 @@ fn begun_with(
         }
     }
     let walk = Walk::new(alloc, question, roots)?;
-    Ok(State::Under(walk))
+    Ok(State::Under(Box::new(alloc, walk)?))
 }
 
 /// A walk goes by what the cache has for its present lookup.
@@ -83,7 +83,7 @@ fn recall(
     filter: &AccessControlSet,
     cache: &ResponseCache,
     now: u64,
-) -> Result<Option<Reply>, NoMemory>
+) -> Result<Option<Box<Reply>>, NoMemory>
     requires { send_want walk.old.lookup.send ≡ Want.Recall }
     ensures falls { Goes walk.old walk.new result }
     ensures holds { (terms : Terms) (greatest t0 : ℕ) (log : Log) → terms.server_filter ≡ filter.now → CacheHolds terms greatest log cache.now → t0 ≤ now
@@ -95,7 +95,7 @@ fn recall(
 
 impl Resolution {
     /// Goes on, or has this reply; on want of memory it has ended.
-    fn settle(&mut self, came: Result<Option<Reply>, NoMemory>) -> Result<(), NoMemory>
+    fn settle(&mut self, came: Result<Option<Box<Reply>>, NoMemory>) -> Result<(), NoMemory>
         ensures state { IsSettled came self.old.state self.new.state }
         ensures begun { SameBegun self.old self.new }
         ensures result { is_ok result ≡ is_ok came }
@@ -327,14 +327,14 @@ impl Resolution {
     }
 
     /// Gives its reply away, and has ended.
-    pub fn take_reply(&mut self) -> Option<Reply>
+    pub fn take_reply(&mut self) -> Option<Box<Reply>>
         requires { want_of self.old ≡ Need.Reply }
         ensures falls { steps self.new < steps self.old }
         ensures some { IsSome result }
         ensures begun { SameBegun self.old self.new }
         ensures holds { (terms : Terms) (greatest moment : ℕ) (log : Log)
             → ResolutionHolds terms greatest moment log self.old
-            → ResolutionHolds terms greatest moment log self.new × IfSome result (ReplyHolds terms machine_timer log self.old.begun self.old.question) }
+            → ResolutionHolds terms greatest moment log self.new × IfSome result (λ reply. ReplyHolds terms machine_timer log self.old.begun self.old.question reply.value) }
     {
         match mem::replace(&mut self.state, State::Ended) {
             State::Done(reply) => Some(reply),

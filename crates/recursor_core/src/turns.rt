@@ -29,17 +29,18 @@ use std::mem;
 pub enum Turned {
     Again,
     Pending,
-    Done(Reply),
+    Done(Box<Reply>),
     Ended,
 }
 
 /// A question: not begun, under way as the resolution at a place, with the order that was given for it
-/// last, or answered.
+/// last, answered, or without an answer for want of memory.
 #[derive(Drop, Debug)]
 pub enum Played {
     Waiting,
     Begun { place: usize, order: Option<Order> },
-    Answered(Reply),
+    Answered(Box<Reply>),
+    Unanswered,
 }
 
 /// The reply where memory is wanting.
@@ -252,7 +253,7 @@ fn abandon<P: ConnectionProvider>(
 }
 
 /// A turn of a resolution: its reply, or none where an order stays pending. On want of memory it has
-/// ended, and that is its reply.
+/// ended.
 fn answer_of<P: ConnectionProvider>(
     alloc: Global,
     core: &mut RecursorCore,
@@ -260,25 +261,25 @@ fn answer_of<P: ConnectionProvider>(
     r: usize,
     open: &mut Option<Order>,
     tick: Tick,
-) -> Option<Reply>
+) -> Result<Option<Box<Reply>>, NoMemory>
     requires holds { Holds P.ConnectionProvider tick.patience core.old carrier.old }
     requires moment { core.old.moment ≤ tick.now }
     ensures vouches { (es : List LogEntry) → P.vouches carrier.new.provider es → P.vouches carrier.old.provider es }
     ensures holds { Holds P.ConnectionProvider tick.patience core.new carrier.new }
     ensures moves { Moves P.ConnectionProvider tick.patience tick.now core.old core.new carrier.old carrier.new }
     ensures moment { core.new.moment ≡ tick.now }
-    ensures told { IfSome result (ReplyTold (terms_of core.old) (P.log carrier.new.provider) (begun_at core.old r)) }
-    ensures falls { IfNone result (rank tick.patience core.new < rank tick.patience core.old) }
+    ensures told { IfOk result (λ reply. IfSome reply (λ given. ReplyTold (terms_of core.old) (P.log carrier.new.provider) (begun_at core.old r) given.value)) }
+    ensures falls { IfOk result (λ reply. IfNone reply (rank tick.patience core.new < rank tick.patience core.old)) }
     ensures keeps { rank tick.patience core.new ≤ rank tick.patience core.old }
 {
     core.reach(tick.now);
     match turn(alloc, core, carrier, r, open, tick) {
-        Ok(Turned::Pending) => None,
-        Ok(Turned::Done(reply)) => Some(reply),
-        Ok(_) => Some(no_memory(alloc)),
+        Ok(Turned::Pending) => Ok(None),
+        Ok(Turned::Done(reply)) => Ok(Some(reply)),
+        Ok(_) => Err(NoMemory),
         Err(_) => {
             abandon(core, carrier, r, tick);
-            Some(no_memory(alloc))
+            Err(NoMemory)
         }
     }
 }
@@ -292,14 +293,20 @@ pub fn begun(alloc: Global, core: &mut RecursorCore, question: &Question, now: u
     ensures begun { Begins question.now now core.new result }
 {
     let Ok(question) = question.try_clone(alloc) else {
-        return Played::Answered(no_memory(alloc));
+        return Played::Unanswered;
     };
     match core.begin(question, now) {
         Ok(place) => Played::Begun { place, order: None },
-        Err(error) => Played::Answered(Reply {
-            outcome: Err(error),
-            grounds: Numbers::empty(alloc),
-        }),
+        Err(error) => {
+            let reply = Reply {
+                outcome: Err(error),
+                grounds: Numbers::empty(alloc),
+            };
+            match Box::new(alloc, reply) {
+                Ok(reply) => Played::Answered(reply),
+                Err(_) => Played::Unanswered,
+            }
+        }
     }
 }
 
@@ -313,13 +320,22 @@ fn under_way(plays: &[Played], q: usize) -> Option<usize>
     }
 }
 
-fn put_answer(plays: &mut Vec<Played>, q: usize, reply: Reply)
+fn put_answer(plays: &mut Vec<Played>, q: usize, reply: Box<Reply>)
     requires { IsBegunAt plays.old.items q }
     ensures set { plays.new.items ≡ slice_set plays.old.items q (Played.Answered reply) }
     ensures falls { open_plays plays.new.items < open_plays plays.old.items }
     ensures count { vec_len plays.new ≡ vec_len plays.old }
 {
     plays[q] = Played::Answered(reply);
+}
+
+fn leave_unanswered(plays: &mut Vec<Played>, q: usize)
+    requires { IsBegunAt plays.old.items q }
+    ensures set { plays.new.items ≡ slice_set plays.old.items q Played.Unanswered }
+    ensures falls { open_plays plays.new.items < open_plays plays.old.items }
+    ensures count { vec_len plays.new ≡ vec_len plays.old }
+{
+    plays[q] = Played::Unanswered;
 }
 
 /// Takes out the order that was given last for a question that is under way.
@@ -345,6 +361,36 @@ fn keep_order(plays: &mut Vec<Played>, q: usize, place: usize, order: Option<Ord
     plays[q] = Played::Begun { place, order };
 }
 
+/// Gives the question that is under way as the resolution at a place a turn.
+fn play_at<P: ConnectionProvider>(
+    alloc: Global,
+    core: &mut RecursorCore,
+    carrier: &mut Carrier<P>,
+    plays: &mut Vec<Played>,
+    q: usize,
+    place: usize,
+    tick: Tick,
+)
+    requires holds { Holds P.ConnectionProvider tick.patience core.old carrier.old }
+    requires moment { core.old.moment ≤ tick.now }
+    requires under_way { IsUnderWay plays.old.items q (Some place) }
+    ensures vouches { (es : List LogEntry) → P.vouches carrier.new.provider es → P.vouches carrier.old.provider es }
+    ensures holds { Holds P.ConnectionProvider tick.patience core.new carrier.new }
+    ensures moves { Moves P.ConnectionProvider tick.patience tick.now core.old core.new carrier.old carrier.new }
+    ensures moment { core.new.moment ≡ tick.now }
+    ensures plays { (start : ℕ) (turns rest : List Turn) (questions : List Question) → PlaysHold core.old (P.log carrier.old.provider) start turns rest questions plays.old.items
+        → PlaysHold core.new (P.log carrier.new.provider) start turns rest questions plays.new.items }
+    ensures falls { work tick.patience core.new plays.new.items < work tick.patience core.old plays.old.items }
+    ensures count { vec_len plays.new ≡ vec_len plays.old }
+{
+    let mut open = take_order(plays, q, place);
+    match answer_of(alloc, core, carrier, place, &mut open, tick) {
+        Ok(Some(reply)) => put_answer(plays, q, reply),
+        Ok(None) => keep_order(plays, q, place, open),
+        Err(_) => leave_unanswered(plays, q),
+    }
+}
+
 /// Gives a question that is under way a turn. It answers whether there was one.
 pub fn play<P: ConnectionProvider>(
     alloc: Global,
@@ -365,14 +411,10 @@ pub fn play<P: ConnectionProvider>(
     ensures falls { MatchBool result (work tick.patience core.new plays.new.items < work tick.patience core.old plays.old.items) (work tick.patience core.new plays.new.items ≤ work tick.patience core.old plays.old.items) }
     ensures count { vec_len plays.new ≡ vec_len plays.old }
 {
-    let Some(r) = under_way(plays, q) else {
+    let Some(place) = under_way(plays, q) else {
         return false;
     };
-    let mut open = take_order(plays, q, r);
-    match answer_of(alloc, core, carrier, r, &mut open, tick) {
-        Some(reply) => put_answer(plays, q, reply),
-        None => keep_order(plays, q, r, open),
-    }
+    play_at(alloc, core, carrier, plays, q, place, tick);
     true
 }
 
@@ -384,7 +426,7 @@ pub fn take_reply(alloc: Global, plays: &mut Vec<Played>, q: usize) -> Reply
     ensures reply { ReplyOf (slice_get plays.old.items q) result }
 {
     match mem::replace(&mut plays[q], Played::Waiting) {
-        Played::Answered(reply) => reply,
+        Played::Answered(reply) => Box::into_inner(reply),
         _ => no_memory(alloc),
     }
 }

@@ -3,7 +3,7 @@
 ghost use Rattle.std.specs.Prelude.{◌≡◌, ◌<◌, ◌≤◌, ◌+◌, ◌∷◌, [], ℕ, true, length, Ok, Err, Some, None, IfOk, IfSome, IsSome, OnOk, OnErr};
 ghost use Rattle.dns_core.specs.Log.{Log};
 ghost use Rattle.resolution.specs.Names.{walk};
-ghost use Rattle.recursor_core.specs.Replies.{Terms, ReplyHolds};
+ghost use Rattle.recursor_core.specs.Replies.{Terms, ReplyHolds, IsReply};
 ghost use Rattle.recursor_core.specs.Tried.{machine_timer};
 ghost use Rattle.recursor_core.specs.Lookup.{send_want};
 ghost use Rattle.recursor_core.specs.Walk.{lookups_after, next_stage, query_of, made_negative, told_negative, ends_walk, IsCandidate, steps, begin_steps, Goes, Recalls};
@@ -169,13 +169,11 @@ fn reply_by(
     alloc: Global,
     entry: u64,
     outcome: Result<Message, RecursorError>,
-) -> Result<Reply, NoMemory>
-    ensures { IfOk result (λ reply. reply ≡ record { outcome = outcome; grounds = entry ∷ [] }) }
+) -> Result<Box<Reply>, NoMemory>
+    ensures { IfOk result (λ reply. reply.value ≡ record { outcome = outcome; grounds = entry ∷ [] }) }
 {
-    Ok(Reply {
-        outcome,
-        grounds: just(alloc, entry)?,
-    })
+    let grounds = just(alloc, entry)?;
+    Ok(Box::new(alloc, Reply { outcome, grounds })?)
 }
 
 /// Answers a question with what counts for it, less the DNSSEC records that it does not want.
@@ -183,9 +181,9 @@ pub(crate) fn answer_with(
     alloc: Global,
     question: &Question,
     counted: Counted,
-) -> Result<Reply, NoMemory>
+) -> Result<Box<Reply>, NoMemory>
     ensures { (terms : Terms) (greatest t0 : ℕ) (log : Log) → Answers terms greatest t0 log question.now.query counted.entry counted.verdict
-        → IfOk result (ReplyHolds terms machine_timer log t0 question.now) }
+        → IfOk result (λ reply. ReplyHolds terms machine_timer log t0 question.now reply.value) }
 {
     let Counted { entry, verdict } = counted;
     match verdict {
@@ -249,7 +247,7 @@ impl Walk {
         question: &Question,
         filter: &AccessControlSet,
         counted: Option<Counted>,
-    ) -> Result<Option<Reply>, NoMemory>
+    ) -> Result<Option<Box<Reply>>, NoMemory>
         requires { send_want self.old.lookup.send ≡ Want.Recall }
         ensures falls { Goes self.old self.new result }
         ensures holds { (terms : Terms) (greatest moment t0 : ℕ) (log : Log) → terms.server_filter ≡ filter.now
@@ -274,7 +272,7 @@ impl Walk {
         alloc: Global,
         question: &Question,
         counted: Counted,
-    ) -> Result<Option<Reply>, NoMemory>
+    ) -> Result<Option<Box<Reply>>, NoMemory>
         requires want { send_want self.old.lookup.send ≡ Want.Recall }
         requires stage { IsCandidate self.old.stage → ⊥ }
         ensures falls { Goes self.old self.new result }
@@ -297,7 +295,7 @@ impl Walk {
         alloc: Global,
         question: &Question,
         filter: &AccessControlSet,
-    ) -> Result<Option<Reply>, NoMemory>
+    ) -> Result<Option<Box<Reply>>, NoMemory>
         requires { send_want self.old.lookup.send ≡ Want.Choose }
         ensures falls { Goes self.old self.new result }
         ensures holds { (terms : Terms) (greatest moment t0 : ℕ) (log : Log) → terms.server_filter ≡ filter.now
@@ -316,7 +314,7 @@ impl Walk {
         alloc: Global,
         question: &Question,
         filter: &AccessControlSet,
-    ) -> Result<Option<Reply>, NoMemory>
+    ) -> Result<Option<Box<Reply>>, NoMemory>
         requires { send_want self.old.lookup.send ≡ Want.Hear }
         ensures falls { Goes self.old self.new result }
         ensures holds { (terms : Terms) (greatest moment t0 : ℕ) (log : Log) → terms.server_filter ≡ filter.now
@@ -336,7 +334,7 @@ impl Walk {
         question: &Question,
         filter: &AccessControlSet,
         found: Found,
-    ) -> Result<Option<Reply>, NoMemory>
+    ) -> Result<Option<Box<Reply>>, NoMemory>
         ensures falls { Goes self.old self.new result }
         ensures holds { (terms : Terms) (greatest moment t0 : ℕ) (log : Log) → terms.server_filter ≡ filter.now
             → WayHolds terms greatest log question.now.query self.old
@@ -358,7 +356,7 @@ impl Walk {
         question: &Question,
         filter: &AccessControlSet,
         found: Found,
-    ) -> Result<Option<Reply>, NoMemory>
+    ) -> Result<Option<Box<Reply>>, NoMemory>
         requires { IsCandidate self.old.stage }
         ensures falls { Goes self.old self.new result }
         ensures holds { (terms : Terms) (greatest moment t0 : ℕ) (log : Log) → terms.server_filter ≡ filter.now
@@ -384,7 +382,7 @@ impl Walk {
         filter: &AccessControlSet,
         entry: u64,
         class: Result<Message, DnsError>,
-    ) -> Result<Option<Reply>, NoMemory>
+    ) -> Result<Option<Box<Reply>>, NoMemory>
         requires { IsCandidate self.old.stage }
         ensures falls { Goes self.old self.new result }
         ensures holds { (terms : Terms) (greatest moment t0 : ℕ) (log : Log) → terms.server_filter ≡ filter.now
@@ -408,7 +406,7 @@ impl Walk {
         question: &Question,
         filter: &AccessControlSet,
         counted: Counted,
-    ) -> Result<Option<Reply>, NoMemory>
+    ) -> Result<Option<Box<Reply>>, NoMemory>
         requires { IsCandidate self.old.stage }
         ensures falls { Goes self.old self.new result }
         ensures holds { (terms : Terms) (greatest moment t0 : ℕ) (log : Log) → terms.server_filter ≡ filter.now
@@ -434,7 +432,7 @@ impl Walk {
         question: &Question,
         entry: u64,
         found: NoRecords,
-    ) -> Result<Option<Reply>, NoMemory>
+    ) -> Result<Option<Box<Reply>>, NoMemory>
         requires { IsCandidate self.old.stage }
         ensures falls { Goes self.old self.new result }
         ensures holds { (terms : Terms) (greatest moment t0 : ℕ) (log : Log) → WayHolds terms greatest log question.now.query self.old
@@ -454,7 +452,7 @@ impl Walk {
         question: &Question,
         filter: &AccessControlSet,
         kept: &Message,
-    ) -> Result<Option<Reply>, NoMemory>
+    ) -> Result<Option<Box<Reply>>, NoMemory>
         requires { IsCandidate self.old.stage }
         ensures falls { Goes self.old self.new result }
         ensures holds { (terms : Terms) (greatest moment t0 entry : ℕ) (log : Log) → terms.server_filter ≡ filter.now
@@ -475,7 +473,11 @@ impl Walk {
     }
 
     /// Goes on to the next stage, at the present servers.
-    fn advance(&mut self, alloc: Global, question: &Question) -> Result<Option<Reply>, NoMemory>
+    fn advance(
+        &mut self,
+        alloc: Global,
+        question: &Question,
+    ) -> Result<Option<Box<Reply>>, NoMemory>
         requires { IsCandidate self.old.stage }
         ensures falls { OnOk result (steps self.new < steps self.old) }
         ensures none { IfOk result (λ reply. reply ≡ None) }
@@ -493,14 +495,15 @@ impl Walk {
         Ok(None)
     }
 
-    fn no_server(&self, alloc: Global, cause: WalkCause) -> Result<Option<Reply>, NoMemory>
-        ensures { IfOk result (λ reply. reply ≡ Some (record { outcome = Err (RecursorError.NoNameServer self.now.name cause); grounds = [] })) }
+    fn no_server(&self, alloc: Global, cause: WalkCause) -> Result<Option<Box<Reply>>, NoMemory>
+        ensures { IfOk result (IsReply (record { outcome = Err (RecursorError.NoNameServer self.now.name cause); grounds = [] })) }
     {
         let zone = self.name.try_clone(alloc)?;
-        Ok(Some(Reply {
+        let reply = Reply {
             outcome: Err(RecursorError::NoNameServer { zone, cause }),
             grounds: Numbers::empty(alloc),
-        }))
+        };
+        Ok(Some(Box::new(alloc, reply)?))
     }
 
     fn conclude_last(
@@ -508,14 +511,14 @@ impl Walk {
         alloc: Global,
         question: &Question,
         found: Found,
-    ) -> Result<Reply, NoMemory>
+    ) -> Result<Box<Reply>, NoMemory>
         ensures { (terms : Terms) (greatest t0 : ℕ) (log : Log) → self.old.stage ≡ Stage.Last → WayHolds terms greatest log question.now.query self.old
             → FoundHolds terms greatest t0 log self.old.zone self.old.lookup.query self.old.lookup.ends found
-            → IfOk result (ReplyHolds terms machine_timer log t0 question.now) }
+            → IfOk result (λ reply. ReplyHolds terms machine_timer log t0 question.now reply.value) }
     {
         match found {
             Found::Told { entry, class } => self.hear_last(alloc, question, entry, class),
-            Found::Error(error) => Ok(self.failed(alloc, error)),
+            Found::Error(error) => self.failed(alloc, error),
         }
     }
 
@@ -525,25 +528,26 @@ impl Walk {
         question: &Question,
         entry: u64,
         class: Result<Message, DnsError>,
-    ) -> Result<Reply, NoMemory>
+    ) -> Result<Box<Reply>, NoMemory>
         ensures { (terms : Terms) (greatest t0 : ℕ) (log : Log) → self.old.stage ≡ Stage.Last → WayHolds terms greatest log question.now.query self.old
             → FoundHolds terms greatest t0 log self.old.zone self.old.lookup.query self.old.lookup.ends (Found.Told entry class)
-            → IfOk result (ReplyHolds terms machine_timer log t0 question.now) }
+            → IfOk result (λ reply. ReplyHolds terms machine_timer log t0 question.now reply.value) }
     {
         match verdict_of_class(class, &self.lookup.query, &self.zone) {
             Ok(verdict) => answer_with(alloc, question, Counted { entry, verdict }),
-            Err(error) => Ok(self.failed(alloc, error)),
+            Err(error) => self.failed(alloc, error),
         }
     }
 
     /// The reply of a lookup that failed, with the entries by which its sends ended.
-    fn failed(&mut self, alloc: Global, error: NetError) -> Reply
-        ensures { result ≡ record { outcome = Err (RecursorError.Net error); grounds = self.old.lookup.ends } }
+    fn failed(&mut self, alloc: Global, error: NetError) -> Result<Box<Reply>, NoMemory>
+        ensures { IfOk result (λ reply. reply.value ≡ record { outcome = Err (RecursorError.Net error); grounds = self.old.lookup.ends }) }
     {
         let grounds = mem::replace(&mut self.lookup.ends, Numbers::empty(alloc));
-        Reply {
+        let reply = Reply {
             outcome: Err(RecursorError::Net(error)),
             grounds,
-        }
+        };
+        Ok(Box::new(alloc, reply)?)
     }
 }

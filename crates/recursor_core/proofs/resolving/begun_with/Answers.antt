@@ -12,4 +12,4 @@ returns-then-may_answer-clause-holds c terms greatest moment t0 log qualified ro
 
 pub returns-clause-holds : goal.returns-clause-holds
 returns-clause-holds c terms greatest moment t0 log qualified roots some recalled =
-    c.in_ok-walk.ensures.holds terms greatest moment t0 log qualified roots some
+    rw c.in_ok-new.ensures.ok (c.in_ok-walk.ensures.holds terms greatest moment t0 log qualified roots some)

@@ -1,4 +1,5 @@
 use Rattle.std.proofs.Common.{◌≡◌, ℕ, sym, subst, refl, [], false, Err, Option, Result, IfOk}
+use Rattle.std.specs.Global.{Box}
 use Rattle.dns_core.specs.Log.{Log}
 use Rattle.dns_core.specs.declared.request.Question.{Question}
 use Rattle.dns_core.specs.declared.net_error.NetError.{NetError}
@@ -26,11 +27,11 @@ not-timeout net.Timeout h = absurd (h refl)
 not-timeout _ h = refl
 
 -- what comes of a walk comes of it where it and its result are called otherwise
-comes-as : (terms : Terms) (greatest moment t0 : ℕ) (log : Log) (asked : Question) (v w : Walk) (r s : Result (Option Reply) NoMemory)
+comes-as : (terms : Terms) (greatest moment t0 : ℕ) (log : Log) (asked : Question) (v w : Walk) (r s : Result (Option (Box Reply)) NoMemory)
     → w ≡ v → s ≡ r → IfOk r (WalkComes terms greatest moment t0 log asked v) → IfOk s (WalkComes terms greatest moment t0 log asked w)
 comes-as terms greatest moment t0 log asked v w r s e f h =
     subst (λ (x : Walk). IfOk s (WalkComes terms greatest moment t0 log asked x)) (sym e)
-    (subst (λ (x : Result (Option Reply) NoMemory). IfOk x (WalkComes terms greatest moment t0 log asked v)) (sym f) h)
+    (subst (λ (x : Result (Option (Box Reply)) NoMemory). IfOk x (WalkComes terms greatest moment t0 log asked v)) (sym f) h)
 
 pub returns-after-error-clause-holds : goal.returns-after-error-clause-holds
 returns-after-error-clause-holds c terms greatest moment t0 log filtered way found =

@@ -1,5 +1,5 @@
 use Rattle.recursor_core.specs.declared.error.RecursorError.TheVariants.{Net}
-use Rattle.recursor_core.proofs.Denials.{denied, has-failed}
+use Rattle.recursor_core.proofs.Denials.{denies, has-failed}
 use Rattle.recursor_core.proofs.Walks.{walked-at-last}
 use Rattle.recursor_core.proofs.walk.Walk.conclude_last.Goals as goal
 
@@ -13,5 +13,5 @@ returns-in-Error c terms greatest t0 log is way found =
     let e = c.in-Error.error in
     let at = walked-at-last terms greatest log asked.query w is way in
     let ended = rw c.in-Error.is at found in
-    denied terms t0 log asked c.failed.result (Net e) w.lookup.ends c.failed.ensures
+    denies terms t0 log asked c.failed.result (Net e) w.lookup.ends c.failed.ensures
     (λ plain. (ended.0 plain, has-failed terms t0 log w.zone w.lookup.query asked.query w.lookup.ends e at.0 ended.1 at.1 plain))

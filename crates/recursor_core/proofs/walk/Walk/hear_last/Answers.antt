@@ -2,7 +2,7 @@ use Rattle.std.proofs.Common.{subst}
 use Rattle.dns_core.specs.declared.message.Query.{Query}
 use Rattle.recursor_core.specs.Derived.{Counts}
 use Rattle.recursor_core.specs.declared.error.RecursorError.TheVariants.{Net}
-use Rattle.recursor_core.proofs.Denials.{counts-of, answers-of, denied, error-told, has-failed}
+use Rattle.recursor_core.proofs.Denials.{counts-of, answers-of, denies, error-told, has-failed}
 use Rattle.recursor_core.proofs.Walks.{walked-at-last}
 use Rattle.recursor_core.proofs.walk.Walk.hear_last.Goals as goal
 
@@ -27,5 +27,5 @@ returns-in-Err c terms greatest t0 log is way h =
     let at = walked-at-last terms greatest log asked.query w is way in
     let error = rw c.in-Err.is at c.verdict_of_class.ensures.error in
     let told = error-told terms greatest t0 log w.zone l.query l.ends c.args.entry c.args.class e h error in
-    denied terms t0 log asked c.failed.result (Net e) l.ends c.failed.ensures
+    denies terms t0 log asked c.failed.result (Net e) l.ends c.failed.ensures
     (λ plain. (told.2, has-failed terms t0 log w.zone l.query asked.query l.ends e at.0 told.0 at.1 plain))

@@ -33,5 +33,5 @@ returns-in_ok-reply_by-in-Made-clause-holds c terms greatest moment t0 log filte
     let here = subst (λ (p : Query). Stands terms greatest t0 log p entry (Made cause)) at now in
     let made = made-on-the-way terms greatest t0 log q entry w.lookup.query.name cause (candidate-on-the-way terms greatest log q w c.requires way) here in
     let told = subst (λ (p : Query). ErrorHolds (given_of terms) (machine_timer log t0) log t0 q (entry ∷ []) (made_negative p cause)) (sym at) made in
-    denied terms t0 log asked c.in_ok-reply_by-in-Made.field-0 c.in_ok-denial-in-Made.denial (entry ∷ []) c.in_ok-reply_by-in-Made.ensures
+    denied terms t0 log asked c.in_ok-reply_by-in-Made.field-0.value c.in_ok-denial-in-Made.denial (entry ∷ []) c.in_ok-reply_by-in-Made.ensures
     (subst (ErrorHolds (given_of terms) (machine_timer log t0) log t0 q (entry ∷ [])) (sym c.in_ok-denial-in-Made.ensures) told)
