@@ -21,3 +21,4 @@ pub mod FromPool
 pub mod Stepping
 pub mod Working
 pub mod Taking
+mod NewServers

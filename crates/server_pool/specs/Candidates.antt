@@ -1,5 +1,5 @@
 -- The servers of a pool that can be asked, as a lookup sees them.
-use Rattle.std.specs.Prelude.{ℕ, Bool, true, false, List, map, filter, Option, Some, None, slice_get}
+use Rattle.std.specs.Prelude.{ℕ, Bool, true, false, List, map, filter, Some, None, slice_get}
 use Rattle.server_core.specs.Servers.{Server}
 use Rattle.server_core.specs.Policy.{allows_server}
 use Rattle.server_core.specs.declared.policy.ConnectionPolicy.{ConnectionPolicy}

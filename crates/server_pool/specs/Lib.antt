@@ -12,3 +12,5 @@ pub mod Stands
 pub mod NextStep
 pub mod Candidates
 pub mod Pool
+pub mod Shared
+pub mod NewPool

@@ -13,9 +13,11 @@ mod kept_error;
 mod kept_error_laws;
 mod key;
 mod next_step;
+mod new_pool;
 mod ordering;
 mod pool;
 mod pool_laws;
+mod pool_shared;
 mod rounds;
 mod slot;
 mod statistics;
@@ -31,6 +33,7 @@ pub use next_step::RoundStep;
 pub use ordering::ordered;
 pub use pool::NameServerPool;
 pub use pool_laws::a_pool_expires_after_its_ttl;
+pub use pool_shared::PoolShared;
 pub use statistics::sort_servers_by_query_statistics;
 
 #[cfg(test)]
