@@ -18,7 +18,7 @@ use Rattle.server_pool.specs.Agenda.{Plan, PlanStands, among, own, may_sleep, sa
 use Rattle.server_pool.specs.Rounds.{under_way, IsFed, IsStillAt, IsOpenAt}
 use Rattle.server_pool.proofs.Standing.{or_left}
 use Rattle.server_pool.proofs.Plans.{same_self}
-use Rattle.server_pool.proofs.Moving.{IsSameList, stands_moved, first_last, picked_first}
+use Rattle.server_pool.proofs.Moving.{stands_moved, first_last, picked_first}
 
 -- the same sends
 pub same_sends : (q : Query) (timeout : ℕ) (pool : List Candidate) (ends : List (End Candidate)) (sends other : List Sending) (p : Plan) → other ≡ sends

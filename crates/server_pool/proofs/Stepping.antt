@@ -1,5 +1,5 @@
 -- The next step of a lookup: which send gives an order, and that there is an open one where none does.
-use Rattle.std.proofs.Common.{◌≡◌, ◌∙◌, ℕ, zero, suc, ◌+◌, ◌≤◌, ◌<◌, ◌||◌, nat_lt, not, length, Bool, true, false, List, [], ◌∷◌, ◌++◌, refl, ap, sym, subst, cond, arith, get_or, slice_get, Option, Some, None, Result, Ok, Err, IfOk, OnOk, OnErr, ◌⊎◌, inl, inr}
+use Rattle.std.proofs.Common.{◌≡◌, ◌∙◌, ℕ, zero, suc, ◌+◌, ◌≤◌, ◌<◌, nat_lt, not, length, Bool, true, false, List, [], ◌∷◌, ◌++◌, refl, ap, sym, subst, cond, arith, get_or, slice_get, Option, Some, None, Result, Ok, Err, IfOk, OnOk, OnErr, ◌⊎◌, inl, inr}
 use Rattle.std.specs.List.{list_any, position, position_or_len, find}
 use Rattle.std.proofs.Math.ListN.{set}
 use Rattle.std.proofs.lemmas.Bool.{ltb-false, ltb-true}
@@ -22,13 +22,12 @@ use Rattle.server_pool.specs.declared.rounds.Sending.{Sending}
 use Rattle.server_pool.specs.declared.rounds.Phase.{Phase}
 use Rattle.server_pool.specs.declared.rounds.Phase.TheVariants.{Asking, Asleep, Decided, Told}
 use Rattle.server_pool.specs.declared.rounds.Rounds.{Rounds}
-use Rattle.server_pool.specs.declared.next_step.Doing.{Doing}
 use Rattle.server_pool.specs.declared.next_step.Doing.TheVariants as doing
 use Rattle.server_pool.specs.declared.next_step.RoundStep.{RoundStep}
 use Rattle.server_pool.specs.declared.next_step.RoundStep.TheVariants as given
-use Rattle.server_pool.specs.Agenda.{end_at, may_sleep}
+use Rattle.server_pool.specs.Agenda.{end_at}
 use Rattle.server_pool.specs.Rounds.{Goes, RoundsStand, IsSameLookup, steps_left, StandsIn, StandsAtEnd, StandsStill, IsEndOf, CanWake}
-use Rattle.server_pool.specs.NextStep.{is_idle, IsTaken, Steps, StepsBy, StepsAt, Tells, doing_of, IsFirstIdle, HasHeard, Gives, GoesOn, BeginsRound, NextStands, IsHalted, stepping, changed_for, stepped_table, HasGone, HasCome, HasGiven}
+use Rattle.server_pool.specs.NextStep.{is_idle, IsTaken, Steps, StepsBy, StepsAt, Tells, doing_of, IsFirstIdle, HasHeard, Gives, GoesOn, BeginsRound, NextStands, IsHalted, stepping, changed_for, stepped_table, HasCome, HasGiven}
 use Rattle.server_pool.specs.NextStep.BeginsRound.{due, woken}
 use Rattle.server_pool.specs.NextStep.HasGone.{heard, began}
 use Rattle.server_pool.proofs.Standing.{or_left}

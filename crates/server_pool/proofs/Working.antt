@@ -1,5 +1,5 @@
 -- Each end that is heard, and each round that begins after a sleep, leaves less to be done.
-use Rattle.std.proofs.Common.{◌≡◌, ◌∙◌, ℕ, zero, suc, ◌+◌, ◌*◌, ◌-◌, ◌≤◌, ◌<◌, ◌==◌, ◌&&◌, not, if◌then◌else◌, length, length-append, length-drop, Bool, true, false, List, [], ◌∷◌, ◌++◌, refl, ap, sym, subst, cond, arith, Option, Some, None}
+use Rattle.std.proofs.Common.{◌≡◌, ◌∙◌, ℕ, zero, suc, ◌+◌, ◌*◌, ◌-◌, ◌≤◌, ◌<◌, ◌==◌, ◌&&◌, if◌then◌else◌, length, length-append, length-drop, Bool, true, false, List, [], ◌∷◌, ◌++◌, refl, ap, sym, subst, arith, Some}
 use Rattle.std.specs.List.{find, position_or_len, after_first}
 use Rattle.std.proofs.lemmas.Bool.{eqb-true}
 use Rattle.std.proofs.lemmas.List.Folds.{find_at}

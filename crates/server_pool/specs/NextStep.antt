@@ -2,7 +2,7 @@
 use Rattle.std.specs.Prelude.{◌≡◌, ℕ, ◌+◌, ◌<◌, ◌≤◌, Bool, true, not, find, List, [], ◌∷◌, ◌++◌, length, slice_get, Option, Some, None, Err, ◌⊎◌}
 use Rattle.std.specs.List.{list_any, position}
 use Rattle.dns_core.specs.declared.net_error.NetError.TheVariants as net
-use Rattle.resolution.specs.Lookups.{Answered, End}
+use Rattle.resolution.specs.Lookups.{End}
 use Rattle.server_core.specs.Servers.{Server}
 use Rattle.server_core.specs.Hearing.{changed_at}
 use Rattle.server_core.specs.Sending.{is_open, StepIs, IsSameSend, after_step, after_want}

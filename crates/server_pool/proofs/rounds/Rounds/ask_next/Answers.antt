@@ -1,4 +1,4 @@
-use Rattle.std.proofs.Common.{◌≡◌, ◌∙◌, sym, subst, refl, List, Option, Some, None, OnOk, OnErr, inl}
+use Rattle.std.proofs.Common.{◌≡◌, ◌∙◌, sym, subst, refl, Option, OnOk, OnErr, inl}
 use Rattle.std.proofs.lemmas.Result.{on_err_weaker}
 use Rattle.server_core.specs.Sending.{after_step, after_want}
 use Rattle.server_pool.specs.declared.rounds.Sending.{Sending}
