@@ -1,6 +1,8 @@
-//! What a question costs: bench/cache.py compares the times of these tests. In the small script each
-//! zone has one server, in the other the root refers to 13 and the next zone to 4, each with an address
-//! of IPv4 and one of IPv6.
+//! What a question costs: bench/cache.py compares the times of these tests. Both are asked over three
+//! zones, the root, com. and example.com. In the small script each has one server, and the question is
+//! for the zone's own name. The other has the shape of the DNS: 13 roots, 13 servers of com. and 4 of
+//! example.com., each of these with an address of IPv4 and one of IPv6, and a question for a name
+//! within the zone.
 
 use dns_core::{Items, Question};
 use recursor_core::{Recursor, Reply, drive};
@@ -11,6 +13,23 @@ use std::test::Fail;
 
 const RUNS: usize = 2_000;
 
+/// The name that is asked for, and how many servers the three zones have.
+#[derive(Clone, Copy)]
+struct World {
+    asked: &'static str,
+    servers: [usize; 3],
+}
+
+const SMALL: World = World {
+    asked: "example.com.",
+    servers: [1, 1, 1],
+};
+
+const AS_THE_DNS: World = World {
+    asked: "www.example.com.",
+    servers: [13, 13, 4],
+};
+
 /// A recursor over a script, and its question.
 #[derive(Drop)]
 struct Bench {
@@ -18,54 +37,77 @@ struct Bench {
     questions: Items<Question>,
 }
 
-/// The rule of a server that refers a zone to this many servers, whose addresses lie in this network.
+fn roots_of(alloc: Global, text: &mut String, roots: usize) -> Result<(), Fail> {
+    for n in 1..=roots {
+        let line = format!(in alloc; "root 11.0.0.{n}\n")?;
+        text.push_str(&line)?;
+    }
+    Ok(())
+}
+
+/// The rule of the first server of a network, which refers a zone to so many servers: their names lie
+/// in a domain, and their addresses in the next network.
 fn referral(
     alloc: Global,
     text: &mut String,
-    server: &str,
-    zone: &str,
-    servers: usize,
     network: usize,
+    zone: &str,
+    domain: &str,
+    servers: usize,
 ) -> Result<(), Fail> {
     let addresses = servers.saturating_mul(2);
     let rule = format!(in alloc;
-        "reply {server} udp {zone} NS 0 message NOERROR none 0 {servers} {addresses}\n"
+        "reply 11.0.{network}.1 udp {zone} NS 0 message NOERROR none 0 {servers} {addresses}\n"
     )?;
     text.push_str(&rule)?;
     for n in 1..=servers {
-        let line = format!(in alloc; "{zone} 172800 IN NS s{n}.{zone}\n")?;
+        let line = format!(in alloc; "{zone} 172800 IN NS s{n}.{domain}\n")?;
         text.push_str(&line)?;
     }
-    addresses_of(alloc, text, zone, servers, network)
+    addresses_of(alloc, text, network.saturating_add(1), domain, servers)
 }
 
 fn addresses_of(
     alloc: Global,
     text: &mut String,
-    zone: &str,
-    servers: usize,
     network: usize,
+    domain: &str,
+    servers: usize,
 ) -> Result<(), Fail> {
     for n in 1..=servers {
-        let four = format!(in alloc; "s{n}.{zone} 172800 IN A 11.0.{network}.{n}\n")?;
+        let four = format!(in alloc; "s{n}.{domain} 172800 IN A 11.0.{network}.{n}\n")?;
         text.push_str(&four)?;
-        let six = format!(in alloc; "s{n}.{zone} 172800 IN AAAA 2001:503:{network}::{n}\n")?;
+        let six = format!(in alloc; "s{n}.{domain} 172800 IN AAAA 2001:503:{network}::{n}\n")?;
         text.push_str(&six)?;
     }
     Ok(())
 }
 
-/// A scenario of three zones, of which the second and the third have so many servers.
-fn scenario(alloc: Global, option: &str, second: usize, third: usize) -> Result<String, Fail> {
+/// The rules of the server of the zone, and the question.
+fn answer(alloc: Global, text: &mut String, asked: &str) -> Result<(), Fail> {
+    text.push_str("reply 11.0.2.1 udp www.example.com. NS 0 message NOERROR aa 0 1 0\n")?;
+    text.push_str(
+        "example.com. 3600 IN SOA s1.example.com. admin.example.com. 1 1800 900 604800 300\n",
+    )?;
+    let rule = format!(in alloc;
+        "reply 11.0.2.1 udp {asked} A 0 message NOERROR aa 1 0 0\n{asked} 300 IN A 93.184.215.14\n"
+    )?;
+    text.push_str(&rule)?;
+    let question = format!(in alloc; "question {asked} A plain\nend\n")?;
+    text.push_str(&question)?;
+    Ok(())
+}
+
+fn scenario(alloc: Global, option: &str, world: World) -> Result<String, Fail> {
+    let [first, second, third] = world.servers;
     let mut text = String::new(alloc);
-    text.push_str("recursor 1\nroot 11.0.0.1\n")?;
+    text.push_str("recursor 1\n")?;
+    roots_of(alloc, &mut text, first)?;
     text.push_str(option)?;
     text.push_str("patience 3\ntold script\n")?;
-    referral(alloc, &mut text, "11.0.0.1", "com.", second, 1)?;
-    referral(alloc, &mut text, "11.0.1.1", "example.com.", third, 2)?;
-    text.push_str("reply 11.0.2.1 udp example.com. A 0 message NOERROR aa 1 0 0\n")?;
-    text.push_str("example.com. 300 IN A 93.184.215.14\n")?;
-    text.push_str("question example.com. A plain\nend\n")?;
+    referral(alloc, &mut text, 0, "com.", "gtld-servers.net.", second)?;
+    referral(alloc, &mut text, 1, "example.com.", "example.com.", third)?;
+    answer(alloc, &mut text, world.asked)?;
     Ok(text)
 }
 
@@ -92,8 +134,8 @@ fn recursor_over(alloc: Global, scenario: Scenario) -> Result<Bench, Fail> {
     }
 }
 
-fn bench_over(alloc: Global, option: &str, second: usize, third: usize) -> Result<Bench, Fail> {
-    let text = scenario(alloc, option, second, third)?;
+fn bench_over(alloc: Global, option: &str, world: World) -> Result<Bench, Fail> {
+    let text = scenario(alloc, option, world)?;
     match read_scenario(alloc, text.as_bytes()) {
         Ok(scenario) => recursor_over(alloc, scenario),
         Err(error) => Err(Fail::new(format_args!("line {} is refused", error.line))),
@@ -117,9 +159,8 @@ fn answers(alloc: Global, bench: &mut Bench, runs: usize) -> Result<usize, Fail>
 }
 
 /// Each of so many runs has its answer.
-fn are_answered(alloc: Global, option: &str, servers: [usize; 2], runs: usize) -> Result<(), Fail> {
-    let [second, third] = servers;
-    let mut bench = bench_over(alloc, option, second, third)?;
+fn are_answered(alloc: Global, option: &str, world: World, runs: usize) -> Result<(), Fail> {
+    let mut bench = bench_over(alloc, option, world)?;
     let found = answers(alloc, &mut bench, runs)?;
     if found == runs {
         return Ok(());
@@ -131,30 +172,30 @@ const UNKEPT: &str = "option response_cache_size 0\n";
 
 #[test]
 fn a_question_is_answered_once(rt: HostRuntime) -> Result<(), Fail> {
-    are_answered(rt.alloc(), "", [1, 1], 1)
+    are_answered(rt.alloc(), "", SMALL, 1)
 }
 
 #[test]
 fn a_question_is_answered_from_the_cache(rt: HostRuntime) -> Result<(), Fail> {
-    are_answered(rt.alloc(), "", [1, 1], RUNS)
+    are_answered(rt.alloc(), "", SMALL, RUNS)
 }
 
 #[test]
 fn a_question_is_walked_for(rt: HostRuntime) -> Result<(), Fail> {
-    are_answered(rt.alloc(), UNKEPT, [1, 1], RUNS)
+    are_answered(rt.alloc(), UNKEPT, SMALL, RUNS)
 }
 
 #[test]
-fn a_question_among_many_servers_is_answered_once(rt: HostRuntime) -> Result<(), Fail> {
-    are_answered(rt.alloc(), "", [13, 4], 1)
+fn a_question_of_the_dns_is_answered_once(rt: HostRuntime) -> Result<(), Fail> {
+    are_answered(rt.alloc(), "", AS_THE_DNS, 1)
 }
 
 #[test]
-fn a_question_among_many_servers_is_answered_from_the_cache(rt: HostRuntime) -> Result<(), Fail> {
-    are_answered(rt.alloc(), "", [13, 4], RUNS)
+fn a_question_of_the_dns_is_answered_from_the_cache(rt: HostRuntime) -> Result<(), Fail> {
+    are_answered(rt.alloc(), "", AS_THE_DNS, RUNS)
 }
 
 #[test]
-fn a_question_among_many_servers_is_walked_for(rt: HostRuntime) -> Result<(), Fail> {
-    are_answered(rt.alloc(), UNKEPT, [13, 4], RUNS)
+fn a_question_of_the_dns_is_walked_for(rt: HostRuntime) -> Result<(), Fail> {
+    are_answered(rt.alloc(), UNKEPT, AS_THE_DNS, RUNS)
 }
