@@ -41,6 +41,4 @@ mod answer_filter_tests;
 #[cfg(test)]
 mod kept_error_tests;
 #[cfg(test)]
-mod next_step_tests;
-#[cfg(test)]
 mod ordering_tests;
