@@ -4,8 +4,6 @@
 #[cfg(test)]
 mod bad_input_tests;
 #[cfg(test)]
-mod carrier_tests;
-#[cfg(test)]
 mod cost_tests;
 #[cfg(test)]
 mod fault_tests;
