@@ -1,7 +1,7 @@
 -- What the program writes for what it reads.
-use Rattle.std.specs.Prelude.{◌≡◌, ◌≢◌, ◌⊎◌, ℕ, Bool, true, false, not, List, [], ◌∷◌, length, codes, Some, None, Ok, Err}
+use Rattle.std.specs.Prelude.{◌≡◌, ◌≢◌, ◌⊎◌, ℕ, Bool, true, false, not, List, [], ◌∷◌, length, codes, Some, None, Ok, Err, IfSome}
 use Rattle.std.specs.declared.option.Option.{Option}
-use Rattle.std.specs.Io.KnownBytes.{Appends}
+use Rattle.std.specs.Io.KnownBytes.{Appends, Keeps}
 use Rattle.std.specs.List.{list_all}
 use Rattle.std.specs.Str.{bytes_eq}
 use Rattle.dns_core.specs.Faults.{Rose}
@@ -100,10 +100,15 @@ IsFaultOf bytes (NotBuilt n) = HasFault bytes n cause.NotBuilt
 IsFaultOf bytes Read = ⊥
 IsFaultOf bytes Memory = Unit {0}
 
+-- nothing was written, or that memory is wanting
+abbrev pub ToldMemory : Option (List ℕ) → Option (List ℕ) → Type 0
+ToldMemory old new = Keeps old new ⊎ Appends old new (fault_text Memory)
+
 -- the fault was told, or a front of its text and the sink failed, or memory was wanting
 pub record Tells (fault : Fault) (result : Status) (old new : Option (List ℕ)) (before now : ℕ) : Type 0 where
   pub whole : result ≢ status.WriteFault → result ≢ status.NoMemory → (result ≡ status_of fault) × Appends old new (fault_text fault)
   pub part : result ≡ status.WriteFault → Rose before now × AppendsPart old new (fault_text fault)
+  pub memory : result ≡ status.NoMemory → ToldMemory old new
 
 -- the output for the bytes was appended
 abbrev pub HasWritten : List ℕ → Option (List ℕ) → Option (List ℕ) → Type 0
@@ -113,9 +118,19 @@ HasWritten bytes old new = (text : List ℕ) × HasOutput bytes text × Appends 
 abbrev pub HasRefused : List ℕ → Option (List ℕ) → Option (List ℕ) → Type 0
 HasRefused bytes old new = (fault : Fault) × IsFaultOf bytes fault × (status_of fault ≡ status.BadScenario) × Appends old new (fault_text fault)
 
--- the sink failed, and a front of a text was appended
-abbrev pub WrotePart : ℕ → ℕ → Option (List ℕ) → Option (List ℕ) → Type 0
-WrotePart before now old new = Rose before now × ((text : List ℕ) × AppendsPart old new text)
+-- what is to be written for these bytes: their output, or the text of their fault
+abbrev pub IsTextFor : List ℕ → List ℕ → Type 0
+IsTextFor bytes text = HasOutput bytes text ⊎ ((fault : Fault) × IsFaultOf bytes fault × (text ≡ fault_text fault))
+
+-- What is to be written, by whether the words are the program's: that they are not; or that the source failed, or the text for
+-- what it held.
+abbrev pub IsTextOf : Bool → Option (List ℕ) → ℕ → ℕ → List ℕ → Type 0
+IsTextOf false held before now text = text ≡ fault_text Words
+IsTextOf true held before now text = (Rose before now × (text ≡ fault_text Read)) ⊎ IfSome held (λ bytes. IsTextFor bytes text)
+
+-- the sink failed, and a front of a text that was to be written was appended
+abbrev pub WrotePart : (List ℕ → Type 0) → ℕ → ℕ → Option (List ℕ) → Option (List ℕ) → Type 0
+WrotePart IsText before now old new = Rose before now × ((text : List ℕ) × IsText text × AppendsPart old new text)
 
 -- how a run ends whose words are none of the program's
 abbrev pub IsRefusal : Status → Type 0

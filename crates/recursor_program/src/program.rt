@@ -6,7 +6,7 @@ ghost use Rattle.recursor_world.specs.Script.{Gives, is_qualified_script};
 ghost use Rattle.recursor_world.specs.Upstream.{told_by};
 ghost use Rattle.recursor_text.specs.Transcript.{transcript_text};
 ghost use Rattle.recursor_program.specs.Faults.{fault_text};
-ghost use Rattle.recursor_program.specs.Program.{are_words, script_of, is_plain_script, fault_of, IsNewOver, Ran, HasRun, HasOutput, IsFaultOf, Tells, HasWritten, HasRefused, WrotePart, IsRefusal};
+ghost use Rattle.recursor_program.specs.Program.{are_words, script_of, is_plain_script, fault_of, IsNewOver, Ran, HasRun, HasOutput, IsFaultOf, Tells, HasWritten, HasRefused, IsTextFor, IsTextOf, WrotePart, ToldMemory, IsRefusal};
 
 use crate::faults::{Fault, say};
 use crate::status::Status;
@@ -165,7 +165,8 @@ fn tell<K: Sink>(alloc: Global, sink: &mut K, fault: Fault) -> Status
 fn finish<K: Sink>(alloc: Global, sink: &mut K, bytes: &[u8]) -> Status
     ensures done { result ≡ Status.Done → HasWritten bytes.now (K.written sink.old) (K.written sink.new) }
     ensures scenario { result ≡ Status.BadScenario → HasRefused bytes.now (K.written sink.old) (K.written sink.new) }
-    ensures write { result ≡ Status.WriteFault → WrotePart (K.faults sink.old) (K.faults sink.new) (K.written sink.old) (K.written sink.new) }
+    ensures write { result ≡ Status.WriteFault → WrotePart (IsTextFor bytes.now) (K.faults sink.old) (K.faults sink.new) (K.written sink.old) (K.written sink.new) }
+    ensures memory { result ≡ Status.NoMemory → ToldMemory (K.written sink.old) (K.written sink.new) }
     ensures read { result ≢ Status.ReadFault }
     ensures words { result ≢ Status.BadWords }
 {
@@ -194,9 +195,12 @@ pub fn run<S: Source, K: Sink>(
     ensures words { result ≡ Status.BadWords → (are_words words.now ≡ false) × Appends (K.written sink.old) (K.written sink.new) (fault_text Fault.Words) }
     ensures refused { are_words words.now ≡ false → IsRefusal result × (source.new ≡ source.old) }
 
-    // The source failed, which was written; the sink failed, and a front of the text was written.
+    // The source failed, which was written; the sink failed, and a front of what was to be written was.
     ensures read { result ≡ Status.ReadFault → Rose (S.faults source.old) (S.faults source.new) × Appends (K.written sink.old) (K.written sink.new) (fault_text Fault.Read) }
-    ensures write { result ≡ Status.WriteFault → WrotePart (K.faults sink.old) (K.faults sink.new) (K.written sink.old) (K.written sink.new) }
+    ensures write { result ≡ Status.WriteFault → WrotePart (IsTextOf (are_words words.now) (S.left source.old) (S.faults source.old) (S.faults source.new)) (K.faults sink.old) (K.faults sink.new) (K.written sink.old) (K.written sink.new) }
+
+    // Memory is wanting, which was written, or nothing.
+    ensures memory { result ≡ Status.NoMemory → ToldMemory (K.written sink.old) (K.written sink.new) }
 {
     if !are_words(words) {
         return tell(alloc, sink, Fault::Words);
