@@ -1,5 +1,5 @@
 -- The sends of a round, as they begin and end.
-use Rattle.std.proofs.Common.{◌≡◌, ◌∙◌, ℕ, zero, suc, ◌+◌, ◌≤◌, ◌&&◌, ◌==◌, nat_lt, not, length, Bool, true, false, List, [], ◌∷◌, ◌++◌, map, refl, ap, sym, subst, arith, get_or, slice_get, Some}
+use Rattle.std.proofs.Common.{◌≡◌, ◌∙◌, ℕ, zero, suc, ◌+◌, ◌≤◌, ◌&&◌, ◌==◌, nat_lt, not, length, Bool, true, false, List, [], ◌∷◌, ◌++◌, refl, ap, sym, subst, arith, get_or, slice_get, Some}
 use Rattle.std.specs.List.{remove, position}
 use Rattle.std.proofs.lemmas.List.Quantifiers.{position-Some}
 use Rattle.std.proofs.lemmas.Option.{get_or_from_slice_get}
@@ -15,7 +15,8 @@ use Rattle.server_core.specs.declared.server_send.ServerSend.{ServerSend}
 use Rattle.server_pool.specs.declared.rounds.Sending.{Sending}
 use Rattle.server_pool.specs.declared.rounds.Rounds.{Rounds}
 use Rattle.server_pool.specs.Agenda.{Plan, PlanStands, among, own, may_sleep, same_candidate, rules_of, class_of_sent}
-use Rattle.server_pool.specs.Rounds.{under_way, IsFed, IsStillAt, IsOpenAt}
+use Rattle.server_core.specs.Order.{entry_of}
+use Rattle.server_pool.specs.Rounds.{under_way, ended_by_of, IsFed, IsStillAt, IsOpenAt}
 use Rattle.server_pool.proofs.Standing.{or_left}
 use Rattle.server_pool.proofs.Plans.{same_self}
 use Rattle.server_pool.proofs.Moving.{stands_moved, first_last, picked_first}
@@ -47,16 +48,20 @@ get_set [] i x s h = cc
 get_set (y ∷ xs) zero x s h = refl
 get_set (y ∷ xs) (suc i) x s h = get_set xs i x s h
 
+-- the send after it took the outcome of its order
+abbrev pub fed_of : Outcome → Sending → ServerSend → Sending
+fed_of o x next = record x { send = next; ended_by = ended_by_of next.stage (entry_of o) }
+
 -- the one that was written
 pub fed_send : (sends : List Sending) (i : ℕ) (s lent : Sending) (next : ServerSend) (o : Outcome) (r : Rounds) → slice_get sends i ≡ Some s → lent ≡ get_or sends i lent
-    → r.sends.items ≡ set sends i (record lent { send = next }) → Comes lent.send o next → IsFed s i o r
+    → r.sends.items ≡ set sends i (fed_of o lent next) → Comes lent.send o next → IsFed s i o r
 fed_send sends i s lent next o r there is new comes =
     let same : lent ≡ s = is ∙ get_or_from_slice_get sends i s lent there in
-    let written : slice_get (set sends i (record lent { send = next })) i ≡ Some (record lent { send = next }) = get_set sends i (record lent { send = next }) s there in
+    let written : slice_get (set sends i (fed_of o lent next)) i ≡ Some (fed_of o lent next) = get_set sends i (fed_of o lent next) s there in
     record {
       next = next;
       comes = subst (λ (x : Sending). Comes x.send o next) same comes;
-      there = ap (λ (l : List Sending). slice_get l i) new ∙ written ∙ ap (λ (x : Sending). Some (record x { send = next })) same;
+      there = ap (λ (l : List Sending). slice_get l i) new ∙ written ∙ ap (λ (x : Sending). Some (fed_of o x next)) same;
     }
 
 pub still_send : (sends : List Sending) (i : ℕ) (s lent : Sending) (next : ServerSend) (r : Rounds) → slice_get sends i ≡ Some s → lent ≡ get_or sends i lent

@@ -25,11 +25,11 @@ use Rattle.server_pool.specs.declared.rounds.Rounds.{Rounds}
 use Rattle.server_pool.specs.declared.next_step.Doing.TheVariants as doing
 use Rattle.server_pool.specs.declared.next_step.RoundStep.{RoundStep}
 use Rattle.server_pool.specs.declared.next_step.RoundStep.TheVariants as given
-use Rattle.server_pool.specs.Agenda.{end_at}
-use Rattle.server_pool.specs.Rounds.{Goes, RoundsStand, IsSameLookup, steps_left, StandsIn, StandsAtEnd, StandsStill, IsEndOf, CanWake}
+use Rattle.server_pool.specs.Rounds.{Goes, PhaseStands, HeardEnd, heard_at, ends_of, RoundsStand, DecidesAt, IsSameLookup, steps_left, StandsIn, StandsAtEnd, StandsStill, IsEndOf, CanWake}
 use Rattle.server_pool.specs.NextStep.{is_idle, IsTaken, Steps, StepsBy, StepsAt, Tells, doing_of, IsFirstIdle, HasHeard, Gives, GoesOn, BeginsRound, NextStands, IsHalted, stepping, changed_for, stepped_table, HasCome, HasGiven}
 use Rattle.server_pool.specs.NextStep.BeginsRound.{due, woken}
 use Rattle.server_pool.specs.NextStep.HasGone.{heard, began}
+use Rattle.server_pool.proofs.Beginning.{decides_on}
 use Rattle.server_pool.proofs.Standing.{or_left}
 use Rattle.server_pool.proofs.Sendings.{get_set}
 
@@ -121,96 +121,96 @@ steps_end : (number now : ℕ) (at : Option Server) (old new : Sending) → Step
 steps_end number now None old new t = (Err NoConnections, ap (λ (s : Sending). end_of s.send.stage) t.1)
 steps_end number now (Some server) old new t = taken_end number t.told (record old { send = t.next }) new t.taken
 
-module _ (number now place : ℕ) (table : List Server) (pool : List Candidate) (ends : List (End Candidate)) (old mid new : Rounds) (s : Sending) (at : IsFirstIdle place s old) where
-  heard_by : (sa : StepsAt place number now table s None mid) (e : End Candidate) → IsEndOf sa.next e → RoundsStand pool (ends ++ e ∷ []) new → HasHeard number now table pool ends old e new
-  heard_by sa e ended st = record { place = place; sending = s; idle = at; next = sa.next; steps = sa.steps; candidate = sa.candidate; ended = ended; stands = st }
+module _ (number now place : ℕ) (table : List Server) (pool : List Candidate) (first : List HeardEnd) (old mid new : Rounds) (s : Sending) (at : IsFirstIdle place s old) where
+  heard_by : (sa : StepsAt place number now table s None mid) (h : HeardEnd) → IsEndOf sa.next h → RoundsStand pool (first ++ h ∷ []) new → HasHeard number now table pool first old h new
+  heard_by sa h ended st = record { place = place; sending = s; idle = at; next = sa.next; steps = sa.steps; candidate = sa.candidate; ended = ended; stands = st }
 
-  heard_so : StepsAt place number now table s None mid → ((x : Sending) → slice_get mid.sends.items place ≡ Some x → StandsAtEnd x.candidate (end_of x.send.stage) pool ends new)
-      → (e : End Candidate) × HasHeard number now table pool ends old e new
+  heard_so : StepsAt place number now table s None mid → ((x : Sending) → slice_get mid.sends.items place ≡ Some x → StandsAtEnd x.candidate (end_of x.send.stage) x.ended_by pool first new)
+      → (h : HeardEnd) × HasHeard number now table pool first old h new
   heard_so sa st =
       let found = steps_end number now (slice_get table s.send.server) s sa.next sa.steps in
-      let e = end_at sa.next.candidate found.0 in
-      let stands : RoundsStand pool (ends ++ e ∷ []) new = subst (λ (o : Option Answered). StandsAtEnd sa.next.candidate o pool ends new) found.1 (st sa.next sa.there) in
-      (e, heard_by sa e (record { ended = found.1; at = refl }) stands)
+      let h = heard_at sa.next.candidate found.0 sa.next.ended_by in
+      let stands : RoundsStand pool (first ++ h ∷ []) new = subst (λ (o : Option Answered). StandsAtEnd sa.next.candidate o sa.next.ended_by pool first new) found.1 (st sa.next sa.there) in
+      (h, heard_by sa h (record { ended = found.1; at = refl; by = refl }) stands)
 
   -- the step of the send at a place, with what follows
-  pub step_stands : (made : Option Order) (result : Result (Option RoundStep) NoMemory) → StepsAt place number now table s made mid → RoundsStand pool ends mid
+  pub step_stands : (made : Option Order) (result : Result (Option RoundStep) NoMemory) → StepsAt place number now table s made mid → RoundsStand pool first mid
       → ((order : Order) → made ≡ Some order → (result ≡ Ok (Some (given.Order order))) × (new ≡ mid))
       → (made ≡ None → IfOk result (λ step. step ≡ None))
-      → (made ≡ None → (x : Sending) → slice_get mid.sends.items place ≡ Some x → OnOk result (StandsAtEnd x.candidate (end_of x.send.stage) pool ends new))
-      → IfOk result (λ step. NextStands number now table pool ends old step new)
+      → (made ≡ None → (x : Sending) → slice_get mid.sends.items place ≡ Some x → OnOk result (StandsAtEnd x.candidate (end_of x.send.stage) x.ended_by pool first new))
+      → IfOk result (λ step. NextStands number now table pool first old step new)
   step_stands (Some order) result sa st ordered goes ended =
       let told = ordered order refl in
-      subst (λ (x : Result (Option RoundStep) NoMemory). IfOk x (λ step. NextStands number now table pool ends old step new)) (sym told.0) (record {
+      subst (λ (x : Result (Option RoundStep) NoMemory). IfOk x (λ step. NextStands number now table pool first old step new)) (sym told.0) (record {
         place = place;
         sending = s;
         idle = at;
         steps = subst (λ (m : Rounds). StepsAt place number now table s (Some order) m) (sym told.1) sa;
-        stands = subst (λ (m : Rounds). RoundsStand pool ends m) (sym told.1) st;
+        stands = subst (λ (m : Rounds). RoundsStand pool first m) (sym told.1) st;
       })
   step_stands None (Ok step) sa st ordered goes ended =
-      subst (λ (x : Option RoundStep). NextStands number now table pool ends old x new) (sym (goes refl)) (inl (heard_so sa (ended refl)))
+      subst (λ (x : Option RoundStep). NextStands number now table pool first old x new) (sym (goes refl)) (inl (heard_so sa (ended refl)))
   step_stands None (Err e) sa st ordered goes ended = tt
 
-  halted_so : (sa : StepsAt place number now table s None mid) → StandsStill pool ends (IsEndOf sa.next) new → IsHalted number now table pool ends old new
+  halted_so : (sa : StepsAt place number now table s None mid) → StandsStill pool first (IsEndOf sa.next) new → IsHalted number now table pool first old new
   halted_so sa (inl h) = inl h
   halted_so sa (inr (e, ended, h)) = inr (e, heard_by sa e ended h)
 
   -- the same where memory is wanting
   pub step_halts : (made : Option Order) (result : Result (Option RoundStep) NoMemory) → StepsAt place number now table s made mid
       → ((order : Order) → made ≡ Some order → (result ≡ Ok (Some (given.Order order))) × (new ≡ mid))
-      → ((x : Sending) → slice_get mid.sends.items place ≡ Some x → OnErr result (StandsStill pool ends (IsEndOf x) new))
-      → OnErr result (IsHalted number now table pool ends old new)
+      → ((x : Sending) → slice_get mid.sends.items place ≡ Some x → OnErr result (StandsStill pool first (IsEndOf x) new))
+      → OnErr result (IsHalted number now table pool first old new)
   step_halts (Some order) result sa ordered ended =
-      subst (λ (x : Result (Option RoundStep) NoMemory). OnErr x (IsHalted number now table pool ends old new)) (sym (ordered order refl).0) tt
+      subst (λ (x : Result (Option RoundStep) NoMemory). OnErr x (IsHalted number now table pool first old new)) (sym (ordered order refl).0) tt
   step_halts None (Ok step) sa ordered ended = tt
   step_halts None (Err e) sa ordered ended = halted_so sa (ended sa.next sa.there)
 
 -- ---- what it is at
 
 -- a lookup that asks with no send under way has had an end
-pub had_one : (pool : List Candidate) (ends : List (End Candidate)) (r : Rounds) → r.phase ≡ Asking → length r.sends.items ≡ 0 → RoundsStand pool ends r → ends ≡ [] → ⊥
+pub had_one : (pool : List Candidate) (ends : List (End Candidate)) (r : Rounds) → r.phase ≡ Asking → length r.sends.items ≡ 0 → PhaseStands pool ends r → ends ≡ [] → ⊥
 had_one pool ends r p none st e =
     let x = subst (λ (y : Phase). StandsIn pool ends r y) p st in
     let more = x.1 e in
     omega (arith, none, more)
 
 -- one that sleeps can wake
-pub can_wake : (pool : List Candidate) (ends : List (End Candidate)) (r : Rounds) (until : ℕ) → r.phase ≡ Asleep until → RoundsStand pool ends r → CanWake r
+pub can_wake : (pool : List Candidate) (ends : List (End Candidate)) (r : Rounds) (until : ℕ) → r.phase ≡ Asleep until → PhaseStands pool ends r → CanWake r
 can_wake pool ends r until p st =
     let x = subst (λ (y : Phase). StandsIn pool ends r y) p st in
     record { sends = x.1; waiting = x.2; sleeps = x.3 }
 
-pub asleep_goes : (pool : List Candidate) (ends : List (End Candidate)) (r : Rounds) (until : ℕ) → r.phase ≡ Asleep until → RoundsStand pool ends r → Goes pool ends r
+pub asleep_goes : (pool : List Candidate) (ends : List (End Candidate)) (r : Rounds) (until : ℕ) → r.phase ≡ Asleep until → PhaseStands pool ends r → Goes pool ends r
 asleep_goes pool ends r until p st = let x = subst (λ (y : Phase). StandsIn pool ends r y) p st in x.0
 
-pub asleep_had : (pool : List Candidate) (ends : List (End Candidate)) (r : Rounds) (until : ℕ) → r.phase ≡ Asleep until → RoundsStand pool ends r → ends ≡ [] → ⊥
+pub asleep_had : (pool : List Candidate) (ends : List (End Candidate)) (r : Rounds) (until : ℕ) → r.phase ≡ Asleep until → PhaseStands pool ends r → ends ≡ [] → ⊥
 asleep_had pool ends r until p st = let x = subst (λ (y : Phase). StandsIn pool ends r y) p st in x.4
 
 pub at_asks : (p : Phase) → doing.Asks ≡ doing_of p → p ≡ Asking
 at_asks Asking h = refl
 at_asks (Asleep until) h = cc
-at_asks (Decided answer) h = cc
+at_asks (Decided answer at) h = cc
 at_asks Told h = cc
 
 pub at_sleeps : (p : Phase) (until : ℕ) → doing.Sleeps until ≡ doing_of p → p ≡ Asleep until
 at_sleeps Asking until h = cc
 at_sleeps (Asleep u) until h = cc
-at_sleeps (Decided answer) until h = cc
+at_sleeps (Decided answer at) until h = cc
 at_sleeps Told until h = cc
 
 -- what is told of a lookup that is decided
-pub told_stands : (number now : ℕ) (table : List Server) (pool : List Candidate) (ends : List (End Candidate)) (old new : Rounds) (made : RoundStep) (p : Phase) → old.phase ≡ p → doing.Tells ≡ doing_of p
-    → Tells p made old new → StandsIn pool ends old p → Gives number now table pool ends old made new
-told_stands number now table pool ends old new made Asking e d t st = cc
-told_stands number now table pool ends old new made (Asleep until) e d t st = cc
-told_stands number now table pool ends old new made (Decided answer) e d t st = subst (λ (x : RoundStep). Gives number now table pool ends old x new) (sym t.0) (st, e, t.1)
-told_stands number now table pool ends old new made Told e d t st = subst (λ (x : RoundStep). Gives number now table pool ends old x new) (sym t.0) (e, t.1)
+pub told_stands : (number now : ℕ) (table : List Server) (pool : List Candidate) (first : List HeardEnd) (old new : Rounds) (made : RoundStep) (p : Phase) → old.phase ≡ p → doing.Tells ≡ doing_of p
+    → Tells p made old new → StandsIn pool (ends_of first) old p → Gives number now table pool first old made new
+told_stands number now table pool first old new made Asking e d t st = cc
+told_stands number now table pool first old new made (Asleep until) e d t st = cc
+told_stands number now table pool first old new made (Decided answer at) e d t st = subst (λ (x : RoundStep). Gives number now table pool first old x new) (sym t.0) (at, st, e, t.1)
+told_stands number now table pool first old new made Told e d t st = subst (λ (x : RoundStep). Gives number now table pool first old x new) (sym t.0) (e, t.1)
 
 pub no_step : (p : Phase) (sends : List Sending) → doing.Tells ≡ doing_of p → stepping p sends ≡ None
 no_step Asking sends d = cc
 no_step (Asleep until) sends d = cc
-no_step (Decided answer) sends d = refl
+no_step (Decided answer at) sends d = refl
 no_step Told sends d = refl
 
 -- ---- the table
@@ -273,29 +273,29 @@ module _ (number now place : ℕ) (table : List Server) (old mid new : Rounds) (
 
 -- ---- several steps
 
-pub come_further : (number now : ℕ) (pool : List Candidate) (ends : List (End Candidate)) (table : List Server) (old : Rounds) (before later : List Server) (mid new : Rounds) (come : HasCome number now pool ends table old before mid)
-    → GoesOn number now before pool come.known mid new → later ≡ stepped_table mid before → HasCome number now pool ends table old later new
-come_further number now pool ends table old before later mid new come (inl (e, h)) is =
-    subst (λ (t : List Server). HasCome number now pool ends table old t new) (sym is)
-    (record { known = come.known ++ e ∷ []; gone = heard come.known before mid e new come.gone h; stands = h.stands })
-come_further number now pool ends table old before later mid new come (inr h) is =
-    subst (λ (t : List Server). HasCome number now pool ends table old t new) (sym is)
-    (record { known = come.known; gone = began come.known before mid new come.gone h; stands = stands_begun h })
+pub come_further : (number now : ℕ) (pool : List Candidate) (first : List HeardEnd) (table : List Server) (old : Rounds) (before later : List Server) (mid new : Rounds) (come : HasCome number now pool first table old before mid)
+    → GoesOn number now before pool come.known mid new → DecidesAt now mid.phase new.phase → later ≡ stepped_table mid before → HasCome number now pool first table old later new
+come_further number now pool first table old before later mid new come (inl (e, h)) at is =
+    subst (λ (t : List Server). HasCome number now pool first table old t new) (sym is)
+    (record { known = come.known ++ e ∷ []; gone = heard come.known before mid e new come.gone h; stands = h.stands; decides = decides_on now old.phase mid.phase new.phase come.decides at })
+come_further number now pool first table old before later mid new come (inr h) at is =
+    subst (λ (t : List Server). HasCome number now pool first table old t new) (sym is)
+    (record { known = come.known; gone = began come.known before mid new come.gone h; stands = stands_begun h; decides = decides_on now old.phase mid.phase new.phase come.decides at })
   where
     stands_begun : BeginsRound now pool come.known mid new → RoundsStand pool come.known new
     stands_begun (due a b t st) = st
     stands_begun (woken until a b t st) = st
 
-gives_stands : (number now : ℕ) (table : List Server) (pool : List Candidate) (ends : List (End Candidate)) (mid new : Rounds) (step : RoundStep) → RoundsStand pool ends mid → Gives number now table pool ends mid step new → RoundsStand pool ends new
-gives_stands number now table pool ends mid new (given.Order order) st g = g.stands
-gives_stands number now table pool ends mid new given.Waiting st g = subst (λ (r : Rounds). RoundsStand pool ends r) (sym g.3) st
-gives_stands number now table pool ends mid new (given.Asleep until) st g = subst (λ (r : Rounds). RoundsStand pool ends r) (sym g.2) st
-gives_stands number now table pool ends mid new (given.Done answer) st g = subst (λ (r : Rounds). RoundsStand pool ends r) (sym g.2) tt
-gives_stands number now table pool ends mid new given.Told st g = subst (λ (r : Rounds). RoundsStand pool ends r) (sym g.1) st
+gives_stands : (number now : ℕ) (table : List Server) (pool : List Candidate) (first : List HeardEnd) (mid new : Rounds) (step : RoundStep) → RoundsStand pool first mid → Gives number now table pool first mid step new → RoundsStand pool first new
+gives_stands number now table pool first mid new (given.Order order) st g = g.stands
+gives_stands number now table pool first mid new given.Waiting st g = subst (λ (r : Rounds). RoundsStand pool first r) (sym g.3) st
+gives_stands number now table pool first mid new (given.Asleep until) st g = subst (λ (r : Rounds). RoundsStand pool first r) (sym g.2) st
+gives_stands number now table pool first mid new (given.Done answer) st g = subst (λ (r : Rounds). RoundsStand pool first r) (sym g.3) (record { phase = tt; entries = st.entries })
+gives_stands number now table pool first mid new given.Told st g = subst (λ (r : Rounds). RoundsStand pool first r) (sym g.1) st
 
-pub given_last : (number now : ℕ) (pool : List Candidate) (ends : List (End Candidate)) (table : List Server) (old : Rounds) (before later : List Server) (mid new : Rounds) (step : RoundStep) (come : HasCome number now pool ends table old before mid)
-    → Gives number now before pool come.known mid step new → later ≡ stepped_table mid before → HasGiven number now pool ends table old step later new
-given_last number now pool ends table old before later mid new step come g is =
+pub given_last : (number now : ℕ) (pool : List Candidate) (first : List HeardEnd) (table : List Server) (old : Rounds) (before later : List Server) (mid new : Rounds) (step : RoundStep) (come : HasCome number now pool first table old before mid)
+    → Gives number now before pool come.known mid step new → later ≡ stepped_table mid before → HasGiven number now pool first table old step later new
+given_last number now pool first table old before later mid new step come g is =
     record { before = before; mid = mid; come = come; gives = g; stepped = is; stands = gives_stands number now before pool come.known mid new step come.stands g }
 
 pub same_still : (old mid new : Rounds) → IsSameLookup old mid → IsSameLookup mid new → IsSameLookup old new

@@ -130,7 +130,7 @@ due_small Asking sends = at_test (sends == 0)
     at_test true = omega arith
     at_test false = omega arith
 due_small (Asleep until) sends = omega arith
-due_small (Decided answer) sends = omega arith
+due_small (Decided answer at) sends = omega arith
 due_small Told sends = omega arith
 
 -- less work is fewer steps
@@ -148,7 +148,7 @@ not_due Asking (suc n) h = at_test (suc n == 0) refl
     at_test true e = let bad : suc n ≡ 0 = eqb-true (suc n) 0 e in absurd (omega (arith, bad))
     at_test false e = refl
 not_due (Asleep until) sends h = refl
-not_due (Decided answer) sends h = refl
+not_due (Decided answer at) sends h = refl
 not_due Told sends h = refl
 
 -- so is a round that was due and began

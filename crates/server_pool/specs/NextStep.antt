@@ -2,7 +2,6 @@
 use Rattle.std.specs.Prelude.{◌≡◌, ℕ, ◌+◌, ◌<◌, ◌≤◌, Bool, true, not, find, List, [], ◌∷◌, ◌++◌, length, slice_get, Option, Some, None, Err, ◌⊎◌}
 use Rattle.std.specs.List.{list_any, position}
 use Rattle.dns_core.specs.declared.net_error.NetError.TheVariants as net
-use Rattle.resolution.specs.Lookups.{End}
 use Rattle.server_core.specs.Servers.{Server}
 use Rattle.server_core.specs.Hearing.{changed_at}
 use Rattle.server_core.specs.Sending.{is_open, StepIs, IsSameSend, after_step, after_want}
@@ -21,7 +20,7 @@ use Rattle.server_pool.specs.declared.next_step.Doing.{Doing}
 use Rattle.server_pool.specs.declared.next_step.Doing.TheVariants as doing
 use Rattle.server_pool.specs.declared.next_step.RoundStep.{RoundStep}
 use Rattle.server_pool.specs.declared.next_step.RoundStep.TheVariants as given
-use Rattle.server_pool.specs.Rounds.{RoundsStand, IsAnswered, IsEndOf, TakesRound, TakesBusy}
+use Rattle.server_pool.specs.Rounds.{HeardEnd, ends_of, RoundsStand, IsAnswered, DecidesAt, IsEndOf, TakesRound, TakesBusy}
 
 -- no order of it is open
 abbrev pub is_idle : Sending → Bool
@@ -60,7 +59,7 @@ pub record StepsAt (place number now : ℕ) (table : List Server) (old : Sending
 
 -- what is decided is told once
 abbrev pub Tells : Phase → RoundStep → Rounds → Rounds → Type 0
-Tells (phase.Decided answer) made old new = (made ≡ given.Done answer) × (new ≡ record old { phase = phase.Told })
+Tells (phase.Decided answer at) made old new = (made ≡ given.Done answer) × (new ≡ record old { phase = phase.Told })
 Tells phase.Asking made old new = (made ≡ given.Told) × (new ≡ old)
 Tells (phase.Asleep until) made old new = (made ≡ given.Told) × (new ≡ old)
 Tells phase.Told made old new = (made ≡ given.Told) × (new ≡ old)
@@ -68,7 +67,7 @@ Tells phase.Told made old new = (made ≡ given.Told) × (new ≡ old)
 abbrev pub doing_of : Phase → Doing
 doing_of phase.Asking = doing.Asks
 doing_of (phase.Asleep until) = doing.Sleeps until
-doing_of (phase.Decided answer) = doing.Tells
+doing_of (phase.Decided answer at) = doing.Tells
 doing_of phase.Told = doing.Tells
 
 -- the first send of which no order is open
@@ -78,60 +77,60 @@ pub record IsFirstIdle (place : ℕ) (s : Sending) (r : Rounds) : Type 0 where
   pub there : slice_get r.sends.items place ≡ Some s
 
 -- it gave the order
-pub record HasOrdered (number now : ℕ) (table : List Server) (pool : List Candidate) (ends : List (End Candidate)) (old : Rounds) (order : Order) (new : Rounds) : Type 0 where
+pub record HasOrdered (number now : ℕ) (table : List Server) (pool : List Candidate) (heard : List HeardEnd) (old : Rounds) (order : Order) (new : Rounds) : Type 0 where
   pub place : ℕ
   pub sending : Sending
   pub idle : IsFirstIdle place sending old
   pub steps : StepsAt place number now table sending (Some order) new
-  pub stands : RoundsStand pool ends new
+  pub stands : RoundsStand pool heard new
 
 -- it has ended so, and the lookup stands by that end too
-pub record HasHeard (number now : ℕ) (table : List Server) (pool : List Candidate) (ends : List (End Candidate)) (old : Rounds) (e : End Candidate) (new : Rounds) : Type 0 where
+pub record HasHeard (number now : ℕ) (table : List Server) (pool : List Candidate) (heard : List HeardEnd) (old : Rounds) (h : HeardEnd) (new : Rounds) : Type 0 where
   pub place : ℕ
   pub sending : Sending
   pub idle : IsFirstIdle place sending old
   pub next : Sending
   pub steps : StepsBy number now (slice_get table sending.send.server) sending None next
   pub candidate : next.candidate ≡ sending.candidate
-  pub ended : IsEndOf next e
-  pub stands : RoundsStand pool (ends ++ e ∷ []) new
+  pub ended : IsEndOf next h
+  pub stands : RoundsStand pool (heard ++ h ∷ []) new
 
 -- it takes its servers, or the deadline is reached
 pub record TakesInTime (now : ℕ) (old new : Rounds) (Taken : Type 0) : Type 0 where
   pub in_time : now < old.start + old.timeout → Taken
-  pub late : old.start + old.timeout ≤ now → new.phase ≡ phase.Decided (Err net.Timeout)
+  pub late : old.start + old.timeout ≤ now → new.phase ≡ phase.Decided (Err net.Timeout) now
 
 -- a round begins where no send is under way, or after the sleep is over
-pub data BeginsRound (now : ℕ) (pool : List Candidate) (ends : List (End Candidate)) (old new : Rounds) : Type 0 where
-  due : old.phase ≡ phase.Asking → length old.sends.items ≡ 0 → TakesInTime now old new (TakesRound old new) → RoundsStand pool ends new → BeginsRound now pool ends old new
-  woken : (until : ℕ) → old.phase ≡ phase.Asleep until → until ≤ now → TakesInTime now old new (TakesBusy old new) → RoundsStand pool ends new → BeginsRound now pool ends old new
+pub data BeginsRound (now : ℕ) (pool : List Candidate) (heard : List HeardEnd) (old new : Rounds) : Type 0 where
+  due : old.phase ≡ phase.Asking → length old.sends.items ≡ 0 → TakesInTime now old new (TakesRound old new) → RoundsStand pool heard new → BeginsRound now pool heard old new
+  woken : (until : ℕ) → old.phase ≡ phase.Asleep until → until ≤ now → TakesInTime now old new (TakesBusy old new) → RoundsStand pool heard new → BeginsRound now pool heard old new
 
 -- it goes on: an end was heard, or a round began
-abbrev pub GoesOn : ℕ → ℕ → List Server → List Candidate → List (End Candidate) → Rounds → Rounds → Type 0
-GoesOn number now table pool ends old new = ((e : End Candidate) × HasHeard number now table pool ends old e new) ⊎ BeginsRound now pool ends old new
+abbrev pub GoesOn : ℕ → ℕ → List Server → List Candidate → List HeardEnd → Rounds → Rounds → Type 0
+GoesOn number now table pool heard old new = ((h : HeardEnd) × HasHeard number now table pool heard old h new) ⊎ BeginsRound now pool heard old new
 
 -- What a step tells of a lookup that stood by these ends, and how it stands then.
-abbrev pub Gives : ℕ → ℕ → List Server → List Candidate → List (End Candidate) → Rounds → RoundStep → Rounds → Type 0
-Gives number now table pool ends old (given.Order order) new = HasOrdered number now table pool ends old order new
-Gives number now table pool ends old given.Waiting new = (old.phase ≡ phase.Asking) × (list_any (λ s. is_open s.send.stage) old.sends.items ≡ true) × (position is_idle old.sends.items ≡ None) × (new ≡ old)
-Gives number now table pool ends old (given.Asleep until) new = (old.phase ≡ phase.Asleep until) × (now < until) × (new ≡ old)
-Gives number now table pool ends old (given.Done answer) new = IsAnswered pool ends old answer × (old.phase ≡ phase.Decided answer) × (new ≡ record old { phase = phase.Told })
-Gives number now table pool ends old given.Told new = (old.phase ≡ phase.Told) × (new ≡ old)
+abbrev pub Gives : ℕ → ℕ → List Server → List Candidate → List HeardEnd → Rounds → RoundStep → Rounds → Type 0
+Gives number now table pool heard old (given.Order order) new = HasOrdered number now table pool heard old order new
+Gives number now table pool heard old given.Waiting new = (old.phase ≡ phase.Asking) × (list_any (λ s. is_open s.send.stage) old.sends.items ≡ true) × (position is_idle old.sends.items ≡ None) × (new ≡ old)
+Gives number now table pool heard old (given.Asleep until) new = (old.phase ≡ phase.Asleep until) × (now < until) × (new ≡ old)
+Gives number now table pool heard old (given.Done answer) new = (at : ℕ) × IsAnswered pool (ends_of heard) old answer at × (old.phase ≡ phase.Decided answer at) × (new ≡ record old { phase = phase.Told })
+Gives number now table pool heard old given.Told new = (old.phase ≡ phase.Told) × (new ≡ old)
 
 -- what one step is: it gives something, or goes on
-abbrev pub NextStands : ℕ → ℕ → List Server → List Candidate → List (End Candidate) → Rounds → Option RoundStep → Rounds → Type 0
-NextStands number now table pool ends old None new = GoesOn number now table pool ends old new
-NextStands number now table pool ends old (Some step) new = Gives number now table pool ends old step new
+abbrev pub NextStands : ℕ → ℕ → List Server → List Candidate → List HeardEnd → Rounds → Option RoundStep → Rounds → Type 0
+NextStands number now table pool heard old None new = GoesOn number now table pool heard old new
+NextStands number now table pool heard old (Some step) new = Gives number now table pool heard old step new
 
 -- Where memory is wanting, the same step is still to be made, or an end was heard and the next round is to begin.
-abbrev pub IsHalted : ℕ → ℕ → List Server → List Candidate → List (End Candidate) → Rounds → Rounds → Type 0
-IsHalted number now table pool ends old new = RoundsStand pool ends new ⊎ ((e : End Candidate) × HasHeard number now table pool ends old e new)
+abbrev pub IsHalted : ℕ → ℕ → List Server → List Candidate → List HeardEnd → Rounds → Rounds → Type 0
+IsHalted number now table pool heard old new = RoundsStand pool heard new ⊎ ((h : HeardEnd) × HasHeard number now table pool heard old h new)
 
 -- the send that is to step next, while the lookup asks
 abbrev pub stepping : Phase → List Sending → Option Sending
 stepping phase.Asking sends = find is_idle sends
 stepping (phase.Asleep until) sends = None
-stepping (phase.Decided answer) sends = None
+stepping (phase.Decided answer at) sends = None
 stepping phase.Told sends = None
 
 -- the table with a change by the stage of a send at its server
@@ -149,34 +148,35 @@ halted_table r table = changed_for after_want (stepping r.phase r.sends.items) t
 -- ---- the steps of a moment
 
 -- The steps that a lookup made at a moment, from where it stood by these ends: by which ends it stands then, and the table and the lookup.
-pub data HasGone (number now : ℕ) (pool : List Candidate) (ends : List (End Candidate)) (table : List Server) (old : Rounds) : List (End Candidate) → List Server → Rounds → Type 0 where
-  stayed : HasGone number now pool ends table old ends table old
-  heard : (known : List (End Candidate)) (before : List Server) (mid : Rounds) (e : End Candidate) (new : Rounds)
-      → HasGone number now pool ends table old known before mid → HasHeard number now before pool known mid e new
-      → HasGone number now pool ends table old (known ++ e ∷ []) (stepped_table mid before) new
-  began : (known : List (End Candidate)) (before : List Server) (mid new : Rounds)
-      → HasGone number now pool ends table old known before mid → BeginsRound now pool known mid new
-      → HasGone number now pool ends table old known (stepped_table mid before) new
+pub data HasGone (number now : ℕ) (pool : List Candidate) (first : List HeardEnd) (table : List Server) (old : Rounds) : List HeardEnd → List Server → Rounds → Type 0 where
+  stayed : HasGone number now pool first table old first table old
+  heard : (known : List HeardEnd) (before : List Server) (mid : Rounds) (h : HeardEnd) (new : Rounds)
+      → HasGone number now pool first table old known before mid → HasHeard number now before pool known mid h new
+      → HasGone number now pool first table old (known ++ h ∷ []) (stepped_table mid before) new
+  began : (known : List HeardEnd) (before : List Server) (mid new : Rounds)
+      → HasGone number now pool first table old known before mid → BeginsRound now pool known mid new
+      → HasGone number now pool first table old known (stepped_table mid before) new
 
 -- it stands by the ends that it has come to
-pub record HasCome (number now : ℕ) (pool : List Candidate) (ends : List (End Candidate)) (table : List Server) (old : Rounds) (later : List Server) (new : Rounds) : Type 0 where
-  pub known : List (End Candidate)
-  pub gone : HasGone number now pool ends table old known later new
+pub record HasCome (number now : ℕ) (pool : List Candidate) (heard : List HeardEnd) (table : List Server) (old : Rounds) (later : List Server) (new : Rounds) : Type 0 where
+  pub known : List HeardEnd
+  pub gone : HasGone number now pool heard table old known later new
   pub stands : RoundsStand pool known new
+  pub decides : DecidesAt now old.phase new.phase
 
 -- After the ends that it heard and the rounds that it began it gave this.
-pub record HasGiven (number now : ℕ) (pool : List Candidate) (ends : List (End Candidate)) (table : List Server) (old : Rounds) (step : RoundStep) (later : List Server) (new : Rounds) : Type 0 where
+pub record HasGiven (number now : ℕ) (pool : List Candidate) (heard : List HeardEnd) (table : List Server) (old : Rounds) (step : RoundStep) (later : List Server) (new : Rounds) : Type 0 where
   pub before : List Server
   pub mid : Rounds
-  pub come : HasCome number now pool ends table old before mid
+  pub come : HasCome number now pool heard table old before mid
   pub gives : Gives number now before pool come.known mid step new
   pub stepped : later ≡ stepped_table mid before
   pub stands : RoundsStand pool come.known new
 
 -- There memory was wanting.
-pub record HasHalted (number now : ℕ) (pool : List Candidate) (ends : List (End Candidate)) (table : List Server) (old : Rounds) (later : List Server) (new : Rounds) : Type 0 where
+pub record HasHalted (number now : ℕ) (pool : List Candidate) (heard : List HeardEnd) (table : List Server) (old : Rounds) (later : List Server) (new : Rounds) : Type 0 where
   pub before : List Server
   pub mid : Rounds
-  pub come : HasCome number now pool ends table old before mid
+  pub come : HasCome number now pool heard table old before mid
   pub halts : IsHalted number now before pool come.known mid new
   pub stepped : later ≡ halted_table mid before

@@ -1,6 +1,6 @@
 -- How a lookup stands between its steps.
 use Rattle.std.specs.Prelude.{◌≡◌, ℕ, ◌+◌, ◌-◌, ◌*◌, ◌≤◌, ◌<◌, Bool, true, false, if◌then◌else◌, min, max, filter, take, drop, ◌==◌, ◌&&◌, ◌||◌, not, IsTrue, List, [], ◌∷◌, ◌++◌, map, length, slice_get, ◌⊎◌, Option, Some, None}
-use Rattle.std.specs.List.{position}
+use Rattle.std.specs.List.{position, filter_map}
 use Rattle.dns_core.specs.declared.request.DnsRequest.{DnsRequest}
 use Rattle.resolution.specs.Lookups.{Answered, End, PoolRun}
 use Rattle.server_pool.specs.declared.candidate.Candidate.{Candidate}
@@ -8,12 +8,14 @@ use Rattle.server_pool.specs.declared.rounds.Sending.{Sending}
 use Rattle.server_pool.specs.declared.rounds.Phase.{Phase}
 use Rattle.server_pool.specs.declared.rounds.Phase.TheVariants.{Asking, Asleep, Decided, Told}
 use Rattle.server_pool.specs.declared.rounds.Rounds.{Rounds}
+use Rattle.server_core.specs.Order.{entry_of}
 use Rattle.server_core.specs.Hearing.{changed_at}
 use Rattle.server_core.specs.Sending.{is_open, Comes, end_of, asked_of, heard_put}
 use Rattle.server_core.specs.Servers.{Server}
 use Rattle.server_core.specs.declared.order.Outcome.{Outcome}
 use Rattle.server_core.specs.declared.server_send.ServerSend.{ServerSend}
-use Rattle.server_core.specs.declared.server_send.Stage.TheVariants.{Ready}
+use Rattle.server_core.specs.declared.server_send.Stage.{Stage}
+use Rattle.server_core.specs.declared.server_send.Stage.TheVariants as stage
 use Rattle.server_pool.specs.Agenda.{Plan, may_ask, rules_of, class_of_sent, end_at, may_sleep, sleep_time, PlanStands}
 
 -- the servers of the sends that have not ended
@@ -25,19 +27,67 @@ abbrev pub Goes : List Candidate → List (End Candidate) → Rounds → Type 0
 Goes pool ends r = PlanStands r.request.query r.timeout pool ends (under_way r.sends.items) r.agenda
 
 -- the step of a moment decided it by these ends
-pub record IsAnswered (pool : List Candidate) (ends : List (End Candidate)) (r : Rounds) (answer : Answered) : Type 0 where
-  pub at : ℕ
-  pub run : PoolRun (rules_of r.timeout) (class_of_sent r.request.query) pool ends answer r.start at
+abbrev pub IsAnswered : List Candidate → List (End Candidate) → Rounds → Answered → ℕ → Type 0
+IsAnswered pool ends r answer at = PoolRun (rules_of r.timeout) (class_of_sent r.request.query) pool ends answer r.start at
 
 -- Sends are under way, or a round after the first is to begin; or the lookup sleeps before it asks the busy ones again; or it is decided.
 abbrev pub StandsIn : List Candidate → List (End Candidate) → Rounds → Phase → Type 0
 StandsIn pool ends r Asking = Goes pool ends r × (ends ≡ [] → 0 < length r.sends.items)
 StandsIn pool ends r (Asleep until) = Goes pool ends r × (length r.sends.items ≡ 0) × (r.agenda.waiting ≡ []) × (may_sleep r.agenda ≡ true) × (ends ≡ [] → ⊥)
-StandsIn pool ends r (Decided answer) = IsAnswered pool ends r answer
+StandsIn pool ends r (Decided answer at) = IsAnswered pool ends r answer at
 StandsIn pool ends r Told = Unit {0}
 
-abbrev pub RoundsStand : List Candidate → List (End Candidate) → Rounds → Type 0
-RoundsStand pool ends r = StandsIn pool ends r r.phase
+abbrev pub PhaseStands : List Candidate → List (End Candidate) → Rounds → Type 0
+PhaseStands pool ends r = StandsIn pool ends r r.phase
+
+-- an end that was heard, and the number of the log entry by which it came, if one says it
+pub record HeardEnd : Type 0 where
+  pub end : End Candidate
+  pub by : Option ℕ
+
+-- a send to the server ended so, by this entry
+abbrev pub heard_at : Candidate → Answered → Option ℕ → HeardEnd
+heard_at c o by = record { end = end_at c o; by = by }
+
+abbrev pub ends_of : List HeardEnd → List (End Candidate)
+ends_of heard = map (λ h. h.end) heard
+
+abbrev pub entries_of : List HeardEnd → List ℕ
+entries_of heard = filter_map (λ h. h.by) heard
+
+-- it stands by the ends that were heard, and has the numbers of their entries
+pub record RoundsStand (pool : List Candidate) (heard : List HeardEnd) (r : Rounds) : Type 0 where
+  pub phase : PhaseStands pool (ends_of heard) r
+  pub entries : r.ends.items ≡ entries_of heard
+
+-- where it is decided, it was at this moment
+abbrev pub IsDecidedAt : ℕ → Phase → Type 0
+IsDecidedAt now Asking = Unit {0}
+IsDecidedAt now (Asleep until) = Unit {0}
+IsDecidedAt now (Decided answer at) = at ≡ now
+IsDecidedAt now Told = Unit {0}
+
+-- so it is, or it is at what it was at before
+abbrev pub DecidesAt : ℕ → Phase → Phase → Type 0
+DecidesAt now old new = (new ≡ old) ⊎ IsDecidedAt now new
+
+-- the entries that are kept
+pub record IsSameRound (old new : Rounds) : Type 0 where
+  pub ends : new.ends.items ≡ old.ends.items
+
+-- a number, if there is one
+abbrev pub listed : Option ℕ → List ℕ
+listed None = []
+listed (Some n) = n ∷ []
+
+-- the entry by which a send ended that stands so, if it did
+abbrev pub ended_by_of : Stage → ℕ → Option ℕ
+ended_by_of stage.Ready entry = None
+ended_by_of (stage.Opening protocol order polls) entry = None
+ended_by_of (stage.Opened protocol conn) entry = None
+ended_by_of (stage.Asking asked polls) entry = None
+ended_by_of (stage.Ended result) entry = Some entry
+ended_by_of stage.Over entry = None
 
 -- nothing is under way or waits, and it may sleep
 pub record CanWake (r : Rounds) : Type 0 where
@@ -59,7 +109,7 @@ allowed p = filter (may_ask p.off) p.waiting
 -- a send of the request to a server, which has not begun: with UDP, or where it is off without
 abbrev pub first_send : DnsRequest → Bool → Candidate → Sending
 first_send request off c =
-    record { candidate = c; order = 0; send = record { server = c.server; request = request; policy = record { disable_udp = off }; retried = false; stage = Ready } }
+    record { candidate = c; order = 0; send = record { server = c.server; request = request; policy = record { disable_udp = off }; retried = false; stage = stage.Ready }; ended_by = None }
 
 abbrev pub fresh_send : Rounds → Candidate → Sending
 fresh_send r = first_send r.request r.agenda.off
@@ -105,7 +155,7 @@ work r = work_of (length r.agenda.waiting + length r.sends.items) (length r.agen
 abbrev pub due : Phase → ℕ → ℕ
 due Asking sends = if sends == 0 then 1 else 0
 due (Asleep until) sends = 0
-due (Decided answer) sends = 0
+due (Decided answer at) sends = 0
 due Told sends = 0
 
 -- No more steps than that hear an end or begin a round.
@@ -127,39 +177,41 @@ pub record IsOpenAt (number place : ℕ) (s : Sending) (r : Rounds) : Type 0 whe
   pub there : slice_get r.sends.items place ≡ Some s
 
 -- the send has ended so
-pub record IsEndOf (s : Sending) (e : End Candidate) : Type 0 where
-  pub ended : end_of s.send.stage ≡ Some e.outcome
-  pub at : e.server ≡ s.candidate
+pub record IsEndOf (s : Sending) (h : HeardEnd) : Type 0 where
+  pub ended : end_of s.send.stage ≡ Some h.end.outcome
+  pub at : h.end.server ≡ s.candidate
+  pub by : h.by ≡ s.ended_by
 
--- the outcome of its order ended the send so
-pub record HasEnded (s : Sending) (outcome : Outcome) (e : End Candidate) : Type 0 where
+-- the outcome of its order ended the send so, by its entry
+pub record HasEnded (s : Sending) (outcome : Outcome) (h : HeardEnd) : Type 0 where
   pub next : ServerSend
   pub comes : Comes s.send outcome next
-  pub ended : end_of next.stage ≡ Some e.outcome
-  pub at : e.server ≡ s.candidate
+  pub ended : end_of next.stage ≡ Some h.end.outcome
+  pub at : h.end.server ≡ s.candidate
+  pub by : h.by ≡ Some (entry_of outcome)
 
 -- the send at a place took the outcome of its order
 pub record IsFed (s : Sending) (place : ℕ) (outcome : Outcome) (r : Rounds) : Type 0 where
   pub next : ServerSend
   pub comes : Comes s.send outcome next
-  pub there : slice_get r.sends.items place ≡ Some (record s { send = next })
+  pub there : slice_get r.sends.items place ≡ Some (record s { send = next; ended_by = ended_by_of next.stage (entry_of outcome) })
 
 -- a send to the same server is at the place
 pub record IsStillAt (s : Sending) (place : ℕ) (r : Rounds) : Type 0 where
   pub next : ServerSend
   pub there : slice_get r.sends.items place ≡ Some (record s { send = next })
 
--- it stands by the ends that there were, and by the end of a send to the server, if there is one
-abbrev pub StandsAtEnd : Candidate → Option Answered → List Candidate → List (End Candidate) → Rounds → Type 0
-StandsAtEnd c None pool ends r = RoundsStand pool ends r
-StandsAtEnd c (Some o) pool ends r = RoundsStand pool (ends ++ end_at c o ∷ []) r
+-- it stands by the ends that there were, and by the end of a send to the server, if there is one, by this entry
+abbrev pub StandsAtEnd : Candidate → Option Answered → Option ℕ → List Candidate → List HeardEnd → Rounds → Type 0
+StandsAtEnd c None by pool heard r = RoundsStand pool heard r
+StandsAtEnd c (Some o) by pool heard r = RoundsStand pool (heard ++ heard_at c o by ∷ []) r
 
 -- the send took the outcome of its order, and the lookup stands by what that came to
-pub record StandsBy (s : Sending) (outcome : Outcome) (pool : List Candidate) (ends : List (End Candidate)) (r : Rounds) : Type 0 where
+pub record StandsBy (s : Sending) (outcome : Outcome) (pool : List Candidate) (heard : List HeardEnd) (r : Rounds) : Type 0 where
   pub next : ServerSend
   pub comes : Comes s.send outcome next
-  pub stands : StandsAtEnd s.candidate (end_of next.stage) pool ends r
+  pub stands : StandsAtEnd s.candidate (end_of next.stage) (Some (entry_of outcome)) pool heard r
 
 -- It stands by the ends that there were, or by these and one more.
-abbrev pub StandsStill : List Candidate → List (End Candidate) → (End Candidate → Type 0) → Rounds → Type 0
-StandsStill pool ends IsNew r = RoundsStand pool ends r ⊎ ((e : End Candidate) × IsNew e × RoundsStand pool (ends ++ e ∷ []) r)
+abbrev pub StandsStill : List Candidate → List HeardEnd → (HeardEnd → Type 0) → Rounds → Type 0
+StandsStill pool heard IsNew r = RoundsStand pool heard r ⊎ ((h : HeardEnd) × IsNew h × RoundsStand pool (heard ++ h ∷ []) r)

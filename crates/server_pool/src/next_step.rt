@@ -8,7 +8,7 @@ ghost use Rattle.server_core.specs.Sending.{end_of, after_step, after_want};
 ghost use Rattle.server_core.specs.Hearing.{changed_at};
 ghost use Rattle.server_pool.specs.declared.candidate.Candidate.{Candidate};
 ghost use Rattle.server_pool.specs.declared.rounds.Sending.{Sending};
-ghost use Rattle.server_pool.specs.Rounds.{Goes, RoundsStand, IsSameLookup, steps_left, IsEndOf, StandsAtEnd, StandsStill, CanWake};
+ghost use Rattle.server_pool.specs.Rounds.{Goes, HeardEnd, RoundsStand, IsSameRound, DecidesAt, IsSameLookup, steps_left, IsEndOf, StandsAtEnd, StandsStill, CanWake};
 ghost use Rattle.server_pool.specs.NextStep.{is_idle, IsTaken, Steps, StepsAt, Tells, doing_of, IsFirstIdle, NextStands, IsHalted, changed_for, stepped_table, halted_table, HasGiven, HasHalted};
 
 use crate::rounds::{Phase, Rounds, Sending};
@@ -87,7 +87,7 @@ impl Rounds {
         match &self.phase {
             Phase::Asking => Doing::Asks,
             Phase::Asleep { until } => Doing::Sleeps { until: *until },
-            Phase::Decided(_) | Phase::Told => Doing::Tells,
+            Phase::Decided { .. } | Phase::Told => Doing::Tells,
         }
     }
 
@@ -111,6 +111,7 @@ impl Rounds {
         requires { place < length self.old.sends.items }
         ensures goes { (pool : List Candidate) (ends : List (End Candidate)) → Goes pool ends self.old → Goes pool ends self.new }
         ensures same { IsSameLookup self.old self.new }
+        ensures round { IsSameRound self.old self.new }
         ensures phase { self.new.phase ≡ self.old.phase }
         ensures steps { (s : Sending) → slice_get self.old.sends.items place ≡ Some s → IfOk result (λ made. StepsAt place number tick.now table.old s made self.new) }
         ensures sends { length self.new.sends.items ≡ length self.old.sends.items }
@@ -139,12 +140,13 @@ impl Rounds {
         requires asks { self.old.phase ≡ Phase.Asking }
         ensures order { (order : Order) → made ≡ Some order → (result ≡ Ok (Some (RoundStep.Order order))) × (self.new ≡ self.old) }
         ensures goes_on { made ≡ None → IfOk result (λ step. step ≡ None) }
-        ensures stands { made ≡ None → (pool : List Candidate) (ends : List (End Candidate)) (s : Sending) → slice_get self.old.sends.items place ≡ Some s → RoundsStand pool ends self.old
-            → OnOk result (StandsAtEnd s.candidate (end_of s.send.stage) pool ends self.new) }
-        ensures want { (pool : List Candidate) (ends : List (End Candidate)) (s : Sending) → slice_get self.old.sends.items place ≡ Some s → RoundsStand pool ends self.old
-            → OnErr result (StandsStill pool ends (IsEndOf s) self.new) }
+        ensures stands { made ≡ None → (pool : List Candidate) (heard : List HeardEnd) (s : Sending) → slice_get self.old.sends.items place ≡ Some s → RoundsStand pool heard self.old
+            → OnOk result (StandsAtEnd s.candidate (end_of s.send.stage) s.ended_by pool heard self.new) }
+        ensures want { (pool : List Candidate) (heard : List HeardEnd) (s : Sending) → slice_get self.old.sends.items place ≡ Some s → RoundsStand pool heard self.old
+            → OnErr result (StandsStill pool heard (IsEndOf s) self.new) }
         ensures falls { made ≡ None → (s : Sending) (o : Answered) → slice_get self.old.sends.items place ≡ Some s → end_of s.send.stage ≡ Some o → OnOk result (steps_left self.new < steps_left self.old) }
         ensures same { IsSameLookup self.old self.new }
+        ensures decides { DecidesAt now self.old.phase self.new.phase }
     {
         match made {
             Some(order) => Ok(Some(RoundStep::Order(order))),
@@ -166,11 +168,12 @@ impl Rounds {
     ) -> Result<Option<RoundStep>, NoMemory>
         requires place { place < length self.old.sends.items }
         requires asks { self.old.phase ≡ Phase.Asking }
-        ensures stands { (pool : List Candidate) (ends : List (End Candidate)) (s : Sending) → IsFirstIdle place s self.old → RoundsStand pool ends self.old
-            → IfOk result (λ step. NextStands number tick.now table.old pool ends self.old step self.new) }
-        ensures want { (pool : List Candidate) (ends : List (End Candidate)) (s : Sending) → IsFirstIdle place s self.old → RoundsStand pool ends self.old
-            → OnErr result (IsHalted number tick.now table.old pool ends self.old self.new) }
+        ensures stands { (pool : List Candidate) (heard : List HeardEnd) (s : Sending) → IsFirstIdle place s self.old → RoundsStand pool heard self.old
+            → IfOk result (λ step. NextStands number tick.now table.old pool heard self.old step self.new) }
+        ensures want { (pool : List Candidate) (heard : List HeardEnd) (s : Sending) → IsFirstIdle place s self.old → RoundsStand pool heard self.old
+            → OnErr result (IsHalted number tick.now table.old pool heard self.old self.new) }
         ensures same { IsSameLookup self.old self.new }
+        ensures decides { DecidesAt tick.now self.old.phase self.new.phase }
         ensures falls { IfOk result (λ step. step ≡ None → steps_left self.new < steps_left self.old) }
         ensures table { (s : Sending) → IsFirstIdle place s self.old → OnOk result (table.new ≡ changed_for after_step (Some s) table.old) }
         ensures halted { (s : Sending) → IsFirstIdle place s self.old → OnErr result (table.new ≡ changed_for after_want (Some s) table.old) }
@@ -185,10 +188,11 @@ impl Rounds {
     fn wait(&mut self, alloc: Global, now: u64) -> Result<Option<RoundStep>, NoMemory>
         requires asks { self.old.phase ≡ Phase.Asking }
         requires open { position is_idle self.old.sends.items ≡ None }
-        ensures stands { (number : ℕ) (table : List Server) (pool : List Candidate) (ends : List (End Candidate)) → RoundsStand pool ends self.old
-            → IfOk result (λ step. NextStands number now table pool ends self.old step self.new) }
-        ensures want { (pool : List Candidate) (ends : List (End Candidate)) → RoundsStand pool ends self.old → OnErr result (RoundsStand pool ends self.new) }
+        ensures stands { (number : ℕ) (table : List Server) (pool : List Candidate) (heard : List HeardEnd) → RoundsStand pool heard self.old
+            → IfOk result (λ step. NextStands number now table pool heard self.old step self.new) }
+        ensures want { (pool : List Candidate) (heard : List HeardEnd) → RoundsStand pool heard self.old → OnErr result (RoundsStand pool heard self.new) }
         ensures same { IsSameLookup self.old self.new }
+        ensures decides { DecidesAt now self.old.phase self.new.phase }
         ensures falls { IfOk result (λ step. step ≡ None → steps_left self.new < steps_left self.old) }
     {
         if self.sends.is_empty() {
@@ -208,11 +212,12 @@ impl Rounds {
         tick: Tick,
     ) -> Result<Option<RoundStep>, NoMemory>
         requires asks { self.old.phase ≡ Phase.Asking }
-        ensures stands { (pool : List Candidate) (ends : List (End Candidate)) → RoundsStand pool ends self.old
-            → IfOk result (λ step. NextStands number tick.now table.old pool ends self.old step self.new) }
-        ensures want { (pool : List Candidate) (ends : List (End Candidate)) → RoundsStand pool ends self.old
-            → OnErr result (IsHalted number tick.now table.old pool ends self.old self.new) }
+        ensures stands { (pool : List Candidate) (heard : List HeardEnd) → RoundsStand pool heard self.old
+            → IfOk result (λ step. NextStands number tick.now table.old pool heard self.old step self.new) }
+        ensures want { (pool : List Candidate) (heard : List HeardEnd) → RoundsStand pool heard self.old
+            → OnErr result (IsHalted number tick.now table.old pool heard self.old self.new) }
         ensures same { IsSameLookup self.old self.new }
+        ensures decides { DecidesAt tick.now self.old.phase self.new.phase }
         ensures falls { IfOk result (λ step. step ≡ None → steps_left self.new < steps_left self.old) }
         ensures table { OnOk result (table.new ≡ changed_for after_step (find is_idle self.old.sends.items) table.old) }
         ensures halted { OnErr result (table.new ≡ changed_for after_want (find is_idle self.old.sends.items) table.old) }
@@ -234,11 +239,12 @@ impl Rounds {
     /// Sleeps on, or begins the round after the sleep where its moment is reached.
     fn sleep(&mut self, alloc: Global, until: u64, now: u64) -> Result<Option<RoundStep>, NoMemory>
         requires sleeps { self.old.phase ≡ Phase.Asleep until }
-        ensures stands { (number : ℕ) (table : List Server) (pool : List Candidate) (ends : List (End Candidate)) → RoundsStand pool ends self.old
-            → IfOk result (λ step. NextStands number now table pool ends self.old step self.new) }
-        ensures want { (pool : List Candidate) (ends : List (End Candidate)) → RoundsStand pool ends self.old → OnErr result (RoundsStand pool ends self.new) }
+        ensures stands { (number : ℕ) (table : List Server) (pool : List Candidate) (heard : List HeardEnd) → RoundsStand pool heard self.old
+            → IfOk result (λ step. NextStands number now table pool heard self.old step self.new) }
+        ensures want { (pool : List Candidate) (heard : List HeardEnd) → RoundsStand pool heard self.old → OnErr result (RoundsStand pool heard self.new) }
         ensures sleeps { now < until → (result ≡ Ok (Some (RoundStep.Asleep until))) × (self.new ≡ self.old) }
         ensures same { IsSameLookup self.old self.new }
+        ensures decides { DecidesAt now self.old.phase self.new.phase }
         ensures falls { IfOk result (λ step. step ≡ None → steps_left self.new < steps_left self.old) }
     {
         if now < until || !self.may_wake() {
@@ -253,7 +259,7 @@ impl Rounds {
         ensures { Tells self.old.phase result self.old self.new }
     {
         match mem::replace(&mut self.phase, Phase::Told) {
-            Phase::Decided(answer) => RoundStep::Done(answer),
+            Phase::Decided { answer, .. } => RoundStep::Done(answer),
             other => {
                 self.phase = other;
                 RoundStep::Told
@@ -269,11 +275,12 @@ impl Rounds {
         number: u64,
         tick: Tick,
     ) -> Result<Option<RoundStep>, NoMemory>
-        ensures stands { (pool : List Candidate) (ends : List (End Candidate)) → RoundsStand pool ends self.old
-            → IfOk result (λ step. NextStands number tick.now table.old pool ends self.old step self.new) }
-        ensures want { (pool : List Candidate) (ends : List (End Candidate)) → RoundsStand pool ends self.old
-            → OnErr result (IsHalted number tick.now table.old pool ends self.old self.new) }
+        ensures stands { (pool : List Candidate) (heard : List HeardEnd) → RoundsStand pool heard self.old
+            → IfOk result (λ step. NextStands number tick.now table.old pool heard self.old step self.new) }
+        ensures want { (pool : List Candidate) (heard : List HeardEnd) → RoundsStand pool heard self.old
+            → OnErr result (IsHalted number tick.now table.old pool heard self.old self.new) }
         ensures same { IsSameLookup self.old self.new }
+        ensures decides { DecidesAt tick.now self.old.phase self.new.phase }
         ensures falls { IfOk result (λ step. step ≡ None → steps_left self.new < steps_left self.old) }
         ensures table { OnOk result (table.new ≡ stepped_table self.old table.old) }
         ensures halted { OnErr result (table.new ≡ halted_table self.old table.old) }
@@ -296,11 +303,12 @@ impl Rounds {
         number: u64,
         tick: Tick,
     ) -> Result<RoundStep, NoMemory>
-        ensures stands { (pool : List Candidate) (ends : List (End Candidate)) → RoundsStand pool ends self.old
-            → IfOk result (λ step. HasGiven number tick.now pool ends table.old self.old step table.new self.new) }
-        ensures want { (pool : List Candidate) (ends : List (End Candidate)) → RoundsStand pool ends self.old
-            → OnErr result (HasHalted number tick.now pool ends table.old self.old table.new self.new) }
+        ensures stands { (pool : List Candidate) (heard : List HeardEnd) → RoundsStand pool heard self.old
+            → IfOk result (λ step. HasGiven number tick.now pool heard table.old self.old step table.new self.new) }
+        ensures want { (pool : List Candidate) (heard : List HeardEnd) → RoundsStand pool heard self.old
+            → OnErr result (HasHalted number tick.now pool heard table.old self.old table.new self.new) }
         ensures same { IsSameLookup self.old self.new }
+        ensures decides { DecidesAt tick.now self.old.phase self.new.phase }
         ensures count { length table.new ≡ length table.old }
     {
         'going: loop {

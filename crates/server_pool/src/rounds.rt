@@ -1,14 +1,15 @@
 //! The rounds of one lookup at a pool: some servers are asked side by side, and when all of them have
 //! ended, the next ones, until an end decides the lookup, no server is left, or its time is over.
-ghost use Rattle.std.specs.Prelude.{◌≡◌, ◌≤◌, ◌<◌, ◌+◌, ◌-◌, ◌^◌, ℕ, nat_le, min, [], ◌∷◌, ◌++◌, List, true, false, length, slice_get, map, take, Some, None, Ok, Err, IfOk, IfSome, OnOk, OnErr, IsTrue, ◌↔◌, ◌==◌, ◌&&◌, ◌⊎◌};
+ghost use Rattle.std.specs.Prelude.{vec_len, vec_capacity, ◌≡◌, ◌≤◌, ◌<◌, ◌+◌, ◌-◌, ◌^◌, ℕ, nat_le, min, [], ◌∷◌, ◌++◌, List, true, false, length, slice_get, map, take, Some, None, Ok, Err, IfOk, IfSome, OnOk, OnErr, IsTrue, ◌↔◌, ◌==◌, ◌&&◌, ◌⊎◌};
 ghost use Rattle.std.specs.List.{position};
 ghost use Rattle.resolution.specs.Lookups.{Answered, End};
-ghost use Rattle.server_core.specs.Sending.{is_open, end_of, after_put};
+ghost use Rattle.server_core.specs.Order.{entry_of};
+ghost use Rattle.server_core.specs.Sending.{is_open, end_of, after_put, Comes};
 ghost use Rattle.server_pool.specs.declared.candidate.Candidate.{Candidate};
 ghost use Rattle.server_pool.specs.declared.rounds.Sending.{Sending};
 ghost use Rattle.server_pool.specs.Agenda.{may_sleep, sleep_time, end_at};
 ghost use Rattle.server_pool.specs.Ordering.{side_by_side};
-ghost use Rattle.server_pool.specs.Rounds.{Goes, RoundsStand, IsSameLookup, MayBeLate, IsFed, IsOpenAt, IsStillAt, IsEndOf, HasEnded, StandsAtEnd, StandsBy, StandsStill, wakes_at, work, steps_left, first_send, Takes, TakesRound, TakesBusy, heard_table};
+ghost use Rattle.server_pool.specs.Rounds.{Goes, PhaseStands, RoundsStand, HeardEnd, listed, ended_by_of, IsDecidedAt, DecidesAt, IsSameRound, IsSameLookup, MayBeLate, IsFed, IsOpenAt, IsStillAt, IsEndOf, HasEnded, StandsAtEnd, StandsBy, StandsStill, wakes_at, work, steps_left, first_send, Takes, TakesRound, TakesBusy, heard_table};
 
 use crate::agenda::Agenda;
 use crate::candidate::{Candidate, Hearing};
@@ -16,28 +17,36 @@ use crate::ordering::side_by_side;
 use dns_core::{DnsRequest, Message, NetError, NoMemory, TryClone};
 use resolver_settings::ResolverOpts;
 use server_core::{After, ConnectionPolicy, Outcome, ServerSend, ServerTable, Stage, Tick};
-use std::alloc::Global;
+use std::alloc::{AllocError, Global};
 
-/// A send to a server that has not ended: `order` is the number of its last order, 0 before the first.
+/// A send to a server whose end was not heard yet: `order` is the number of its last order, 0 before
+/// the first, and `ended_by` that of the log entry that ended it, where one did.
 #[derive(Drop, Debug)]
 pub struct Sending {
     pub candidate: Candidate,
     pub order: u64,
     pub send: ServerSend,
+    pub ended_by: Option<u64>,
 }
 
-/// What a lookup is at: a round goes on or is to begin, it sleeps until a moment, or it is decided,
-/// which is told once.
+/// What a lookup is at: a round goes on or is to begin, it sleeps until a moment, or a step at a moment
+/// decided it, which is told once.
 #[derive(Drop, Debug)]
 pub enum Phase {
     Asking,
-    Asleep { until: u64 },
-    Decided(Result<Message, NetError>),
+    Asleep {
+        until: u64,
+    },
+    Decided {
+        answer: Result<Message, NetError>,
+        at: u64,
+    },
     Told,
 }
 
 /// A lookup: its request, how many servers it asks side by side, its time and when it began, in
-/// microseconds, what is still to be asked, and the sends that have not ended.
+/// microseconds, what is still to be asked, the sends whose ends were not heard yet, and by which log
+/// entries those came that were.
 #[derive(Drop, Debug)]
 pub struct Rounds {
     pub request: DnsRequest,
@@ -46,6 +55,7 @@ pub struct Rounds {
     pub start: u64,
     pub agenda: Agenda,
     pub sends: Vec<Sending>,
+    pub ends: Vec<u64>,
     pub phase: Phase,
 }
 
@@ -56,6 +66,52 @@ fn new_sending(candidate: Candidate, request: DnsRequest, policy: ConnectionPoli
         candidate,
         order: 0,
         send: ServerSend::new(candidate.server, request, policy),
+        ended_by: None,
+    }
+}
+
+/// Keeps an entry, if there is one, in room that was made.
+fn keep(ends: &mut Vec<u64>, entry: Option<u64>)
+    requires { vec_len ends.old < vec_capacity ends.old }
+    ensures { ends.new.items ≡ ends.old.items ++ listed entry }
+{
+    if let Some(entry) = entry {
+        ends.push_reserved(entry);
+    }
+}
+
+/// By which entry a send ended that stands so after the outcome that the entry says, if it did.
+fn ended_by_of(stage: &Stage, entry: u64) -> Option<u64>
+    ensures { result ≡ ended_by_of stage.now entry }
+{
+    match stage {
+        Stage::Ended(_) => Some(entry),
+        _ => None,
+    }
+}
+
+impl Sending {
+    /// Takes the outcome of its open order, and keeps by which entry it ended, if it did.
+    fn put(
+        &mut self,
+        alloc: Global,
+        table: &mut ServerTable,
+        outcome: Outcome,
+        tick: Tick,
+    ) -> Result<After, NoMemory>
+        requires { self.old.send.server < length table.old }
+        ensures after { IfOk result (λ a. a ≡ after_put tick.patience self.old.send.stage outcome) }
+        ensures comes { IsTrue (is_open self.old.send.stage) → OnOk result (Comes self.old.send outcome self.new.send) }
+        ensures rest { OnOk result (self.new ≡ record self.old { send = self.new.send; ended_by = ended_by_of self.new.send.stage (entry_of outcome) }) }
+        ensures table { OnOk result (table.new ≡ heard_table self.old tick.now outcome table.old) }
+        ensures candidate { self.new.candidate ≡ self.old.candidate }
+        ensures err { OnErr result ((self.new ≡ self.old) × (table.new ≡ table.old)) }
+        ensures count { length table.new ≡ length table.old }
+    {
+        let entry = outcome.entry();
+        let after = self.send.put(alloc, table, outcome, tick)?;
+        self.ended_by = ended_by_of(&self.send.stage, entry);
+        Ok(after)
     }
 }
 
@@ -70,6 +126,7 @@ impl Rounds {
     fn send_one(&mut self, alloc: Global) -> Result<bool, NoMemory>
         ensures goes { (pool : List Candidate) (ends : List (End Candidate)) → Goes pool ends self.old → Goes pool ends self.new }
         ensures same { IsSameLookup self.old self.new }
+        ensures round { IsSameRound self.old self.new }
         ensures takes { IfOk result (λ sent. Takes 1 self.old self.new) }
         ensures work { work self.new ≤ work self.old }
         ensures phase { self.new.phase ≡ self.old.phase }
@@ -94,6 +151,7 @@ impl Rounds {
     fn send_others(&mut self, alloc: Global) -> Result<(), NoMemory>
         ensures goes { (pool : List Candidate) (ends : List (End Candidate)) → Goes pool ends self.old → Goes pool ends self.new }
         ensures same { IsSameLookup self.old self.new }
+        ensures round { IsSameRound self.old self.new }
         ensures takes { OnOk result (Takes (self.old.together - 1) self.old self.new) }
         ensures work { work self.new ≤ work self.old }
         ensures phase { self.new.phase ≡ self.old.phase }
@@ -111,6 +169,7 @@ impl Rounds {
     fn send_all(&mut self, alloc: Global) -> Result<(), NoMemory>
         ensures goes { (pool : List Candidate) (ends : List (End Candidate)) → Goes pool ends self.old → Goes pool ends self.new }
         ensures same { IsSameLookup self.old self.new }
+        ensures round { IsSameRound self.old self.new }
         ensures takes { OnOk result (TakesRound self.old self.new) }
         ensures work { work self.new ≤ work self.old }
         ensures phase { self.new.phase ≡ self.old.phase }
@@ -136,13 +195,15 @@ impl Rounds {
     fn pause(&mut self, now: u64)
         requires sends { length self.old.sends.items ≡ 0 }
         requires waiting { self.old.agenda.waiting ≡ [] }
-        ensures stands { (pool : List Candidate) (ends : List (End Candidate)) → Goes pool ends self.old → RoundsStand pool ends self.new }
+        ensures stands { (pool : List Candidate) (ends : List (End Candidate)) → Goes pool ends self.old → PhaseStands pool ends self.new }
         ensures same { IsSameLookup self.old self.new }
+        ensures round { IsSameRound self.old self.new }
+        ensures decides { DecidesAt now self.old.phase self.new.phase }
         ensures sends { self.new.sends ≡ self.old.sends }
         ensures plan { self.new.agenda ≡ record self.old.agenda { kept = self.new.agenda.kept } }
         ensures work { work self.new ≡ work self.old }
         ensures sleeps { may_sleep self.old.agenda ≡ true → self.new.phase ≡ Phase.Asleep (min (wakes_at self.old now) (2 ^ 64 - 1)) }
-        ensures spent { may_sleep self.old.agenda ≡ false → self.new.phase ≡ Phase.Decided (Err self.old.agenda.kept) }
+        ensures spent { may_sleep self.old.agenda ≡ false → self.new.phase ≡ Phase.Decided (Err self.old.agenda.kept) now }
     {
         if self.agenda.may_sleep() {
             self.phase = Phase::Asleep {
@@ -150,21 +211,26 @@ impl Rounds {
             };
         } else {
             let error = self.agenda.give_up();
-            self.phase = Phase::Decided(Err(error));
+            self.phase = Phase::Decided {
+                answer: Err(error),
+                at: now,
+            };
         }
     }
 
     /// What follows after the sends of a round were begun.
     fn settle(&mut self, now: u64)
         requires { length self.old.sends.items ≡ 0 → self.old.agenda.waiting ≡ [] }
-        ensures stands { (pool : List Candidate) (ends : List (End Candidate)) → Goes pool ends self.old → RoundsStand pool ends self.new }
+        ensures stands { (pool : List Candidate) (ends : List (End Candidate)) → Goes pool ends self.old → PhaseStands pool ends self.new }
         ensures same { IsSameLookup self.old self.new }
+        ensures round { IsSameRound self.old self.new }
+        ensures decides { DecidesAt now self.old.phase self.new.phase }
         ensures sends { self.new.sends ≡ self.old.sends }
         ensures plan { self.new.agenda ≡ record self.old.agenda { kept = self.new.agenda.kept } }
         ensures work { work self.new ≡ work self.old }
         ensures asks { 0 < length self.old.sends.items → self.new ≡ record self.old { phase = Phase.Asking } }
         ensures sleeps { length self.old.sends.items ≡ 0 → may_sleep self.old.agenda ≡ true → self.new.phase ≡ Phase.Asleep (min (wakes_at self.old now) (2 ^ 64 - 1)) }
-        ensures spent { length self.old.sends.items ≡ 0 → may_sleep self.old.agenda ≡ false → self.new.phase ≡ Phase.Decided (Err self.old.agenda.kept) }
+        ensures spent { length self.old.sends.items ≡ 0 → may_sleep self.old.agenda ≡ false → self.new.phase ≡ Phase.Decided (Err self.old.agenda.kept) now }
     {
         if self.sends.is_empty() {
             self.pause(now);
@@ -176,17 +242,22 @@ impl Rounds {
     /// A round begins: the time is over, or servers are asked, or none is left. Where memory is wanting
     /// some servers may be asked already, and the round is to begin once more.
     fn begin(&mut self, alloc: Global, now: u64) -> Result<(), NoMemory>
-        ensures stands { (pool : List Candidate) (ends : List (End Candidate)) → Goes pool ends self.old → MayBeLate ends self.old now → OnOk result (RoundsStand pool ends self.new) }
+        ensures stands { (pool : List Candidate) (ends : List (End Candidate)) → Goes pool ends self.old → MayBeLate ends self.old now → OnOk result (PhaseStands pool ends self.new) }
         ensures want { (pool : List Candidate) (ends : List (End Candidate)) → Goes pool ends self.old → OnErr result (Goes pool ends self.new) }
         ensures same { IsSameLookup self.old self.new }
+        ensures ends { self.new.ends.items ≡ self.old.ends.items }
+        ensures decides { DecidesAt now self.old.phase self.new.phase }
         ensures takes { now < self.old.start + self.old.timeout → OnOk result (TakesRound self.old self.new) }
         ensures work { work self.new ≤ work self.old }
         ensures phase { OnErr result (self.new.phase ≡ self.old.phase) }
-        ensures late { self.old.start + self.old.timeout ≤ now → OnOk result (self.new.phase ≡ Phase.Decided (Err NetError.Timeout)) }
+        ensures late { self.old.start + self.old.timeout ≤ now → OnOk result (self.new.phase ≡ Phase.Decided (Err NetError.Timeout) now) }
         ensures asks { OnOk result (self.new.phase ≡ Phase.Asking → 0 < length self.new.sends.items) }
     {
         if self.is_late(now) {
-            self.phase = Phase::Decided(Err(NetError::Timeout));
+            self.phase = Phase::Decided {
+                answer: Err(NetError::Timeout),
+                at: now,
+            };
             return Ok(());
         }
         self.send_all(alloc)?;
@@ -203,12 +274,13 @@ impl Rounds {
         now: u64,
     ) -> Result<Self, NoMemory>
         ensures stands { IfOk result (λ r. RoundsStand pool.now [] r) }
+        ensures decides { IfOk result (λ r. IsDecidedAt now r.phase) }
         ensures request { IfOk result (λ r. r.request ≡ request) }
         ensures time { IfOk result (λ r. (r.start ≡ now) × (r.timeout ≡ options.now.timeout)) }
         ensures together { IfOk result (λ r. r.together ≡ side_by_side options.now) }
         ensures asks { IfOk result (λ r. r.phase ≡ Phase.Asking → 0 < length r.sends.items) }
         ensures takes { 0 < options.now.timeout → IfOk result (λ r. r.sends.items ≡ map (first_send request false) (take (side_by_side options.now) pool.now)) }
-        ensures late { options.now.timeout ≡ 0 → IfOk result (λ r. r.phase ≡ Phase.Decided (Err NetError.Timeout)) }
+        ensures late { options.now.timeout ≡ 0 → IfOk result (λ r. r.phase ≡ Phase.Decided (Err NetError.Timeout) now) }
     {
         let mut rounds = Rounds {
             request,
@@ -217,6 +289,7 @@ impl Rounds {
             start: now,
             agenda: Agenda::new(alloc, pool)?,
             sends: Vec::new(alloc),
+            ends: Vec::new(alloc),
             phase: Phase::Asking,
         };
         rounds.begin(alloc, now)?;
@@ -228,11 +301,13 @@ impl Rounds {
         requires few { self.old.agenda.sleeps < 4 }
         requires empty { self.old.agenda.waiting ≡ [] }
         requires sends { length self.old.sends.items ≡ 0 }
-        ensures stands { (pool : List Candidate) (ends : List (End Candidate)) → Goes pool ends self.old → (ends ≡ [] → ⊥) → RoundsStand pool ends self.new }
+        ensures stands { (pool : List Candidate) (ends : List (End Candidate)) → Goes pool ends self.old → (ends ≡ [] → ⊥) → PhaseStands pool ends self.new }
         ensures same { IsSameLookup self.old self.new }
+        ensures ends { self.new.ends.items ≡ self.old.ends.items }
+        ensures decides { DecidesAt now self.old.phase self.new.phase }
         ensures takes { now < self.old.start + self.old.timeout → OnOk result (TakesBusy self.old self.new) }
         ensures work { work self.new < work self.old }
-        ensures late { self.old.start + self.old.timeout ≤ now → OnOk result (self.new.phase ≡ Phase.Decided (Err NetError.Timeout)) }
+        ensures late { self.old.start + self.old.timeout ≤ now → OnOk result (self.new.phase ≡ Phase.Decided (Err NetError.Timeout) now) }
         ensures asks { OnOk result (self.new.phase ≡ Phase.Asking → 0 < length self.new.sends.items) }
     {
         self.agenda.wake();
@@ -245,6 +320,7 @@ impl Rounds {
         requires { place < length self.old.sends.items }
         ensures goes { (pool : List Candidate) (ends : List (End Candidate)) → Goes pool ends self.old → Goes pool ends self.new }
         ensures same { IsSameLookup self.old self.new }
+        ensures round { IsSameRound self.old self.new }
         ensures work { work self.new ≡ work self.old }
         ensures phase { self.new.phase ≡ self.old.phase }
         ensures agenda { self.new.agenda ≡ self.old.agenda }
@@ -265,22 +341,33 @@ impl Rounds {
         requires place { place < length self.old.sends.items }
         requires asks { self.old.phase ≡ Phase.Asking }
         ensures stands { (pool : List Candidate) (ends : List (End Candidate)) (s : Sending) → slice_get self.old.sends.items place ≡ Some s → Goes pool ends self.old
-            → OnOk result (RoundsStand pool (ends ++ end_at s.candidate outcome ∷ []) self.new) }
+            → OnOk result (PhaseStands pool (ends ++ end_at s.candidate outcome ∷ []) self.new) }
         ensures want { (pool : List Candidate) (ends : List (End Candidate)) → Goes pool ends self.old → OnErr result (Goes pool ends self.new) }
+        ensures ends { (s : Sending) → slice_get self.old.sends.items place ≡ Some s → OnOk result (self.new.ends.items ≡ self.old.ends.items ++ listed s.ended_by) }
+        ensures kept { OnErr result (self.new.ends.items ≡ self.old.ends.items) }
         ensures same { IsSameLookup self.old self.new }
+        ensures decides { DecidesAt now self.old.phase self.new.phase }
         ensures work { OnOk result (work self.new < work self.old) }
         ensures phase { OnErr result (self.new.phase ≡ self.old.phase) }
         ensures count { OnErr result (length self.new.sends.items ≡ length self.old.sends.items) }
     {
-        let candidate = self.sends[place].candidate;
+        if let Err(AllocError) = self.ends.reserve(1) {
+            self.give_back(place, outcome);
+            return Err(NoMemory);
+        }
+        let ended = &self.sends[place];
+        let candidate = ended.candidate;
+        let ended_by = ended.ended_by;
         match self.agenda.hear(candidate, outcome, &self.request.query) {
             Hearing::GoesOn => {
                 self.sends.remove(place);
+                keep(&mut self.ends, ended_by);
                 Ok(())
             }
             Hearing::Answers(answer) => {
                 self.sends.remove(place);
-                self.phase = Phase::Decided(answer);
+                keep(&mut self.ends, ended_by);
+                self.phase = Phase::Decided { answer, at: now };
                 Ok(())
             }
             Hearing::Wanting(outcome) => {
@@ -317,6 +404,7 @@ impl Rounds {
         requires { place < length self.old.sends.items }
         ensures goes { (pool : List Candidate) (ends : List (End Candidate)) → Goes pool ends self.old → Goes pool ends self.new }
         ensures same { IsSameLookup self.old self.new }
+        ensures round { IsSameRound self.old self.new }
         ensures table { (s : Sending) → slice_get self.old.sends.items place ≡ Some s → OnOk result (table.new ≡ heard_table s tick.now outcome table.old) }
         ensures err { OnErr result (table.new ≡ table.old) }
         ensures phase { self.new.phase ≡ self.old.phase }
@@ -331,7 +419,7 @@ impl Rounds {
         if sending.send.server as usize >= table.len() {
             return Ok(After::Late);
         }
-        sending.send.put(alloc, table, outcome, tick)
+        sending.put(alloc, table, outcome, tick)
     }
 
     /// Takes what the send at a place ended with, where that was not heard yet.
@@ -339,6 +427,7 @@ impl Rounds {
         requires { place < length self.old.sends.items }
         ensures goes { (pool : List Candidate) (ends : List (End Candidate)) → Goes pool ends self.old → Goes pool ends self.new }
         ensures same { IsSameLookup self.old self.new }
+        ensures round { IsSameRound self.old self.new }
         ensures agenda { self.new.agenda ≡ self.old.agenda }
         ensures phase { self.new.phase ≡ self.old.phase }
         ensures count { length self.new.sends.items ≡ length self.old.sends.items }
@@ -351,10 +440,12 @@ impl Rounds {
 
     /// The next round begins where all sends of the last one have ended.
     pub(crate) fn go_on(&mut self, alloc: Global, now: u64) -> Result<(), NoMemory>
-        ensures stands { (pool : List Candidate) (ends : List (End Candidate)) → (ends ≡ [] → ⊥) → RoundsStand pool ends self.old → RoundsStand pool ends self.new }
+        ensures stands { (pool : List Candidate) (ends : List (End Candidate)) → (ends ≡ [] → ⊥) → PhaseStands pool ends self.old → PhaseStands pool ends self.new }
         ensures same { IsSameLookup self.old self.new }
+        ensures ends { self.new.ends.items ≡ self.old.ends.items }
+        ensures decides { DecidesAt now self.old.phase self.new.phase }
         ensures begins { self.old.phase ≡ Phase.Asking → length self.old.sends.items ≡ 0 → now < self.old.start + self.old.timeout → OnOk result (TakesRound self.old self.new) }
-        ensures late { self.old.phase ≡ Phase.Asking → length self.old.sends.items ≡ 0 → self.old.start + self.old.timeout ≤ now → OnOk result (self.new.phase ≡ Phase.Decided (Err NetError.Timeout)) }
+        ensures late { self.old.phase ≡ Phase.Asking → length self.old.sends.items ≡ 0 → self.old.start + self.old.timeout ≤ now → OnOk result (self.new.phase ≡ Phase.Decided (Err NetError.Timeout) now) }
         ensures rests { (self.old.phase ≡ Phase.Asking → length self.old.sends.items ≡ 0 → ⊥) → self.new ≡ self.old }
         ensures work { work self.new ≤ work self.old }
         ensures asks { OnOk result (self.new.phase ≡ Phase.Asking → 0 < length self.new.sends.items) }
@@ -370,11 +461,12 @@ impl Rounds {
     pub(crate) fn end(&mut self, alloc: Global, place: usize, now: u64) -> Result<(), NoMemory>
         requires place { place < length self.old.sends.items }
         requires asks { self.old.phase ≡ Phase.Asking }
-        ensures stands { (pool : List Candidate) (ends : List (End Candidate)) (s : Sending) → slice_get self.old.sends.items place ≡ Some s → RoundsStand pool ends self.old
-            → OnOk result (StandsAtEnd s.candidate (end_of s.send.stage) pool ends self.new) }
-        ensures want { (pool : List Candidate) (ends : List (End Candidate)) (s : Sending) → slice_get self.old.sends.items place ≡ Some s → RoundsStand pool ends self.old
-            → OnErr result (StandsStill pool ends (IsEndOf s) self.new) }
+        ensures stands { (pool : List Candidate) (heard : List HeardEnd) (s : Sending) → slice_get self.old.sends.items place ≡ Some s → RoundsStand pool heard self.old
+            → OnOk result (StandsAtEnd s.candidate (end_of s.send.stage) s.ended_by pool heard self.new) }
+        ensures want { (pool : List Candidate) (heard : List HeardEnd) (s : Sending) → slice_get self.old.sends.items place ≡ Some s → RoundsStand pool heard self.old
+            → OnErr result (StandsStill pool heard (IsEndOf s) self.new) }
         ensures same { IsSameLookup self.old self.new }
+        ensures decides { DecidesAt now self.old.phase self.new.phase }
         ensures falls { (s : Sending) (o : Answered) → slice_get self.old.sends.items place ≡ Some s → end_of s.send.stage ≡ Some o → OnOk result (steps_left self.new < steps_left self.old) }
     {
         match self.take_end(place) {
@@ -399,11 +491,12 @@ impl Rounds {
         requires asks { self.old.phase ≡ Phase.Asking }
         ensures after { (s : Sending) → slice_get self.old.sends.items place ≡ Some s → s.send.server < length table.old
             → IfOk result (λ a. a ≡ after_put tick.patience s.send.stage outcome) }
-        ensures stands { (pool : List Candidate) (ends : List (End Candidate)) (s : Sending) → slice_get self.old.sends.items place ≡ Some s → IsTrue (is_open s.send.stage)
-            → s.send.server < length table.old → RoundsStand pool ends self.old → OnOk result (StandsBy s outcome pool ends self.new) }
-        ensures want { (pool : List Candidate) (ends : List (End Candidate)) (s : Sending) → slice_get self.old.sends.items place ≡ Some s → IsTrue (is_open s.send.stage)
-            → s.send.server < length table.old → RoundsStand pool ends self.old → OnErr result (StandsStill pool ends (HasEnded s outcome) self.new) }
+        ensures stands { (pool : List Candidate) (heard : List HeardEnd) (s : Sending) → slice_get self.old.sends.items place ≡ Some s → IsTrue (is_open s.send.stage)
+            → s.send.server < length table.old → RoundsStand pool heard self.old → OnOk result (StandsBy s outcome pool heard self.new) }
+        ensures want { (pool : List Candidate) (heard : List HeardEnd) (s : Sending) → slice_get self.old.sends.items place ≡ Some s → IsTrue (is_open s.send.stage)
+            → s.send.server < length table.old → RoundsStand pool heard self.old → OnErr result (StandsStill pool heard (HasEnded s outcome) self.new) }
         ensures same { IsSameLookup self.old self.new }
+        ensures decides { DecidesAt tick.now self.old.phase self.new.phase }
         ensures heard { (s : Sending) → slice_get self.old.sends.items place ≡ Some s → OnOk result (table.new ≡ heard_table s tick.now outcome table.old) }
         ensures halted { (s : Sending) → slice_get self.old.sends.items place ≡ Some s → OnErr result ((table.new ≡ table.old) ⊎ (table.new ≡ heard_table s tick.now outcome table.old)) }
         ensures table { length table.new ≡ length table.old }
@@ -439,13 +532,14 @@ impl Rounds {
     ) -> Result<After, NoMemory>
         ensures after { (place : ℕ) (s : Sending) → IsOpenAt number place s self.old → s.send.server < length table.old
             → IfOk result (λ a. a ≡ after_put tick.patience s.send.stage outcome) }
-        ensures stands { (pool : List Candidate) (ends : List (End Candidate)) (place : ℕ) (s : Sending) → IsOpenAt number place s self.old → s.send.server < length table.old
-            → RoundsStand pool ends self.old → OnOk result (StandsBy s outcome pool ends self.new) }
-        ensures want { (pool : List Candidate) (ends : List (End Candidate)) (place : ℕ) (s : Sending) → IsOpenAt number place s self.old → s.send.server < length table.old
-            → RoundsStand pool ends self.old → OnErr result (StandsStill pool ends (HasEnded s outcome) self.new) }
+        ensures stands { (pool : List Candidate) (heard : List HeardEnd) (place : ℕ) (s : Sending) → IsOpenAt number place s self.old → s.send.server < length table.old
+            → RoundsStand pool heard self.old → OnOk result (StandsBy s outcome pool heard self.new) }
+        ensures want { (pool : List Candidate) (heard : List HeardEnd) (place : ℕ) (s : Sending) → IsOpenAt number place s self.old → s.send.server < length table.old
+            → RoundsStand pool heard self.old → OnErr result (StandsStill pool heard (HasEnded s outcome) self.new) }
         ensures late { (self.old.phase ≡ Phase.Asking → position (λ s. s.order == number && is_open s.send.stage) self.old.sends.items ≡ None)
             → (result ≡ Ok After.Late) × (self.new ≡ self.old) × (table.new ≡ table.old) }
         ensures same { IsSameLookup self.old self.new }
+        ensures decides { DecidesAt tick.now self.old.phase self.new.phase }
         ensures heard { (place : ℕ) (s : Sending) → IsOpenAt number place s self.old → OnOk result (table.new ≡ heard_table s tick.now outcome table.old) }
         ensures halted { (place : ℕ) (s : Sending) → IsOpenAt number place s self.old → OnErr result ((table.new ≡ table.old) ⊎ (table.new ≡ heard_table s tick.now outcome table.old)) }
         ensures table { length table.new ≡ length table.old }

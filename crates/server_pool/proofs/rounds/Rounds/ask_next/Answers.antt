@@ -8,20 +8,20 @@ use Rattle.server_pool.proofs.Stepping.{some_found, found_at, found_nowhere}
 use Rattle.server_pool.proofs.rounds.Rounds.ask_next.Goals as goal
 
 pub returns-in-Some-clause-stands : goal.returns-in-Some-clause-stands
-returns-in-Some-clause-stands c = λ pool ends st.
+returns-in-Some-clause-stands c = λ pool heard st.
     let r = c.args.self.now in
     let first = sym (sym c.in-Some.is ∙ c.idle_place.ensures) in
     let found = some_found is_idle r.sends.items c.in-Some.place first in
     let at : IsFirstIdle c.in-Some.place found.0 r = record { asks = c.requires.asks; first = first; there = found.1 } in
-    c.step_at.ensures.stands pool ends found.0 at st
+    c.step_at.ensures.stands pool heard found.0 at st
 
 pub returns-in-Some-clause-want : goal.returns-in-Some-clause-want
-returns-in-Some-clause-want c = λ pool ends st.
+returns-in-Some-clause-want c = λ pool heard st.
     let r = c.args.self.now in
     let first = sym (sym c.in-Some.is ∙ c.idle_place.ensures) in
     let found = some_found is_idle r.sends.items c.in-Some.place first in
     let at : IsFirstIdle c.in-Some.place found.0 r = record { asks = c.requires.asks; first = first; there = found.1 } in
-    c.step_at.ensures.want pool ends found.0 at st
+    c.step_at.ensures.want pool heard found.0 at st
 
 pub returns-in-Some-clause-table : goal.returns-in-Some-clause-table
 returns-in-Some-clause-table c =
@@ -42,7 +42,7 @@ returns-in-Some-clause-halted c =
     (c.step_at.ensures.halted found.0 at)
 
 pub returns-in-None-clause-want : goal.returns-in-None-clause-want
-returns-in-None-clause-want c = λ pool ends st. on_err_weaker c.wait.result (λ h. inl h) (c.wait.ensures.want pool ends st)
+returns-in-None-clause-want c = λ pool heard st. on_err_weaker c.wait.result (λ h. inl h) (c.wait.ensures.want pool heard st)
 
 pub returns-in-None-clause-table : goal.returns-in-None-clause-table
 returns-in-None-clause-table c =

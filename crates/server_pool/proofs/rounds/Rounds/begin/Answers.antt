@@ -11,7 +11,4 @@ returns-then-is_late-clause-stands c = λ pool ends st may.
     let r = c.args.self.now in
     let a = r.agenda in
     let reached : r.start + r.timeout ≤ c.args.now = leb-true (r.start + r.timeout) c.args.now (sym c.is_late.ensures ∙ c.if-is_late.true) in
-    record {
-      at = c.args.now;
-      run = pool_late (rules_of r.timeout) (class_of_sent r.request.query) same_self pool ends (under_way r.sends.items) a.waiting a.busy a.off a.kept a.sleeps r.start c.args.now reached (may reached) st;
-    }
+    pool_late (rules_of r.timeout) (class_of_sent r.request.query) same_self pool ends (under_way r.sends.items) a.waiting a.busy a.off a.kept a.sleeps r.start c.args.now reached (may reached) st

@@ -1,10 +1,12 @@
-use Rattle.std.proofs.Common.{◌≡◌, ◌∙◌, ◌≤◌, length, ap, sym, subst, refl, arith, OnOk, IfOk, IsTrue}
+use Rattle.std.proofs.Common.{◌≡◌, ◌∙◌, ◌≤◌, length, ap, sym, subst, arith, OnOk, IfOk, IsTrue}
 use Rattle.std.proofs.lemmas.Option.{get_or_from_slice_get}
 use Rattle.std.proofs.lemmas.Result.{on_ok_weaker}
-use Rattle.server_core.specs.Sending.{is_open, after_put, asked_of, heard_put}
+use Rattle.server_core.specs.Sending.{Comes, is_open, after_put, asked_of, heard_put}
 use Rattle.server_pool.specs.declared.rounds.Sending.{Sending}
 use Rattle.server_pool.specs.Rounds.{heard_table}
-use Rattle.server_pool.proofs.Sendings.{written_send, fed_send}
+use Rattle.std.proofs.Math.ListN.{set}
+use Rattle.server_pool.proofs.Beginning.{on_ok_both}
+use Rattle.server_pool.proofs.Sendings.{written_send, fed_of, fed_send}
 use Rattle.server_pool.proofs.Stepping.{changed_past}
 use Rattle.server_pool.proofs.rounds.Rounds.feed.Goals as goal
 
@@ -18,7 +20,7 @@ pub returns-clause-goes : goal.returns-clause-goes
 returns-clause-goes c = λ pool ends st.
     let r = c.args.self.now in
     let lent = c.index_mut-sending.result.now in
-    written_send r.request.query r.timeout pool ends r.sends.items c.args.place _ lent r.agenda (ap (λ (s : Sending). s.candidate) c.index_mut-sending.ensures.value) st
+    written_send r.request.query r.timeout pool ends r.sends.items c.args.place _ lent r.agenda (c.put.ensures.candidate ∙ ap (λ (s : Sending). s.candidate) c.index_mut-sending.ensures.value) st
 
 pub returns-then-sending-len-clause-table : goal.returns-then-sending-len-clause-table
 returns-then-sending-len-clause-table c = λ s there.
@@ -61,4 +63,7 @@ returns-clause-fed c = λ s there is live.
     let lent = c.index_mut-sending.result.now in
     let same : lent ≡ s = c.index_mut-sending.ensures.value ∙ get_or_from_slice_get c.args.self.now.sends.items c.args.place s lent there in
     let open_then = subst (λ (x : Sending). IsTrue (is_open x.send.stage)) (sym same) is in
-    on_ok_weaker c.put.result (λ comes. fed_send c.args.self.now.sends.items c.args.place s lent c.put.new.self c.args.outcome _ there c.index_mut-sending.ensures.value refl comes) (c.put.ensures.comes open_then)
+    let mid = c.put.new.self in
+    let whole : OnOk c.put.result ((mid ≡ fed_of c.args.outcome lent mid.send) × Comes lent.send c.args.outcome mid.send) = on_ok_both _ _ c.put.result c.put.ensures.rest (c.put.ensures.comes open_then) in
+    on_ok_weaker c.put.result
+    (λ b. fed_send c.args.self.now.sends.items c.args.place s lent mid.send c.args.outcome _ there c.index_mut-sending.ensures.value (ap (set c.args.self.now.sends.items c.args.place) b.0) b.1) whole

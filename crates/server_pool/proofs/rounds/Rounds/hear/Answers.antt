@@ -19,11 +19,11 @@ returns-in-GoesOn-clause-stands c = λ pool ends s there st.
     let t = r.timeout in
     let o = c.args.outcome in
     let rest = under_way (remove r.sends.items c.args.place) in
-    let at : c.index.result.now.candidate ≡ s.candidate = ap (λ (x : Sending). x.candidate) (c.index.ensures ∙ get_or_from_slice_get r.sends.items c.args.place s c.index.result.now there) in
+    let at : c.index-ended.result.now.candidate ≡ s.candidate = ap (λ (x : Sending). x.candidate) (c.index-ended.ensures ∙ get_or_from_slice_get r.sends.items c.args.place s c.index-ended.result.now there) in
     let first = subst (λ (x : Candidate). PlanStands q t pool ends (x ∷ rest) r.agenda) (sym at) (ended_send q t pool ends r.sends.items c.args.place s r.agenda there st) in
     let next = subst (λ (x : Candidate). PlanStands q t pool (ends ++ end_at x o ∷ []) rest c.hear.new.self) at (c.in-GoesOn.ensures.stands t r.start c.args.now pool ends rest first) in
     let goes = same_sends q t pool (ends ++ end_at s.candidate o ∷ []) (remove r.sends.items c.args.place) c.remove.new.self.items c.hear.new.self c.remove.ensures.items next in
-    goes_after pool (ends ++ end_at s.candidate o ∷ []) (record r { agenda = c.hear.new.self; sends = c.remove.new.self }) c.requires.asks (more_is_some ends (end_at s.candidate o)) goes
+    goes_after pool (ends ++ end_at s.candidate o ∷ []) (record r { agenda = c.hear.new.self; sends = c.remove.new.self; ends = c.keep.new.ends }) c.requires.asks (more_is_some ends (end_at s.candidate o)) goes
 
 pub returns-in-Answers-clause-stands : goal.returns-in-Answers-clause-stands
 returns-in-Answers-clause-stands c = λ pool ends s there st.
@@ -32,18 +32,15 @@ returns-in-Answers-clause-stands c = λ pool ends s there st.
     let t = r.timeout in
     let o = c.args.outcome in
     let rest = under_way (remove r.sends.items c.args.place) in
-    let at : c.index.result.now.candidate ≡ s.candidate = ap (λ (x : Sending). x.candidate) (c.index.ensures ∙ get_or_from_slice_get r.sends.items c.args.place s c.index.result.now there) in
+    let at : c.index-ended.result.now.candidate ≡ s.candidate = ap (λ (x : Sending). x.candidate) (c.index-ended.ensures ∙ get_or_from_slice_get r.sends.items c.args.place s c.index-ended.result.now there) in
     let first = subst (λ (x : Candidate). PlanStands q t pool ends (x ∷ rest) r.agenda) (sym at) (ended_send q t pool ends r.sends.items c.args.place s r.agenda there st) in
-    record {
-      at = c.args.now;
-      run = subst (λ (x : Candidate). PoolRun (rules_of t) (class_of_sent q) pool (ends ++ end_at x o ∷ []) c.in-Answers.answer r.start c.args.now) at
-          (c.in-Answers.ensures.stands t r.start c.args.now pool ends rest first);
-    }
+    subst (λ (x : Candidate). PoolRun (rules_of t) (class_of_sent q) pool (ends ++ end_at x o ∷ []) c.in-Answers.answer r.start c.args.now) at
+    (c.in-Answers.ensures.stands t r.start c.args.now pool ends rest first)
 
 pub returns-in-Wanting-clause-want : goal.returns-in-Wanting-clause-want
 returns-in-Wanting-clause-want c = λ pool ends st.
     let r = c.args.self.now in
-    c.give_back.ensures.goes pool ends
+    c.give_back-in-Wanting.ensures.goes pool ends
     (subst (λ (p : Plan). PlanStands r.request.query r.timeout pool ends (under_way r.sends.items) p) (sym c.in-Wanting.ensures.heard.1) st)
 
 pub returns-in-GoesOn-clause-work : goal.returns-in-GoesOn-clause-work
@@ -52,7 +49,7 @@ returns-in-GoesOn-clause-work c =
     let left : length c.remove.new.self.items ≡ length (remove r.sends.items c.args.place) = ap length c.remove.ensures.items in
     let one = length-remove r.sends.items c.args.place c.requires.place in
     let count : length r.sends.items ≡ length c.remove.new.self.items + 1 = omega (arith, left, one) in
-    heard_work c.index.result.now.candidate (class_of_sent r.request.query c.args.outcome) r.agenda c.hear.new.self (length c.remove.new.self.items) (length r.sends.items)
+    heard_work c.index-ended.result.now.candidate (class_of_sent r.request.query c.args.outcome) r.agenda c.hear.new.self (length c.remove.new.self.items) (length r.sends.items)
     c.in-GoesOn.ensures.heard.1 count
 
 pub returns-in-Answers-clause-work : goal.returns-in-Answers-clause-work
@@ -61,5 +58,5 @@ returns-in-Answers-clause-work c =
     let left : length c.remove-in-Answers.new.self.items ≡ length (remove r.sends.items c.args.place) = ap length c.remove-in-Answers.ensures.items in
     let one = length-remove r.sends.items c.args.place c.requires.place in
     let count : length r.sends.items ≡ length c.remove-in-Answers.new.self.items + 1 = omega (arith, left, one) in
-    heard_work c.index.result.now.candidate (class_of_sent r.request.query c.args.outcome) r.agenda c.hear.new.self (length c.remove-in-Answers.new.self.items) (length r.sends.items)
+    heard_work c.index-ended.result.now.candidate (class_of_sent r.request.query c.args.outcome) r.agenda c.hear.new.self (length c.remove-in-Answers.new.self.items) (length r.sends.items)
     c.in-Answers.ensures.heard.1 count

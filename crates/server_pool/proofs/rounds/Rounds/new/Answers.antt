@@ -1,4 +1,4 @@
-use Rattle.std.proofs.Common.{◌≡◌, ℕ, ◌+◌, ◌≤◌, ◌<◌, [], arith, eq-eqb}
+use Rattle.std.proofs.Common.{◌≡◌, ◌∙◌, ℕ, ◌+◌, ◌≤◌, ◌<◌, [], arith, eq-eqb}
 use Rattle.server_pool.proofs.Sendings.{same_sends}
 use Rattle.server_pool.proofs.Taking.{takes_first}
 use Rattle.server_pool.proofs.rounds.Rounds.new.Goals as goal
@@ -7,11 +7,14 @@ no_time : (now timeout : ℕ) → now + timeout ≤ now → timeout ≡ 0
 no_time now timeout h = omega arith
 
 pub returns-clause-stands : goal.returns-clause-stands
-returns-clause-stands c =
-    c.in_ok-begin.ensures.stands c.args.pool.now []
-    (same_sends c.args.request.query c.args.options.now.timeout c.args.pool.now [] [] c.new-2.result.items c.in_ok-new.field-0 c.new-2.ensures.items
-    (c.in_ok-new.ensures.stands c.args.request.query c.args.options.now.timeout))
-    (λ late. eq-eqb c.args.options.now.timeout 0 (no_time c.args.now c.args.options.now.timeout late))
+returns-clause-stands c = record {
+  phase =
+      c.in_ok-begin.ensures.stands c.args.pool.now []
+      (same_sends c.args.request.query c.args.options.now.timeout c.args.pool.now [] [] c.new-2.result.items c.in_ok-new.field-0 c.new-2.ensures.items
+      (c.in_ok-new.ensures.stands c.args.request.query c.args.options.now.timeout))
+      (λ late. eq-eqb c.args.options.now.timeout 0 (no_time c.args.now c.args.options.now.timeout late));
+  entries = c.begin.ensures.ends ∙ c.new-3.ensures.items;
+}
 
 in_time : (now timeout : ℕ) → 0 < timeout → now < now + timeout
 in_time now timeout h = omega arith

@@ -1,21 +1,22 @@
-use Rattle.std.proofs.Common.{◌∙◌, refl, subst, Option}
+use Rattle.std.proofs.Common.{◌∙◌, refl, subst, inl, Option}
 use Rattle.server_pool.specs.NextStep.{NextStands}
 use Rattle.server_pool.specs.NextStep.HasGone.{stayed}
 use Rattle.server_pool.specs.declared.next_step.RoundStep.{RoundStep}
-use Rattle.server_pool.proofs.Beginning.{on_err_always}
+use Rattle.server_pool.proofs.Beginning.{on_err_always, decides_on}
 use Rattle.server_pool.proofs.Stepping.{come_further, given_last, same_still}
 use Rattle.server_pool.proofs.rounds.Rounds.next.Goals as goal
 
 pub going-init : goal.going-init
 going-init c = record {
-  come = λ pool ends st. record { known = ends; gone = stayed; stands = st };
+  come = λ pool heard st. record { known = heard; gone = stayed; stands = st; decides = inl refl };
   same = record { request = refl; together = refl; timeout = refl; start = refl };
+  decides = inl refl;
   count = refl;
 }
 
 pub returns-in_err-step-clause-want : goal.returns-in_err-step-clause-want
-returns-in_err-step-clause-want c = λ pool ends st.
-    let come = c.going.invariant.come pool ends st in
+returns-in_err-step-clause-want c = λ pool heard st.
+    let come = c.going.invariant.come pool heard st in
     on_err_always c.from_residual.result (record {
       before = c.going.table;
       mid = c.going.self;
@@ -25,21 +26,22 @@ returns-in_err-step-clause-want c = λ pool ends st.
     })
 
 pub returns-in-Some-clause-stands : goal.returns-in-Some-clause-stands
-returns-in-Some-clause-stands c = λ pool ends st.
+returns-in-Some-clause-stands c = λ pool heard st.
     let n = c.args.number in
     let now = c.args.tick.now in
-    let come = c.going.invariant.come pool ends st in
+    let come = c.going.invariant.come pool heard st in
     let stands = subst (λ (x : Option RoundStep). NextStands n now c.going.table pool come.known c.going.self x c.advance.new.self) c.in-Some.is (c.in_ok-step.ensures.stands pool come.known come.stands) in
-    given_last n now pool ends c.args.table.now c.args.self.now c.going.table c.advance.new.table c.going.self c.advance.new.self c.in-Some.step come stands c.in_ok-step.ensures.table
+    given_last n now pool heard c.args.table.now c.args.self.now c.going.table c.advance.new.table c.going.self c.advance.new.self c.in-Some.step come stands c.in_ok-step.ensures.table
 
 pub going-preserved : goal.going-preserved
 going-preserved c = record {
-  come = λ pool ends st.
+  come = λ pool heard st.
       let n = c.args.number in
       let now = c.args.tick.now in
-      let come = c.going.invariant.come pool ends st in
+      let come = c.going.invariant.come pool heard st in
       let stands = subst (λ (x : Option RoundStep). NextStands n now c.going.table pool come.known c.going.self x c.advance.new.self) c.in-None.is (c.in_ok-step.ensures.stands pool come.known come.stands) in
-      come_further n now pool ends c.args.table.now c.args.self.now c.going.table c.advance.new.table c.going.self c.advance.new.self come stands c.in_ok-step.ensures.table;
+      come_further n now pool heard c.args.table.now c.args.self.now c.going.table c.advance.new.table c.going.self c.advance.new.self come stands c.advance.ensures.decides c.in_ok-step.ensures.table;
   same = same_still c.args.self.now c.going.self c.advance.new.self c.going.invariant.same c.advance.ensures.same;
+  decides = decides_on c.args.tick.now c.args.self.now.phase c.going.self.phase c.advance.new.self.phase c.going.invariant.decides c.advance.ensures.decides;
   count = c.advance.ensures.count ∙ c.going.invariant.count;
 }

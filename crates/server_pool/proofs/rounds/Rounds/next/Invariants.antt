@@ -1,14 +1,14 @@
 use Rattle.std.proofs.Common.{◌≡◌, List, length}
-use Rattle.resolution.specs.Lookups.{End}
 use Rattle.server_pool.specs.declared.candidate.Candidate.{Candidate}
-use Rattle.server_pool.specs.Rounds.{RoundsStand, IsSameLookup, steps_left}
+use Rattle.server_pool.specs.Rounds.{HeardEnd, RoundsStand, DecidesAt, IsSameLookup, steps_left}
 use Rattle.server_pool.specs.NextStep.{HasCome}
 use Rattle.server_pool.proofs.rounds.Rounds.next.Given as goal
 
 abbrev pub invariant-going : goal.invariant-going
 invariant-going l = record {
-  come : (pool : List Candidate) (ends : List (End Candidate)) → RoundsStand pool ends l.fn.self → HasCome l.number l.tick.now pool ends l.fn.table l.fn.self l.table l.self;
+  come : (pool : List Candidate) (heard : List HeardEnd) → RoundsStand pool heard l.fn.self → HasCome l.number l.tick.now pool heard l.fn.table l.fn.self l.table l.self;
   same : IsSameLookup l.fn.self l.self;
+  decides : DecidesAt l.tick.now l.fn.self.phase l.self.phase;
   count : length l.table ≡ length l.fn.table;
 }
 

@@ -13,4 +13,4 @@ pub returns-else-may_sleep-clause-stands : goal.returns-else-may_sleep-clause-st
 returns-else-may_sleep-clause-stands c = λ pool ends st.
     let r = c.args.self.now in
     let none = no_sends r.request.query r.timeout pool ends r.sends.items r.agenda c.requires.sends st in
-    record { at = c.args.now; run = c.give_up-error.ensures.spent r.request.query r.timeout r.start c.args.now pool ends none }
+    c.give_up-error.ensures.spent r.request.query r.timeout r.start c.args.now pool ends none

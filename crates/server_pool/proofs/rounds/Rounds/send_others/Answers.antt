@@ -20,6 +20,7 @@ others-preserved c =
       reached = omega arith;
       takes = subst (λ (n : ℕ). Takes n old new) count more;
       work = omega (arith, c.send_one.ensures.work, c.others.invariant.work);
+      round = record { ends = c.send_one.ensures.round.ends ∙ c.others.invariant.round.ends };
       phase = c.send_one.ensures.phase ∙ c.others.invariant.phase;
       more = omega (arith, c.send_one.ensures.more, c.others.invariant.more);
     }

@@ -1,13 +1,14 @@
 use Rattle.std.proofs.Common.{◌≡◌, ◌-◌, ◌≤◌, max, List, length}
 use Rattle.resolution.specs.Lookups.{End}
 use Rattle.server_pool.specs.declared.candidate.Candidate.{Candidate}
-use Rattle.server_pool.specs.Rounds.{Goes, IsSameLookup, work, Takes}
+use Rattle.server_pool.specs.Rounds.{Goes, IsSameLookup, IsSameRound, work, Takes}
 use Rattle.server_pool.proofs.rounds.Rounds.send_others.Given as goal
 
 abbrev pub invariant-others : goal.invariant-others
 invariant-others l = record {
   goes : (pool : List Candidate) (ends : List (End Candidate)) → Goes pool ends l.initial.self → Goes pool ends l.self;
   same : IsSameLookup l.initial.self l.self;
+  round : IsSameRound l.initial.self l.self;
   phase : l.self.phase ≡ l.initial.self.phase;
   reached : l._other ≤ max l.initial.self.together 1;
   takes : Takes (l._other - 1) l.initial.self l.self;

@@ -1,15 +1,15 @@
-use Rattle.std.proofs.Common.{◌≤◌, inr, arith}
-use Rattle.server_pool.specs.Rounds.{TakesBusy}
+use Rattle.std.proofs.Common.{◌∙◌, ◌≤◌, inr, arith}
+use Rattle.server_pool.specs.Rounds.{ends_of, TakesBusy}
 use Rattle.server_pool.specs.NextStep.{TakesInTime}
 use Rattle.server_pool.specs.NextStep.BeginsRound.{woken}
 use Rattle.server_pool.proofs.Stepping.{asleep_goes, asleep_had}
 use Rattle.server_pool.proofs.rounds.Rounds.sleep.Goals as goal
 
 pub returns-clause-stands : goal.returns-clause-stands
-returns-clause-stands c = λ number table pool ends st.
+returns-clause-stands c = λ number table pool heard st.
     let r = c.args.self.now in
     let until = c.args.until in
     let over : until ≤ c.args.now = omega arith in
     let takes : TakesInTime c.args.now r c.wake.new.self (TakesBusy r c.wake.new.self) =
     record { in_time = λ soon. c.in_ok-wake.ensures.takes soon; late = λ over. c.in_ok-wake.ensures.late over } in
-    inr (woken until c.requires.sleeps over takes (c.wake.ensures.stands pool ends (asleep_goes pool ends r until c.requires.sleeps st) (asleep_had pool ends r until c.requires.sleeps st)))
+    inr (woken until c.requires.sleeps over takes (record { phase = c.wake.ensures.stands pool (ends_of heard) (asleep_goes pool (ends_of heard) r until c.requires.sleeps st.phase) (asleep_had pool (ends_of heard) r until c.requires.sleeps st.phase); entries = c.wake.ensures.ends ∙ st.entries }))

@@ -1,34 +1,35 @@
 use Rattle.std.proofs.Common.{◌∙◌, inl}
-use Rattle.server_pool.proofs.Beginning.{asks_still, goes_now, on_err_always}
+use Rattle.server_pool.proofs.Beginning.{asks_on, goes_now, on_err_always}
 use Rattle.server_pool.proofs.Stepping.{some_at, step_stands, step_halts, step_table, step_falls}
+use Rattle.server_pool.specs.Rounds.{ends_of}
 use Rattle.server_pool.proofs.Working.{same_steps}
 use Rattle.server_pool.proofs.rounds.Rounds.step_at.Goals as goal
 
 pub returns-in_err-made-clause-want : goal.returns-in_err-made-clause-want
-returns-in_err-made-clause-want c = λ pool ends s at st.
+returns-in_err-made-clause-want c = λ pool heard s at st.
     let old = c.args.self.now in
-    on_err_always c.from_residual.result (inl (asks_still pool ends old c.step_send.new.self c.requires.asks st (c.step_send.ensures.phase ∙ c.requires.asks) c.step_send.ensures.sends
-    (c.step_send.ensures.goes pool ends (goes_now pool ends old c.requires.asks st))))
+    on_err_always c.from_residual.result (inl (asks_on pool heard old c.step_send.new.self c.requires.asks st (c.step_send.ensures.phase ∙ c.requires.asks) c.step_send.ensures.sends c.step_send.ensures.round.ends
+    (c.step_send.ensures.goes pool (ends_of heard) (goes_now pool (ends_of heard) old c.requires.asks st.phase))))
 
 pub returns-clause-stands : goal.returns-clause-stands
-returns-clause-stands c = λ pool ends s at st.
+returns-clause-stands c = λ pool heard s at st.
     let old = c.args.self.now in
     let mid = c.step_send.new.self in
-    let now = asks_still pool ends old mid c.requires.asks st (c.step_send.ensures.phase ∙ c.requires.asks) c.step_send.ensures.sends
-    (c.step_send.ensures.goes pool ends (goes_now pool ends old c.requires.asks st)) in
-    step_stands c.args.number c.args.tick.now c.args.place c.args.table.now pool ends old mid c.after_send.new.self s at c.in_ok-made.made c.after_send.result
+    let now = asks_on pool heard old mid c.requires.asks st (c.step_send.ensures.phase ∙ c.requires.asks) c.step_send.ensures.sends c.step_send.ensures.round.ends
+    (c.step_send.ensures.goes pool (ends_of heard) (goes_now pool (ends_of heard) old c.requires.asks st.phase)) in
+    step_stands c.args.number c.args.tick.now c.args.place c.args.table.now pool heard old mid c.after_send.new.self s at c.in_ok-made.made c.after_send.result
     (c.in_ok-made.ensures.steps s at.there) now (λ order is. c.after_send.ensures.order order is) (λ none. c.after_send.ensures.goes_on none)
-    (λ none x there. c.after_send.ensures.stands none pool ends x there now)
+    (λ none x there. c.after_send.ensures.stands none pool heard x there now)
 
 pub returns-clause-want : goal.returns-clause-want
-returns-clause-want c = λ pool ends s at st.
+returns-clause-want c = λ pool heard s at st.
     let old = c.args.self.now in
     let mid = c.step_send.new.self in
-    let now = asks_still pool ends old mid c.requires.asks st (c.step_send.ensures.phase ∙ c.requires.asks) c.step_send.ensures.sends
-    (c.step_send.ensures.goes pool ends (goes_now pool ends old c.requires.asks st)) in
-    step_halts c.args.number c.args.tick.now c.args.place c.args.table.now pool ends old mid c.after_send.new.self s at c.in_ok-made.made c.after_send.result
+    let now = asks_on pool heard old mid c.requires.asks st (c.step_send.ensures.phase ∙ c.requires.asks) c.step_send.ensures.sends c.step_send.ensures.round.ends
+    (c.step_send.ensures.goes pool (ends_of heard) (goes_now pool (ends_of heard) old c.requires.asks st.phase)) in
+    step_halts c.args.number c.args.tick.now c.args.place c.args.table.now pool heard old mid c.after_send.new.self s at c.in_ok-made.made c.after_send.result
     (c.in_ok-made.ensures.steps s at.there) (λ order is. c.after_send.ensures.order order is)
-    (λ x there. c.after_send.ensures.want pool ends x there now)
+    (λ x there. c.after_send.ensures.want pool heard x there now)
 
 pub returns-clause-falls : goal.returns-clause-falls
 returns-clause-falls c =
