@@ -13,7 +13,7 @@ use Rattle.server_pool.specs.Rounds.{Goes, StandsIn, PhaseStands, HeardEnd, hear
 use Rattle.std.proofs.lemmas.List.{map-append}
 use Rattle.std.proofs.lemmas.List.Elements.{filter_map-append}
 use Rattle.server_core.specs.Order.{entry_of}
-use Rattle.server_core.specs.Sending.{end_of}
+use Rattle.server_core.specs.Sending.{end_of, is_open}
 use Rattle.server_core.specs.declared.server_send.Stage.{Stage}
 use Rattle.server_core.specs.declared.server_send.Stage.TheVariants as stage
 use Rattle.server_pool.proofs.Standing.{or_left}
@@ -129,3 +129,16 @@ at_entry c stage.Over entry pool heard r st = st
 pub on_ok_both : {T E : Type 0} (P Q : Type 0) (r : Result T E) → OnOk r P → OnOk r Q → OnOk r (P × Q)
 on_ok_both P Q (Ok x) p q = (p, q)
 on_ok_both P Q (Err e) p q = tt
+
+pub on_err_joined : {T E X : Type 0} (a b c : X) (r : Result T E) → OnErr r (a ≡ b) → OnErr r (b ≡ c) → OnErr r (a ≡ c)
+on_err_joined a b c (Ok x) p q = tt
+on_err_joined a b c (Err e) p q = p ∙ q
+
+-- an open send has not ended
+pub open_end : (st : Stage) → is_open st ≡ true → end_of st ≡ None
+open_end stage.Ready h = refl
+open_end (stage.Opening protocol order polls) h = refl
+open_end (stage.Opened protocol conn) h = refl
+open_end (stage.Asking asked polls) h = refl
+open_end (stage.Ended result) h = cc
+open_end stage.Over h = refl

@@ -18,6 +18,7 @@ pub mod Beside
 pub mod Narrowed
 pub mod ByAddress
 pub mod FromPool
+pub mod Cancelled
 pub mod Stepping
 pub mod Working
 pub mod Taking

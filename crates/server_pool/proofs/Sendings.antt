@@ -1,5 +1,5 @@
 -- The sends of a round, as they begin and end.
-use Rattle.std.proofs.Common.{◌≡◌, ◌∙◌, ℕ, zero, suc, ◌+◌, ◌≤◌, ◌&&◌, ◌==◌, nat_lt, not, length, Bool, true, false, List, [], ◌∷◌, ◌++◌, refl, ap, sym, subst, arith, get_or, slice_get, Some}
+use Rattle.std.proofs.Common.{◌≡◌, ◌∙◌, ℕ, zero, suc, ◌+◌, ◌≤◌, ◌&&◌, ◌==◌, nat_lt, not, length, Bool, true, false, List, [], ◌∷◌, ◌++◌, refl, ap, sym, subst, arith, get_or, slice_get, Some, Option, None, IfNone}
 use Rattle.std.specs.List.{remove, position}
 use Rattle.std.proofs.lemmas.List.Quantifiers.{position-Some}
 use Rattle.std.proofs.lemmas.Option.{get_or_from_slice_get}
@@ -64,13 +64,29 @@ fed_send sends i s lent next o r there is new comes =
       there = ap (λ (l : List Sending). slice_get l i) new ∙ written ∙ ap (λ (x : Sending). Some (fed_of o x next)) same;
     }
 
+set_itself : {X : Type 0} (xs : List X) (i : ℕ) (d : X) → set xs i (get_or xs i d) ≡ xs
+set_itself [] i d = refl
+set_itself (x ∷ xs) zero d = refl
+set_itself {X = X} (x ∷ xs) (suc i) d = ap (λ (l : List X). x ∷ l) (set_itself xs i d)
+
+pub put_back : (sends : List Sending) (i : ℕ) (s lent : Sending) → slice_get sends i ≡ Some s → lent ≡ get_or sends i lent → slice_get (set sends i lent) i ≡ Some s
+put_back sends i s lent there is = get_set sends i lent s there ∙ ap Some (is ∙ get_or_from_slice_get sends i s lent there)
+
+-- a send that told nothing is as it was
+pub untold_send : {T : Type 0} (sends : List Sending) (i : ℕ) (lent : Sending) (next : ServerSend) (told : Option T) → lent ≡ get_or sends i lent → IfNone told (next ≡ lent.send)
+    → IfNone told (set sends i (record lent { send = next }) ≡ sends)
+untold_send sends i lent next (Some x) is same = tt
+untold_send sends i lent next None is same =
+    ap (λ (x : ServerSend). set sends i (record lent { send = x })) same ∙ ap (set sends i) is ∙ set_itself sends i lent
+
 pub still_send : (sends : List Sending) (i : ℕ) (s lent : Sending) (next : ServerSend) (r : Rounds) → slice_get sends i ≡ Some s → lent ≡ get_or sends i lent
-    → r.sends.items ≡ set sends i (record lent { send = next }) → IsStillAt s i r
-still_send sends i s lent next r there is new =
+    → r.sends.items ≡ set sends i (record lent { send = next }) → next.server ≡ lent.send.server → IsStillAt s i r
+still_send sends i s lent next r there is new server =
     let same : lent ≡ s = is ∙ get_or_from_slice_get sends i s lent there in
     let written : slice_get (set sends i (record lent { send = next })) i ≡ Some (record lent { send = next }) = get_set sends i (record lent { send = next }) s there in
     record {
       next = next;
+      server = server ∙ ap (λ (x : Sending). x.send.server) same;
       there = ap (λ (l : List Sending). slice_get l i) new ∙ written ∙ ap (λ (x : Sending). Some (record x { send = next })) same;
     }
 
@@ -110,6 +126,9 @@ module _ (q : Query) (timeout : ℕ) (ends : List (End Candidate)) where
 -- the place that was found is that of the order
 same_place : (a b : ℕ) → Some a ≡ Some b → a ≡ b
 same_place a b h = cc
+
+pub found_same : (number place found : ℕ) (s : Sending) (r : Rounds) (at : IsOpenAt number place s r) → Some found ≡ position (λ x. x.order == number && is_open x.send.stage) r.sends.items → found ≡ place
+found_same number place found s r at h = same_place found place (h ∙ at.first)
 
 pub found_there : (number place found : ℕ) (s : Sending) (r : Rounds) (at : IsOpenAt number place s r) → Some found ≡ position (λ x. x.order == number && is_open x.send.stage) r.sends.items → slice_get r.sends.items found ≡ Some s
 found_there number place found s r at h = ap (slice_get r.sends.items) (same_place found place (h ∙ at.first)) ∙ at.there

@@ -1,6 +1,6 @@
 -- The next step of a lookup: which send gives an order, and that there is an open one where none does.
 use Rattle.std.proofs.Common.{◌≡◌, ◌∙◌, ℕ, zero, suc, ◌+◌, ◌≤◌, ◌<◌, nat_lt, not, length, Bool, true, false, List, [], ◌∷◌, ◌++◌, refl, ap, sym, subst, cond, arith, get_or, slice_get, Option, Some, None, Result, Ok, Err, IfOk, OnOk, OnErr, ◌⊎◌, inl, inr}
-use Rattle.std.specs.List.{list_any, position, position_or_len, find}
+use Rattle.std.specs.List.{remove, list_any, position, position_or_len, find}
 use Rattle.std.proofs.Math.ListN.{set}
 use Rattle.std.proofs.lemmas.Bool.{ltb-false, ltb-true}
 use Rattle.std.proofs.lemmas.List.Folds.{find_at}
@@ -25,10 +25,12 @@ use Rattle.server_pool.specs.declared.rounds.Rounds.{Rounds}
 use Rattle.server_pool.specs.declared.next_step.Doing.TheVariants as doing
 use Rattle.server_pool.specs.declared.next_step.RoundStep.{RoundStep}
 use Rattle.server_pool.specs.declared.next_step.RoundStep.TheVariants as given
-use Rattle.server_pool.specs.Rounds.{Goes, PhaseStands, HeardEnd, heard_at, ends_of, RoundsStand, DecidesAt, IsSameLookup, steps_left, StandsIn, StandsAtEnd, StandsStill, IsEndOf, CanWake}
-use Rattle.server_pool.specs.NextStep.{is_idle, IsTaken, Steps, StepsBy, StepsAt, Tells, doing_of, IsFirstIdle, HasHeard, Gives, GoesOn, BeginsRound, NextStands, IsHalted, stepping, changed_for, stepped_table, HasCome, HasGiven}
+use Rattle.server_pool.specs.Rounds.{Goes, PhaseStands, HeardEnd, heard_at, ends_of, RoundsStand, DecidesAt, IsSameRound, Drops, SettlesAt, IsSameLookup, steps_left, StandsIn, StandsAtEnd, StandsStill, IsEndOf, CanWake}
+use Rattle.server_pool.specs.NextStep.{is_idle, IsTaken, Steps, StepsBy, StepsAt, Tells, doing_of, IsFirstIdle, HasHeard, Gives, GoesOn, BeginsRound, NextStands, IsHalted, stepping, changed_for, stepped_table, told_table, HasCome, HasGiven}
 use Rattle.server_pool.specs.NextStep.BeginsRound.{due, woken}
 use Rattle.server_pool.specs.NextStep.HasGone.{heard, began}
+use Rattle.server_pool.specs.Agenda.{Plan}
+use Rattle.server_pool.specs.Cancelling.{ends_by_message, settled_table}
 use Rattle.server_pool.proofs.Beginning.{decides_on}
 use Rattle.server_pool.proofs.Standing.{or_left}
 use Rattle.server_pool.proofs.Sendings.{get_set}
@@ -125,46 +127,60 @@ module _ (number now place : ℕ) (table : List Server) (pool : List Candidate) 
   heard_by : (sa : StepsAt place number now table s None mid) (h : HeardEnd) → IsEndOf sa.next h → RoundsStand pool (first ++ h ∷ []) new → HasHeard number now table pool first old h new
   heard_by sa h ended st = record { place = place; sending = s; idle = at; next = sa.next; steps = sa.steps; candidate = sa.candidate; ended = ended; stands = st }
 
-  heard_so : StepsAt place number now table s None mid → ((x : Sending) → slice_get mid.sends.items place ≡ Some x → StandsAtEnd x.candidate (end_of x.send.stage) x.ended_by pool first new)
-      → (h : HeardEnd) × HasHeard number now table pool first old h new
-  heard_so sa st =
-      let found = steps_end number now (slice_get table s.send.server) s sa.next sa.steps in
-      let h = heard_at sa.next.candidate found.0 sa.next.ended_by in
-      let stands : RoundsStand pool (first ++ h ∷ []) new = subst (λ (o : Option Answered). StandsAtEnd sa.next.candidate o sa.next.ended_by pool first new) found.1 (st sa.next sa.there) in
-      (h, heard_by sa h (record { ended = found.1; at = refl; by = refl }) stands)
+  -- what is dropped after the step is dropped of what there was
+  drops_from : (x : Sending) → remove mid.sends.items place ≡ remove old.sends.items place → IsSameRound old mid → Drops now place x mid new → Drops now place x old new
+  drops_from x others round d =
+      record { mid = d.mid; sends = d.sends ∙ others; began = d.began ∙ round.began; ended = d.ended ∙ ap (λ (l : List ℕ). l ++ x.send.server ∷ []) round.ended; goes_on = d.goes_on }
 
   -- the step of the send at a place, with what follows
-  pub step_stands : (made : Option Order) (result : Result (Option RoundStep) NoMemory) → StepsAt place number now table s made mid → RoundsStand pool first mid
-      → ((order : Order) → made ≡ Some order → (result ≡ Ok (Some (given.Order order))) × (new ≡ mid))
+  pub step_stands : (made : Option Order) (result : Result (Option RoundStep) NoMemory) (after later : List Server) → StepsAt place number now table s made mid → RoundsStand pool first mid
+      → remove mid.sends.items place ≡ remove old.sends.items place → IsSameRound old mid → mid.agenda ≡ old.agenda → mid.phase ≡ Asking → after ≡ stepped_table old table
+      → ((order : Order) → made ≡ Some order → (result ≡ Ok (Some (given.Order order))) × (new ≡ mid) × (later ≡ after))
       → (made ≡ None → IfOk result (λ step. step ≡ None))
       → (made ≡ None → (x : Sending) → slice_get mid.sends.items place ≡ Some x → OnOk result (StandsAtEnd x.candidate (end_of x.send.stage) x.ended_by pool first new))
-      → IfOk result (λ step. NextStands number now table pool first old step new)
-  step_stands (Some order) result sa st ordered goes ended =
+      → (made ≡ None → (x : Sending) → slice_get mid.sends.items place ≡ Some x → OnOk result (SettlesAt (end_of x.send.stage) now place x after mid later new))
+      → IfOk result (λ step. NextStands number now table pool first old step later new)
+  unfolding heard_by
+  step_stands (Some order) result after later sa st others round plan asks stepped ordered goes ended settled =
       let told = ordered order refl in
-      subst (λ (x : Result (Option RoundStep) NoMemory). IfOk x (λ step. NextStands number now table pool first old step new)) (sym told.0) (record {
-        place = place;
-        sending = s;
-        idle = at;
-        steps = subst (λ (m : Rounds). StepsAt place number now table s (Some order) m) (sym told.1) sa;
-        stands = subst (λ (m : Rounds). RoundsStand pool first m) (sym told.1) st;
-      })
-  step_stands None (Ok step) sa st ordered goes ended =
-      subst (λ (x : Option RoundStep). NextStands number now table pool first old x new) (sym (goes refl)) (inl (heard_so sa (ended refl)))
-  step_stands None (Err e) sa st ordered goes ended = tt
+      subst (λ (x : Result (Option RoundStep) NoMemory). IfOk x (λ step. NextStands number now table pool first old step later new)) (sym told.0) (
+        record {
+          place = place;
+          sending = s;
+          idle = at;
+          steps = subst (λ (m : Rounds). StepsAt place number now table s (Some order) m) (sym told.1) sa;
+          others = subst (λ (m : Rounds). remove m.sends.items place ≡ remove old.sends.items place) (sym told.1) others;
+          asks = ap (λ (m : Rounds). m.phase) told.1 ∙ asks;
+          agenda = ap (λ (m : Rounds). m.agenda) told.1 ∙ plan;
+          round = subst (IsSameRound old) (sym told.1) round;
+          stands = subst (λ (m : Rounds). RoundsStand pool first m) (sym told.1) st;
+        },
+        told.2 ∙ stepped,
+      )
+  step_stands None (Ok step) after later sa st others round plan asks stepped ordered goes ended settled =
+      let found = steps_end number now (slice_get table s.send.server) s sa.next sa.steps in
+      let h = heard_at sa.next.candidate found.0 sa.next.ended_by in
+      let stands : RoundsStand pool (first ++ h ∷ []) new = subst (λ (o : Option Answered). StandsAtEnd sa.next.candidate o sa.next.ended_by pool first new) found.1 (ended refl sa.next sa.there) in
+      let settles : SettlesAt (Some found.0) now place sa.next after mid later new = subst (λ (o : Option Answered). SettlesAt o now place sa.next after mid later new) found.1 (settled refl sa.next sa.there) in
+      let is : later ≡ told_table now old h new table =
+      settles.1 ∙ ap (λ (p : Plan). settled_table now (ends_by_message p.off found.0) new after) plan ∙ ap (settled_table now (ends_by_message old.agenda.off found.0) new) stepped in
+      subst (λ (x : Option RoundStep). NextStands number now table pool first old x later new) (sym (goes refl))
+      (inl (h, heard_by sa h (record { ended = found.1; at = refl; by = refl }) stands, drops_from sa.next others round settles.0, is))
+  step_stands None (Err e) after later sa st others round plan asks stepped ordered goes ended settled = tt
 
   halted_so : (sa : StepsAt place number now table s None mid) → StandsStill pool first (IsEndOf sa.next) new → IsHalted number now table pool first old new
   halted_so sa (inl h) = inl h
   halted_so sa (inr (e, ended, h)) = inr (e, heard_by sa e ended h)
 
   -- the same where memory is wanting
-  pub step_halts : (made : Option Order) (result : Result (Option RoundStep) NoMemory) → StepsAt place number now table s made mid
-      → ((order : Order) → made ≡ Some order → (result ≡ Ok (Some (given.Order order))) × (new ≡ mid))
+  pub step_halts : (made : Option Order) (result : Result (Option RoundStep) NoMemory) (after later : List Server) → StepsAt place number now table s made mid
+      → ((order : Order) → made ≡ Some order → (result ≡ Ok (Some (given.Order order))) × (new ≡ mid) × (later ≡ after))
       → ((x : Sending) → slice_get mid.sends.items place ≡ Some x → OnErr result (StandsStill pool first (IsEndOf x) new))
       → OnErr result (IsHalted number now table pool first old new)
-  step_halts (Some order) result sa ordered ended =
+  step_halts (Some order) result after later sa ordered ended =
       subst (λ (x : Result (Option RoundStep) NoMemory). OnErr x (IsHalted number now table pool first old new)) (sym (ordered order refl).0) tt
-  step_halts None (Ok step) sa ordered ended = tt
-  step_halts None (Err e) sa ordered ended = halted_so sa (ended sa.next sa.there)
+  step_halts None (Ok step) after later sa ordered ended = tt
+  step_halts None (Err e) after later sa ordered ended = halted_so sa (ended sa.next sa.there)
 
 -- ---- what it is at
 
@@ -198,6 +214,20 @@ at_sleeps Asking until h = cc
 at_sleeps (Asleep u) until h = cc
 at_sleeps (Decided answer at) until h = cc
 at_sleeps Told until h = cc
+
+-- what a step that gives nothing new leaves of the table
+pub asking_table : (r : Rounds) (table : List Server) → r.phase ≡ Asking → position is_idle r.sends.items ≡ None → table ≡ stepped_table r table
+asking_table r table p none =
+    sym (ap (λ (x : Phase). changed_for after_step (stepping x r.sends.items) table) p ∙ ap (λ (o : Option Sending). changed_for after_step o table) (found_nowhere is_idle r.sends.items none))
+
+pub asleep_table : (r : Rounds) (table : List Server) (until : ℕ) → r.phase ≡ Asleep until → table ≡ stepped_table r table
+asleep_table r table until p = sym (ap (λ (x : Phase). changed_for after_step (stepping x r.sends.items) table) p)
+
+-- the table after the step of the first send of which no order is open
+pub stepped_first : (r : Rounds) (place : ℕ) (s : Sending) (table after : List Server) → IsFirstIdle place s r → after ≡ changed_for after_step (Some s) table → after ≡ stepped_table r table
+stepped_first r place s table after at is =
+    is ∙ sym (ap (λ (x : Phase). changed_for after_step (stepping x r.sends.items) table) at.asks
+    ∙ ap (λ (o : Option Sending). changed_for after_step o table) (found_at is_idle r.sends.items place s at.first at.there))
 
 -- what is told of a lookup that is decided
 pub told_stands : (number now : ℕ) (table : List Server) (pool : List Candidate) (first : List HeardEnd) (old new : Rounds) (made : RoundStep) (p : Phase) → old.phase ≡ p → doing.Tells ≡ doing_of p
@@ -250,37 +280,37 @@ no_order number now table old next (stage.Ended outcome) e o at t = refl
 no_order number now table old next stage.Over e o at t = refl
 
 module _ (number now place : ℕ) (table : List Server) (old mid new : Rounds) (s : Sending) where
-  pub step_table : (made : Option Order) (result : Result (Option RoundStep) NoMemory) (after : List Server) → StepsAt place number now table s made mid
-      → ((order : Order) → made ≡ Some order → (result ≡ Ok (Some (given.Order order))) × (new ≡ mid))
+  pub step_table : (made : Option Order) (result : Result (Option RoundStep) NoMemory) (after later : List Server) → StepsAt place number now table s made mid
+      → ((order : Order) → made ≡ Some order → (result ≡ Ok (Some (given.Order order))) × (new ≡ mid) × (later ≡ after))
       → after ≡ changed_for after_step (Some s) table → OnErr result (after ≡ changed_for after_want (Some s) table)
-  step_table (Some order) result after sa ordered is =
+  step_table (Some order) result after later sa ordered is =
       subst (λ (x : Result (Option RoundStep) NoMemory). OnErr x (after ≡ changed_for after_want (Some s) table)) (sym (ordered order refl).0) tt
-  step_table None (Ok step) after sa ordered is = tt
-  step_table None (Err e) after sa ordered is = is ∙ no_order number now table s sa.next s.send.stage refl (slice_get table s.send.server) refl sa.steps
+  step_table None (Ok step) after later sa ordered is = tt
+  step_table None (Err e) after later sa ordered is = is ∙ no_order number now table s sa.next s.send.stage refl (slice_get table s.send.server) refl sa.steps
 
   -- an end that is heard leaves fewer steps
-  pub step_falls : (made : Option Order) (result : Result (Option RoundStep) NoMemory) → StepsAt place number now table s made mid
-      → ((order : Order) → made ≡ Some order → (result ≡ Ok (Some (given.Order order))) × (new ≡ mid))
+  pub step_falls : (made : Option Order) (result : Result (Option RoundStep) NoMemory) (after later : List Server) → StepsAt place number now table s made mid
+      → ((order : Order) → made ≡ Some order → (result ≡ Ok (Some (given.Order order))) × (new ≡ mid) × (later ≡ after))
       → (made ≡ None → (x : Sending) (o : Answered) → slice_get mid.sends.items place ≡ Some x → end_of x.send.stage ≡ Some o → OnOk result (steps_left new < steps_left mid))
       → steps_left mid ≡ steps_left old → IfOk result (λ step. step ≡ None → steps_left new < steps_left old)
-  step_falls (Some order) result sa ordered falls same =
+  step_falls (Some order) result after later sa ordered falls same =
       subst (λ (x : Result (Option RoundStep) NoMemory). IfOk x (λ step. step ≡ None → steps_left new < steps_left old)) (sym (ordered order refl).0)
       (λ (bad : Some (given.Order order) ≡ None). cc)
-  step_falls None (Ok step) sa ordered falls same =
+  step_falls None (Ok step) after later sa ordered falls same =
       let found = steps_end number now (slice_get table s.send.server) s sa.next sa.steps in
       λ none. subst (λ (n : ℕ). steps_left new < n) same (falls refl sa.next found.0 sa.there found.1)
-  step_falls None (Err e) sa ordered falls same = tt
+  step_falls None (Err e) after later sa ordered falls same = tt
 
 -- ---- several steps
 
 pub come_further : (number now : ℕ) (pool : List Candidate) (first : List HeardEnd) (table : List Server) (old : Rounds) (before later : List Server) (mid new : Rounds) (come : HasCome number now pool first table old before mid)
-    → GoesOn number now before pool come.known mid new → DecidesAt now mid.phase new.phase → later ≡ stepped_table mid before → HasCome number now pool first table old later new
-come_further number now pool first table old before later mid new come (inl (e, h)) at is =
+    → GoesOn number now before pool come.known mid later new → DecidesAt now mid.phase new.phase → HasCome number now pool first table old later new
+come_further number now pool first table old before later mid new come (inl (h, x, drops, is)) at =
     subst (λ (t : List Server). HasCome number now pool first table old t new) (sym is)
-    (record { known = come.known ++ e ∷ []; gone = heard come.known before mid e new come.gone h; stands = h.stands; decides = decides_on now old.phase mid.phase new.phase come.decides at })
-come_further number now pool first table old before later mid new come (inr h) at is =
+    (record { known = come.known ++ h ∷ []; gone = heard come.known before mid h new come.gone x drops; stands = x.stands; decides = decides_on now old.phase mid.phase new.phase come.decides at })
+come_further number now pool first table old before later mid new come (inr (b, is)) at =
     subst (λ (t : List Server). HasCome number now pool first table old t new) (sym is)
-    (record { known = come.known; gone = began come.known before mid new come.gone h; stands = stands_begun h; decides = decides_on now old.phase mid.phase new.phase come.decides at })
+    (record { known = come.known; gone = began come.known before mid new come.gone b; stands = stands_begun b; decides = decides_on now old.phase mid.phase new.phase come.decides at })
   where
     stands_begun : BeginsRound now pool come.known mid new → RoundsStand pool come.known new
     stands_begun (due a b t st) = st
@@ -300,3 +330,6 @@ given_last number now pool first table old before later mid new step come g is =
 
 pub same_still : (old mid new : Rounds) → IsSameLookup old mid → IsSameLookup mid new → IsSameLookup old new
 same_still old mid new a b = record { request = b.request ∙ a.request; together = b.together ∙ a.together; timeout = b.timeout ∙ a.timeout; start = b.start ∙ a.start }
+
+pub same_round : {old mid new : Rounds} → IsSameRound old mid → IsSameRound mid new → IsSameRound old new
+same_round a b = record { ends = b.ends ∙ a.ends; began = b.began ∙ a.began; ended = b.ended ∙ a.ended }

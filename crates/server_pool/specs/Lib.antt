@@ -3,6 +3,7 @@ pub mod Statistics
 pub mod Ordering
 pub mod AnswerFilter
 pub mod Agenda
+pub mod Cancelling
 pub mod Rounds
 pub mod Key
 pub mod Fits

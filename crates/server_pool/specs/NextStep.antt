@@ -1,6 +1,6 @@
 -- What the next step of a lookup is, and what it leaves.
-use Rattle.std.specs.Prelude.{◌≡◌, ℕ, ◌+◌, ◌<◌, ◌≤◌, Bool, true, not, find, List, [], ◌∷◌, ◌++◌, length, slice_get, Option, Some, None, Err, ◌⊎◌}
-use Rattle.std.specs.List.{list_any, position}
+use Rattle.std.specs.Prelude.{◌≡◌, ℕ, ◌<◌, ◌≤◌, Bool, true, not, find, List, [], ◌∷◌, ◌++◌, length, slice_get, Option, Some, None, Err, ◌⊎◌}
+use Rattle.std.specs.List.{list_any, position, remove}
 use Rattle.dns_core.specs.declared.net_error.NetError.TheVariants as net
 use Rattle.server_core.specs.Servers.{Server}
 use Rattle.server_core.specs.Hearing.{changed_at}
@@ -20,7 +20,8 @@ use Rattle.server_pool.specs.declared.next_step.Doing.{Doing}
 use Rattle.server_pool.specs.declared.next_step.Doing.TheVariants as doing
 use Rattle.server_pool.specs.declared.next_step.RoundStep.{RoundStep}
 use Rattle.server_pool.specs.declared.next_step.RoundStep.TheVariants as given
-use Rattle.server_pool.specs.Rounds.{HeardEnd, ends_of, RoundsStand, IsAnswered, DecidesAt, IsEndOf, TakesRound, TakesBusy}
+use Rattle.server_pool.specs.Rounds.{HeardEnd, ends_of, RoundsStand, IsAnswered, DecidesAt, IsEndOf, TakesRound, TakesBusy, TakesInTime, Drops, IsSameRound}
+use Rattle.server_pool.specs.Cancelling.{ends_by_message, settled_table}
 
 -- no order of it is open
 abbrev pub is_idle : Sending → Bool
@@ -82,6 +83,10 @@ pub record HasOrdered (number now : ℕ) (table : List Server) (pool : List Cand
   pub sending : Sending
   pub idle : IsFirstIdle place sending old
   pub steps : StepsAt place number now table sending (Some order) new
+  pub others : remove new.sends.items place ≡ remove old.sends.items place
+  pub asks : new.phase ≡ phase.Asking
+  pub agenda : new.agenda ≡ old.agenda
+  pub round : IsSameRound old new
   pub stands : RoundsStand pool heard new
 
 -- it has ended so, and the lookup stands by that end too
@@ -95,36 +100,10 @@ pub record HasHeard (number now : ℕ) (table : List Server) (pool : List Candid
   pub ended : IsEndOf next h
   pub stands : RoundsStand pool (heard ++ h ∷ []) new
 
--- it takes its servers, or the deadline is reached
-pub record TakesInTime (now : ℕ) (old new : Rounds) (Taken : Type 0) : Type 0 where
-  pub in_time : now < old.start + old.timeout → Taken
-  pub late : old.start + old.timeout ≤ now → new.phase ≡ phase.Decided (Err net.Timeout) now
-
 -- a round begins where no send is under way, or after the sleep is over
 pub data BeginsRound (now : ℕ) (pool : List Candidate) (heard : List HeardEnd) (old new : Rounds) : Type 0 where
   due : old.phase ≡ phase.Asking → length old.sends.items ≡ 0 → TakesInTime now old new (TakesRound old new) → RoundsStand pool heard new → BeginsRound now pool heard old new
   woken : (until : ℕ) → old.phase ≡ phase.Asleep until → until ≤ now → TakesInTime now old new (TakesBusy old new) → RoundsStand pool heard new → BeginsRound now pool heard old new
-
--- it goes on: an end was heard, or a round began
-abbrev pub GoesOn : ℕ → ℕ → List Server → List Candidate → List HeardEnd → Rounds → Rounds → Type 0
-GoesOn number now table pool heard old new = ((h : HeardEnd) × HasHeard number now table pool heard old h new) ⊎ BeginsRound now pool heard old new
-
--- What a step tells of a lookup that stood by these ends, and how it stands then.
-abbrev pub Gives : ℕ → ℕ → List Server → List Candidate → List HeardEnd → Rounds → RoundStep → Rounds → Type 0
-Gives number now table pool heard old (given.Order order) new = HasOrdered number now table pool heard old order new
-Gives number now table pool heard old given.Waiting new = (old.phase ≡ phase.Asking) × (list_any (λ s. is_open s.send.stage) old.sends.items ≡ true) × (position is_idle old.sends.items ≡ None) × (new ≡ old)
-Gives number now table pool heard old (given.Asleep until) new = (old.phase ≡ phase.Asleep until) × (now < until) × (new ≡ old)
-Gives number now table pool heard old (given.Done answer) new = (at : ℕ) × IsAnswered pool (ends_of heard) old answer at × (old.phase ≡ phase.Decided answer at) × (new ≡ record old { phase = phase.Told })
-Gives number now table pool heard old given.Told new = (old.phase ≡ phase.Told) × (new ≡ old)
-
--- what one step is: it gives something, or goes on
-abbrev pub NextStands : ℕ → ℕ → List Server → List Candidate → List HeardEnd → Rounds → Option RoundStep → Rounds → Type 0
-NextStands number now table pool heard old None new = GoesOn number now table pool heard old new
-NextStands number now table pool heard old (Some step) new = Gives number now table pool heard old step new
-
--- Where memory is wanting, the same step is still to be made, or an end was heard and the next round is to begin.
-abbrev pub IsHalted : ℕ → ℕ → List Server → List Candidate → List HeardEnd → Rounds → Rounds → Type 0
-IsHalted number now table pool heard old new = RoundsStand pool heard new ⊎ ((h : HeardEnd) × HasHeard number now table pool heard old h new)
 
 -- the send that is to step next, while the lookup asks
 abbrev pub stepping : Phase → List Sending → Option Sending
@@ -145,14 +124,41 @@ stepped_table r table = changed_for after_step (stepping r.phase r.sends.items) 
 abbrev pub halted_table : Rounds → List Server → List Server
 halted_table r table = changed_for after_want (stepping r.phase r.sends.items) table
 
+-- what it does where the step hears an end
+abbrev pub told_table : ℕ → Rounds → HeardEnd → Rounds → List Server → List Server
+told_table now old h new table = settled_table now (ends_by_message old.agenda.off h.end.outcome) new (stepped_table old table)
+
+-- it goes on: an end was heard, or a round began
+abbrev pub GoesOn : ℕ → ℕ → List Server → List Candidate → List HeardEnd → Rounds → List Server → Rounds → Type 0
+GoesOn number now table pool heard old later new =
+    ((h : HeardEnd) × (x : HasHeard number now table pool heard old h new) × Drops now x.place x.next old new × (later ≡ told_table now old h new table))
+    ⊎ (BeginsRound now pool heard old new × (later ≡ stepped_table old table))
+
+-- What a step tells of a lookup that stood by these ends, and how it stands then.
+abbrev pub Gives : ℕ → ℕ → List Server → List Candidate → List HeardEnd → Rounds → RoundStep → Rounds → Type 0
+Gives number now table pool heard old (given.Order order) new = HasOrdered number now table pool heard old order new
+Gives number now table pool heard old given.Waiting new = (old.phase ≡ phase.Asking) × (list_any (λ s. is_open s.send.stage) old.sends.items ≡ true) × (position is_idle old.sends.items ≡ None) × (new ≡ old)
+Gives number now table pool heard old (given.Asleep until) new = (old.phase ≡ phase.Asleep until) × (now < until) × (new ≡ old)
+Gives number now table pool heard old (given.Done answer) new = (at : ℕ) × IsAnswered pool (ends_of heard) old answer at × (old.phase ≡ phase.Decided answer at) × (new ≡ record old { phase = phase.Told })
+Gives number now table pool heard old given.Told new = (old.phase ≡ phase.Told) × (new ≡ old)
+
+-- what one step is: it gives something, or goes on
+abbrev pub NextStands : ℕ → ℕ → List Server → List Candidate → List HeardEnd → Rounds → Option RoundStep → List Server → Rounds → Type 0
+NextStands number now table pool heard old None later new = GoesOn number now table pool heard old later new
+NextStands number now table pool heard old (Some step) later new = Gives number now table pool heard old step new × (later ≡ stepped_table old table)
+
+-- Where memory is wanting, the same step is still to be made, or an end was heard and the next round is to begin.
+abbrev pub IsHalted : ℕ → ℕ → List Server → List Candidate → List HeardEnd → Rounds → Rounds → Type 0
+IsHalted number now table pool heard old new = RoundsStand pool heard new ⊎ ((h : HeardEnd) × HasHeard number now table pool heard old h new)
+
 -- ---- the steps of a moment
 
 -- The steps that a lookup made at a moment, from where it stood by these ends: by which ends it stands then, and the table and the lookup.
 pub data HasGone (number now : ℕ) (pool : List Candidate) (first : List HeardEnd) (table : List Server) (old : Rounds) : List HeardEnd → List Server → Rounds → Type 0 where
   stayed : HasGone number now pool first table old first table old
   heard : (known : List HeardEnd) (before : List Server) (mid : Rounds) (h : HeardEnd) (new : Rounds)
-      → HasGone number now pool first table old known before mid → HasHeard number now before pool known mid h new
-      → HasGone number now pool first table old (known ++ h ∷ []) (stepped_table mid before) new
+      → HasGone number now pool first table old known before mid → (x : HasHeard number now before pool known mid h new) → Drops now x.place x.next mid new
+      → HasGone number now pool first table old (known ++ h ∷ []) (told_table now mid h new before) new
   began : (known : List HeardEnd) (before : List Server) (mid new : Rounds)
       → HasGone number now pool first table old known before mid → BeginsRound now pool known mid new
       → HasGone number now pool first table old known (stepped_table mid before) new

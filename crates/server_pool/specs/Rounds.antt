@@ -1,7 +1,8 @@
 -- How a lookup stands between its steps.
-use Rattle.std.specs.Prelude.{◌≡◌, ℕ, ◌+◌, ◌-◌, ◌*◌, ◌≤◌, ◌<◌, Bool, true, false, if◌then◌else◌, min, max, filter, take, drop, ◌==◌, ◌&&◌, ◌||◌, not, IsTrue, List, [], ◌∷◌, ◌++◌, map, length, slice_get, ◌⊎◌, Option, Some, None}
-use Rattle.std.specs.List.{position, filter_map}
+use Rattle.std.specs.Prelude.{◌≡◌, ℕ, ◌+◌, ◌-◌, ◌*◌, ◌≤◌, ◌<◌, Bool, true, false, if◌then◌else◌, min, max, filter, take, drop, ◌==◌, ◌&&◌, ◌||◌, not, IsTrue, List, [], ◌∷◌, ◌++◌, map, length, slice_get, Err, ◌⊎◌, Option, Some, None}
+use Rattle.std.specs.List.{position, filter_map, remove}
 use Rattle.dns_core.specs.declared.request.DnsRequest.{DnsRequest}
+use Rattle.dns_core.specs.declared.net_error.NetError.TheVariants.{Timeout}
 use Rattle.resolution.specs.Lookups.{Answered, End, PoolRun}
 use Rattle.server_pool.specs.declared.candidate.Candidate.{Candidate}
 use Rattle.server_pool.specs.declared.rounds.Sending.{Sending}
@@ -16,6 +17,7 @@ use Rattle.server_core.specs.declared.order.Outcome.{Outcome}
 use Rattle.server_core.specs.declared.server_send.ServerSend.{ServerSend}
 use Rattle.server_core.specs.declared.server_send.Stage.{Stage}
 use Rattle.server_core.specs.declared.server_send.Stage.TheVariants as stage
+use Rattle.server_pool.specs.Cancelling.{ends_by_message, settled_table}
 use Rattle.server_pool.specs.Agenda.{Plan, may_ask, rules_of, class_of_sent, end_at, may_sleep, sleep_time, PlanStands}
 
 -- the servers of the sends that have not ended
@@ -71,9 +73,16 @@ IsDecidedAt now Told = Unit {0}
 abbrev pub DecidesAt : ℕ → Phase → Phase → Type 0
 DecidesAt now old new = (new ≡ old) ⊎ IsDecidedAt now new
 
--- the entries that are kept
+-- the entries of the ends are the same, and so are the round and the servers that ended in it
 pub record IsSameRound (old new : Rounds) : Type 0 where
   pub ends : new.ends.items ≡ old.ends.items
+  pub began : new.began ≡ old.began
+  pub ended : new.ended.items ≡ old.ended.items
+
+-- a round began at this moment, and no server has ended in it
+pub record IsNewRound (now : ℕ) (r : Rounds) : Type 0 where
+  pub began : r.began ≡ now
+  pub ended : r.ended.items ≡ []
 
 -- a number, if there is one
 abbrev pub listed : Option ℕ → List ℕ
@@ -135,6 +144,37 @@ pub record TakesBusy (old new : Rounds) : Type 0 where
   pub sends : new.sends.items ≡ map (fresh_send old) (take (max old.together 1) (allowed (woken old.agenda)))
   pub waiting : allowed new.agenda ≡ drop (max old.together 1) (allowed (woken old.agenda))
   pub sleeps : new.agenda.sleeps ≡ old.agenda.sleeps + 1
+
+-- it takes its servers, or the deadline is reached
+pub record TakesInTime (now : ℕ) (old new : Rounds) (Taken : Type 0) : Type 0 where
+  pub in_time : now < old.start + old.timeout → Taken
+  pub round : now < old.start + old.timeout → IsNewRound now new
+  pub late : old.start + old.timeout ≤ now → new.phase ≡ Decided (Err Timeout) now
+
+-- where no send is left, the next round begins; else nothing changes
+pub record GoesOnFrom (now : ℕ) (old new : Rounds) : Type 0 where
+  pub due : old.phase ≡ Asking → length old.sends.items ≡ 0 → TakesInTime now old new (TakesRound old new)
+  pub rests : (old.phase ≡ Asking → length old.sends.items ≡ 0 → ⊥) → new ≡ old
+
+-- The send at a place is gone with its end, its server has ended in the round, and then the next one begins, if it is due.
+pub record Drops (now place : ℕ) (s : Sending) (old new : Rounds) : Type 0 where
+  pub mid : Rounds
+  pub sends : mid.sends.items ≡ remove old.sends.items place
+  pub began : mid.began ≡ old.began
+  pub ended : mid.ended.items ≡ old.ended.items ++ s.send.server ∷ []
+  pub goes_on : GoesOnFrom now mid new
+
+-- no end was heard, and no round began
+pub record IsStill (old new : Rounds) : Type 0 where
+  pub sends : new.sends.items ≡ old.sends.items
+  pub agenda : new.agenda ≡ old.agenda
+  pub phase : new.phase ≡ old.phase
+  pub round : IsSameRound old new
+
+-- what becomes of the table and the lookup where the send at a place has ended so, if it has
+abbrev pub SettlesAt : Option Answered → ℕ → ℕ → Sending → List Server → Rounds → List Server → Rounds → Type 0
+SettlesAt None now place s table old later new = IsStill old new × (later ≡ table)
+SettlesAt (Some o) now place s table old later new = Drops now place s old new × (later ≡ settled_table now (ends_by_message old.agenda.off o) new table)
 
 -- the table after the outcome of a send's order was heard at its server
 abbrev pub heard_table : Sending → ℕ → Outcome → List Server → List Server
@@ -199,6 +239,7 @@ pub record IsFed (s : Sending) (place : ℕ) (outcome : Outcome) (r : Rounds) : 
 -- a send to the same server is at the place
 pub record IsStillAt (s : Sending) (place : ℕ) (r : Rounds) : Type 0 where
   pub next : ServerSend
+  pub server : next.server ≡ s.send.server
   pub there : slice_get r.sends.items place ≡ Some (record s { send = next })
 
 -- it stands by the ends that there were, and by the end of a send to the server, if there is one, by this entry
@@ -215,3 +256,12 @@ pub record StandsBy (s : Sending) (outcome : Outcome) (pool : List Candidate) (h
 -- It stands by the ends that there were, or by these and one more.
 abbrev pub StandsStill : List Candidate → List HeardEnd → (HeardEnd → Type 0) → Rounds → Type 0
 StandsStill pool heard IsNew r = RoundsStand pool heard r ⊎ ((h : HeardEnd) × IsNew h × RoundsStand pool (heard ++ h ∷ []) r)
+
+-- The send at a place took the outcome of its order, and where that ended it, the end was heard.
+pub record HasTaken (now place : ℕ) (s : Sending) (outcome : Outcome) (table : List Server) (old : Rounds) (later : List Server) (new : Rounds) : Type 0 where
+  pub mid : Rounds
+  pub fed : IsFed s place outcome mid
+  pub others : remove mid.sends.items place ≡ remove old.sends.items place
+  pub agenda : mid.agenda ≡ old.agenda
+  pub round : IsSameRound old mid
+  pub settles : SettlesAt (end_of fed.next.stage) now place (record s { send = fed.next; ended_by = ended_by_of fed.next.stage (entry_of outcome) }) (heard_table s now outcome table) mid later new

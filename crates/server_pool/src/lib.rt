@@ -5,6 +5,7 @@
 mod agenda;
 mod agenda_laws;
 mod answer_filter;
+mod cancelling;
 mod candidate;
 mod candidates;
 mod carrier;

@@ -1,6 +1,6 @@
 //! The next step of a lookup: an order of one of its sends, or why there is none.
 ghost use Rattle.std.specs.Prelude.{◌≡◌, ◌<◌, ℕ, ◌↔◌, List, length, slice_get, find, None, Some, Ok, IfOk, OnOk, OnErr, IsTrue};
-ghost use Rattle.std.specs.List.{position};
+ghost use Rattle.std.specs.List.{position, remove};
 ghost use Rattle.resolution.specs.Lookups.{Answered, End};
 ghost use Rattle.server_core.specs.declared.order.Order.{Order};
 ghost use Rattle.server_core.specs.Servers.{Server};
@@ -8,8 +8,8 @@ ghost use Rattle.server_core.specs.Sending.{end_of, after_step, after_want};
 ghost use Rattle.server_core.specs.Hearing.{changed_at};
 ghost use Rattle.server_pool.specs.declared.candidate.Candidate.{Candidate};
 ghost use Rattle.server_pool.specs.declared.rounds.Sending.{Sending};
-ghost use Rattle.server_pool.specs.Rounds.{Goes, HeardEnd, RoundsStand, IsSameRound, DecidesAt, IsSameLookup, steps_left, IsEndOf, StandsAtEnd, StandsStill, CanWake};
-ghost use Rattle.server_pool.specs.NextStep.{is_idle, IsTaken, Steps, StepsAt, Tells, doing_of, IsFirstIdle, NextStands, IsHalted, changed_for, stepped_table, halted_table, HasGiven, HasHalted};
+ghost use Rattle.server_pool.specs.Rounds.{Goes, HeardEnd, RoundsStand, IsSameRound, DecidesAt, SettlesAt, IsSameLookup, steps_left, IsEndOf, StandsAtEnd, StandsStill, CanWake};
+ghost use Rattle.server_pool.specs.NextStep.{is_idle, IsTaken, Steps, StepsAt, Tells, doing_of, IsFirstIdle, NextStands, IsHalted, changed_for, halted_table, HasGiven, HasHalted};
 
 use crate::rounds::{Phase, Rounds, Sending};
 use dns_core::{Message, NetError, NoMemory};
@@ -115,6 +115,7 @@ impl Rounds {
         ensures phase { self.new.phase ≡ self.old.phase }
         ensures steps { (s : Sending) → slice_get self.old.sends.items place ≡ Some s → IfOk result (λ made. StepsAt place number tick.now table.old s made self.new) }
         ensures sends { length self.new.sends.items ≡ length self.old.sends.items }
+        ensures others { remove self.new.sends.items place ≡ remove self.old.sends.items place }
         ensures agenda { self.new.agenda ≡ self.old.agenda }
         ensures table { (s : Sending) → slice_get self.old.sends.items place ≡ Some s → OnOk result (table.new ≡ changed_for after_step (Some s) table.old) }
         ensures want { (s : Sending) → slice_get self.old.sends.items place ≡ Some s → OnErr result (table.new ≡ changed_for after_want (Some s) table.old) }
@@ -132,13 +133,14 @@ impl Rounds {
     fn after_send(
         &mut self,
         alloc: Global,
+        table: &mut ServerTable,
         place: usize,
         made: Option<Order>,
         now: u64,
     ) -> Result<Option<RoundStep>, NoMemory>
         requires place { place < length self.old.sends.items }
         requires asks { self.old.phase ≡ Phase.Asking }
-        ensures order { (order : Order) → made ≡ Some order → (result ≡ Ok (Some (RoundStep.Order order))) × (self.new ≡ self.old) }
+        ensures order { (order : Order) → made ≡ Some order → (result ≡ Ok (Some (RoundStep.Order order))) × (self.new ≡ self.old) × (table.new ≡ table.old) }
         ensures goes_on { made ≡ None → IfOk result (λ step. step ≡ None) }
         ensures stands { made ≡ None → (pool : List Candidate) (heard : List HeardEnd) (s : Sending) → slice_get self.old.sends.items place ≡ Some s → RoundsStand pool heard self.old
             → OnOk result (StandsAtEnd s.candidate (end_of s.send.stage) s.ended_by pool heard self.new) }
@@ -146,12 +148,15 @@ impl Rounds {
             → OnErr result (StandsStill pool heard (IsEndOf s) self.new) }
         ensures falls { made ≡ None → (s : Sending) (o : Answered) → slice_get self.old.sends.items place ≡ Some s → end_of s.send.stage ≡ Some o → OnOk result (steps_left self.new < steps_left self.old) }
         ensures same { IsSameLookup self.old self.new }
+        ensures settles { made ≡ None → (s : Sending) → slice_get self.old.sends.items place ≡ Some s → OnOk result (SettlesAt (end_of s.send.stage) now place s table.old self.old table.new self.new) }
+        ensures err { OnErr result (table.new ≡ table.old) }
+        ensures count { length table.new ≡ length table.old }
         ensures decides { DecidesAt now self.old.phase self.new.phase }
     {
         match made {
             Some(order) => Ok(Some(RoundStep::Order(order))),
             None => {
-                self.end(alloc, place, now)?;
+                self.end(alloc, table, place, now)?;
                 Ok(None)
             }
         }
@@ -169,18 +174,17 @@ impl Rounds {
         requires place { place < length self.old.sends.items }
         requires asks { self.old.phase ≡ Phase.Asking }
         ensures stands { (pool : List Candidate) (heard : List HeardEnd) (s : Sending) → IsFirstIdle place s self.old → RoundsStand pool heard self.old
-            → IfOk result (λ step. NextStands number tick.now table.old pool heard self.old step self.new) }
+            → IfOk result (λ step. NextStands number tick.now table.old pool heard self.old step table.new self.new) }
         ensures want { (pool : List Candidate) (heard : List HeardEnd) (s : Sending) → IsFirstIdle place s self.old → RoundsStand pool heard self.old
             → OnErr result (IsHalted number tick.now table.old pool heard self.old self.new) }
         ensures same { IsSameLookup self.old self.new }
         ensures decides { DecidesAt tick.now self.old.phase self.new.phase }
         ensures falls { IfOk result (λ step. step ≡ None → steps_left self.new < steps_left self.old) }
-        ensures table { (s : Sending) → IsFirstIdle place s self.old → OnOk result (table.new ≡ changed_for after_step (Some s) table.old) }
         ensures halted { (s : Sending) → IsFirstIdle place s self.old → OnErr result (table.new ≡ changed_for after_want (Some s) table.old) }
         ensures count { length table.new ≡ length table.old }
     {
         let made = self.step_send(alloc, table, place, number, tick)?;
-        self.after_send(alloc, place, made, tick.now)
+        self.after_send(alloc, table, place, made, tick.now)
     }
 
     /// Where an order of each send is open: waits for one of them. Where no send is left, the next round
@@ -189,7 +193,7 @@ impl Rounds {
         requires asks { self.old.phase ≡ Phase.Asking }
         requires open { position is_idle self.old.sends.items ≡ None }
         ensures stands { (number : ℕ) (table : List Server) (pool : List Candidate) (heard : List HeardEnd) → RoundsStand pool heard self.old
-            → IfOk result (λ step. NextStands number now table pool heard self.old step self.new) }
+            → IfOk result (λ step. NextStands number now table pool heard self.old step table self.new) }
         ensures want { (pool : List Candidate) (heard : List HeardEnd) → RoundsStand pool heard self.old → OnErr result (RoundsStand pool heard self.new) }
         ensures same { IsSameLookup self.old self.new }
         ensures decides { DecidesAt now self.old.phase self.new.phase }
@@ -213,13 +217,12 @@ impl Rounds {
     ) -> Result<Option<RoundStep>, NoMemory>
         requires asks { self.old.phase ≡ Phase.Asking }
         ensures stands { (pool : List Candidate) (heard : List HeardEnd) → RoundsStand pool heard self.old
-            → IfOk result (λ step. NextStands number tick.now table.old pool heard self.old step self.new) }
+            → IfOk result (λ step. NextStands number tick.now table.old pool heard self.old step table.new self.new) }
         ensures want { (pool : List Candidate) (heard : List HeardEnd) → RoundsStand pool heard self.old
             → OnErr result (IsHalted number tick.now table.old pool heard self.old self.new) }
         ensures same { IsSameLookup self.old self.new }
         ensures decides { DecidesAt tick.now self.old.phase self.new.phase }
         ensures falls { IfOk result (λ step. step ≡ None → steps_left self.new < steps_left self.old) }
-        ensures table { OnOk result (table.new ≡ changed_for after_step (find is_idle self.old.sends.items) table.old) }
         ensures halted { OnErr result (table.new ≡ changed_for after_want (find is_idle self.old.sends.items) table.old) }
         ensures count { length table.new ≡ length table.old }
     {
@@ -240,7 +243,7 @@ impl Rounds {
     fn sleep(&mut self, alloc: Global, until: u64, now: u64) -> Result<Option<RoundStep>, NoMemory>
         requires sleeps { self.old.phase ≡ Phase.Asleep until }
         ensures stands { (number : ℕ) (table : List Server) (pool : List Candidate) (heard : List HeardEnd) → RoundsStand pool heard self.old
-            → IfOk result (λ step. NextStands number now table pool heard self.old step self.new) }
+            → IfOk result (λ step. NextStands number now table pool heard self.old step table self.new) }
         ensures want { (pool : List Candidate) (heard : List HeardEnd) → RoundsStand pool heard self.old → OnErr result (RoundsStand pool heard self.new) }
         ensures sleeps { now < until → (result ≡ Ok (Some (RoundStep.Asleep until))) × (self.new ≡ self.old) }
         ensures same { IsSameLookup self.old self.new }
@@ -276,13 +279,12 @@ impl Rounds {
         tick: Tick,
     ) -> Result<Option<RoundStep>, NoMemory>
         ensures stands { (pool : List Candidate) (heard : List HeardEnd) → RoundsStand pool heard self.old
-            → IfOk result (λ step. NextStands number tick.now table.old pool heard self.old step self.new) }
+            → IfOk result (λ step. NextStands number tick.now table.old pool heard self.old step table.new self.new) }
         ensures want { (pool : List Candidate) (heard : List HeardEnd) → RoundsStand pool heard self.old
             → OnErr result (IsHalted number tick.now table.old pool heard self.old self.new) }
         ensures same { IsSameLookup self.old self.new }
         ensures decides { DecidesAt tick.now self.old.phase self.new.phase }
         ensures falls { IfOk result (λ step. step ≡ None → steps_left self.new < steps_left self.old) }
-        ensures table { OnOk result (table.new ≡ stepped_table self.old table.old) }
         ensures halted { OnErr result (table.new ≡ halted_table self.old table.old) }
         ensures count { length table.new ≡ length table.old }
     {

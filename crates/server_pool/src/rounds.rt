@@ -1,7 +1,7 @@
 //! The rounds of one lookup at a pool: some servers are asked side by side, and when all of them have
 //! ended, the next ones, until an end decides the lookup, no server is left, or its time is over.
-ghost use Rattle.std.specs.Prelude.{vec_len, vec_capacity, ◌≡◌, ◌≤◌, ◌<◌, ◌+◌, ◌-◌, ◌^◌, ℕ, nat_le, min, [], ◌∷◌, ◌++◌, List, true, false, length, slice_get, map, take, Some, None, Ok, Err, IfOk, IfSome, OnOk, OnErr, IsTrue, ◌↔◌, ◌==◌, ◌&&◌, ◌⊎◌};
-ghost use Rattle.std.specs.List.{position};
+ghost use Rattle.std.specs.Prelude.{vec_len, vec_capacity, ◌≡◌, ◌≤◌, ◌<◌, ◌+◌, ◌-◌, ◌^◌, ℕ, nat_le, min, [], ◌∷◌, ◌++◌, List, true, false, length, slice_get, map, take, Some, None, Ok, Err, IfOk, IfSome, IfNone, OnOk, OnErr, IsTrue, ◌↔◌, ◌==◌, ◌&&◌, ◌⊎◌};
+ghost use Rattle.std.specs.List.{position, remove};
 ghost use Rattle.resolution.specs.Lookups.{Answered, End};
 ghost use Rattle.server_core.specs.Order.{entry_of};
 ghost use Rattle.server_core.specs.Sending.{is_open, end_of, after_put, Comes};
@@ -9,15 +9,16 @@ ghost use Rattle.server_pool.specs.declared.candidate.Candidate.{Candidate};
 ghost use Rattle.server_pool.specs.declared.rounds.Sending.{Sending};
 ghost use Rattle.server_pool.specs.Agenda.{may_sleep, sleep_time, end_at};
 ghost use Rattle.server_pool.specs.Ordering.{side_by_side};
-ghost use Rattle.server_pool.specs.Rounds.{Goes, PhaseStands, RoundsStand, HeardEnd, listed, ended_by_of, IsDecidedAt, DecidesAt, IsSameRound, IsSameLookup, MayBeLate, IsFed, IsOpenAt, IsStillAt, IsEndOf, HasEnded, StandsAtEnd, StandsBy, StandsStill, wakes_at, work, steps_left, first_send, Takes, TakesRound, TakesBusy, heard_table};
+ghost use Rattle.server_pool.specs.Rounds.{Goes, PhaseStands, RoundsStand, HeardEnd, listed, ended_by_of, IsDecidedAt, DecidesAt, IsSameRound, IsNewRound, SettlesAt, HasTaken, IsSameLookup, MayBeLate, IsFed, IsOpenAt, IsStillAt, IsEndOf, HasEnded, StandsAtEnd, StandsBy, StandsStill, wakes_at, work, steps_left, first_send, Takes, TakesRound, TakesBusy, heard_table};
 
 use crate::agenda::Agenda;
+use crate::cancelling::ends_by_message;
 use crate::candidate::{Candidate, Hearing};
 use crate::ordering::side_by_side;
 use dns_core::{DnsRequest, Message, NetError, NoMemory, TryClone};
 use resolver_settings::ResolverOpts;
 use server_core::{After, ConnectionPolicy, Outcome, ServerSend, ServerTable, Stage, Tick};
-use std::alloc::{AllocError, Global};
+use std::alloc::Global;
 
 /// A send to a server whose end was not heard yet: `order` is the number of its last order, 0 before
 /// the first, and `ended_by` that of the log entry that ended it, where one did.
@@ -45,8 +46,8 @@ pub enum Phase {
 }
 
 /// A lookup: its request, how many servers it asks side by side, its time and when it began, in
-/// microseconds, what is still to be asked, the sends whose ends were not heard yet, and by which log
-/// entries those came that were.
+/// microseconds, what is still to be asked, the sends whose ends were not heard yet, by which log entries
+/// those came that were, when the round began, and the servers whose sends have ended in it.
 #[derive(Drop, Debug)]
 pub struct Rounds {
     pub request: DnsRequest,
@@ -56,6 +57,8 @@ pub struct Rounds {
     pub agenda: Agenda,
     pub sends: Vec<Sending>,
     pub ends: Vec<u64>,
+    pub began: u64,
+    pub ended: Vec<u32>,
     pub phase: Phase,
 }
 
@@ -78,6 +81,18 @@ fn keep(ends: &mut Vec<u64>, entry: Option<u64>)
     if let Some(entry) = entry {
         ends.push_reserved(entry);
     }
+}
+
+/// Makes room for one end more.
+fn make_room(ends: &mut Vec<u64>, ended: &mut Vec<u32>) -> Result<(), NoMemory>
+    ensures ends { ends.new.items ≡ ends.old.items }
+    ensures ended { ended.new.items ≡ ended.old.items }
+    ensures one { OnOk result (vec_len ends.new < vec_capacity ends.new) }
+    ensures other { OnOk result (vec_len ended.new < vec_capacity ended.new) }
+{
+    ends.reserve(1)?;
+    ended.reserve(1)?;
+    Ok(())
 }
 
 /// By which entry a send ended that stands so after the outcome that the entry says, if it did.
@@ -245,6 +260,7 @@ impl Rounds {
         ensures stands { (pool : List Candidate) (ends : List (End Candidate)) → Goes pool ends self.old → MayBeLate ends self.old now → OnOk result (PhaseStands pool ends self.new) }
         ensures want { (pool : List Candidate) (ends : List (End Candidate)) → Goes pool ends self.old → OnErr result (Goes pool ends self.new) }
         ensures same { IsSameLookup self.old self.new }
+        ensures round { now < self.old.start + self.old.timeout → IsNewRound now self.new }
         ensures ends { self.new.ends.items ≡ self.old.ends.items }
         ensures decides { DecidesAt now self.old.phase self.new.phase }
         ensures takes { now < self.old.start + self.old.timeout → OnOk result (TakesRound self.old self.new) }
@@ -260,6 +276,8 @@ impl Rounds {
             };
             return Ok(());
         }
+        self.began = now;
+        self.ended.clear();
         self.send_all(alloc)?;
         self.settle(now);
         Ok(())
@@ -290,6 +308,8 @@ impl Rounds {
             agenda: Agenda::new(alloc, pool)?,
             sends: Vec::new(alloc),
             ends: Vec::new(alloc),
+            began: now,
+            ended: Vec::new(alloc),
             phase: Phase::Asking,
         };
         rounds.begin(alloc, now)?;
@@ -303,6 +323,7 @@ impl Rounds {
         requires sends { length self.old.sends.items ≡ 0 }
         ensures stands { (pool : List Candidate) (ends : List (End Candidate)) → Goes pool ends self.old → (ends ≡ [] → ⊥) → PhaseStands pool ends self.new }
         ensures same { IsSameLookup self.old self.new }
+        ensures round { now < self.old.start + self.old.timeout → IsNewRound now self.new }
         ensures ends { self.new.ends.items ≡ self.old.ends.items }
         ensures decides { DecidesAt now self.old.phase self.new.phase }
         ensures takes { now < self.old.start + self.old.timeout → OnOk result (TakesBusy self.old self.new) }
@@ -346,27 +367,33 @@ impl Rounds {
         ensures ends { (s : Sending) → slice_get self.old.sends.items place ≡ Some s → OnOk result (self.new.ends.items ≡ self.old.ends.items ++ listed s.ended_by) }
         ensures kept { OnErr result (self.new.ends.items ≡ self.old.ends.items) }
         ensures same { IsSameLookup self.old self.new }
+        ensures sends { OnOk result (self.new.sends.items ≡ remove self.old.sends.items place) }
+        ensures began { self.new.began ≡ self.old.began }
+        ensures ended { (s : Sending) → slice_get self.old.sends.items place ≡ Some s → OnOk result (self.new.ended.items ≡ self.old.ended.items ++ s.send.server ∷ []) }
         ensures decides { DecidesAt now self.old.phase self.new.phase }
         ensures work { OnOk result (work self.new < work self.old) }
         ensures phase { OnErr result (self.new.phase ≡ self.old.phase) }
         ensures count { OnErr result (length self.new.sends.items ≡ length self.old.sends.items) }
     {
-        if let Err(AllocError) = self.ends.reserve(1) {
+        if let Err(NoMemory) = make_room(&mut self.ends, &mut self.ended) {
             self.give_back(place, outcome);
             return Err(NoMemory);
         }
         let ended = &self.sends[place];
         let candidate = ended.candidate;
         let ended_by = ended.ended_by;
+        let server = ended.send.server;
         match self.agenda.hear(candidate, outcome, &self.request.query) {
             Hearing::GoesOn => {
                 self.sends.remove(place);
                 keep(&mut self.ends, ended_by);
+                self.ended.push_reserved(server);
                 Ok(())
             }
             Hearing::Answers(answer) => {
                 self.sends.remove(place);
                 keep(&mut self.ends, ended_by);
+                self.ended.push_reserved(server);
                 self.phase = Phase::Decided { answer, at: now };
                 Ok(())
             }
@@ -413,6 +440,9 @@ impl Rounds {
         ensures fed { (s : Sending) → slice_get self.old.sends.items place ≡ Some s → IsTrue (is_open s.send.stage) → s.send.server < length table.old
             → OnOk result (IsFed s place outcome self.new) }
         ensures count { length self.new.sends.items ≡ length self.old.sends.items }
+        ensures others { remove self.new.sends.items place ≡ remove self.old.sends.items place }
+        ensures agenda { self.new.agenda ≡ self.old.agenda }
+        ensures past { (s : Sending) → slice_get self.old.sends.items place ≡ Some s → length table.old ≤ s.send.server → (table.new ≡ table.old) × (slice_get self.new.sends.items place ≡ Some s) }
         ensures servers { length table.new ≡ length table.old }
     {
         let sending = &mut self.sends[place];
@@ -431,8 +461,10 @@ impl Rounds {
         ensures agenda { self.new.agenda ≡ self.old.agenda }
         ensures phase { self.new.phase ≡ self.old.phase }
         ensures count { length self.new.sends.items ≡ length self.old.sends.items }
+        ensures others { remove self.new.sends.items place ≡ remove self.old.sends.items place }
         ensures end { (s : Sending) → slice_get self.old.sends.items place ≡ Some s → result ≡ end_of s.send.stage }
         ensures there { (s : Sending) → slice_get self.old.sends.items place ≡ Some s → IsStillAt s place self.new }
+        ensures none { IfNone result (self.new.sends.items ≡ self.old.sends.items) }
     {
         let sending = &mut self.sends[place];
         sending.send.take_end()
@@ -442,6 +474,7 @@ impl Rounds {
     pub(crate) fn go_on(&mut self, alloc: Global, now: u64) -> Result<(), NoMemory>
         ensures stands { (pool : List Candidate) (ends : List (End Candidate)) → (ends ≡ [] → ⊥) → PhaseStands pool ends self.old → PhaseStands pool ends self.new }
         ensures same { IsSameLookup self.old self.new }
+        ensures round { self.old.phase ≡ Phase.Asking → length self.old.sends.items ≡ 0 → now < self.old.start + self.old.timeout → IsNewRound now self.new }
         ensures ends { self.new.ends.items ≡ self.old.ends.items }
         ensures decides { DecidesAt now self.old.phase self.new.phase }
         ensures begins { self.old.phase ≡ Phase.Asking → length self.old.sends.items ≡ 0 → now < self.old.start + self.old.timeout → OnOk result (TakesRound self.old self.new) }
@@ -457,8 +490,15 @@ impl Rounds {
         }
     }
 
-    /// Hears the end of the send at a place, if it has ended, and goes on.
-    pub(crate) fn end(&mut self, alloc: Global, place: usize, now: u64) -> Result<(), NoMemory>
+    /// Hears the end of the send at a place, if it has ended, and goes on. Where a message ended the
+    /// lookup, servers of the round that have not ended count as slower.
+    pub(crate) fn end(
+        &mut self,
+        alloc: Global,
+        table: &mut ServerTable,
+        place: usize,
+        now: u64,
+    ) -> Result<(), NoMemory>
         requires place { place < length self.old.sends.items }
         requires asks { self.old.phase ≡ Phase.Asking }
         ensures stands { (pool : List Candidate) (heard : List HeardEnd) (s : Sending) → slice_get self.old.sends.items place ≡ Some s → RoundsStand pool heard self.old
@@ -466,13 +506,19 @@ impl Rounds {
         ensures want { (pool : List Candidate) (heard : List HeardEnd) (s : Sending) → slice_get self.old.sends.items place ≡ Some s → RoundsStand pool heard self.old
             → OnErr result (StandsStill pool heard (IsEndOf s) self.new) }
         ensures same { IsSameLookup self.old self.new }
+        ensures settles { (s : Sending) → slice_get self.old.sends.items place ≡ Some s → OnOk result (SettlesAt (end_of s.send.stage) now place s table.old self.old table.new self.new) }
+        ensures err { OnErr result (table.new ≡ table.old) }
+        ensures servers { length table.new ≡ length table.old }
         ensures decides { DecidesAt now self.old.phase self.new.phase }
         ensures falls { (s : Sending) (o : Answered) → slice_get self.old.sends.items place ≡ Some s → end_of s.send.stage ≡ Some o → OnOk result (steps_left self.new < steps_left self.old) }
     {
         match self.take_end(place) {
             Some(outcome) => {
+                let won = ends_by_message(self.agenda.policy(), &outcome);
                 self.hear(place, outcome, now)?;
-                self.go_on(alloc, now)
+                self.go_on(alloc, now)?;
+                self.settle_others(won, table, now);
+                Ok(())
             }
             None => Ok(()),
         }
@@ -497,12 +543,14 @@ impl Rounds {
             → s.send.server < length table.old → RoundsStand pool heard self.old → OnErr result (StandsStill pool heard (HasEnded s outcome) self.new) }
         ensures same { IsSameLookup self.old self.new }
         ensures decides { DecidesAt tick.now self.old.phase self.new.phase }
-        ensures heard { (s : Sending) → slice_get self.old.sends.items place ≡ Some s → OnOk result (table.new ≡ heard_table s tick.now outcome table.old) }
+        ensures settles { (s : Sending) → slice_get self.old.sends.items place ≡ Some s → IsTrue (is_open s.send.stage) → s.send.server < length table.old
+            → OnOk result (HasTaken tick.now place s outcome table.old self.old table.new self.new) }
+        ensures past { (s : Sending) → slice_get self.old.sends.items place ≡ Some s → IsTrue (is_open s.send.stage) → length table.old ≤ s.send.server → table.new ≡ table.old }
         ensures halted { (s : Sending) → slice_get self.old.sends.items place ≡ Some s → OnErr result ((table.new ≡ table.old) ⊎ (table.new ≡ heard_table s tick.now outcome table.old)) }
         ensures table { length table.new ≡ length table.old }
     {
         let after = self.feed(alloc, table, place, outcome, tick)?;
-        self.end(alloc, place, tick.now)?;
+        self.end(alloc, table, place, tick.now)?;
         Ok(after)
     }
 
@@ -540,7 +588,9 @@ impl Rounds {
             → (result ≡ Ok After.Late) × (self.new ≡ self.old) × (table.new ≡ table.old) }
         ensures same { IsSameLookup self.old self.new }
         ensures decides { DecidesAt tick.now self.old.phase self.new.phase }
-        ensures heard { (place : ℕ) (s : Sending) → IsOpenAt number place s self.old → OnOk result (table.new ≡ heard_table s tick.now outcome table.old) }
+        ensures settles { (place : ℕ) (s : Sending) → IsOpenAt number place s self.old → s.send.server < length table.old
+            → OnOk result (HasTaken tick.now place s outcome table.old self.old table.new self.new) }
+        ensures past { (place : ℕ) (s : Sending) → IsOpenAt number place s self.old → length table.old ≤ s.send.server → table.new ≡ table.old }
         ensures halted { (place : ℕ) (s : Sending) → IsOpenAt number place s self.old → OnErr result ((table.new ≡ table.old) ⊎ (table.new ≡ heard_table s tick.now outcome table.old)) }
         ensures table { length table.new ≡ length table.old }
     {

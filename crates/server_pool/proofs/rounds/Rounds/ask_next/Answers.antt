@@ -1,9 +1,9 @@
-use Rattle.std.proofs.Common.{◌≡◌, ◌∙◌, sym, subst, refl, Option, OnOk, OnErr, inl}
+use Rattle.std.proofs.Common.{◌≡◌, ◌∙◌, sym, subst, refl, Option, OnErr, inl}
 use Rattle.std.proofs.lemmas.Result.{on_err_weaker}
-use Rattle.server_core.specs.Sending.{after_step, after_want}
+use Rattle.server_core.specs.Sending.{after_want}
 use Rattle.server_pool.specs.declared.rounds.Sending.{Sending}
 use Rattle.server_pool.specs.NextStep.{is_idle, IsFirstIdle, changed_for}
-use Rattle.server_pool.proofs.Beginning.{on_ok_always, on_err_always}
+use Rattle.server_pool.proofs.Beginning.{on_err_always}
 use Rattle.server_pool.proofs.Stepping.{some_found, found_at, found_nowhere}
 use Rattle.server_pool.proofs.rounds.Rounds.ask_next.Goals as goal
 
@@ -23,15 +23,6 @@ returns-in-Some-clause-want c = λ pool heard st.
     let at : IsFirstIdle c.in-Some.place found.0 r = record { asks = c.requires.asks; first = first; there = found.1 } in
     c.step_at.ensures.want pool heard found.0 at st
 
-pub returns-in-Some-clause-table : goal.returns-in-Some-clause-table
-returns-in-Some-clause-table c =
-    let r = c.args.self.now in
-    let first = sym (sym c.in-Some.is ∙ c.idle_place.ensures) in
-    let found = some_found is_idle r.sends.items c.in-Some.place first in
-    let at : IsFirstIdle c.in-Some.place found.0 r = record { asks = c.requires.asks; first = first; there = found.1 } in
-    subst (λ (o : Option Sending). OnOk c.step_at.result (c.step_at.new.table ≡ changed_for after_step o c.args.table.now)) (sym (found_at is_idle r.sends.items c.in-Some.place found.0 first found.1))
-    (c.step_at.ensures.table found.0 at)
-
 pub returns-in-Some-clause-halted : goal.returns-in-Some-clause-halted
 returns-in-Some-clause-halted c =
     let r = c.args.self.now in
@@ -43,13 +34,6 @@ returns-in-Some-clause-halted c =
 
 pub returns-in-None-clause-want : goal.returns-in-None-clause-want
 returns-in-None-clause-want c = λ pool heard st. on_err_weaker c.wait.result (λ h. inl h) (c.wait.ensures.want pool heard st)
-
-pub returns-in-None-clause-table : goal.returns-in-None-clause-table
-returns-in-None-clause-table c =
-    let r = c.args.self.now in
-    let table = c.args.table.now in
-    let none = found_nowhere is_idle r.sends.items (sym (sym c.in-None.is ∙ c.idle_place.ensures)) in
-    on_ok_always c.wait.result (subst (λ (o : Option Sending). table ≡ changed_for after_step o table) (sym none) refl)
 
 pub returns-in-None-clause-halted : goal.returns-in-None-clause-halted
 returns-in-None-clause-halted c =

@@ -1,10 +1,14 @@
-use Rattle.std.proofs.Common.{◌≡◌, ◌∙◌, ℕ, List, ap, sym, inr, refl, [], ◌∷◌, ◌++◌}
-use Rattle.server_pool.specs.Rounds.{heard_at, ends_of, entries_of, listed, IsEndOf}
-use Rattle.server_pool.proofs.Beginning.{goes_now, stands_more, more_is_some, on_ok_always, on_err_always, at_some_end}
+use Rattle.std.proofs.Common.{◌≡◌, ◌∙◌, ℕ, List, ap, subst, sym, inr, refl, [], ◌∷◌, ◌++◌, Option}
+use Rattle.resolution.specs.Lookups.{Answered}
+use Rattle.server_core.specs.declared.policy.ConnectionPolicy.{ConnectionPolicy}
+use Rattle.server_pool.specs.Agenda.{Plan}
+use Rattle.server_pool.specs.Cancelling.{ends_by_message, settled_table}
+use Rattle.server_pool.specs.Rounds.{heard_at, ends_of, entries_of, listed, IsEndOf, SettlesAt, Drops, IsStill}
+use Rattle.server_pool.proofs.Beginning.{goes_now, stands_more, more_is_some, on_err_always, at_some_end}
 use Rattle.server_pool.proofs.rounds.Rounds.end.Goals as goal
 
-pub returns-in_ok-hear-in-Some-clause-stands : goal.returns-in_ok-hear-in-Some-clause-stands
-returns-in_ok-hear-in-Some-clause-stands c = λ pool heard s there st.
+pub returns-in_ok-go_on-in-Some-clause-stands : goal.returns-in_ok-go_on-in-Some-clause-stands
+returns-in_ok-go_on-in-Some-clause-stands c = λ pool heard s there st.
     let o = c.in-Some.outcome in
     let h = heard_at s.candidate o s.ended_by in
     let ends = ends_of heard in
@@ -15,10 +19,10 @@ returns-in_ok-hear-in-Some-clause-stands c = λ pool heard s there st.
     let entries : c.go_on.new.self.ends.items ≡ entries_of heard ++ listed s.ended_by =
     c.go_on.ensures.ends ∙ c.in_ok-hear-in-Some.ensures.ends (record s { send = still.next }) still.there
     ∙ ap (λ (l : List ℕ). l ++ listed s.ended_by) (c.take_end.ensures.round.ends ∙ st.entries) in
-    on_ok_always c.go_on.result (at_some_end s.candidate o _ s.ended_by pool heard c.go_on.new.self (sym c.in-Some.is ∙ c.take_end.ensures.end s there) (stands_more pool heard h c.go_on.new.self now entries))
+    at_some_end s.candidate o _ s.ended_by pool heard c.go_on.new.self (sym c.in-Some.is ∙ c.take_end.ensures.end s there) (stands_more pool heard h c.go_on.new.self now entries)
 
-pub returns-in_ok-hear-in-Some-clause-want : goal.returns-in_ok-hear-in-Some-clause-want
-returns-in_ok-hear-in-Some-clause-want c = λ pool heard s there st.
+pub returns-in_err-go_on-in-Some-clause-want : goal.returns-in_err-go_on-in-Some-clause-want
+returns-in_err-go_on-in-Some-clause-want c = λ pool heard s there st.
     let o = c.in-Some.outcome in
     let h = heard_at s.candidate o s.ended_by in
     let ends = ends_of heard in
@@ -30,4 +34,38 @@ returns-in_ok-hear-in-Some-clause-want c = λ pool heard s there st.
     c.go_on.ensures.ends ∙ c.in_ok-hear-in-Some.ensures.ends (record s { send = still.next }) still.there
     ∙ ap (λ (l : List ℕ). l ++ listed s.ended_by) (c.take_end.ensures.round.ends ∙ st.entries) in
     let is : IsEndOf s h = record { ended = sym (c.take_end.ensures.end s there) ∙ c.in-Some.is; at = refl; by = refl } in
-    on_err_always c.go_on.result (inr (h, is, stands_more pool heard h c.go_on.new.self now entries))
+    on_err_always c.from_residual-in_err-go_on-in-Some.result (inr (h, is, stands_more pool heard h c.go_on.new.self now entries))
+
+pub returns-in_ok-go_on-in-Some-clause-settles : goal.returns-in_ok-go_on-in-Some-clause-settles
+returns-in_ok-go_on-in-Some-clause-settles c = λ s there.
+    let old = c.args.self.now in
+    let new = c.go_on.new.self in
+    let o = c.in-Some.outcome in
+    let still = c.take_end.ensures.there s there in
+    let hears = c.in_ok-hear-in-Some.ensures in
+    let drops : Drops c.args.now c.args.place s old new = record {
+      mid = c.hear.new.self;
+      sends = hears.sends ∙ c.take_end.ensures.others;
+      began = c.hear.ensures.began ∙ c.take_end.ensures.round.began;
+      ended = hears.ended (record s { send = still.next }) still.there ∙ ap (λ (n : ℕ). c.take_end.new.self.ended.items ++ n ∷ []) still.server
+          ∙ ap (λ (l : List ℕ). l ++ s.send.server ∷ []) c.take_end.ensures.round.ended;
+      goes_on = record {
+        due = λ asks none. record {
+          in_time = λ soon. c.in_ok-go_on-in-Some.ensures.begins asks none soon;
+          round = λ soon. c.go_on.ensures.round asks none soon;
+          late = λ over. c.in_ok-go_on-in-Some.ensures.late asks none over;
+        };
+        rests = c.go_on.ensures.rests;
+      };
+    } in
+    let won : c.ends_by_message-won.result ≡ ends_by_message old.agenda.off o =
+    c.ends_by_message-won.ensures ∙ ap (λ (p : ConnectionPolicy). ends_by_message p.disable_udp o) c.policy.ensures ∙ ap (λ (p : Plan). ends_by_message p.off o) c.take_end.ensures.agenda in
+    let is = c.settle_others.ensures.table ∙ ap (λ (w : _). settled_table c.args.now w new c.args.table.now) won in
+    subst (λ (x : Option Answered). SettlesAt x c.args.now c.args.place s c.args.table.now old c.settle_others.new.table new) (sym c.in-Some.is ∙ c.take_end.ensures.end s there) (drops, is)
+
+pub returns-in-None-clause-settles : goal.returns-in-None-clause-settles
+returns-in-None-clause-settles c = λ s there.
+    let old = c.args.self.now in
+    let new = c.take_end.new.self in
+    let still : IsStill old new = record { sends = c.in-None.ensures.none; agenda = c.take_end.ensures.agenda; phase = c.take_end.ensures.phase; round = c.take_end.ensures.round } in
+    subst (λ (x : Option Answered). SettlesAt x c.args.now c.args.place s c.args.table.now old c.args.table.now new) (sym c.in-None.is ∙ c.take_end.ensures.end s there) (still, refl)

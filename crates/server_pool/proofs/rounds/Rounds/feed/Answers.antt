@@ -1,12 +1,13 @@
-use Rattle.std.proofs.Common.{◌≡◌, ◌∙◌, ◌≤◌, length, ap, sym, subst, arith, OnOk, IfOk, IsTrue}
+use Rattle.std.proofs.Common.{◌≡◌, ◌∙◌, ◌≤◌, length, ap, sym, subst, arith, OnOk, IfOk, IsTrue, refl}
 use Rattle.std.proofs.lemmas.Option.{get_or_from_slice_get}
 use Rattle.std.proofs.lemmas.Result.{on_ok_weaker}
 use Rattle.server_core.specs.Sending.{Comes, is_open, after_put, asked_of, heard_put}
 use Rattle.server_pool.specs.declared.rounds.Sending.{Sending}
 use Rattle.server_pool.specs.Rounds.{heard_table}
 use Rattle.std.proofs.Math.ListN.{set}
+use Rattle.server_pool.proofs.Cancelled.{removed_set}
 use Rattle.server_pool.proofs.Beginning.{on_ok_both}
-use Rattle.server_pool.proofs.Sendings.{written_send, fed_of, fed_send}
+use Rattle.server_pool.proofs.Sendings.{put_back, written_send, fed_of, fed_send}
 use Rattle.server_pool.proofs.Stepping.{changed_past}
 use Rattle.server_pool.proofs.rounds.Rounds.feed.Goals as goal
 
@@ -67,3 +68,20 @@ returns-clause-fed c = λ s there is live.
     let whole : OnOk c.put.result ((mid ≡ fed_of c.args.outcome lent mid.send) × Comes lent.send c.args.outcome mid.send) = on_ok_both _ _ c.put.result c.put.ensures.rest (c.put.ensures.comes open_then) in
     on_ok_weaker c.put.result
     (λ b. fed_send c.args.self.now.sends.items c.args.place s lent mid.send c.args.outcome _ there c.index_mut-sending.ensures.value (ap (set c.args.self.now.sends.items c.args.place) b.0) b.1) whole
+
+pub returns-then-sending-len-clause-others : goal.returns-then-sending-len-clause-others
+returns-then-sending-len-clause-others c = removed_set c.args.self.now.sends.items c.args.place _
+
+pub returns-clause-others : goal.returns-clause-others
+returns-clause-others c = removed_set c.args.self.now.sends.items c.args.place _
+
+pub returns-then-sending-len-clause-past : goal.returns-then-sending-len-clause-past
+returns-then-sending-len-clause-past c = λ s there beyond.
+    (refl, put_back c.args.self.now.sends.items c.args.place s c.index_mut-sending.result.now there c.index_mut-sending.ensures.value)
+
+pub returns-clause-past : goal.returns-clause-past
+returns-clause-past c = λ s there beyond.
+    let lent = c.index_mut-sending.result.now in
+    let same : lent ≡ s = c.index_mut-sending.ensures.value ∙ get_or_from_slice_get c.args.self.now.sends.items c.args.place s lent there in
+    let over : length c.args.table.now ≤ lent.send.server = subst (λ (x : Sending). length c.args.table.now ≤ x.send.server) (sym same) beyond in
+    absurd (omega (arith, over))

@@ -23,7 +23,7 @@ returns-in-GoesOn-clause-stands c = λ pool ends s there st.
     let first = subst (λ (x : Candidate). PlanStands q t pool ends (x ∷ rest) r.agenda) (sym at) (ended_send q t pool ends r.sends.items c.args.place s r.agenda there st) in
     let next = subst (λ (x : Candidate). PlanStands q t pool (ends ++ end_at x o ∷ []) rest c.hear.new.self) at (c.in-GoesOn.ensures.stands t r.start c.args.now pool ends rest first) in
     let goes = same_sends q t pool (ends ++ end_at s.candidate o ∷ []) (remove r.sends.items c.args.place) c.remove.new.self.items c.hear.new.self c.remove.ensures.items next in
-    goes_after pool (ends ++ end_at s.candidate o ∷ []) (record r { agenda = c.hear.new.self; sends = c.remove.new.self; ends = c.keep.new.ends }) c.requires.asks (more_is_some ends (end_at s.candidate o)) goes
+    goes_after pool (ends ++ end_at s.candidate o ∷ []) (record r { agenda = c.hear.new.self; sends = c.remove.new.self; ends = c.keep.new.ends; ended = c.push_reserved.new.self }) c.requires.asks (more_is_some ends (end_at s.candidate o)) goes
 
 pub returns-in-Answers-clause-stands : goal.returns-in-Answers-clause-stands
 returns-in-Answers-clause-stands c = λ pool ends s there st.

@@ -30,8 +30,8 @@ returns-in-Some-clause-stands c = λ pool heard st.
     let n = c.args.number in
     let now = c.args.tick.now in
     let come = c.going.invariant.come pool heard st in
-    let stands = subst (λ (x : Option RoundStep). NextStands n now c.going.table pool come.known c.going.self x c.advance.new.self) c.in-Some.is (c.in_ok-step.ensures.stands pool come.known come.stands) in
-    given_last n now pool heard c.args.table.now c.args.self.now c.going.table c.advance.new.table c.going.self c.advance.new.self c.in-Some.step come stands c.in_ok-step.ensures.table
+    let stands = subst (λ (x : Option RoundStep). NextStands n now c.going.table pool come.known c.going.self x c.advance.new.table c.advance.new.self) c.in-Some.is (c.in_ok-step.ensures.stands pool come.known come.stands) in
+    given_last n now pool heard c.args.table.now c.args.self.now c.going.table c.advance.new.table c.going.self c.advance.new.self c.in-Some.step come stands.0 stands.1
 
 pub going-preserved : goal.going-preserved
 going-preserved c = record {
@@ -39,8 +39,8 @@ going-preserved c = record {
       let n = c.args.number in
       let now = c.args.tick.now in
       let come = c.going.invariant.come pool heard st in
-      let stands = subst (λ (x : Option RoundStep). NextStands n now c.going.table pool come.known c.going.self x c.advance.new.self) c.in-None.is (c.in_ok-step.ensures.stands pool come.known come.stands) in
-      come_further n now pool heard c.args.table.now c.args.self.now c.going.table c.advance.new.table c.going.self c.advance.new.self come stands c.advance.ensures.decides c.in_ok-step.ensures.table;
+      let stands = subst (λ (x : Option RoundStep). NextStands n now c.going.table pool come.known c.going.self x c.advance.new.table c.advance.new.self) c.in-None.is (c.in_ok-step.ensures.stands pool come.known come.stands) in
+      come_further n now pool heard c.args.table.now c.args.self.now c.going.table c.advance.new.table c.going.self c.advance.new.self come stands c.advance.ensures.decides;
   same = same_still c.args.self.now c.going.self c.advance.new.self c.going.invariant.same c.advance.ensures.same;
   decides = decides_on c.args.tick.now c.args.self.now.phase c.going.self.phase c.advance.new.self.phase c.going.invariant.decides c.advance.ensures.decides;
   count = c.advance.ensures.count ∙ c.going.invariant.count;

@@ -3,7 +3,7 @@ use Rattle.std.specs.List.{filter}
 use Rattle.std.proofs.lemmas.Grind.{common_steps}
 use Rattle.server_pool.specs.Agenda.{may_ask}
 use Rattle.server_pool.specs.Rounds.{Takes}
-use Rattle.server_pool.proofs.Stepping.{same_still}
+use Rattle.server_pool.proofs.Stepping.{same_still, same_round}
 use Rattle.server_pool.proofs.Taking.{takes_more, takes_all}
 use Rattle.server_pool.proofs.rounds.Rounds.send_others.Goals as goal
 
@@ -20,7 +20,7 @@ others-preserved c =
       reached = omega arith;
       takes = subst (λ (n : ℕ). Takes n old new) count more;
       work = omega (arith, c.send_one.ensures.work, c.others.invariant.work);
-      round = record { ends = c.send_one.ensures.round.ends ∙ c.others.invariant.round.ends };
+      round = same_round c.others.invariant.round c.send_one.ensures.round;
       phase = c.send_one.ensures.phase ∙ c.others.invariant.phase;
       more = omega (arith, c.send_one.ensures.more, c.others.invariant.more);
     }

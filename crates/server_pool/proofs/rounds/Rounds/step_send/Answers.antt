@@ -5,6 +5,7 @@ use Rattle.std.proofs.lemmas.Option.{get_or_from_slice_get, slice_get_past}
 use Rattle.server_core.specs.Sending.{after_step, after_want}
 use Rattle.server_pool.specs.declared.rounds.Sending.{Sending}
 use Rattle.server_pool.specs.NextStep.{at_stage, changed_for}
+use Rattle.server_pool.proofs.Cancelled.{removed_set}
 use Rattle.server_pool.proofs.Sendings.{written_send}
 use Rattle.server_pool.proofs.Stepping.{stepped_at, ended_at, changed_past, changed_same, some_at}
 use Rattle.server_pool.proofs.rounds.Rounds.step_send.Goals as goal
@@ -54,3 +55,9 @@ returns-clause-want c = λ s there.
     let lent = c.index_mut-sending.result.now in
     let same : lent ≡ s = c.index_mut-sending.ensures.value ∙ get_or_from_slice_get c.args.self.now.sends.items c.args.place s lent there in
     subst (λ (x : Sending). OnErr c.step.result (c.step.new.table ≡ changed_for after_want (Some x) c.args.table.now)) same c.step.ensures.want
+
+pub returns-then-sending-len-clause-others : goal.returns-then-sending-len-clause-others
+returns-then-sending-len-clause-others c = removed_set c.args.self.now.sends.items c.args.place _
+
+pub returns-clause-others : goal.returns-clause-others
+returns-clause-others c = removed_set c.args.self.now.sends.items c.args.place _

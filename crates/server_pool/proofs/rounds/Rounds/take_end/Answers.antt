@@ -2,7 +2,8 @@ use Rattle.std.proofs.Common.{◌≡◌, ◌∙◌, ap, refl}
 use Rattle.std.proofs.lemmas.Option.{get_or_from_slice_get}
 use Rattle.server_core.specs.Sending.{end_of}
 use Rattle.server_pool.specs.declared.rounds.Sending.{Sending}
-use Rattle.server_pool.proofs.Sendings.{written_send, still_send}
+use Rattle.server_pool.proofs.Cancelled.{removed_set}
+use Rattle.server_pool.proofs.Sendings.{untold_send, written_send, still_send}
 use Rattle.server_pool.proofs.rounds.Rounds.take_end.Goals as goal
 
 pub returns-clause-goes : goal.returns-clause-goes
@@ -19,4 +20,11 @@ returns-clause-end c = λ s there.
 
 pub returns-clause-there : goal.returns-clause-there
 returns-clause-there c = λ s there.
-    still_send c.args.self.now.sends.items c.args.place s c.index_mut-sending.result.now c.take_end.new.self _ there c.index_mut-sending.ensures.value refl
+    still_send c.args.self.now.sends.items c.args.place s c.index_mut-sending.result.now c.take_end.new.self _ there c.index_mut-sending.ensures.value refl c.take_end.ensures.same.server
+
+pub returns-clause-others : goal.returns-clause-others
+returns-clause-others c = removed_set c.args.self.now.sends.items c.args.place _
+
+pub returns-clause-none : goal.returns-clause-none
+returns-clause-none c =
+    untold_send c.args.self.now.sends.items c.args.place c.index_mut-sending.result.now c.take_end.new.self c.take_end.result c.index_mut-sending.ensures.value c.take_end.ensures.none

@@ -1,10 +1,9 @@
 use Rattle.std.proofs.Common.{◌≡◌, ◌∙◌, length, inr, refl, arith}
 use Rattle.std.proofs.lemmas.Grind.{common_steps}
-use Rattle.server_pool.specs.Rounds.{ends_of, TakesRound}
-use Rattle.server_pool.specs.NextStep.{TakesInTime}
+use Rattle.server_pool.specs.Rounds.{ends_of, TakesInTime, TakesRound}
 use Rattle.server_pool.specs.NextStep.BeginsRound.{due}
 use Rattle.server_pool.proofs.Beginning.{on_err_always}
-use Rattle.server_pool.proofs.Stepping.{had_one, some_open}
+use Rattle.server_pool.proofs.Stepping.{had_one, some_open, asking_table}
 use Rattle.server_pool.proofs.rounds.Rounds.wait.Goals as goal
 
 pub returns-in_err-go_on-clause-want : goal.returns-in_err-go_on-clause-want
@@ -18,11 +17,11 @@ returns-in_ok-go_on-clause-stands c = λ number table pool heard st.
     let r = c.args.self.now in
     let none : length r.sends.items ≡ 0 = grind (arith, common_steps) in
     let takes : TakesInTime c.args.now r c.go_on.new.self (TakesRound r c.go_on.new.self) =
-    record { in_time = λ soon. c.in_ok-go_on.ensures.begins c.requires.asks none soon; late = λ over. c.in_ok-go_on.ensures.late c.requires.asks none over } in
-    inr (due c.requires.asks none takes (record { phase = c.go_on.ensures.stands pool (ends_of heard) (had_one pool (ends_of heard) r c.requires.asks none st.phase) st.phase; entries = c.go_on.ensures.ends ∙ st.entries }))
+    record { in_time = λ soon. c.in_ok-go_on.ensures.begins c.requires.asks none soon; round = λ soon. c.go_on.ensures.round c.requires.asks none soon; late = λ over. c.in_ok-go_on.ensures.late c.requires.asks none over } in
+    inr ((due c.requires.asks none takes (record { phase = c.go_on.ensures.stands pool (ends_of heard) (had_one pool (ends_of heard) r c.requires.asks none st.phase) st.phase; entries = c.go_on.ensures.ends ∙ st.entries })), asking_table r table c.requires.asks c.requires.open)
 
 pub returns-else-is_empty-clause-stands : goal.returns-else-is_empty-clause-stands
 returns-else-is_empty-clause-stands c = λ number table pool heard st.
     let r = c.args.self.now in
     let some : length r.sends.items ≡ 0 → ⊥ = λ e. grind (arith, common_steps) in
-    (c.requires.asks, some_open r.sends.items c.requires.open some, c.requires.open, refl)
+    ((c.requires.asks, some_open r.sends.items c.requires.open some, c.requires.open, refl), asking_table r table c.requires.asks c.requires.open)
