@@ -2,7 +2,7 @@
 
     python3 bench/access.py PROGRAM
 
-PROGRAM is crates/resolver_settings/out/resolver_settings_tests, as `rt test` in that crate builds it. Each time is the
+PROGRAM is crates/settings_tests/out/settings_tests_tests, as `rt test` in that crate builds it. Each time is the
 least of 200 runs of one test, less that of a test that asks two addresses, so the start of a process is not in it. The
 time grows with the addresses and with the networks alone: twice of both should take four times as long. Prints a line
 each, and exits 1 where an address takes more than 10 microseconds, or the second more than 6 times as long as the first."""

@@ -49,14 +49,3 @@ pub use std_streams::{StdSink, StdSource};
 pub use streams::{Sink, Source};
 pub use stripping::strip;
 pub use whole_streams::{ReadError, read_all, write_all};
-
-#[cfg(test)]
-mod copy_tests;
-#[cfg(test)]
-mod name_tests;
-#[cfg(test)]
-mod samples;
-#[cfg(test)]
-mod stream_tests;
-#[cfg(test)]
-mod tests;

@@ -35,14 +35,3 @@ pub use resolver_text::parse_resolv_conf;
 pub use search_domains::parse_search_domains;
 pub use system_conf::read_system_conf;
 pub use ttl::{TtlBounds, TtlConfig};
-
-#[cfg(test)]
-mod access_tests;
-#[cfg(test)]
-mod address_tests;
-#[cfg(test)]
-mod config_tests;
-#[cfg(test)]
-mod resolver_text_tests;
-#[cfg(test)]
-mod search_domains_tests;

@@ -1,6 +1,6 @@
 //! Names: their text, their parents, their zones and their equality.
 
-use crate::{Label, Letter, Name, NameError, NoMemory, TryClone, is_subzone};
+use dns_core::{Label, Letter, Name, NameError, NoMemory, TryClone, is_subzone};
 use std::alloc::Global;
 use std::cmp::Ordering;
 use std::hash::{BuildHasher, BuildHasherDefault, FoldHasher};

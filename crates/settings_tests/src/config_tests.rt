@@ -1,11 +1,11 @@
-use crate::resolver_text_tests::spaced;
-use crate::{
-    NameServerConfig, OpportunisticEncryption, OpportunisticEncryptionConfig, ResolverConfig,
-    ResolverOpts, ServerOrderingStrategy, TtlBounds, TtlConfig,
-};
+use crate::resolver_texts::spaced;
 use dns_core::{
     ConnectionConfig, Name, NameError, Names, NoMemory, Ports, ProtocolConfig, RecordType, Text,
     TryClone,
+};
+use resolver_settings::{
+    NameServerConfig, OpportunisticEncryption, OpportunisticEncryptionConfig, ResolverConfig,
+    ResolverOpts, ServerOrderingStrategy, TtlBounds, TtlConfig,
 };
 use std::alloc::Global;
 use std::net::{IpAddr, Ipv4Addr, Ipv6Addr};

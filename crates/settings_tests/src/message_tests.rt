@@ -1,9 +1,9 @@
 //! Numbers of the registry, responses, and what they end in.
 
-use crate::samples::{
+use crate::message_samples::{
     address, alias, authority, negative, negative_records, nothing, response, signature,
 };
-use crate::{
+use dns_core::{
     DnsClass, DnsError, IoKind, Message, Name, NameError, NetError, NoMemory, NoRecords, Record,
     RecordType, Records, ResponseCode, Text, TryClone, classify, strip,
 };

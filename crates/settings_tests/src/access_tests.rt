@@ -1,5 +1,7 @@
-use crate::{AccessControlSet, AccessControlSetBuilder, IpNet, recommended_server_filters};
 use dns_core::NoMemory;
+use resolver_settings::{
+    AccessControlSet, AccessControlSetBuilder, IpNet, recommended_server_filters,
+};
 use std::alloc::Global;
 use std::net::{IpAddr, Ipv4Addr, Ipv6Addr};
 use std::test::Fail;

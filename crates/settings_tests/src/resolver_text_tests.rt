@@ -1,30 +1,11 @@
-use crate::{ConfError, ResolverConfig, ResolverOpts, parse_resolv_conf, read_system_conf};
-use dns_core::{Items, MemorySource, Name, NoMemory, Numbers};
+use crate::resolver_texts::{Conf, parsed, spaced};
+use dns_core::{Items, MemorySource, NoMemory, Numbers};
+use resolver_settings::{ConfError, read_system_conf};
 use std::alloc::Global;
 use std::test::Fail;
 
-type Conf = Result<(ResolverConfig, ResolverOpts), ConfError>;
-
-/// Reads a text, of which each test has a short one.
-fn parsed(alloc: Global, text: &[u8], host: &str) -> Conf {
-    if text.len() > 1000 {
-        return Err(ConfError::TooLong);
-    }
-    parse_resolv_conf(alloc, text, host)
-}
-
 fn error(alloc: Global, text: &[u8]) -> Option<ConfError> {
     parsed(alloc, text, "").err()
-}
-
-/// The names with a space after each.
-pub(crate) fn spaced(names: &[Name], alloc: Global) -> Result<Vec<u8>, NoMemory> {
-    let mut out = Vec::new(alloc);
-    for name in names {
-        name.write_text(&mut out)?;
-        out.push(b' ')?;
-    }
-    Ok(out)
 }
 
 /// The search list of a text that has a server.

@@ -1,6 +1,6 @@
 //! Records, responses and errors that tests are made of.
 
-use crate::{
+use dns_core::{
     Bytes, DnsClass, ForwardNsData, Items, Message, Name, NameError, NoRecords, Query, RData,
     Record, RecordType, Records, ResponseCode, Soa,
 };

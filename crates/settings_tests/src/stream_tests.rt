@@ -1,6 +1,6 @@
 //! Sources and sinks, whole and failing in mid-stream.
 
-use crate::{
+use dns_core::{
     Failed, Items, MemorySink, MemorySource, NoMemory, Numbers, ReadError, Sink, Source, StdSink,
     StdSource, read_all, write_all,
 };

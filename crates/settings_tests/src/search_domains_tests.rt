@@ -1,7 +1,7 @@
 //! Search domains as text.
-use crate::parse_search_domains;
-use crate::resolver_text_tests::spaced;
+use crate::resolver_texts::spaced;
 use dns_core::NameError;
+use resolver_settings::parse_search_domains;
 use std::alloc::Global;
 use std::test::Fail;
 

@@ -1,7 +1,7 @@
 //! Copies of values of all types.
 
-use crate::samples::{negative, negative_records, query};
-use crate::{
+use crate::message_samples::{negative, negative_records, query};
+use dns_core::{
     ConnectOptions, ConnectionConfig, DnsError, DnsRequest, DnsRequestOptions, Items, LogEntry,
     NetError, NoMemory, Numbers, Protocol, ProtocolConfig, ResponseCode, Text, ToldOutcome,
     TryClone,
