@@ -1,8 +1,9 @@
 //! The cache of responses.
 ghost use Rattle.std.specs.Prelude.{◌≡◌, ◌↔◌, [], length, IfOk, OnOk, OnErr, IsErr, IsTrue, false};
 ghost use Rattle.std.specs.List.{list_any};
+ghost use Rattle.std.specs.Option.{option_copied};
 ghost use Rattle.resolver_settings.specs.Ttl.{has_reversed};
-ghost use Rattle.resolver_cache.specs.Entry.{is_for};
+ghost use Rattle.resolver_cache.specs.Entry.{is_for, current_for};
 ghost use Rattle.resolver_cache.specs.Cache.{read, found_for, upserted, new_expiry, IsSound};
 
 use crate::bounds::ReversedTtl;
@@ -98,6 +99,13 @@ impl ResponseCache {
             }
             None => Ok(None),
         }
+    }
+
+    /// The entry for a question, where it is current at a moment: its response as it was written.
+    pub fn current(&self, query: &Query, now: u64) -> Option<&Entry>
+        ensures { option_copied result ≡ current_for query.now now self.now.entries }
+    {
+        current_for(self.entries.as_slice(), query, now)
     }
 
     /// Writes a response, for as long as it says.

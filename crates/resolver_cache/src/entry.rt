@@ -1,14 +1,15 @@
 //! What is kept under a question.
 ghost use Rattle.std.specs.Prelude.{◌≡◌, find};
 ghost use Rattle.std.specs.Option.{option_copied};
+ghost use Rattle.dns_core.specs.Name.{same_names};
 ghost use Rattle.resolver_cache.specs.Entry.{is_for, is_current, current_for};
 
-use dns_core::{Message, NetError, Query};
+use dns_core::{Message, Name, NetError, Query};
 
 /// A response under its question, when it was written, the last moment at which it is current, and
 /// the number of the log entry that told it, 0 where none is known. Moments are in microseconds.
 #[derive(Drop, Debug)]
-pub(crate) struct Entry {
+pub struct Entry {
     pub query: Query,
     pub response: Result<Message, NetError>,
     pub written: u64,
@@ -24,13 +25,21 @@ pub struct CachedResponse {
     pub source: u64,
 }
 
+/// Whether two names are equal without case. Most that are so are equal with case too, which takes
+/// less time to see.
+fn is_same_name(left: &Name, right: &Name) -> bool
+    ensures { result ≡ same_names left.now right.now }
+{
+    left.eq_case(right) || left == right
+}
+
 impl Entry {
     pub fn is_for(&self, query: &Query) -> bool
         ensures { result ≡ is_for query.now self.now }
     {
         self.query.query_type == query.query_type
             && self.query.query_class == query.query_class
-            && self.query.name == query.name
+            && is_same_name(&self.query.name, &query.name)
     }
 
     pub fn is_current(&self, now: u64) -> bool

@@ -12,11 +12,14 @@ mod laws;
 mod life;
 mod lowering;
 mod placing;
+mod reading;
 
 pub use bounds::ReversedTtl;
 pub use cache::ResponseCache;
-pub use entry::CachedResponse;
+pub use entry::{CachedResponse, Entry};
 pub use laws::{a_write_adds_one_response_alone, what_is_read_is_current};
+pub use lowering::seconds_between;
+pub use reading::read_message;
 
 #[cfg(test)]
 mod samples;

@@ -10,13 +10,13 @@ use dns_core::{
 use std::alloc::Global;
 
 /// The whole seconds from a moment to a later one.
-pub(crate) fn seconds_between(written: u64, now: u64) -> u64
+pub fn seconds_between(written: u64, now: u64) -> u64
     ensures { result ≡ seconds_between written now }
 {
     now.saturating_sub(written) / 1_000_000
 }
 
-fn lowered_record(alloc: Global, r: &Record, seconds: u64) -> Result<Record, NoMemory>
+pub(crate) fn lowered_record(alloc: Global, r: &Record, seconds: u64) -> Result<Record, NoMemory>
     ensures { IfOk result (λ copy. copy ≡ lowered_record seconds r.now) }
 {
     let ttl = u64::from(r.ttl).saturating_sub(seconds) as u32;
@@ -31,7 +31,11 @@ fn lowered_record(alloc: Global, r: &Record, seconds: u64) -> Result<Record, NoM
     })
 }
 
-fn lowered_records(alloc: Global, rs: &[Record], seconds: u64) -> Result<Records, NoMemory>
+pub(crate) fn lowered_records(
+    alloc: Global,
+    rs: &[Record],
+    seconds: u64,
+) -> Result<Records, NoMemory>
     ensures { IfOk result (λ copies. copies ≡ map (lowered_record seconds) rs.now) }
 {
     let mut copies = Vec::with_capacity(alloc, rs.len())?;
