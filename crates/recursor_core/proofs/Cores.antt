@@ -69,8 +69,8 @@ given-some terms log (Some reply) here b is h = subst (λ (o : Option Begun). Re
 pub gives-before : (old mid : RecursorCore) (log : Log) (r : ℕ) (s : Step) → SameCore old mid
     → StepGives mid log r s → StepGives old log r s
 gives-before old mid log r (step.Order number order) same h =
-    subst (λ (held : Setting). GoesToServer (given_of (terms_with held)) log (old.greatest + 1) order) same.setting
-    (subst (λ (g : ℕ). GoesToServer (given_of (terms_of mid)) log (g + 1) order) same.greatest h)
+    subst (λ (held : Setting). GoesToServer (given_of (terms_with held)) log (old.greatest + 1) order.value) same.setting
+    (subst (λ (g : ℕ). GoesToServer (given_of (terms_of mid)) log (g + 1) order.value) same.greatest h)
 gives-before old mid log r (step.Waiting number) same h = tt
 gives-before old mid log r (step.Done reply) same h =
     subst (λ (held : Setting). ReplyGiven (terms_with held) log (begun_at old r) reply.value) same.setting

@@ -191,7 +191,7 @@ module _ {P C F E : Type 0} (p : Ghosts P C F E) (patience now : ℕ) (core new 
       (λ e. refl) (h q question play asks at)
 
   -- one has its reply
-  pub plays_answered : (start : ℕ) (turns rest : List Turn) (questions : List Question) (plays : List Played) (q r : ℕ) (order : Option Order) (reply : Box Reply)
+  pub plays_answered : (start : ℕ) (turns rest : List Turn) (questions : List Question) (plays : List Played) (q r : ℕ) (order : Option (Box Order)) (reply : Box Reply)
       → slice_get plays q ≡ Some (played.Begun r order) → ReplyTold (terms_of core) (p.log later.provider) (begun_at core r) reply.value
       → PlaysHold core (p.log c.provider) start turns rest questions plays
       → PlaysHold new (p.log later.provider) start turns rest questions (set plays q (played.Answered reply))
@@ -214,7 +214,7 @@ module _ {P C F E : Type 0} (p : Ghosts P C F E) (patience now : ℕ) (core new 
       (same_or_not k q)
 
   -- memory was wanting for one
-  pub plays_unanswered : (start : ℕ) (turns rest : List Turn) (questions : List Question) (plays : List Played) (q r : ℕ) (order : Option Order)
+  pub plays_unanswered : (start : ℕ) (turns rest : List Turn) (questions : List Question) (plays : List Played) (q r : ℕ) (order : Option (Box Order))
       → slice_get plays q ≡ Some (played.Begun r order)
       → PlaysHold core (p.log c.provider) start turns rest questions plays
       → PlaysHold new (p.log later.provider) start turns rest questions (set plays q played.Unanswered)
@@ -228,7 +228,7 @@ module _ {P C F E : Type 0} (p : Ghosts P C F E) (patience now : ℕ) (core new 
 
 -- the order that is kept for a question changes nothing
 pub plays_ordered : (core : RecursorCore) (told : Option (List LogEntry)) (start : ℕ) (turns rest : List Turn) (questions : List Question)
-    (plays : List Played) (q r : ℕ) (old new : Option Order) → slice_get plays q ≡ Some (played.Begun r old)
+    (plays : List Played) (q r : ℕ) (old new : Option (Box Order)) → slice_get plays q ≡ Some (played.Begun r old)
     → PlaysHold core told start turns rest questions plays → PlaysHold core told start turns rest questions (set plays q (played.Begun r new))
 plays_ordered core told start turns rest questions plays q r old new at h k question play asks play_k = ⊎_elim
     (λ (same : k ≡ q).

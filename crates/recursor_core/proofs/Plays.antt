@@ -22,7 +22,7 @@ within (x ∷ xs) zero p h = omega arith
 within (x ∷ xs) (suc q) p h = let inner = within xs q p h in omega arith
 
 -- where a question that is under way is answered, one fewer is under way
-pub answered_falls : (xs : List Played) (q r : ℕ) (order : Option Order) (reply : Box Reply) → slice_get xs q ≡ Some (played.Begun r order)
+pub answered_falls : (xs : List Played) (q r : ℕ) (order : Option (Box Order)) (reply : Box Reply) → slice_get xs q ≡ Some (played.Begun r order)
     → open_plays (set xs q (played.Answered reply)) < open_plays xs
 answered_falls xs q r order reply h =
     let was = found xs q (played.Begun r order) (played.Begun r order) h in
@@ -31,7 +31,7 @@ answered_falls xs q r order reply h =
     omega (arith, moved, one)
 
 -- so it is where it stays without an answer
-pub unanswered_falls : (xs : List Played) (q r : ℕ) (order : Option Order) → slice_get xs q ≡ Some (played.Begun r order)
+pub unanswered_falls : (xs : List Played) (q r : ℕ) (order : Option (Box Order)) → slice_get xs q ≡ Some (played.Begun r order)
     → open_plays (set xs q played.Unanswered) < open_plays xs
 unanswered_falls xs q r order h =
     let was = found xs q (played.Begun r order) (played.Begun r order) h in
@@ -40,7 +40,7 @@ unanswered_falls xs q r order h =
     omega (arith, moved, one)
 
 -- with another order kept for it a question is under way still
-pub ordered_same : (xs : List Played) (q r : ℕ) (old new : Option Order) → slice_get xs q ≡ Some (played.Begun r old)
+pub ordered_same : (xs : List Played) (q r : ℕ) (old new : Option (Box Order)) → slice_get xs q ≡ Some (played.Begun r old)
     → open_plays (set xs q (played.Begun r new)) ≡ open_plays xs
 ordered_same xs q r old new h =
     let was = found xs q (played.Begun r old) (played.Begun r old) h in

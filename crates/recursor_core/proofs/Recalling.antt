@@ -14,7 +14,7 @@ use Rattle.dns_core.specs.declared.net_error.NetError.TheVariants as net
 use Rattle.dns_core.specs.declared.net_error.DnsError.TheVariants as dns
 use Rattle.resolver_cache.specs.Cached.{Cached}
 use Rattle.resolver_cache.specs.Cache.{found_for}
-use Rattle.resolver_cache.specs.Entry.{is_same_question}
+use Rattle.resolver_cache.specs.Entry.{is_same_question, current_for}
 use Rattle.resolver_cache.specs.Laws.{IsFoundIn}
 use Rattle.resolver_cache.specs.Lowering.{seconds_between, lowered, lowered_message, lowered_denial}
 use Rattle.resolver_cache.specs.declared.entry.Entry.{Entry}
@@ -27,7 +27,7 @@ use Rattle.resolution.specs.declared.verdict.Verdict.{Verdict}
 use Rattle.resolution.specs.declared.verdict.Verdict.TheVariants.{Pos, Neg, Made}
 use Rattle.resolution.proofs.Caseless.{Base-same, both}
 use Rattle.resolution.proofs.WalksCaseless.{Walked-same}
-use Rattle.recursor_core.specs.Counted.{kept_of, verdict_kept, counted_for, recalled, may_answer, IsCurrentVerdict, Stands, IsRecalled}
+use Rattle.recursor_core.specs.Counted.{kept_of, verdict_kept, counted_for, recalled, may_answer, IsCurrentVerdict, Stands, Answers, IsRecalled}
 use Rattle.recursor_core.specs.Remembered.{EntryHolds, CacheHolds}
 use Rattle.recursor_core.specs.Replies.{Terms, given_of}
 use Rattle.recursor_core.specs.SameTold.{SameVerdict}
@@ -116,3 +116,18 @@ module _ (terms : Terms) (greatest t0 now : ℕ) (log : Log) (cache : Cached) (q
   -- what the cache has for a question stands
   pub recalled-stands : (c : Counted) → recalled cache q now ≡ Some c → IsRecalled terms greatest t0 log q c
   recalled-stands c h = by-found (found_for cache q now) refl c h
+
+-- an authoritative message that the cache has for a question, as it reads, answers it
+pub kept-answers : (terms : Terms) (greatest t0 now : ℕ) (log : Log) (cache : Cached) (q : Query) → t0 ≤ now → CacheHolds terms greatest log cache
+    → (e : Entry) (m : Message) → current_for q now cache.entries ≡ Some e → e.response ≡ Ok m → m.authoritative ≡ true
+    → Answers terms greatest t0 log q e.source (Pos (lowered_message (seconds_between e.written now) m))
+kept-answers terms greatest t0 now log cache q begun holds e m here is may =
+    let n = seconds_between e.written now in
+    let c : Counted = record { entry = e.source; verdict = Pos (lowered_message n m) } in
+    let read : counted_for (record { response = lowered n e.response; source = e.source }) ≡ Some c =
+    subst (λ (r : Result Message NetError). counted_for (record { response = lowered n r; source = e.source }) ≡ Some c) (sym is) refl in
+    let found : recalled cache q now ≡ Some c =
+    subst (λ (o : Option Entry). option_and_then counted_for (option_map
+    (λ (x : Entry). let f : CachedResponse = record { response = lowered (seconds_between x.written now) x.response; source = x.source } in f) o) ≡ Some c) (sym here) read in
+    let stands = recalled-stands terms greatest t0 now log cache q begun holds c found in
+    record { stands = stands.stands; current = stands.current may }

@@ -127,14 +127,14 @@ GoesToServer-later given log n m (Sleep until) le h = tt
 
 module _ (core new : RecursorCore) (told : Option (List LogEntry)) where
   -- an order that the machine gives goes to a server by all that is told
-  pub step_goes : (r number : ℕ) (next : Step) (order : Order) → next ≡ step.Order number order → new.setting ≡ core.setting → TellsThat told (Derived core)
+  pub step_goes : (r number : ℕ) (next : Step) (order : Box Order) → next ≡ step.Order number order → new.setting ≡ core.setting → TellsThat told (Derived core)
       → ((log : Log) → Derived core log → Derived new log × StepGives core log r next)
-      → TellsThat told (λ log. GoesToServer (given_of (terms_of new)) log log.next order)
+      → TellsThat told (λ log. GoesToServer (given_of (terms_of new)) log log.next order.value)
   step_goes r number next order is setting d gives es t =
       let given = subst (λ (s : Step). StepGives core (log_of es) r s) is (gives (log_of es) (d es t)).1 in
       let b : core.greatest < length es + 1 = (d es t).bound in
-      subst (λ (held : Setting). GoesToServer (given_of (terms_with held)) (log_of es) (length es + 1) order) (sym setting)
-      (GoesToServer-later (given_of (terms_of core)) (log_of es) (core.greatest + 1) (length es + 1) order (omega arith) given)
+      subst (λ (held : Setting). GoesToServer (given_of (terms_with held)) (log_of es) (length es + 1) order.value) (sym setting)
+      (GoesToServer-later (given_of (terms_of core)) (log_of es) (core.greatest + 1) (length es + 1) order.value (omega arith) given)
 
   -- a reply that is given to a question that has begun is told
   reply_told : (b : Option Begun) (reply : Reply) → TellsThat told (λ log. ReplyGiven (terms_of core) log b reply)

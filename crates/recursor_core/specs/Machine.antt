@@ -112,7 +112,7 @@ ReplyGiven terms log (Some b) reply = ReplyHolds terms machine_timer log b.momen
 
 -- what a step gives is derived: an order goes to a server by what was put before, and a reply holds
 abbrev pub StepGives : RecursorCore → Log → ℕ → Step → Type 0
-StepGives core log r (step.Order number order) = GoesToServer (given_of (terms_of core)) log (core.greatest + 1) order
+StepGives core log r (step.Order number order) = GoesToServer (given_of (terms_of core)) log (core.greatest + 1) order.value
 StepGives core log r (step.Waiting number) = Unit {0}
 StepGives core log r (step.Done reply) = ReplyGiven (terms_of core) log (begun_at core r) reply.value
 StepGives core log r step.Ended = Unit {0}

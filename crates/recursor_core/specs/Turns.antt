@@ -1,5 +1,6 @@
 -- How much is left of the questions of a run.
 use Rattle.std.specs.Prelude.{◌≡◌, ◌≤◌, ◌<◌, ◌+◌, ℕ, List, [], Option, Some, None, Err, slice_get, sum_by, ◌⊎◌, false}
+use Rattle.std.specs.Global.{Box}
 use Rattle.dns_core.specs.declared.request.Question.{Question}
 use Rattle.server_core.specs.declared.order.Order.{Order}
 use Rattle.recursor_core.specs.Machine as machine
@@ -36,11 +37,11 @@ work patience core plays = rank patience core + open_plays plays
 
 -- the question at a place is under way
 abbrev pub IsBegunAt : List Played → ℕ → Type 0
-IsBegunAt plays q = (r : ℕ) × (order : Option Order) × (slice_get plays q ≡ Some (played.Begun r order))
+IsBegunAt plays q = (r : ℕ) × (order : Option (Box Order)) × (slice_get plays q ≡ Some (played.Begun r order))
 
 abbrev pub IsUnderWay : List Played → ℕ → Option ℕ → Type 0
 IsUnderWay plays q None = Unit {0}
-IsUnderWay plays q (Some r) = (order : Option Order) × (slice_get plays q ≡ Some (played.Begun r order))
+IsUnderWay plays q (Some r) = (order : Option (Box Order)) × (slice_get plays q ≡ Some (played.Begun r order))
 
 -- The reply refuses the question, whose name is not fully qualified; or memory is wanting.
 abbrev pub IsRefused : Question → Reply → Type 0

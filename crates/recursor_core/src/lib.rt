@@ -4,6 +4,7 @@
 mod counted;
 mod driving;
 mod error;
+mod kept_answer;
 mod lookup;
 mod machine;
 mod options;

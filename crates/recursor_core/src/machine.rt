@@ -2,7 +2,8 @@
 ghost use Rattle.std.specs.Prelude.{◌≡◌, ◌≢◌, ◌≤◌, ◌<◌, ◌+◌, ◌⊎◌, ◌↔◌, ℕ, [], true, false, max, length, None, Some, Ok, Err, IfOk, IfSome, IfNone, IfErr, IsSome, OnOk, OnErr, IsTrue};
 ghost use Rattle.dns_core.specs.Log.{Log, Extends};
 ghost use Rattle.server_core.specs.Order.{entry_of};
-ghost use Rattle.server_pool.specs.Fits.{Fits};
+ghost use Rattle.server_pool.specs.Fits.{Fits, GoesToServer};
+ghost use Rattle.recursor_core.specs.Replies.{given_of};
 ghost use Rattle.resolver_settings.specs.Ttl.{has_reversed};
 ghost use Rattle.recursor_core.specs.Setting.{with_patience};
 ghost use Rattle.recursor_core.specs.Remembered.{CacheHolds, remembered};
@@ -25,7 +26,7 @@ use std::net::IpAddr;
 /// What a resolution has for whoever steps it.
 #[derive(Drop, Debug)]
 pub enum Step {
-    Order { number: u64, order: Order },
+    Order { number: u64, order: Box<Order> },
     Waiting { number: u64 },
     Done(Box<Reply>),
     Ended,
@@ -265,7 +266,7 @@ impl RecursorCore {
         requires { need_at self.old r ≡ Need.Send Want.Order }
         ensures falls { (p : ℕ) → OnOk result (rank p self.new < rank p self.old) }
         ensures keeps { (p : ℕ) → OnErr result (rank p self.new ≤ rank p self.old) }
-        ensures derived { (log : Log) → Derived self.old log → Derived self.new log × IfOk result (λ order. StepGives self.old log r (Step.Order number order)) }
+        ensures derived { (log : Log) → Derived self.old log → Derived self.new log × IfOk result (GoesToServer (given_of (terms_of self.old)) log (self.old.greatest + 1)) }
         ensures same { SameCore self.old self.new }
     {
         let since = self.greatest;
@@ -335,7 +336,11 @@ impl RecursorCore {
     {
         let number = self.take_number()?;
         let order = self.order(alloc, r, number)?;
-        Ok(Progress::Step(Step::Order { number, order }))
+        let boxed = Box::new(alloc, order)?;
+        Ok(Progress::Step(Step::Order {
+            number,
+            order: boxed,
+        }))
     }
 
     fn reply(&mut self, r: usize) -> Progress

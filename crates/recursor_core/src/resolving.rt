@@ -14,6 +14,7 @@ ghost use Rattle.recursor_core.specs.Walk.{begin_steps, Goes};
 ghost use Rattle.recursor_core.specs.Resolving.{want_of, waits_for, state_steps, steps, rank, IsSettled, SameBegun, asked_of, AsksFor, IsAnswered};
 
 use crate::counted::{Counted, recalled};
+use crate::kept_answer::kept_answer;
 use crate::lookup::Want;
 use crate::reply::Reply;
 use crate::servers::Servers;
@@ -73,6 +74,27 @@ fn begun_with(
     }
     let walk = Walk::new(alloc, question, roots)?;
     Ok(State::Under(Box::new(alloc, walk)?))
+}
+
+/// Where a question stands that begins: it is answered with what the cache has for it, where this may
+/// be answered, or its walk begins at the roots.
+fn begun(
+    alloc: Global,
+    question: &Question,
+    roots: &Ips,
+    cache: &ResponseCache,
+    now: u64,
+) -> Result<State, NoMemory>
+    ensures falls { IfOk result (λ state. state_steps question.now.query state < begin_steps question.now.query) }
+    ensures holds { (terms : Terms) (greatest t0 : ℕ) (log : Log) → question.now.query.name.fqdn ≡ true → terms.roots ≡ roots.now → 0 < length roots.now
+        → t0 ≤ now → CacheHolds terms greatest log cache.now → IfOk result (StateHolds terms greatest now t0 log question.now) }
+    ensures answers { IfOk result (IsAnswered (recalled cache.now question.now.query now)) }
+{
+    if let Some(reply) = kept_answer(alloc, cache, question, now)? {
+        return Ok(State::Done(reply));
+    }
+    let counted = recalled(alloc, cache, &question.query, now)?;
+    begun_with(alloc, question, roots, counted)
 }
 
 /// A walk goes by what the cache has for its present lookup.
@@ -174,8 +196,7 @@ impl Resolution {
         ensures answers { IfOk result (λ x. IsAnswered (recalled cache.now self.old.question.query now) self.new.state) }
     {
         self.state = State::Ended;
-        let counted = recalled(alloc, cache, &self.question.query, now)?;
-        let state = begun_with(alloc, &self.question, roots, counted)?;
+        let state = begun(alloc, &self.question, roots, cache, now)?;
         self.state = state;
         Ok(())
     }

@@ -38,7 +38,10 @@ pub enum Turned {
 #[derive(Drop, Debug)]
 pub enum Played {
     Waiting,
-    Begun { place: usize, order: Option<Order> },
+    Begun {
+        place: usize,
+        order: Option<Box<Order>>,
+    },
     Answered(Box<Reply>),
     Unanswered,
 }
@@ -174,7 +177,7 @@ fn step<P: ConnectionProvider>(
     core: &mut RecursorCore,
     carrier: &mut Carrier<P>,
     r: usize,
-    open: &mut Option<Order>,
+    open: &mut Option<Box<Order>>,
     tick: Tick,
 ) -> Result<Turned, NoMemory>
     requires holds { Holds P.ConnectionProvider tick.patience core.old carrier.old }
@@ -209,7 +212,7 @@ fn turn<P: ConnectionProvider>(
     core: &mut RecursorCore,
     carrier: &mut Carrier<P>,
     r: usize,
-    open: &mut Option<Order>,
+    open: &mut Option<Box<Order>>,
     tick: Tick,
 ) -> Result<Turned, NoMemory>
     requires holds { Holds P.ConnectionProvider tick.patience core.old carrier.old }
@@ -259,7 +262,7 @@ fn answer_of<P: ConnectionProvider>(
     core: &mut RecursorCore,
     carrier: &mut Carrier<P>,
     r: usize,
-    open: &mut Option<Order>,
+    open: &mut Option<Box<Order>>,
     tick: Tick,
 ) -> Result<Option<Box<Reply>>, NoMemory>
     requires holds { Holds P.ConnectionProvider tick.patience core.old carrier.old }
@@ -339,7 +342,7 @@ fn leave_unanswered(plays: &mut Vec<Played>, q: usize)
 }
 
 /// Takes out the order that was given last for a question that is under way.
-fn take_order(plays: &mut Vec<Played>, q: usize, place: usize) -> Option<Order>
+fn take_order(plays: &mut Vec<Played>, q: usize, place: usize) -> Option<Box<Order>>
     requires { IsUnderWay plays.old.items q (Some place) }
     ensures set { plays.new.items ≡ slice_set plays.old.items q (Played.Begun place None) }
     ensures open { open_plays plays.new.items ≡ open_plays plays.old.items }
@@ -352,7 +355,7 @@ fn take_order(plays: &mut Vec<Played>, q: usize, place: usize) -> Option<Order>
 }
 
 /// Keeps the order that was given last for a question that is under way.
-fn keep_order(plays: &mut Vec<Played>, q: usize, place: usize, order: Option<Order>)
+fn keep_order(plays: &mut Vec<Played>, q: usize, place: usize, order: Option<Box<Order>>)
     requires { IsUnderWay plays.old.items q (Some place) }
     ensures set { plays.new.items ≡ slice_set plays.old.items q (Played.Begun place order) }
     ensures open { open_plays plays.new.items ≡ open_plays plays.old.items }

@@ -112,7 +112,7 @@ fn query_at(alloc: Global, name: &Name, query: &Query, stage: Stage) -> Result<Q
 }
 
 /// The numbers that hold one.
-fn just(alloc: Global, entry: u64) -> Result<Numbers, NoMemory>
+pub(crate) fn just(alloc: Global, entry: u64) -> Result<Numbers, NoMemory>
     ensures { IfOk result (λ numbers. numbers ≡ entry ∷ []) }
 {
     let mut numbers = Numbers::empty(alloc);

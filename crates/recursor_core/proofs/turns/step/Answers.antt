@@ -45,9 +45,9 @@ returns-in-Ended-clause-holds g c =
 pub carry_order-turned-requires-clause-goes : goal.carry_order-turned-requires-clause-goes
 carry_order-turned-requires-clause-goes g c unseen =
     let patience = c.args.tick.patience in
-    step_goes c.args.core.now c.next.new.self (g.P.ConnectionProvider.log c.args.carrier.now.provider) c.args.r c.in-Order.number c.in_ok-next.next
-    c.in-Order.order
-    c.in-Order.is c.next.ensures.same.setting c.requires.holds.derived c.in_ok-next.ensures.gives
+    rw c.deref.ensures (step_goes c.args.core.now c.next.new.self (g.P.ConnectionProvider.log c.args.carrier.now.provider) c.args.r c.in-Order.number
+    c.in_ok-next.next c.in-Order.order
+    c.in-Order.is c.next.ensures.same.setting c.requires.holds.derived c.in_ok-next.ensures.gives)
 
 pub returns-in-Done-clause-told : goal.returns-in-Done-clause-told
 returns-in-Done-clause-told g c =
