@@ -15,12 +15,3 @@ pub use printing::{
 };
 pub use scenario::{Cause, Scenario, ScenarioError, Upstream, one_reading, read_scenario};
 pub use transcript::Transcript;
-
-#[cfg(test)]
-mod option_tests;
-#[cfg(test)]
-mod printing_tests;
-#[cfg(test)]
-mod scenario_tests;
-#[cfg(test)]
-mod script_line_tests;

@@ -1,15 +1,15 @@
 //! The texts of the standards, of the tables, and of a short transcript.
 
-use crate::{
-    Transcript, has_log_words, has_transcript_words, has_words, print_error, print_log,
-    print_message, print_record, print_transcript,
-};
 use dns_core::{
     DnsClass, DnsError, ForwardNsData, IoKind, Items, Log, LogEntry, Message, Name, NameError,
     NetError, NoMemory, Protocol, Query, RData, Record, RecordType, Records, ResponseCode, Soa,
     ToldOutcome,
 };
 use recursor_core::{AuthorityData, MessageKind, RecursorError, Reply, WalkCause};
+use recursor_text::{
+    Transcript, has_log_words, has_transcript_words, has_words, print_error, print_log,
+    print_message, print_record, print_transcript,
+};
 use std::alloc::Global;
 use std::net::{IpAddr, Ipv4Addr, Ipv6Addr};
 use std::test::Fail;
@@ -158,23 +158,28 @@ fn is_line(alloc: Global, segments: [u16; 8], want: &[u8]) -> Result<bool, NameE
 
 #[test]
 fn compresses_addresses(rt: HostRuntime) -> Result<(), Fail> {
-    let alloc = rt.alloc();
-    let segments = [0x2001, 0xdb8, 0, 0, 1, 0, 0, 1];
-    assert!(rt; is_line(alloc, segments, b"a. 1 IN AAAA 2001:db8::1:0:0:1\n")?);
-    let segments = [0x2001, 0xdb8, 0, 1, 1, 1, 1, 1];
-    assert!(rt; is_line(alloc, segments, b"a. 1 IN AAAA 2001:db8:0:1:1:1:1:1\n")?);
-    let segments = [0x2001, 0, 0, 1, 0, 0, 0, 1];
-    assert!(rt; is_line(alloc, segments, b"a. 1 IN AAAA 2001:0:0:1::1\n")?);
-    let segments = [0, 0, 0, 0, 0, 0xffff, 0xc000, 0x280];
-    assert!(rt; is_line(alloc, segments, b"a. 1 IN AAAA ::ffff:c000:280\n")?);
-    assert!(rt; is_line(alloc, [0, 0, 0, 0, 0, 0, 0, 1], b"a. 1 IN AAAA ::1\n")?);
-    assert!(rt;
-        is_line(
-            alloc,
-            [0xABCD, 0, 0, 0, 0, 0, 0, 0],
-            b"a. 1 IN AAAA abcd::\n"
-        )?
-    );
+    for (segments, line) in [
+        (
+            [0x2001, 0xdb8, 0, 0, 1, 0, 0, 1],
+            b"a. 1 IN AAAA 2001:db8::1:0:0:1\n".as_slice(),
+        ),
+        (
+            [0x2001, 0xdb8, 0, 1, 1, 1, 1, 1],
+            b"a. 1 IN AAAA 2001:db8:0:1:1:1:1:1\n",
+        ),
+        (
+            [0x2001, 0, 0, 1, 0, 0, 0, 1],
+            b"a. 1 IN AAAA 2001:0:0:1::1\n",
+        ),
+        (
+            [0, 0, 0, 0, 0, 0xffff, 0xc000, 0x280],
+            b"a. 1 IN AAAA ::ffff:c000:280\n",
+        ),
+        ([0, 0, 0, 0, 0, 0, 0, 1], b"a. 1 IN AAAA ::1\n"),
+        ([0xABCD, 0, 0, 0, 0, 0, 0, 0], b"a. 1 IN AAAA abcd::\n"),
+    ] {
+        assert!(rt; is_line(rt.alloc(), segments, line)?);
+    }
     Ok(())
 }
 
