@@ -1,8 +1,9 @@
-//! What a question costs: bench/cache.py compares the times of these tests. Both are asked over three
-//! zones, the root, com. and example.com. In the small script each has one server, and the question is
-//! for the zone's own name. The other has the shape of the DNS: 13 roots, 13 servers of com. and 4 of
-//! example.com., each of these with an address of IPv4 and one of IPv6, and a question for a name
-//! within the zone.
+//! What a question costs: bench/cache.py and bench/zones.py compare the times of these tests. The worlds
+//! of the first have three zones, the root, com. and example.com. In the small script each has one
+//! server, and the question is for the zone's own name. The other has the shape of the DNS: 13 roots, 13
+//! servers of com. and 4 of example.com., each of these with an address of IPv4 and one of IPv6, and a
+//! question for a name within the zone. The ways of the second go down so many zones, each with one
+//! server, to the name of the last.
 
 use dns_core::{Items, Question};
 use recursor_core::{Recursor, Reply, drive};
@@ -111,6 +112,55 @@ fn scenario(alloc: Global, option: &str, world: World) -> Result<String, Fail> {
     Ok(text)
 }
 
+/// The zones that a question goes down, the root included, and how many rules the script has beside
+/// those that it comes to.
+#[derive(Clone, Copy)]
+struct Way {
+    zones: usize,
+    unused: usize,
+}
+
+/// The rules that lead down the zones, of which it answers the name of the last.
+fn cuts(alloc: Global, text: &mut String, zones: usize) -> Result<String, Fail> {
+    let mut zone = String::new(alloc);
+    for network in 1..zones {
+        zone = format!(in alloc; "z{network}.{zone}")?;
+        let above = network.saturating_sub(1);
+        referral(alloc, text, above, zone.as_str(), zone.as_str(), 1)?;
+    }
+    if zone.is_empty() {
+        zone.push_str(".")?;
+    }
+    Ok(zone)
+}
+
+fn unused_rules(alloc: Global, text: &mut String, rules: usize) -> Result<(), Fail> {
+    for n in 0..rules {
+        let rule = format!(in alloc;
+            "reply 11.0.0.1 udp u{n}. A 0 message NOERROR aa 1 0 0\nu{n}. 300 IN A 93.184.215.14\n"
+        )?;
+        text.push_str(&rule)?;
+    }
+    Ok(())
+}
+
+fn scenario_of(alloc: Global, way: Way) -> Result<String, Fail> {
+    let mut text = String::new(alloc);
+    text.push_str("recursor 1\n")?;
+    roots_of(alloc, &mut text, 1)?;
+    text.push_str("option response_cache_size 0\npatience 3\ntold script\n")?;
+    let asked = cuts(alloc, &mut text, way.zones)?;
+    let network = way.zones.saturating_sub(1);
+    let rule = format!(in alloc;
+        "reply 11.0.{network}.1 udp {asked} A 0 message NOERROR aa 1 0 0\n{asked} 300 IN A 93.184.215.14\n"
+    )?;
+    text.push_str(&rule)?;
+    unused_rules(alloc, &mut text, way.unused)?;
+    let question = format!(in alloc; "question {asked} A plain\nend\n")?;
+    text.push_str(&question)?;
+    Ok(text)
+}
+
 fn recursor_over(alloc: Global, scenario: Scenario) -> Result<Bench, Fail> {
     let Scenario {
         roots,
@@ -134,8 +184,7 @@ fn recursor_over(alloc: Global, scenario: Scenario) -> Result<Bench, Fail> {
     }
 }
 
-fn bench_over(alloc: Global, option: &str, world: World) -> Result<Bench, Fail> {
-    let text = scenario(alloc, option, world)?;
+fn bench_over(alloc: Global, text: &str) -> Result<Bench, Fail> {
     match read_scenario(alloc, text.as_bytes()) {
         Ok(scenario) => recursor_over(alloc, scenario),
         Err(error) => Err(Fail::new(format_args!("line {} is refused", error.line))),
@@ -158,14 +207,24 @@ fn answers(alloc: Global, bench: &mut Bench, runs: usize) -> Result<usize, Fail>
     Ok(answers)
 }
 
-/// Each of so many runs has its answer.
-fn are_answered(alloc: Global, option: &str, world: World, runs: usize) -> Result<(), Fail> {
-    let mut bench = bench_over(alloc, option, world)?;
+/// Each of so many runs over a script has its answer.
+fn have_answers(alloc: Global, text: &str, runs: usize) -> Result<(), Fail> {
+    let mut bench = bench_over(alloc, text)?;
     let found = answers(alloc, &mut bench, runs)?;
     if found == runs {
         return Ok(());
     }
     Err(Fail::new(format_args!("{found} of {runs} are answered")))
+}
+
+fn are_answered(alloc: Global, option: &str, world: World, runs: usize) -> Result<(), Fail> {
+    let text = scenario(alloc, option, world)?;
+    have_answers(alloc, text.as_str(), runs)
+}
+
+fn are_walked_for(alloc: Global, way: Way, runs: usize) -> Result<(), Fail> {
+    let text = scenario_of(alloc, way)?;
+    have_answers(alloc, text.as_str(), runs)
 }
 
 const UNKEPT: &str = "option response_cache_size 0\n";
@@ -198,4 +257,76 @@ fn a_question_of_the_dns_is_answered_from_the_cache(rt: HostRuntime) -> Result<(
 #[test]
 fn a_question_of_the_dns_is_walked_for(rt: HostRuntime) -> Result<(), Fail> {
     are_answered(rt.alloc(), UNKEPT, AS_THE_DNS, RUNS)
+}
+
+#[test]
+fn a_way_over_one_zone_once(rt: HostRuntime) -> Result<(), Fail> {
+    let way = Way {
+        zones: 1,
+        unused: 0,
+    };
+    are_walked_for(rt.alloc(), way, 1)
+}
+
+#[test]
+fn a_way_over_one_zone(rt: HostRuntime) -> Result<(), Fail> {
+    let way = Way {
+        zones: 1,
+        unused: 0,
+    };
+    are_walked_for(rt.alloc(), way, RUNS)
+}
+
+#[test]
+fn a_way_over_three_zones_once(rt: HostRuntime) -> Result<(), Fail> {
+    let way = Way {
+        zones: 3,
+        unused: 0,
+    };
+    are_walked_for(rt.alloc(), way, 1)
+}
+
+#[test]
+fn a_way_over_three_zones(rt: HostRuntime) -> Result<(), Fail> {
+    let way = Way {
+        zones: 3,
+        unused: 0,
+    };
+    are_walked_for(rt.alloc(), way, RUNS)
+}
+
+#[test]
+fn a_way_over_ten_zones_once(rt: HostRuntime) -> Result<(), Fail> {
+    let way = Way {
+        zones: 10,
+        unused: 0,
+    };
+    are_walked_for(rt.alloc(), way, 1)
+}
+
+#[test]
+fn a_way_over_ten_zones(rt: HostRuntime) -> Result<(), Fail> {
+    let way = Way {
+        zones: 10,
+        unused: 0,
+    };
+    are_walked_for(rt.alloc(), way, RUNS)
+}
+
+#[test]
+fn a_way_over_three_zones_beside_other_rules_once(rt: HostRuntime) -> Result<(), Fail> {
+    let way = Way {
+        zones: 3,
+        unused: 10_000,
+    };
+    are_walked_for(rt.alloc(), way, 1)
+}
+
+#[test]
+fn a_way_over_three_zones_beside_other_rules(rt: HostRuntime) -> Result<(), Fail> {
+    let way = Way {
+        zones: 3,
+        unused: 10_000,
+    };
+    are_walked_for(rt.alloc(), way, RUNS)
 }

@@ -1,0 +1,70 @@
+"""Zones: what one question costs over a script in memory, for 1, 3 and 10 zones on the way, and beside 10,000 other rules.
+
+    python3 bench/zones.py PROGRAM
+
+PROGRAM is crates/recursor_program/out/recursor_program_tests, as `rt test` in that crate builds it. Of each way one test
+drives a question once, and one 2,000 times, each in a run of its own and with a cache of size 0, so that it goes down all
+zones each time. Each zone, the root included, has one server; the question is for the name of the last. Each time is that
+of the processor, the least of 20 runs of one test, less that of the test with one question: the start of the process and
+reading the script are not in it. Prints a table, with the instructions where valgrind is installed, and exits 1 where a zone of ten costs more than
+1.5 times as much as one of three, or fewer than two thirds of that, or where a question costs more than 1.1 times as much
+beside 10,000 other rules. It goes by the instructions where they were counted, and else by the time."""
+import os
+import re
+import shutil
+import subprocess
+import sys
+
+RUNS = 2000
+WAYS = (("1 zone", "one_zone"), ("3 zones", "three_zones"), ("10 zones", "ten_zones"), ("3 zones, 10,000 more rules", "three_zones_beside_other_rules"))
+
+
+def run(command):
+    done = subprocess.run(command, stdout=subprocess.DEVNULL, stderr=subprocess.PIPE)
+    if done.returncode != 0:
+        sys.exit("%s ended with status %d" % (" ".join(command), done.returncode))
+    return done.stderr.decode()
+
+
+def processor_time(command):
+    child = subprocess.Popen(command, stdout=subprocess.DEVNULL, stderr=subprocess.DEVNULL)
+    _, status, used = os.wait4(child.pid, 0)
+    child.returncode = os.waitstatus_to_exitcode(status)
+    if child.returncode != 0:
+        sys.exit("%s ended with status %d" % (" ".join(command), child.returncode))
+    return used.ru_utime + used.ru_stime
+
+
+def seconds(program, test):
+    return min(processor_time([program, test]) for _ in range(20))
+
+
+def instructions(program, test):
+    told = run(["valgrind", "--tool=callgrind", "--callgrind-out-file=/dev/null", program, test])
+    return int(re.search(r"Collected : (\d+)", told).group(1))
+
+
+def costs(measure, program):
+    found = []
+    for _, way in WAYS:
+        test = "cost_tests::a_way_over_%s" % way
+        found.append((measure(program, test) - measure(program, test + "_once")) / (RUNS - 1))
+    return found
+
+
+def main():
+    program = sys.argv[1]
+    times = costs(seconds, program)
+    counts = costs(instructions, program) if shutil.which("valgrind") else None
+    print("| on the way | microseconds | instructions |")
+    print("|---|---|---|")
+    for n, (label, _) in enumerate(WAYS):
+        print("| %s | %.1f | %s |" % (label, times[n] * 1e6, "{:,.0f}".format(counts[n]) if counts else "not counted"))
+    _, three, ten, beside = counts or times
+    zone, rules = (ten / 10) / (three / 3), beside / three
+    print("a zone of ten costs %.2f times as much as one of three; a question beside other rules costs %.2f times as much" % (zone, rules))
+    sys.exit(1 if not 2 / 3 <= zone <= 1.5 or rules > 1.1 else 0)
+
+
+if __name__ == "__main__":
+    main()
