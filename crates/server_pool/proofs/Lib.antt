@@ -7,6 +7,7 @@ pub mod Deciding
 pub mod Finishing
 pub mod Plans
 pub mod Moving
+pub mod OpenOrders
 pub mod Sendings
 pub mod Beginning
 pub mod Growing
@@ -20,6 +21,7 @@ pub mod ByAddress
 pub mod FromPool
 pub mod Cancelled
 pub mod Stepping
+pub mod OpenSteps
 pub mod Working
 pub mod Taking
 mod NewServers

@@ -26,7 +26,7 @@ use Rattle.server_pool.specs.declared.next_step.Doing.TheVariants as doing
 use Rattle.server_pool.specs.declared.next_step.RoundStep.{RoundStep}
 use Rattle.server_pool.specs.declared.next_step.RoundStep.TheVariants as given
 use Rattle.server_pool.specs.Rounds.{Goes, PhaseStands, HeardEnd, heard_at, ends_of, RoundsStand, DecidesAt, IsSameRound, Drops, SettlesAt, IsSameLookup, steps_left, StandsIn, StandsAtEnd, StandsStill, IsEndOf, CanWake}
-use Rattle.server_pool.specs.NextStep.{is_idle, IsTaken, Steps, StepsBy, StepsAt, Tells, doing_of, IsFirstIdle, HasHeard, Gives, GoesOn, BeginsRound, NextStands, IsHalted, stepping, changed_for, stepped_table, told_table, HasCome, HasGiven}
+use Rattle.server_pool.specs.NextStep.{is_idle, IsTaken, Steps, StepsBy, StepsAt, Tells, doing_of, IsFirstIdle, HasHeard, Gives, GoesOn, BeginsRound, NextStands, IsHalted, stepping, changed_for, stepped_table, told_table, StandsWith, HasCome, HasGiven}
 use Rattle.server_pool.specs.NextStep.BeginsRound.{due, woken}
 use Rattle.server_pool.specs.NextStep.HasGone.{heard, began}
 use Rattle.server_pool.specs.Agenda.{Plan}
@@ -316,12 +316,12 @@ come_further number now pool first table old before later mid new come (inr (b, 
     stands_begun (due a b t st) = st
     stands_begun (woken until a b t st) = st
 
-gives_stands : (number now : ℕ) (table : List Server) (pool : List Candidate) (first : List HeardEnd) (mid new : Rounds) (step : RoundStep) → RoundsStand pool first mid → Gives number now table pool first mid step new → RoundsStand pool first new
+gives_stands : (number now : ℕ) (table : List Server) (pool : List Candidate) (first : List HeardEnd) (mid new : Rounds) (step : RoundStep) → RoundsStand pool first mid → Gives number now table pool first mid step new → StandsWith step pool first new
 gives_stands number now table pool first mid new (given.Order order) st g = g.stands
 gives_stands number now table pool first mid new given.Waiting st g = subst (λ (r : Rounds). RoundsStand pool first r) (sym g.3) st
 gives_stands number now table pool first mid new (given.Asleep until) st g = subst (λ (r : Rounds). RoundsStand pool first r) (sym g.2) st
-gives_stands number now table pool first mid new (given.Done answer) st g = subst (λ (r : Rounds). RoundsStand pool first r) (sym g.3) (record { phase = tt; entries = st.entries })
-gives_stands number now table pool first mid new given.Told st g = subst (λ (r : Rounds). RoundsStand pool first r) (sym g.1) st
+gives_stands number now table pool first mid new (given.Done answer) st g = tt
+gives_stands number now table pool first mid new given.Told st g = tt
 
 pub given_last : (number now : ℕ) (pool : List Candidate) (first : List HeardEnd) (table : List Server) (old : Rounds) (before later : List Server) (mid new : Rounds) (step : RoundStep) (come : HasCome number now pool first table old before mid)
     → Gives number now before pool come.known mid step new → later ≡ stepped_table mid before → HasGiven number now pool first table old step later new

@@ -4,6 +4,7 @@ pub mod Ordering
 pub mod AnswerFilter
 pub mod Agenda
 pub mod Cancelling
+pub mod Orders
 pub mod Rounds
 pub mod Key
 pub mod Fits

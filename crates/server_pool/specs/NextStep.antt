@@ -170,6 +170,14 @@ pub record HasCome (number now : ℕ) (pool : List Candidate) (heard : List Hear
   pub stands : RoundsStand pool known new
   pub decides : DecidesAt now old.phase new.phase
 
+-- after each step but the telling it stands so
+abbrev pub StandsWith : RoundStep → List Candidate → List HeardEnd → Rounds → Type 0
+StandsWith (given.Order order) pool known r = RoundsStand pool known r
+StandsWith given.Waiting pool known r = RoundsStand pool known r
+StandsWith (given.Asleep until) pool known r = RoundsStand pool known r
+StandsWith (given.Done answer) pool known r = Unit {0}
+StandsWith given.Told pool known r = Unit {0}
+
 -- After the ends that it heard and the rounds that it began it gave this.
 pub record HasGiven (number now : ℕ) (pool : List Candidate) (heard : List HeardEnd) (table : List Server) (old : Rounds) (step : RoundStep) (later : List Server) (new : Rounds) : Type 0 where
   pub before : List Server
@@ -177,7 +185,7 @@ pub record HasGiven (number now : ℕ) (pool : List Candidate) (heard : List Hea
   pub come : HasCome number now pool heard table old before mid
   pub gives : Gives number now before pool come.known mid step new
   pub stepped : later ≡ stepped_table mid before
-  pub stands : RoundsStand pool come.known new
+  pub stands : StandsWith step pool come.known new
 
 -- There memory was wanting.
 pub record HasHalted (number now : ℕ) (pool : List Candidate) (heard : List HeardEnd) (table : List Server) (old : Rounds) (later : List Server) (new : Rounds) : Type 0 where

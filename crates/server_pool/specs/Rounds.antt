@@ -32,12 +32,12 @@ Goes pool ends r = PlanStands r.request.query r.timeout pool ends (under_way r.s
 abbrev pub IsAnswered : List Candidate → List (End Candidate) → Rounds → Answered → ℕ → Type 0
 IsAnswered pool ends r answer at = PoolRun (rules_of r.timeout) (class_of_sent r.request.query) pool ends answer r.start at
 
--- Sends are under way, or a round after the first is to begin; or the lookup sleeps before it asks the busy ones again; or it is decided.
+-- Sends are under way, or a round after the first is to begin; or the lookup sleeps before it asks the busy ones again; or it is decided. Once it has told that, it stands no more.
 abbrev pub StandsIn : List Candidate → List (End Candidate) → Rounds → Phase → Type 0
 StandsIn pool ends r Asking = Goes pool ends r × (ends ≡ [] → 0 < length r.sends.items)
 StandsIn pool ends r (Asleep until) = Goes pool ends r × (length r.sends.items ≡ 0) × (r.agenda.waiting ≡ []) × (may_sleep r.agenda ≡ true) × (ends ≡ [] → ⊥)
 StandsIn pool ends r (Decided answer at) = IsAnswered pool ends r answer at
-StandsIn pool ends r Told = Unit {0}
+StandsIn pool ends r Told = ⊥
 
 abbrev pub PhaseStands : List Candidate → List (End Candidate) → Rounds → Type 0
 PhaseStands pool ends r = StandsIn pool ends r r.phase

@@ -1,5 +1,5 @@
 //! The next step of a lookup: an order of one of its sends, or why there is none.
-ghost use Rattle.std.specs.Prelude.{◌≡◌, ◌<◌, ℕ, ◌↔◌, List, length, slice_get, find, None, Some, Ok, IfOk, OnOk, OnErr, IsTrue};
+ghost use Rattle.std.specs.Prelude.{◌≡◌, ◌<◌, ℕ, ◌↔◌, List, [], length, true, slice_get, find, None, Some, Ok, IfOk, OnOk, OnErr, IsTrue};
 ghost use Rattle.std.specs.List.{position, remove};
 ghost use Rattle.resolution.specs.Lookups.{Answered, End};
 ghost use Rattle.server_core.specs.declared.order.Order.{Order};
@@ -8,6 +8,7 @@ ghost use Rattle.server_core.specs.Sending.{end_of, after_step, after_want};
 ghost use Rattle.server_core.specs.Hearing.{changed_at};
 ghost use Rattle.server_pool.specs.declared.candidate.Candidate.{Candidate};
 ghost use Rattle.server_pool.specs.declared.rounds.Sending.{Sending};
+ghost use Rattle.server_pool.specs.Orders.{opens, HasSameOrders, HasSameOrdersBut, OpensMade, OpensBy, OpensNext};
 ghost use Rattle.server_pool.specs.Rounds.{Goes, HeardEnd, RoundsStand, IsSameRound, DecidesAt, SettlesAt, IsSameLookup, steps_left, IsEndOf, StandsAtEnd, StandsStill, CanWake};
 ghost use Rattle.server_pool.specs.NextStep.{is_idle, IsTaken, Steps, StepsAt, Tells, doing_of, IsFirstIdle, NextStands, IsHalted, changed_for, halted_table, HasGiven, HasHalted};
 
@@ -120,6 +121,9 @@ impl Rounds {
         ensures table { (s : Sending) → slice_get self.old.sends.items place ≡ Some s → OnOk result (table.new ≡ changed_for after_step (Some s) table.old) }
         ensures want { (s : Sending) → slice_get self.old.sends.items place ≡ Some s → OnErr result (table.new ≡ changed_for after_want (Some s) table.old) }
         ensures count { length table.new ≡ length table.old }
+        ensures beside { (s : Sending) → slice_get self.old.sends.items place ≡ Some s → is_idle s ≡ true → HasSameOrdersBut number self.old.sends.items self.new.sends.items }
+        ensures own { (s : Sending) → slice_get self.old.sends.items place ≡ Some s → is_idle s ≡ true → opens number self.old.sends.items ≡ []
+            → OpensMade number (length table.old) result self.new.sends.items }
     {
         let sending = &mut self.sends[place];
         if sending.send.server as usize >= table.len() {
@@ -152,6 +156,7 @@ impl Rounds {
         ensures err { OnErr result (table.new ≡ table.old) }
         ensures count { length table.new ≡ length table.old }
         ensures decides { DecidesAt now self.old.phase self.new.phase }
+        ensures orders { HasSameOrders self.old.sends.items self.new.sends.items }
     {
         match made {
             Some(order) => Ok(Some(RoundStep::Order(order))),
@@ -182,6 +187,9 @@ impl Rounds {
         ensures falls { IfOk result (λ step. step ≡ None → steps_left self.new < steps_left self.old) }
         ensures halted { (s : Sending) → IsFirstIdle place s self.old → OnErr result (table.new ≡ changed_for after_want (Some s) table.old) }
         ensures count { length table.new ≡ length table.old }
+        ensures beside { (s : Sending) → slice_get self.old.sends.items place ≡ Some s → is_idle s ≡ true → HasSameOrdersBut number self.old.sends.items self.new.sends.items }
+        ensures own { (s : Sending) → slice_get self.old.sends.items place ≡ Some s → is_idle s ≡ true → opens number self.old.sends.items ≡ []
+            → OpensBy number (length table.old) result self.new.sends.items }
     {
         let made = self.step_send(alloc, table, place, number, tick)?;
         self.after_send(alloc, table, place, made, tick.now)
@@ -198,6 +206,8 @@ impl Rounds {
         ensures same { IsSameLookup self.old self.new }
         ensures decides { DecidesAt now self.old.phase self.new.phase }
         ensures falls { IfOk result (λ step. step ≡ None → steps_left self.new < steps_left self.old) }
+        ensures orders { HasSameOrders self.old.sends.items self.new.sends.items }
+        ensures none { IfOk result (λ step. (order : Order) → step ≡ Some (RoundStep.Order order) → ⊥) }
     {
         if self.sends.is_empty() {
             self.go_on(alloc, now)?;
@@ -225,6 +235,8 @@ impl Rounds {
         ensures falls { IfOk result (λ step. step ≡ None → steps_left self.new < steps_left self.old) }
         ensures halted { OnErr result (table.new ≡ changed_for after_want (find is_idle self.old.sends.items) table.old) }
         ensures count { length table.new ≡ length table.old }
+        ensures beside { HasSameOrdersBut number self.old.sends.items self.new.sends.items }
+        ensures own { opens number self.old.sends.items ≡ [] → OpensBy number (length table.old) result self.new.sends.items }
     {
         match self.idle_place() {
             Some(place) => self.step_at(alloc, table, place, number, tick),
@@ -249,6 +261,8 @@ impl Rounds {
         ensures same { IsSameLookup self.old self.new }
         ensures decides { DecidesAt now self.old.phase self.new.phase }
         ensures falls { IfOk result (λ step. step ≡ None → steps_left self.new < steps_left self.old) }
+        ensures orders { HasSameOrders self.old.sends.items self.new.sends.items }
+        ensures none { IfOk result (λ step. (order : Order) → step ≡ Some (RoundStep.Order order) → ⊥) }
     {
         if now < until || !self.may_wake() {
             return Ok(Some(RoundStep::Asleep { until }));
@@ -287,6 +301,8 @@ impl Rounds {
         ensures falls { IfOk result (λ step. step ≡ None → steps_left self.new < steps_left self.old) }
         ensures halted { OnErr result (table.new ≡ halted_table self.old table.old) }
         ensures count { length table.new ≡ length table.old }
+        ensures beside { HasSameOrdersBut number self.old.sends.items self.new.sends.items }
+        ensures own { opens number self.old.sends.items ≡ [] → OpensBy number (length table.old) result self.new.sends.items }
     {
         match self.doing() {
             Doing::Asks => self.ask_next(alloc, table, number, tick),
@@ -312,6 +328,8 @@ impl Rounds {
         ensures same { IsSameLookup self.old self.new }
         ensures decides { DecidesAt tick.now self.old.phase self.new.phase }
         ensures count { length table.new ≡ length table.old }
+        ensures beside { HasSameOrdersBut number self.old.sends.items self.new.sends.items }
+        ensures own { opens number self.old.sends.items ≡ [] → OpensNext number (length table.old) result self.new.sends.items }
     {
         'going: loop {
             match self.advance(alloc, table, number, tick)? {

@@ -1,6 +1,6 @@
 //! The rounds of one lookup at a pool: some servers are asked side by side, and when all of them have
 //! ended, the next ones, until an end decides the lookup, no server is left, or its time is over.
-ghost use Rattle.std.specs.Prelude.{vec_len, vec_capacity, ◌≡◌, ◌≤◌, ◌<◌, ◌+◌, ◌-◌, ◌^◌, ℕ, nat_le, min, [], ◌∷◌, ◌++◌, List, true, false, length, slice_get, map, take, Some, None, Ok, Err, IfOk, IfSome, IfNone, OnOk, OnErr, IsTrue, ◌↔◌, ◌==◌, ◌&&◌, ◌⊎◌};
+ghost use Rattle.std.specs.Prelude.{vec_len, vec_capacity, ◌≡◌, ◌≤◌, ◌<◌, ◌+◌, ◌-◌, ◌^◌, ℕ, nat_le, min, [], ◌∷◌, ◌++◌, List, true, false, length, slice_get, map, take, Some, None, Ok, Err, IfOk, IfSome, IfNone, OnOk, OnErr, IsSome, IsTrue, ◌↔◌, ◌==◌, ◌&&◌, ◌⊎◌};
 ghost use Rattle.std.specs.List.{position, remove};
 ghost use Rattle.resolution.specs.Lookups.{Answered, End};
 ghost use Rattle.server_core.specs.Order.{entry_of};
@@ -9,6 +9,7 @@ ghost use Rattle.server_pool.specs.declared.candidate.Candidate.{Candidate};
 ghost use Rattle.server_pool.specs.declared.rounds.Sending.{Sending};
 ghost use Rattle.server_pool.specs.Agenda.{may_sleep, sleep_time, end_at};
 ghost use Rattle.server_pool.specs.Ordering.{side_by_side};
+ghost use Rattle.server_pool.specs.Orders.{opens, HasSameOrders, HasSameOrdersBut, TakesBy};
 ghost use Rattle.server_pool.specs.Rounds.{Goes, PhaseStands, RoundsStand, HeardEnd, listed, ended_by_of, IsDecidedAt, DecidesAt, IsSameRound, IsNewRound, SettlesAt, HasTaken, IsSameLookup, MayBeLate, IsFed, IsOpenAt, IsStillAt, IsEndOf, HasEnded, StandsAtEnd, StandsBy, StandsStill, wakes_at, work, steps_left, first_send, Takes, TakesRound, TakesBusy, heard_table};
 
 use crate::agenda::Agenda;
@@ -120,6 +121,8 @@ impl Sending {
         ensures rest { OnOk result (self.new ≡ record self.old { send = self.new.send; ended_by = ended_by_of self.new.send.stage (entry_of outcome) }) }
         ensures table { OnOk result (table.new ≡ heard_table self.old tick.now outcome table.old) }
         ensures candidate { self.new.candidate ≡ self.old.candidate }
+        ensures order { self.new.order ≡ self.old.order }
+        ensures server { self.new.send.server ≡ self.old.send.server }
         ensures err { OnErr result ((self.new ≡ self.old) × (table.new ≡ table.old)) }
         ensures count { length table.new ≡ length table.old }
     {
@@ -148,6 +151,7 @@ impl Rounds {
         ensures more { length self.old.sends.items ≤ length self.new.sends.items }
         ensures sent { IfOk result (λ sent. sent ≡ true → 0 < length self.new.sends.items) }
         ensures none { IfOk result (λ sent. sent ≡ false → self.new.agenda.waiting ≡ []) }
+        ensures orders { HasSameOrders self.old.sends.items self.new.sends.items }
     {
         let request = self.request.try_clone(alloc)?;
         self.sends.reserve(1)?;
@@ -171,6 +175,7 @@ impl Rounds {
         ensures work { work self.new ≤ work self.old }
         ensures phase { self.new.phase ≡ self.old.phase }
         ensures more { length self.old.sends.items ≤ length self.new.sends.items }
+        ensures orders { HasSameOrders self.old.sends.items self.new.sends.items }
     {
         'others: for _other in 1..self.together {
             if !self.send_one(alloc)? {
@@ -189,6 +194,7 @@ impl Rounds {
         ensures work { work self.new ≤ work self.old }
         ensures phase { self.new.phase ≡ self.old.phase }
         ensures none { OnOk result (length self.new.sends.items ≡ 0 → self.new.agenda.waiting ≡ []) }
+        ensures orders { HasSameOrders self.old.sends.items self.new.sends.items }
     {
         if self.send_one(alloc)? {
             self.send_others(alloc)?;
@@ -268,6 +274,7 @@ impl Rounds {
         ensures phase { OnErr result (self.new.phase ≡ self.old.phase) }
         ensures late { self.old.start + self.old.timeout ≤ now → OnOk result (self.new.phase ≡ Phase.Decided (Err NetError.Timeout) now) }
         ensures asks { OnOk result (self.new.phase ≡ Phase.Asking → 0 < length self.new.sends.items) }
+        ensures orders { HasSameOrders self.old.sends.items self.new.sends.items }
     {
         if self.is_late(now) {
             self.phase = Phase::Decided {
@@ -299,6 +306,7 @@ impl Rounds {
         ensures asks { IfOk result (λ r. r.phase ≡ Phase.Asking → 0 < length r.sends.items) }
         ensures takes { 0 < options.now.timeout → IfOk result (λ r. r.sends.items ≡ map (first_send request false) (take (side_by_side options.now) pool.now)) }
         ensures late { options.now.timeout ≡ 0 → IfOk result (λ r. r.phase ≡ Phase.Decided (Err NetError.Timeout) now) }
+        ensures orders { IfOk result (λ r. (n : ℕ) → opens n r.sends.items ≡ []) }
     {
         let mut rounds = Rounds {
             request,
@@ -330,6 +338,7 @@ impl Rounds {
         ensures work { work self.new < work self.old }
         ensures late { self.old.start + self.old.timeout ≤ now → OnOk result (self.new.phase ≡ Phase.Decided (Err NetError.Timeout) now) }
         ensures asks { OnOk result (self.new.phase ≡ Phase.Asking → 0 < length self.new.sends.items) }
+        ensures orders { HasSameOrders self.old.sends.items self.new.sends.items }
     {
         self.agenda.wake();
         self.phase = Phase::Asking;
@@ -346,6 +355,7 @@ impl Rounds {
         ensures phase { self.new.phase ≡ self.old.phase }
         ensures agenda { self.new.agenda ≡ self.old.agenda }
         ensures count { length self.new.sends.items ≡ length self.old.sends.items }
+        ensures orders { (s : Sending) → slice_get self.old.sends.items place ≡ Some s → is_open s.send.stage ≡ false → HasSameOrders self.old.sends.items self.new.sends.items }
     {
         let sending = &mut self.sends[place];
         sending.send.stage = Stage::Ended(outcome);
@@ -374,6 +384,7 @@ impl Rounds {
         ensures work { OnOk result (work self.new < work self.old) }
         ensures phase { OnErr result (self.new.phase ≡ self.old.phase) }
         ensures count { OnErr result (length self.new.sends.items ≡ length self.old.sends.items) }
+        ensures orders { (s : Sending) → slice_get self.old.sends.items place ≡ Some s → is_open s.send.stage ≡ false → HasSameOrders self.old.sends.items self.new.sends.items }
     {
         if let Err(NoMemory) = make_room(&mut self.ends, &mut self.ended) {
             self.give_back(place, outcome);
@@ -444,6 +455,9 @@ impl Rounds {
         ensures agenda { self.new.agenda ≡ self.old.agenda }
         ensures past { (s : Sending) → slice_get self.old.sends.items place ≡ Some s → length table.old ≤ s.send.server → (table.new ≡ table.old) × (slice_get self.new.sends.items place ≡ Some s) }
         ensures servers { length table.new ≡ length table.old }
+        ensures beside { (s : Sending) → slice_get self.old.sends.items place ≡ Some s → HasSameOrdersBut s.order self.old.sends.items self.new.sends.items }
+        ensures own { (s : Sending) → slice_get self.old.sends.items place ≡ Some s → IsTrue (is_open s.send.stage) → s.send.server < length table.old
+            → opens s.order self.old.sends.items ≡ s ∷ [] → TakesBy s.order s outcome result self.new.sends.items }
     {
         let sending = &mut self.sends[place];
         if sending.send.server as usize >= table.len() {
@@ -465,6 +479,8 @@ impl Rounds {
         ensures end { (s : Sending) → slice_get self.old.sends.items place ≡ Some s → result ≡ end_of s.send.stage }
         ensures there { (s : Sending) → slice_get self.old.sends.items place ≡ Some s → IsStillAt s place self.new }
         ensures none { IfNone result (self.new.sends.items ≡ self.old.sends.items) }
+        ensures orders { HasSameOrders self.old.sends.items self.new.sends.items }
+        ensures idle { IsSome result → (s : Sending) → slice_get self.new.sends.items place ≡ Some s → is_open s.send.stage ≡ false }
     {
         let sending = &mut self.sends[place];
         sending.send.take_end()
@@ -482,6 +498,7 @@ impl Rounds {
         ensures rests { (self.old.phase ≡ Phase.Asking → length self.old.sends.items ≡ 0 → ⊥) → self.new ≡ self.old }
         ensures work { work self.new ≤ work self.old }
         ensures asks { OnOk result (self.new.phase ≡ Phase.Asking → 0 < length self.new.sends.items) }
+        ensures orders { HasSameOrders self.old.sends.items self.new.sends.items }
     {
         if self.is_asking() && self.sends.is_empty() {
             self.begin(alloc, now)
@@ -511,6 +528,7 @@ impl Rounds {
         ensures servers { length table.new ≡ length table.old }
         ensures decides { DecidesAt now self.old.phase self.new.phase }
         ensures falls { (s : Sending) (o : Answered) → slice_get self.old.sends.items place ≡ Some s → end_of s.send.stage ≡ Some o → OnOk result (steps_left self.new < steps_left self.old) }
+        ensures orders { HasSameOrders self.old.sends.items self.new.sends.items }
     {
         match self.take_end(place) {
             Some(outcome) => {
@@ -548,6 +566,9 @@ impl Rounds {
         ensures past { (s : Sending) → slice_get self.old.sends.items place ≡ Some s → IsTrue (is_open s.send.stage) → length table.old ≤ s.send.server → table.new ≡ table.old }
         ensures halted { (s : Sending) → slice_get self.old.sends.items place ≡ Some s → OnErr result ((table.new ≡ table.old) ⊎ (table.new ≡ heard_table s tick.now outcome table.old)) }
         ensures table { length table.new ≡ length table.old }
+        ensures beside { (s : Sending) → slice_get self.old.sends.items place ≡ Some s → HasSameOrdersBut s.order self.old.sends.items self.new.sends.items }
+        ensures own { (s : Sending) → slice_get self.old.sends.items place ≡ Some s → IsTrue (is_open s.send.stage) → s.send.server < length table.old
+            → opens s.order self.old.sends.items ≡ s ∷ [] → TakesBy s.order s outcome result self.new.sends.items }
     {
         let after = self.feed(alloc, table, place, outcome, tick)?;
         self.end(alloc, table, place, tick.now)?;
@@ -593,6 +614,8 @@ impl Rounds {
         ensures past { (place : ℕ) (s : Sending) → IsOpenAt number place s self.old → length table.old ≤ s.send.server → table.new ≡ table.old }
         ensures halted { (place : ℕ) (s : Sending) → IsOpenAt number place s self.old → OnErr result ((table.new ≡ table.old) ⊎ (table.new ≡ heard_table s tick.now outcome table.old)) }
         ensures table { length table.new ≡ length table.old }
+        ensures beside { HasSameOrdersBut number self.old.sends.items self.new.sends.items }
+        ensures own { (s : Sending) → self.old.phase ≡ Phase.Asking → s.send.server < length table.old → opens number self.old.sends.items ≡ s ∷ [] → TakesBy number s outcome result self.new.sends.items }
     {
         match self.open_place(number) {
             Some(place) => self.put_at(alloc, table, place, outcome, tick),

@@ -1,10 +1,11 @@
-use Rattle.std.proofs.Common.{◌≡◌, ◌∙◌, ℕ, List, ap, subst, sym, inr, refl, [], ◌∷◌, ◌++◌, Option}
+use Rattle.std.proofs.Common.{◌≡◌, ◌∙◌, ℕ, List, ap, subst, sym, inr, refl, [], ◌∷◌, ◌++◌, arith, Option, IsSome}
 use Rattle.resolution.specs.Lookups.{Answered}
 use Rattle.server_core.specs.declared.policy.ConnectionPolicy.{ConnectionPolicy}
 use Rattle.server_pool.specs.Agenda.{Plan}
 use Rattle.server_pool.specs.Cancelling.{ends_by_message, settled_table}
 use Rattle.server_pool.specs.Rounds.{heard_at, ends_of, entries_of, listed, IsEndOf, SettlesAt, Drops, IsStill}
 use Rattle.server_pool.proofs.Beginning.{goes_now, stands_more, more_is_some, on_err_always, at_some_end}
+use Rattle.server_pool.proofs.Stepping.{some_at}
 use Rattle.server_pool.proofs.rounds.Rounds.end.Goals as goal
 
 pub returns-in_ok-go_on-in-Some-clause-stands : goal.returns-in_ok-go_on-in-Some-clause-stands
@@ -69,3 +70,21 @@ returns-in-None-clause-settles c = λ s there.
     let new = c.take_end.new.self in
     let still : IsStill old new = record { sends = c.in-None.ensures.none; agenda = c.take_end.ensures.agenda; phase = c.take_end.ensures.phase; round = c.take_end.ensures.round } in
     subst (λ (x : Option Answered). SettlesAt x c.args.now c.args.place s c.args.table.now old c.args.table.now new) (sym c.in-None.is ∙ c.take_end.ensures.end s there) (still, refl)
+
+pub returns-in_err-hear-in-Some-clause-orders : goal.returns-in_err-hear-in-Some-clause-orders
+returns-in_err-hear-in-Some-clause-orders c =
+    let some : IsSome c.take_end.result = subst (λ (o : Option Answered). IsSome o) (sym c.in-Some.is) refl in
+    let s = some_at c.take_end.new.self.sends.items c.args.place (omega (arith, c.take_end.ensures.count, c.requires.place)) in
+    λ n. c.hear.ensures.orders s.0 s.1 (c.take_end.ensures.idle some s.0 s.1) n ∙ c.take_end.ensures.orders n
+
+pub returns-in_ok-go_on-in-Some-clause-orders : goal.returns-in_ok-go_on-in-Some-clause-orders
+returns-in_ok-go_on-in-Some-clause-orders c =
+    let some : IsSome c.take_end.result = subst (λ (o : Option Answered). IsSome o) (sym c.in-Some.is) refl in
+    let s = some_at c.take_end.new.self.sends.items c.args.place (omega (arith, c.take_end.ensures.count, c.requires.place)) in
+    λ n. c.go_on.ensures.orders n ∙ c.hear.ensures.orders s.0 s.1 (c.take_end.ensures.idle some s.0 s.1) n ∙ c.take_end.ensures.orders n
+
+pub returns-in_err-go_on-in-Some-clause-orders : goal.returns-in_err-go_on-in-Some-clause-orders
+returns-in_err-go_on-in-Some-clause-orders c =
+    let some : IsSome c.take_end.result = subst (λ (o : Option Answered). IsSome o) (sym c.in-Some.is) refl in
+    let s = some_at c.take_end.new.self.sends.items c.args.place (omega (arith, c.take_end.ensures.count, c.requires.place)) in
+    λ n. c.go_on.ensures.orders n ∙ c.hear.ensures.orders s.0 s.1 (c.take_end.ensures.idle some s.0 s.1) n ∙ c.take_end.ensures.orders n

@@ -1,6 +1,6 @@
 use Rattle.std.proofs.Common.{◌≡◌, ◌∙◌, ◌≤◌, length, ap, sym, subst, arith, OnOk, IfOk, IsTrue, refl}
 use Rattle.std.proofs.lemmas.Option.{get_or_from_slice_get}
-use Rattle.std.proofs.lemmas.Result.{on_ok_weaker}
+use Rattle.std.proofs.lemmas.Result.{on_ok_weaker, on_err_weaker}
 use Rattle.server_core.specs.Sending.{Comes, is_open, after_put, asked_of, heard_put}
 use Rattle.server_pool.specs.declared.rounds.Sending.{Sending}
 use Rattle.server_pool.specs.Rounds.{heard_table}
@@ -9,6 +9,8 @@ use Rattle.server_pool.proofs.Cancelled.{removed_set}
 use Rattle.server_pool.proofs.Beginning.{on_ok_both}
 use Rattle.server_pool.proofs.Sendings.{put_back, written_send, fed_of, fed_send}
 use Rattle.server_pool.proofs.Stepping.{changed_past}
+use Rattle.server_pool.proofs.OpenOrders.{others_set}
+use Rattle.server_pool.proofs.OpenSteps.{fed_opens}
 use Rattle.server_pool.proofs.rounds.Rounds.feed.Goals as goal
 
 pub returns-then-sending-len-clause-goes : goal.returns-then-sending-len-clause-goes
@@ -85,3 +87,31 @@ returns-clause-past c = λ s there beyond.
     let same : lent ≡ s = c.index_mut-sending.ensures.value ∙ get_or_from_slice_get c.args.self.now.sends.items c.args.place s lent there in
     let over : length c.args.table.now ≤ lent.send.server = subst (λ (x : Sending). length c.args.table.now ≤ x.send.server) (sym same) beyond in
     absurd (omega (arith, over))
+
+pub returns-then-sending-len-clause-beside : goal.returns-then-sending-len-clause-beside
+returns-then-sending-len-clause-beside c = λ s there.
+    let lent = c.index_mut-sending.result.now in
+    let same : lent ≡ s = c.index_mut-sending.ensures.value ∙ get_or_from_slice_get c.args.self.now.sends.items c.args.place s lent there in
+    others_set c.args.self.now.sends.items c.args.place s _ there (ap (λ (x : Sending). x.order) same)
+
+pub returns-then-sending-len-clause-own : goal.returns-then-sending-len-clause-own
+returns-then-sending-len-clause-own c = λ s there is live only.
+    let lent = c.index_mut-sending.result.now in
+    let same : lent ≡ s = c.index_mut-sending.ensures.value ∙ get_or_from_slice_get c.args.self.now.sends.items c.args.place s lent there in
+    let past : length c.args.table.now ≤ lent.send.server = omega arith in
+    let beyond : length c.args.table.now ≤ s.send.server = subst (λ (x : Sending). length c.args.table.now ≤ x.send.server) same past in
+    absurd (omega (arith, beyond, live))
+
+pub returns-clause-beside : goal.returns-clause-beside
+returns-clause-beside c = λ s there.
+    let lent = c.index_mut-sending.result.now in
+    let same : lent ≡ s = c.index_mut-sending.ensures.value ∙ get_or_from_slice_get c.args.self.now.sends.items c.args.place s lent there in
+    others_set c.args.self.now.sends.items c.args.place s c.put.new.self there (c.put.ensures.order ∙ ap (λ (x : Sending). x.order) same)
+
+pub returns-clause-own : goal.returns-clause-own
+returns-clause-own c = λ s there is live only.
+    let lent = c.index_mut-sending.result.now in
+    let same : lent ≡ s = c.index_mut-sending.ensures.value ∙ get_or_from_slice_get c.args.self.now.sends.items c.args.place s lent there in
+    let open_then = subst (λ (x : Sending). IsTrue (is_open x.send.stage)) (sym same) is in
+    fed_opens c.args.self.now.sends.items c.args.place s lent c.put.new.self c.args.outcome c.put.result there c.index_mut-sending.ensures.value is only (c.put.ensures.comes open_then)
+    c.put.ensures.rest (on_err_weaker c.put.result (λ h. h.0) c.put.ensures.err) c.put.ensures.server

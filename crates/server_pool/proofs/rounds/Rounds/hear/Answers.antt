@@ -10,6 +10,7 @@ use Rattle.server_pool.specs.Rounds.{under_way}
 use Rattle.server_pool.proofs.Sendings.{same_sends, ended_send}
 use Rattle.server_pool.proofs.Beginning.{goes_after, more_is_some}
 use Rattle.server_pool.proofs.Working.{heard_work}
+use Rattle.server_pool.proofs.OpenOrders.{orders_removed}
 use Rattle.server_pool.proofs.rounds.Rounds.hear.Goals as goal
 
 pub returns-in-GoesOn-clause-stands : goal.returns-in-GoesOn-clause-stands
@@ -60,3 +61,9 @@ returns-in-Answers-clause-work c =
     let count : length r.sends.items ≡ length c.remove-in-Answers.new.self.items + 1 = omega (arith, left, one) in
     heard_work c.index-ended.result.now.candidate (class_of_sent r.request.query c.args.outcome) r.agenda c.hear.new.self (length c.remove-in-Answers.new.self.items) (length r.sends.items)
     c.in-Answers.ensures.heard.1 count
+
+pub returns-in-GoesOn-clause-orders : goal.returns-in-GoesOn-clause-orders
+returns-in-GoesOn-clause-orders c = λ s there closed. orders_removed c.args.self.now.sends.items c.remove.new.self.items c.args.place s c.remove.ensures.items there closed
+
+pub returns-in-Answers-clause-orders : goal.returns-in-Answers-clause-orders
+returns-in-Answers-clause-orders c = λ s there closed. orders_removed c.args.self.now.sends.items c.remove-in-Answers.new.self.items c.args.place s c.remove-in-Answers.ensures.items there closed

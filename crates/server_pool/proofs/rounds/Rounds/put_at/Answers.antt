@@ -1,4 +1,4 @@
-use Rattle.std.proofs.Common.{◌∙◌}
+use Rattle.std.proofs.Common.{◌∙◌, Ok}
 use Rattle.server_pool.proofs.Beginning.{open_end, goes_now, asks_on, at_entry, fed_on, on_err_always}
 use Rattle.server_core.specs.Order.{entry_of}
 use Rattle.server_pool.specs.Rounds.{ends_of, ended_by_of, SettlesAt}
@@ -6,6 +6,7 @@ use Rattle.std.proofs.Common.{List, Option, subst}
 use Rattle.resolution.specs.Lookups.{Answered}
 use Rattle.server_core.specs.Servers.{Server}
 use Rattle.server_core.specs.Sending.{end_of}
+use Rattle.server_pool.proofs.OpenSteps.{takes_after}
 use Rattle.server_pool.proofs.rounds.Rounds.put_at.Goals as goal
 
 pub returns-in_err-end-clause-want : goal.returns-in_err-end-clause-want
@@ -51,3 +52,11 @@ returns-clause-past c = λ s there is beyond.
     let still = c.feed.ensures.past s there beyond in
     let none = subst (λ (o : Option Answered). SettlesAt o c.args.tick.now c.args.place s c.feed.new.table c.feed.new.self c.end.new.table c.end.new.self) (open_end s.send.stage is) (c.in_ok-end.ensures.settles s still.1) in
     none.1 ∙ still.0
+
+pub returns-in_err-end-clause-own : goal.returns-in_err-end-clause-own
+returns-in_err-end-clause-own c = λ s there is live only.
+    takes_after s.order s c.args.outcome c.in_ok-after.after c.from_residual-in_err-end.result c.feed.new.self.sends.items c.end.new.self.sends.items c.end.ensures.orders (c.in_ok-after.ensures.own s there is live only)
+
+pub returns-clause-own : goal.returns-clause-own
+returns-clause-own c = λ s there is live only.
+    takes_after s.order s c.args.outcome c.in_ok-after.after (Ok c.in_ok-after.after) c.feed.new.self.sends.items c.end.new.self.sends.items c.end.ensures.orders (c.in_ok-after.ensures.own s there is live only)

@@ -2,12 +2,14 @@ use Rattle.std.proofs.Common.{◌≡◌, ◌∙◌, ◌+◌, length, length-appe
 use Rattle.server_pool.specs.Agenda.{Plan, may_ask}
 use Rattle.std.specs.List.{filter}
 use Rattle.dns_core.specs.declared.request.DnsRequest.{DnsRequest}
+use Rattle.server_core.specs.Sending.{is_open}
 use Rattle.server_core.specs.declared.policy.ConnectionPolicy.{ConnectionPolicy}
 use Rattle.server_pool.specs.declared.rounds.Sending.{Sending}
 use Rattle.server_pool.specs.Rounds.{under_way, first_send, fresh_send}
 use Rattle.server_pool.proofs.Sendings.{same_sends, one_more_send}
 use Rattle.server_pool.proofs.Working.{taken_work, taken_fewer, left_fewer}
 use Rattle.server_pool.proofs.Taking.{takes_one, takes_none, none_passes}
+use Rattle.server_pool.proofs.OpenOrders.{orders_same, orders_added}
 use Rattle.server_pool.proofs.rounds.Rounds.send_one.Goals as goal
 
 pub returns-in_err-reserve-clause-goes : goal.returns-in_err-reserve-clause-goes
@@ -61,3 +63,14 @@ returns-in-None-clause-takes c =
     let none = none_passes (may_ask r.agenda.off) r.agenda.waiting (sym c.in-None.ensures.taken) in
     let still : filter (may_ask c.take.new.self.off) c.take.new.self.waiting ≡ [] = ap (filter (may_ask c.take.new.self.off)) c.in-None.ensures.empty in
     takes_none 1 r _ none still c.reserve.ensures.items (ap (λ (p : Plan). p.off) c.in-None.ensures.plan) (ap (λ (p : Plan). p.busy) c.in-None.ensures.plan) (ap (λ (p : Plan). p.sleeps) c.in-None.ensures.plan)
+
+pub returns-in_err-reserve-clause-orders : goal.returns-in_err-reserve-clause-orders
+returns-in_err-reserve-clause-orders c = orders_same c.args.self.now.sends.items c.reserve.new.self.items c.reserve.ensures.items
+
+pub returns-in-Some-clause-orders : goal.returns-in-Some-clause-orders
+returns-in-Some-clause-orders c =
+    orders_added c.args.self.now.sends.items c.push_reserved.new.self.items c.new_sending.result
+    (c.push_reserved.ensures.items ∙ ap (λ l. l ++ c.new_sending.result ∷ []) c.reserve.ensures.items) (ap (λ (x : Sending). is_open x.send.stage) c.new_sending.ensures)
+
+pub returns-in-None-clause-orders : goal.returns-in-None-clause-orders
+returns-in-None-clause-orders c = orders_same c.args.self.now.sends.items c.reserve.new.self.items c.reserve.ensures.items

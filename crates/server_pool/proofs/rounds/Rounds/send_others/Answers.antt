@@ -5,6 +5,7 @@ use Rattle.server_pool.specs.Agenda.{may_ask}
 use Rattle.server_pool.specs.Rounds.{Takes}
 use Rattle.server_pool.proofs.Stepping.{same_still, same_round}
 use Rattle.server_pool.proofs.Taking.{takes_more, takes_all}
+use Rattle.server_pool.proofs.OpenOrders.{orders_then}
 use Rattle.server_pool.proofs.rounds.Rounds.send_others.Goals as goal
 
 pub others-preserved : goal.others-preserved
@@ -22,6 +23,7 @@ others-preserved c =
       work = omega (arith, c.send_one.ensures.work, c.others.invariant.work);
       round = same_round c.others.invariant.round c.send_one.ensures.round;
       phase = c.send_one.ensures.phase ∙ c.others.invariant.phase;
+      orders = orders_then old.sends.items mid.sends.items new.sends.items c.others.invariant.orders c.send_one.ensures.orders;
       more = omega (arith, c.send_one.ensures.more, c.others.invariant.more);
     }
 

@@ -2,6 +2,7 @@ use Rattle.std.proofs.Common.{◌≡◌, ◌-◌, ◌≤◌, max, List, length}
 use Rattle.resolution.specs.Lookups.{End}
 use Rattle.server_pool.specs.declared.candidate.Candidate.{Candidate}
 use Rattle.server_pool.specs.Rounds.{Goes, IsSameLookup, IsSameRound, work, Takes}
+use Rattle.server_pool.specs.Orders.{HasSameOrders}
 use Rattle.server_pool.proofs.rounds.Rounds.send_others.Given as goal
 
 abbrev pub invariant-others : goal.invariant-others
@@ -13,5 +14,6 @@ invariant-others l = record {
   reached : l._other ≤ max l.initial.self.together 1;
   takes : Takes (l._other - 1) l.initial.self l.self;
   work : work l.self ≤ work l.initial.self;
+  orders : HasSameOrders l.initial.self.sends.items l.self.sends.items;
   more : length l.initial.self.sends.items ≤ length l.self.sends.items;
 }

@@ -1,8 +1,9 @@
-use Rattle.std.proofs.Common.{◌∙◌, inl}
+use Rattle.std.proofs.Common.{◌∙◌, inl, length}
 use Rattle.server_pool.proofs.Beginning.{asks_on, goes_now, on_err_always, on_err_joined}
 use Rattle.server_pool.proofs.Stepping.{some_at, stepped_first, step_stands, step_halts, step_table, step_falls}
 use Rattle.server_pool.specs.Rounds.{ends_of}
 use Rattle.server_pool.proofs.Working.{same_steps}
+use Rattle.server_pool.proofs.OpenSteps.{after_opens}
 use Rattle.server_pool.proofs.rounds.Rounds.step_at.Goals as goal
 
 pub returns-in_err-made-clause-want : goal.returns-in_err-made-clause-want
@@ -48,3 +49,8 @@ returns-clause-halted c = λ s at.
     on_err_joined _ _ _ c.after_send.result c.after_send.ensures.err
     (step_table c.args.number c.args.tick.now c.args.place c.args.table.now c.args.self.now c.step_send.new.self c.after_send.new.self s c.in_ok-made.made c.after_send.result c.step_send.new.table c.after_send.new.table
     (c.in_ok-made.ensures.steps s at.there) (λ order is. c.after_send.ensures.order order is) (c.in_ok-made.ensures.table s at.there))
+
+pub returns-clause-own : goal.returns-clause-own
+returns-clause-own c = λ s there idle none.
+    after_opens c.args.number (length c.args.table.now) c.in_ok-made.made c.after_send.result c.step_send.new.self.sends.items c.after_send.new.self.sends.items
+    (c.in_ok-made.ensures.own s there idle none) (λ order is. (c.after_send.ensures.order order is).0) c.after_send.ensures.goes_on c.after_send.ensures.orders

@@ -8,6 +8,8 @@ use Rattle.server_pool.specs.NextStep.{at_stage, changed_for}
 use Rattle.server_pool.proofs.Cancelled.{removed_set}
 use Rattle.server_pool.proofs.Sendings.{written_send}
 use Rattle.server_pool.proofs.Stepping.{stepped_at, ended_at, changed_past, changed_same, some_at}
+use Rattle.server_pool.proofs.OpenOrders.{orders_set, idle_closed}
+use Rattle.server_pool.proofs.OpenSteps.{step_opens, step_others, end_opens}
 use Rattle.server_pool.proofs.rounds.Rounds.step_send.Goals as goal
 
 pub returns-then-sending-len-clause-goes : goal.returns-then-sending-len-clause-goes
@@ -61,3 +63,28 @@ returns-then-sending-len-clause-others c = removed_set c.args.self.now.sends.ite
 
 pub returns-clause-others : goal.returns-clause-others
 returns-clause-others c = removed_set c.args.self.now.sends.items c.args.place _
+
+pub returns-then-sending-len-clause-beside : goal.returns-then-sending-len-clause-beside
+returns-then-sending-len-clause-beside c = λ s there idle n apart.
+    orders_set c.args.self.now.sends.items c.args.place s (at_stage c.index_mut-sending.result.now (Ended (Err NoConnections))) there (idle_closed s idle) refl n
+
+pub returns-then-sending-len-clause-own : goal.returns-then-sending-len-clause-own
+returns-then-sending-len-clause-own c = λ s there idle none.
+    let lent = c.index_mut-sending.result.now in
+    end_opens c.args.number 0 0 c.args.self.now.sends.items c.args.place s lent lent there c.index_mut-sending.ensures.value (idle_closed s idle) (at_stage lent (Ended (Err NoConnections))) refl none
+
+pub returns-clause-beside : goal.returns-clause-beside
+returns-clause-beside c = λ s there idle.
+    let lent = c.index_mut-sending.result.now in
+    let within : lent.send.server < length c.args.table.now = omega arith in
+    let server = some_at c.args.table.now lent.send.server within in
+    step_others c.args.number (length c.args.table.now) c.args.tick.now c.args.self.now.sends.items c.args.place s lent c.step.new.self there c.index_mut-sending.ensures.value (idle_closed s idle)
+    server.0 c.step.result (c.step.ensures.steps server.0 server.1) c.step.ensures.err
+
+pub returns-clause-own : goal.returns-clause-own
+returns-clause-own c = λ s there idle none.
+    let lent = c.index_mut-sending.result.now in
+    let within : lent.send.server < length c.args.table.now = omega arith in
+    let server = some_at c.args.table.now lent.send.server within in
+    step_opens c.args.number (length c.args.table.now) c.args.tick.now c.args.self.now.sends.items c.args.place s lent c.step.new.self there c.index_mut-sending.ensures.value (idle_closed s idle)
+    server.0 c.step.result (c.step.ensures.steps server.0 server.1) c.step.ensures.err within none
