@@ -9,8 +9,7 @@ that of the first test: the start of the process and reading the scenario are no
 three zones has one server, and the question is for the name of the last zone. The other has the shape of the DNS: 13
 roots, a delegation of com. to 13 servers and one of example.com. to 4, each with an address of IPv4 and one of IPv6, and
 a question for www.example.com. Prints two lines each, the second with the instructions where valgrind is installed, and
-exits 1 where in the second world a question from the cache takes more than a hundredth of one that is walked for, by the
-instructions where they were counted, and else by the time."""
+exits 1 where in the second world a question from the cache takes more than a hundredth of one that is walked for."""
 import re
 import shutil
 import subprocess
@@ -57,8 +56,7 @@ def main():
         cached, walked, ratio = compare(seconds, program, name)
         print("%s: from the cache %.2f us, walked for %.2f us, %.1f times as long" % (label, cached * 1e6, walked * 1e6, ratio))
         if shutil.which("valgrind"):
-            cached, walked, ratio = compare(instructions, program, name)
-            print("%s: from the cache %.0f instructions, walked for %.0f, %.1f times as many" % (label, cached, walked, ratio))
+            print("%s: from the cache %.0f instructions, walked for %.0f, %.1f times as many" % ((label,) + compare(instructions, program, name)))
     sys.exit(1 if ratio < 100 else 0)
 
 
