@@ -10,6 +10,3 @@ pub use class::class_of;
 pub use glue::{addresses, is_delegation};
 pub use response::verdict_of_class;
 pub use verdict::{answer_within, negative_within};
-
-#[cfg(test)]
-mod tests;

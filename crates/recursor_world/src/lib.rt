@@ -20,6 +20,3 @@ pub use laws::fronts_are_given;
 pub use provider::{ScriptExchange, ScriptOpening};
 pub use script::{Script, ScriptLine};
 pub use upstream::ScriptUpstream;
-
-#[cfg(test)]
-mod tests;

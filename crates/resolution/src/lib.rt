@@ -38,6 +38,3 @@ pub use plain_serving::serves;
 pub use setting::Setting;
 pub use strangers::{a_stranger_serves_nothing, stray_glue_serves_nothing};
 pub use verdict::{Cause, Verdict};
-
-#[cfg(test)]
-mod tests;

@@ -20,8 +20,3 @@ pub use entry::{CachedResponse, Entry};
 pub use laws::{a_write_adds_one_response_alone, what_is_read_is_current};
 pub use lowering::seconds_between;
 pub use reading::read_message;
-
-#[cfg(test)]
-mod samples;
-#[cfg(test)]
-mod tests;

@@ -1,8 +1,8 @@
-use crate::{addresses, answer_within, class_of, is_delegation};
 use dns_core::{
     DnsClass, Message, Name, NameError, NoMemory, Query, RData, Record, RecordType, Records,
     ResponseCode, TryClone, classify,
 };
+use recursor_walk::{addresses, answer_within, class_of, is_delegation};
 use resolution::{Class, Verdict};
 use resolver_settings::{AccessControlSet, AccessControlSetBuilder, IpNet};
 use std::alloc::Global;

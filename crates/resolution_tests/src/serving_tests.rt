@@ -2,11 +2,11 @@
 
 ghost use Rattle.std.specs.Prelude.{◌<◌};
 
-use crate::{Setting, base, serves};
 use dns_core::{
     DnsClass, LogEntry, Message, Name, NoMemory, Protocol, Query, RData, Record, RecordType,
     Records, ResponseCode, ToldOutcome,
 };
+use resolution::{Setting, base, serves};
 use std::alloc::Global;
 use std::net::{IpAddr, Ipv4Addr};
 use std::test::Fail;

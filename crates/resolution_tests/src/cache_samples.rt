@@ -1,10 +1,10 @@
 //! Questions and responses that tests are made of.
 
-use crate::ResponseCache;
 use dns_core::{
     DnsClass, DnsError, ForwardNsData, Items, Message, Name, NameError, NetError, NoRecords, Query,
     RData, Record, RecordType, Records, ResponseCode, Soa,
 };
+use resolver_cache::ResponseCache;
 use resolver_settings::TtlConfig;
 use std::alloc::Global;
 use std::net::Ipv4Addr;

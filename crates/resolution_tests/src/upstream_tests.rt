@@ -1,5 +1,5 @@
-use crate::{Script, ScriptLine, ScriptUpstream};
 use dns_core::{Items, Protocol};
+use recursor_world::{Script, ScriptLine, ScriptUpstream};
 use std::alloc::Global;
 use std::net::{IpAddr, Ipv4Addr};
 use std::test::Fail;

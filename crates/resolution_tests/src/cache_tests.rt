@@ -1,8 +1,8 @@
-use crate::samples::{
+use crate::cache_samples::{
     answer, cache_of, denied, deny, first_ttl, question, read, source_of, write, write_told,
 };
-use crate::{ResponseCache, ReversedTtl};
 use dns_core::{DnsClass, DnsError, NetError, NoRecords, Query, RecordType, ResponseCode};
+use resolver_cache::{ResponseCache, ReversedTtl};
 use resolver_settings::{TtlBounds, TtlConfig};
 use std::alloc::Global;
 use std::process::Abort;
