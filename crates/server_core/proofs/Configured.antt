@@ -36,7 +36,7 @@ told_configured (Some asked) now class s = refl
 -- an outcome
 pub put_configured : (asked : Option Asked) (now : ℕ) (outcome : Outcome) (s : Server) → (heard_put asked now outcome s).config ≡ s.config
 put_configured asked now (Pending entry) s = refl
-put_configured asked now (Connected entry) s = lost_configured asked now _ s
+put_configured asked now (Connected entry sent) s = lost_configured asked now _ s
 put_configured asked now (Told entry sent message) s = told_configured asked now _ s
 put_configured asked now (Failed entry sent refused error) s = lost_configured asked now error s
 put_configured asked now (GaveUp entry sent polls) s = lost_configured asked now _ s

@@ -31,7 +31,7 @@ told_nothing (Some a) now class n xs e = cc
 -- nor any outcome
 heard_nothing : (now : ℕ) (o : Outcome) (n : ℕ) (xs : List Server) → xs ≡ changed_at (heard_put None now o) n xs
 heard_nothing now (outcome.Pending entry) n xs = sym (changed_same n xs)
-heard_nothing now (outcome.Connected entry) n xs = sym (changed_same n xs)
+heard_nothing now (outcome.Connected entry sent) n xs = sym (changed_same n xs)
 heard_nothing now (outcome.Told entry sent message) n xs = sym (changed_same n xs)
 heard_nothing now (outcome.Failed entry sent refused error) n xs = sym (changed_same n xs)
 heard_nothing now (outcome.GaveUp entry sent polls) n xs = sym (changed_same n xs)

@@ -6,7 +6,7 @@ use Rattle.server_core.specs.declared.order.Outcome.TheVariants.{Pending, Connec
 -- the number of the log entry that says the outcome, and 0 where none does
 abbrev pub entry_of : Outcome → ℕ
 entry_of (Pending entry) = entry
-entry_of (Connected entry) = entry
+entry_of (Connected entry sent) = entry
 entry_of (Told entry sent message) = entry
 entry_of (Failed entry sent refused error) = entry
 entry_of (GaveUp entry sent polls) = entry

@@ -191,7 +191,7 @@ asks_of (step.Done result) = 0
 -- what an outcome does to an order that is open: it is to be given up at the first poll that is no fewer than patience allows
 abbrev pub after_outcome : ℕ → Stage → Outcome → After
 after_outcome patience s (Pending entry) = if nat_le patience (pendings s + 1) then GiveUp else Kept
-after_outcome patience s (Connected entry) = Ended
+after_outcome patience s (Connected entry sent) = Ended
 after_outcome patience s (Told entry sent message) = Ended
 after_outcome patience s (Failed entry sent refused error) = Ended
 after_outcome patience s (GaveUp entry sent polls) = Ended
@@ -203,7 +203,7 @@ after_put patience s outcome = if is_open s then after_outcome patience s outcom
 -- a response was told
 abbrev pub IsTold : Outcome → Type 0
 IsTold (Pending entry) = ⊥
-IsTold (Connected entry) = ⊥
+IsTold (Connected entry sent) = ⊥
 IsTold (Told entry sent message) = Unit {0}
 IsTold (Failed entry sent refused error) = ⊥
 IsTold (GaveUp entry sent polls) = ⊥
@@ -222,7 +222,7 @@ told_put (Some asked) now class server = after_told asked.conn (now - asked.at) 
 -- what an outcome does to the server; one that a question cannot have counts as another fault of transport
 abbrev pub heard_put : Option Asked → ℕ → Outcome → Server → Server
 heard_put asked now (Pending entry) server = server
-heard_put asked now (Connected entry) server = lost_put asked now (Io Other) server
+heard_put asked now (Connected entry sent) server = lost_put asked now (Io Other) server
 heard_put asked now (Told entry sent message) server = told_put asked now (classify_of message) server
 heard_put asked now (Failed entry sent refused error) server = lost_put asked now error server
 heard_put asked now (GaveUp entry sent polls) server = lost_put asked now Timeout server
@@ -269,7 +269,7 @@ pub record IsPending (s next : ServerSend) : Type 0 where
 -- where the send stands after the outcome of its open order
 abbrev pub Comes : ServerSend → Outcome → ServerSend → Type 0
 Comes s (Pending entry) next = IsPending s next
-Comes s (Connected entry) next = IsConnected s (opening_of s.stage) next
+Comes s (Connected entry sent) next = IsConnected s (opening_of s.stage) next
 Comes s (Told entry sent message) next = IsHeard s (asked_of s.stage) (classify_of message) next
 Comes s (Failed entry sent refused error) next = IsLost s (asked_of s.stage) error next
 Comes s (GaveUp entry sent polls) next = IsLost s (asked_of s.stage) Timeout next

@@ -29,24 +29,3 @@ pub use policy::ConnectionPolicy;
 pub use server_send::{Asked, SendStep, ServerSend, Stage};
 pub use server_table::ServerTable;
 pub use status::{Status, a_status_is_read_back};
-
-#[cfg(test)]
-mod context_tests;
-#[cfg(test)]
-mod delays_tests;
-#[cfg(test)]
-mod end_tests;
-#[cfg(test)]
-mod order_tests;
-#[cfg(test)]
-mod policy_tests;
-#[cfg(test)]
-mod send_delay_tests;
-#[cfg(test)]
-mod send_samples;
-#[cfg(test)]
-mod send_tests;
-#[cfg(test)]
-mod server_samples;
-#[cfg(test)]
-mod server_tests;

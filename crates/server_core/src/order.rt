@@ -120,6 +120,7 @@ pub enum Outcome {
     },
     Connected {
         entry: u64,
+        sent: Sent,
     },
     Told {
         entry: u64,
@@ -146,7 +147,7 @@ impl Outcome {
     {
         match self {
             Outcome::Pending { entry } => *entry,
-            Outcome::Connected { entry } => *entry,
+            Outcome::Connected { entry, .. } => *entry,
             Outcome::Told { entry, .. } => *entry,
             Outcome::Failed { entry, .. } => *entry,
             Outcome::GaveUp { entry, .. } => *entry,

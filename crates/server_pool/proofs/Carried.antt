@@ -1,7 +1,7 @@
 -- What becomes of orders, and the entries that begin them.
-use Rattle.std.proofs.Common.{⊎_elim, Bool, true, false, cond, ◌≡◌, ◌≢◌, ◌+◌, ℕ, List, [], ◌∷◌, ◌++◌, length, Option, Some, None, refl, sym, ◌∙◌, ap, subst}
+use Rattle.std.proofs.Common.{⊎_elim, Bool, true, false, cond, ◌≡◌, ◌+◌, ℕ, List, length, Option, Some, refl, sym, ◌∙◌, ap, subst}
 use Rattle.std.specs.BTreeMap.{BTreeMap}
-use Rattle.std.specs.Prelude.{◌&&◌, is_some}
+use Rattle.std.specs.Prelude.{◌&&◌}
 use Rattle.dns_core.specs.Log.{log_of, added}
 use Rattle.dns_core.specs.declared.log.LogEntry.{LogEntry}
 use Rattle.dns_core.specs.declared.net_error.NetError.{NetError}

@@ -1,19 +1,15 @@
 -- What is still to be done: the next server is taken, a sleep is over, and what the ends decide.
-use Rattle.std.proofs.Common.{◌≡◌, ◌∙◌, ℕ, suc, ◌+◌, ◌*◌, ◌≤◌, Bool, true, false, ◌&&◌, ◌||◌, not, List, [], ◌∷◌, ◌++◌, map, find, filter, length, refl, ap, sym, subst, Option, Some, None, Ok, Err, cond, arith, if◌then◌else◌, ◌⊎◌, inl, inr}
-use Rattle.std.specs.Prelude.{count_by, nat_le, IsTrue}
-use Rattle.std.specs.List.{list_any, list_all, last_or, after_first}
+use Rattle.std.proofs.Common.{◌≡◌, ◌∙◌, ℕ, ◌+◌, ◌≤◌, Bool, true, false, ◌&&◌, ◌||◌, not, List, [], ◌∷◌, find, refl, ap, sym, subst, Some, None, cond, arith}
+use Rattle.std.specs.Prelude.{count_by}
+use Rattle.std.specs.List.{after_first}
 use Rattle.dns_core.specs.declared.net_error.NetError.{NetError}
-use Rattle.dns_core.specs.declared.net_error.NetError.TheVariants as net
-use Rattle.resolution.specs.Lookups.{Answered, Rules, End, is_turn, is_retryable, is_busy, class_of_end, turns, the_turn, has_turned, but_turn, retries, none_is_final, is_at, is_turn_at, all_were_tried, turn_was_repeated, busy_were_retried, what_is_left, answer_of, IsDecided, IsSpent, IsLate, PoolRun, IsBounded}
-use Rattle.resolution.specs.Lookups.PoolRun.{decided, spent, late}
+use Rattle.resolution.specs.Lookups.{Answered, Rules, End, has_turned, is_at}
 use Rattle.resolution.specs.declared.class.Class.{Class}
-use Rattle.server_pool.specs.KeptError.{kept_after, kept_over}
-use Rattle.server_pool.specs.Agenda.{among, places, own, was_busy, is_refused, IsDealt, IsRepeated, Stands}
+use Rattle.server_pool.specs.Agenda.{among, places, is_refused, IsDealt, IsRepeated, Stands}
 use Rattle.server_pool.specs.Agenda.IsDealt.{refused, waits, goes_on, asked}
 use Rattle.server_pool.specs.Agenda.IsRepeated.{refused as refused_again, waits as waits_again, goes_on as goes_on_again, again}
-use Rattle.server_pool.proofs.Turning.{find_none, find_some, after_yes, after_no}
-use Rattle.server_pool.proofs.KeptOver.{kept_is_left}
-use Rattle.server_pool.proofs.Standing.{count_cons, or_left, or_right, to_first}
+use Rattle.server_pool.proofs.Turning.{after_yes, after_no}
+use Rattle.server_pool.proofs.Standing.{count_cons, or_left, or_right}
 
 dropped_room : (x w u b p wx : ℕ) → wx ≡ x + w → wx + u + b ≤ p → w + u + b ≤ p
 dropped_room x w u b p wx e h = omega arith

@@ -1,15 +1,15 @@
 -- A lookup begins, sleeps, and ends: by its last end, by all its ends, or by its deadline.
-use Rattle.std.proofs.Common.{◌≡◌, ◌∙◌, ℕ, suc, ◌+◌, ◌*◌, ◌≤◌, Bool, true, false, ◌&&◌, ◌||◌, ◌==◌, not, List, [], ◌∷◌, ◌++◌, map, find, filter, length, refl, ap, sym, subst, Option, Some, None, Ok, Err, cond, arith, if◌then◌else◌, ◌⊎◌, inl, inr}
+use Rattle.std.proofs.Common.{◌≡◌, ◌∙◌, ℕ, ◌+◌, ◌*◌, ◌≤◌, Bool, true, false, ◌&&◌, ◌||◌, ◌==◌, not, List, [], ◌∷◌, ◌++◌, length, refl, ap, sym, subst, Option, Some, None, Err, arith, if◌then◌else◌, ◌⊎◌, inl, inr}
 use Rattle.std.specs.Prelude.{count_by, nat_le, IsTrue}
 use Rattle.std.specs.List.{list_any, list_all, last_or, after_first}
 use Rattle.std.proofs.Math.Nat.{mul-le-mul_right}
 use Rattle.std.proofs.lemmas.Bool.{le-leb}
 use Rattle.dns_core.specs.declared.net_error.NetError.{NetError}
 use Rattle.dns_core.specs.declared.net_error.NetError.TheVariants as net
-use Rattle.resolution.specs.Lookups.{Answered, Rules, End, is_turn, is_retryable, is_busy, class_of_end, turns, the_turn, has_turned, but_turn, retries, none_is_final, is_at, is_turn_at, all_were_tried, turn_was_repeated, busy_were_retried, what_is_left, answer_of, IsDecided, IsSpent, IsLate, PoolRun, IsBounded}
+use Rattle.resolution.specs.Lookups.{Answered, Rules, End, is_busy, class_of_end, turns, has_turned, but_turn, retries, is_at, is_turn_at, turn_was_repeated, answer_of, PoolRun, IsBounded}
 use Rattle.resolution.specs.Lookups.PoolRun.{decided, spent, late}
 use Rattle.resolution.specs.declared.class.Class.{Class}
-use Rattle.server_pool.specs.Agenda.{among, places, own, was_busy, is_refused, IsDealt, IsRepeated, Stands}
+use Rattle.server_pool.specs.Agenda.{among, places, own, was_busy, IsDealt, IsRepeated, Stands}
 use Rattle.server_pool.specs.Agenda.IsDealt.{refused, waits, goes_on, asked}
 use Rattle.server_pool.specs.Agenda.IsRepeated.{refused as refused_again, waits as waits_again, goes_on as goes_on_again, again}
 use Rattle.server_pool.proofs.Turning.{find_none, find_some}

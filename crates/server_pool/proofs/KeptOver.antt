@@ -1,11 +1,11 @@
 -- What is kept over all the ends of a lookup is what they leave where none of them decides it.
-use Rattle.std.proofs.Common.{◌≡◌, ◌∙◌, Bool, true, false, ◌==◌, ◌&&◌, ◌||◌, not, List, [], ◌∷◌, ◌++◌, map, find, refl, ap, sym, subst, Option, Some, None, cond}
+use Rattle.std.proofs.Common.{◌≡◌, ◌∙◌, Bool, true, false, ◌==◌, ◌&&◌, List, [], ◌∷◌, map, find, refl, ap, sym, Option, Some, None, cond}
 use Rattle.std.specs.List.{list_any, list_all, fold, before_first, after_first}
 use Rattle.std.proofs.lemmas.List.Folds.{list_all-append}
 use Rattle.dns_core.specs.declared.net_error.NetError.{NetError}
 use Rattle.dns_core.specs.declared.net_error.NetError.TheVariants as net
 use Rattle.resolution.specs.KeptError.{kept, most_specific, error_of}
-use Rattle.resolution.specs.Lookups.{Answered, Rules, End, is_turn, is_retryable, least_bad, class_of_end, turns, the_turn, but_turn, retries, none_is_final, what_is_left}
+use Rattle.resolution.specs.Lookups.{Answered, Rules, End, is_turn, is_retryable, least_bad, class_of_end, turns, but_turn, retries, none_is_final, what_is_left}
 use Rattle.resolution.specs.declared.class.Class.{Class}
 use Rattle.resolution.specs.declared.class.Class.TheVariants.{Error, Code, Truncated, Negative, Foreign, Positive}
 use Rattle.resolution.proofs.KeptErrors.{from_none, from_truncated}

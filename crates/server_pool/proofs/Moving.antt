@@ -1,7 +1,6 @@
 -- It makes no difference in which order the sends under way are listed.
-use Rattle.std.proofs.Common.{◌≡◌, ◌∙◌, ℕ, suc, zero, ◌+◌, ◌<◌, ◌≤◌, Bool, true, false, ◌||◌, List, [], ◌∷◌, ◌++◌, map, length, refl, ap, sym, subst, arith, cond, length-append, slice_get, Some}
-use Rattle.std.specs.Prelude.{count_by}
-use Rattle.std.specs.List.{list_any, remove}
+use Rattle.std.proofs.Common.{◌≡◌, ◌∙◌, ℕ, suc, zero, ◌+◌, ◌≤◌, Bool, true, false, ◌||◌, List, [], ◌∷◌, ◌++◌, map, length, refl, ap, sym, subst, arith, length-append, slice_get, Some}
+use Rattle.std.specs.List.{remove}
 use Rattle.dns_core.specs.declared.net_error.NetError.{NetError}
 use Rattle.resolution.specs.Lookups.{Answered, Rules, End}
 use Rattle.resolution.specs.declared.class.Class.{Class}

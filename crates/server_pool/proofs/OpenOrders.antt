@@ -1,5 +1,5 @@
 -- The open orders of the sends of a lookup, where sends begin, end and are written over.
-use Rattle.std.proofs.Common.{◌≡◌, ◌≢◌, ◌∙◌, ℕ, zero, suc, ◌<◌, ◌==◌, ◌&&◌, not, length, Bool, true, false, List, [], ◌∷◌, ◌++◌, refl, ap, sym, subst, slice_get, get_or, Option, Some, None, cond, ◌⊎◌, inl, inr}
+use Rattle.std.proofs.Common.{◌≡◌, ◌∙◌, ℕ, zero, suc, ◌==◌, ◌&&◌, not, Bool, true, false, List, [], ◌∷◌, ◌++◌, refl, ap, sym, slice_get, Some, None, cond, inl, inr}
 use Rattle.std.specs.List.{filter, remove}
 use Rattle.std.proofs.Math.ListN.{set}
 use Rattle.std.proofs.lemmas.Bool.Decides.{eqb_tells}

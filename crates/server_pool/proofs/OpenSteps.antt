@@ -1,5 +1,5 @@
 -- The open orders of the sends of a lookup, over its steps.
-use Rattle.std.proofs.Common.{◌≡◌, ◌∙◌, ℕ, zero, suc, ◌<◌, ◌==◌, ◌&&◌, Bool, true, false, List, [], ◌∷◌, refl, ap, sym, subst, cond, slice_get, get_or, length, Option, Some, None, Result, Ok, Err, IfOk, OnOk, OnErr, IfNone, IsSome, inl, inr}
+use Rattle.std.proofs.Common.{◌≡◌, ◌∙◌, ℕ, zero, suc, ◌<◌, ◌==◌, ◌&&◌, Bool, true, false, List, [], ◌∷◌, refl, ap, sym, subst, cond, slice_get, get_or, Option, Some, None, Result, Ok, Err, IfOk, OnOk, OnErr, IfNone, IsSome, inl, inr}
 use Rattle.std.specs.List.{filter, position, find}
 use Rattle.std.proofs.Math.ListN.{set}
 use Rattle.std.proofs.lemmas.List.Quantifiers.{position-Some}
@@ -7,7 +7,7 @@ use Rattle.std.proofs.lemmas.Bool.{eqb-true}
 use Rattle.std.proofs.lemmas.Option.{get_or_from_slice_get}
 use Rattle.dns_core.specs.declared.errors.NoMemory.{NoMemory}
 use Rattle.resolution.specs.Lookups.{Answered}
-use Rattle.server_core.specs.Sending.{is_open, end_of, after_end, pendings, Comes, StepIs, IsSameSend}
+use Rattle.server_core.specs.Sending.{is_open, end_of, after_end, pendings, Comes, StepIs}
 use Rattle.server_core.specs.Servers.{Server}
 use Rattle.server_core.specs.declared.order.After.{After}
 use Rattle.server_core.specs.declared.order.Order.{Order}
@@ -23,12 +23,11 @@ use Rattle.server_pool.specs.declared.rounds.Phase.{Phase}
 use Rattle.server_pool.specs.declared.rounds.Phase.TheVariants as phase
 use Rattle.server_pool.specs.declared.rounds.Rounds.{Rounds}
 use Rattle.server_pool.specs.declared.rounds.Sending.{Sending}
-use Rattle.server_pool.specs.NextStep.{is_idle, Steps, IsTaken, Tells, at_stage}
-use Rattle.server_pool.specs.Rounds.{IsOpenAt}
-use Rattle.server_pool.specs.Orders.{opens, HasSameOrders, HasSameOrdersBut, IsGiven, OpensMade, OpensStep, OpensBy, OpensNext, TookOutcome, TakesBy}
+use Rattle.server_pool.specs.NextStep.{Steps, IsTaken, Tells}
+use Rattle.server_pool.specs.Orders.{opens, HasSameOrders, HasSameOrdersBut, OpensMade, OpensStep, OpensBy, TookOutcome, TakesBy}
 use Rattle.server_pool.proofs.OpenOrders.{orders_same, orders_set, not_among, of_another, opens_self, opens_closed, opens_set, set_out, passes_in}
 use Rattle.server_pool.proofs.Sendings.{get_set, fed_of}
-use Rattle.server_pool.proofs.Stepping.{found_nowhere, some_found}
+use Rattle.server_pool.proofs.Stepping.{found_nowhere}
 
 same_one : {X : Type 0} (a b : X) → Some a ≡ Some b → a ≡ b
 same_one a b h = cc

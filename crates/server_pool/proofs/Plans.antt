@@ -1,7 +1,6 @@
 -- What an end makes of a plan, and how the plan stands then.
-use Rattle.std.proofs.Common.{◌≡◌, ◌∙◌, ℕ, suc, ◌+◌, ◌<◌, ◌≤◌, ◌⊎◌, inl, inr, arith, length, length-append, Result, IfOk, OnOk, nat_lt, Bool, true, false, ◌&&◌, ◌||◌, ◌==◌, not, List, [], ◌∷◌, ◌++◌, find, refl, ap, sym, subst, Option, Some, None, Ok, Err, cond, if◌then◌else◌, IfSome, IfNone, eq-eqb}
+use Rattle.std.proofs.Common.{◌≡◌, ◌∙◌, ℕ, suc, ◌+◌, ◌<◌, ◌≤◌, ◌⊎◌, inl, inr, arith, length, length-append, nat_lt, Bool, true, false, ◌&&◌, ◌||◌, ◌==◌, not, List, [], ◌∷◌, ◌++◌, find, refl, ap, sym, subst, Option, Some, None, Err, cond, if◌then◌else◌, IfSome, IfNone, eq-eqb}
 use Rattle.std.proofs.lemmas.Bool.{eqb-true, ltb-false}
-use Rattle.dns_core.specs.declared.errors.NoMemory.{NoMemory}
 use Rattle.std.specs.List.{list_any, after_first}
 use Rattle.std.specs.Bool.{beq}
 use Rattle.dns_core.specs.declared.message.Query.{Query}

@@ -9,7 +9,7 @@ use Rattle.std.proofs.lemmas.List.{map-append}
 use Rattle.dns_core.specs.declared.message.Query.{Query}
 use Rattle.resolution.specs.Lookups.{End}
 use Rattle.server_pool.specs.declared.candidate.Candidate.{Candidate}
-use Rattle.server_core.specs.Sending.{Comes, is_open}
+use Rattle.server_core.specs.Sending.{Comes, IsSameSend, is_open}
 use Rattle.server_core.specs.declared.order.Outcome.{Outcome}
 use Rattle.server_core.specs.declared.server_send.ServerSend.{ServerSend}
 use Rattle.server_pool.specs.declared.rounds.Sending.{Sending}
@@ -54,13 +54,14 @@ fed_of o x next = record x { send = next; ended_by = ended_by_of next.stage (ent
 
 -- the one that was written
 pub fed_send : (sends : List Sending) (i : ℕ) (s lent : Sending) (next : ServerSend) (o : Outcome) (r : Rounds) → slice_get sends i ≡ Some s → lent ≡ get_or sends i lent
-    → r.sends.items ≡ set sends i (fed_of o lent next) → Comes lent.send o next → IsFed s i o r
-fed_send sends i s lent next o r there is new comes =
+    → r.sends.items ≡ set sends i (fed_of o lent next) → Comes lent.send o next → IsSameSend lent.send next → IsFed s i o r
+fed_send sends i s lent next o r there is new comes kept =
     let same : lent ≡ s = is ∙ get_or_from_slice_get sends i s lent there in
     let written : slice_get (set sends i (fed_of o lent next)) i ≡ Some (fed_of o lent next) = get_set sends i (fed_of o lent next) s there in
     record {
       next = next;
       comes = subst (λ (x : Sending). Comes x.send o next) same comes;
+      same = subst (λ (x : Sending). IsSameSend x.send next) same kept;
       there = ap (λ (l : List Sending). slice_get l i) new ∙ written ∙ ap (λ (x : Sending). Some (fed_of o x next)) same;
     }
 

@@ -1,18 +1,18 @@
 -- How what is still to be done stands, after one more end.
-use Rattle.std.proofs.Common.{◌≡◌, ◌∙◌, ℕ, suc, ◌+◌, ◌*◌, ◌≤◌, Bool, true, false, ◌&&◌, ◌||◌, not, List, [], ◌∷◌, ◌++◌, map, find, filter, length, refl, ap, sym, subst, Option, Some, None, cond, arith, if◌then◌else◌, length-append, ◌⊎◌, inl, inr}
+use Rattle.std.proofs.Common.{◌≡◌, ◌∙◌, ℕ, suc, ◌+◌, ◌*◌, ◌≤◌, Bool, true, false, ◌&&◌, ◌||◌, not, List, [], ◌∷◌, ◌++◌, map, filter, length, refl, ap, sym, subst, Option, Some, None, cond, arith, if◌then◌else◌, length-append, ◌⊎◌, inl, inr}
 use Rattle.std.specs.Prelude.{count_by}
-use Rattle.std.specs.List.{list_any, list_all, fold, last_or, sum_by, after_first}
+use Rattle.std.specs.List.{list_any, list_all, last_or, after_first}
 use Rattle.std.proofs.lemmas.List.{map-append, append-nil}
 use Rattle.std.proofs.lemmas.List.Sums.{fold-append, sum_by-cons, sum_by-append}
 use Rattle.dns_core.specs.declared.net_error.NetError.{NetError}
 use Rattle.dns_core.specs.declared.net_error.NetError.TheVariants as net
-use Rattle.resolution.specs.Lookups.{Answered, Rules, End, is_turn, is_retryable, is_busy, class_of_end, turns, the_turn, has_turned, but_turn, retries, none_is_final, is_at, is_turn_at}
+use Rattle.resolution.specs.Lookups.{Answered, Rules, End, is_busy, class_of_end, turns, the_turn, has_turned, but_turn, retries, is_at, is_turn_at}
 use Rattle.resolution.specs.declared.class.Class.{Class}
 use Rattle.server_pool.specs.KeptError.{kept_after, kept_over}
-use Rattle.server_pool.specs.Agenda.{among, places, own, was_busy, is_refused, IsDealt, IsRepeated, Stands}
+use Rattle.server_pool.specs.Agenda.{among, places, own, was_busy, IsDealt, IsRepeated, Stands}
 use Rattle.server_pool.specs.Agenda.IsDealt.{refused, waits, goes_on, asked}
 use Rattle.server_pool.specs.Agenda.IsRepeated.{refused as refused_again, waits as waits_again, goes_on as goes_on_again, again}
-use Rattle.server_pool.proofs.Turning.{or_false, but, any_more, all_more, but_more_first, but_more, after_more, find_none, find_more_first, find_more, filter_more, last_more}
+use Rattle.server_pool.proofs.Turning.{or_false, any_more, all_more, but_more_first, but_more, after_more, find_none, find_more_first, find_more, filter_more, last_more}
 use Rattle.server_pool.proofs.KeptOver.{no_turn}
 
 pub or_left : (a b : Bool) → a ≡ true → (a || b) ≡ true

@@ -1,8 +1,7 @@
 -- A list with one more at its end, and the first of it that passes a test.
-use Rattle.std.proofs.Common.{◌≡◌, ℕ, suc, ◌+◌, ◌≤◌, ◌∙◌, Bool, true, false, not, ◌&&◌, ◌||◌, cond, List, [], ◌∷◌, ◌++◌, length, find, filter, take, drop, refl, ap, sym, subst, arith, Option, Some, None, add-one, one-add}
+use Rattle.std.proofs.Common.{◌≡◌, ℕ, suc, ◌+◌, ◌∙◌, Bool, true, false, not, ◌&&◌, ◌||◌, cond, List, [], ◌∷◌, ◌++◌, find, filter, take, drop, refl, ap, sym, arith, Option, Some, None, one-add}
 use Rattle.std.specs.List.{list_any, list_all, last_or, position_or_len, before_first, after_first}
 use Rattle.std.specs.Option.{option_or}
-use Rattle.std.proofs.lemmas.List.{append-nil}
 use Rattle.std.proofs.lemmas.List.Folds.{list_any-append, list_all-append, find-append}
 use Rattle.std.proofs.lemmas.List.Elements.{filter-append}
 

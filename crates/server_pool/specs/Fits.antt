@@ -68,7 +68,7 @@ pub record WasRefused (log : Log) (now : ℕ) (s : Sent) (entry : ℕ) (error : 
 -- What came of an order is what the entry of its number says, at the moment.
 abbrev pub OutcomeIs : Log → ℕ → Outcome → Type 0
 OutcomeIs log now (Pending entry) = Unit {0}
-OutcomeIs log now (Connected entry) = Unit {0}
+OutcomeIs log now (Connected entry s) = Closes log s entry (line.Told s.of now said.Connected)
 OutcomeIs log now (Told entry s message) = Closes log s entry (line.Told s.of now (said.Message message)) × (s.query ≡ Some message.query)
 OutcomeIs log now (Failed entry s true error) = WasRefused log now s entry error
 OutcomeIs log now (Failed entry s false error) = Closes log s entry (line.Told s.of now (said.Error error))

@@ -12,7 +12,12 @@ pub mod Carrying
 pub mod Patience
 pub mod Stands
 pub mod NextStep
+pub mod OpenLookup
 pub mod Candidates
+pub mod Running
 pub mod Pool
 pub mod Shared
+pub mod SharedStands
+pub mod PoolSteps
+pub mod Lookups
 pub mod NewPool

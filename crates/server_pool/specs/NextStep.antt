@@ -71,6 +71,13 @@ doing_of (phase.Asleep until) = doing.Sleeps until
 doing_of (phase.Decided answer at) = doing.Tells
 doing_of phase.Told = doing.Tells
 
+-- its answer is decided, or told
+abbrev pub IsClosed : Phase → Type 0
+IsClosed phase.Asking = ⊥
+IsClosed (phase.Asleep until) = ⊥
+IsClosed (phase.Decided answer at) = Unit {0}
+IsClosed phase.Told = Unit {0}
+
 -- the first send of which no order is open
 pub record IsFirstIdle (place : ℕ) (s : Sending) (r : Rounds) : Type 0 where
   pub asks : r.phase ≡ phase.Asking

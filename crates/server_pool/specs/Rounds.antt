@@ -11,7 +11,7 @@ use Rattle.server_pool.specs.declared.rounds.Phase.TheVariants.{Asking, Asleep, 
 use Rattle.server_pool.specs.declared.rounds.Rounds.{Rounds}
 use Rattle.server_core.specs.Order.{entry_of}
 use Rattle.server_core.specs.Hearing.{changed_at}
-use Rattle.server_core.specs.Sending.{is_open, Comes, end_of, asked_of, heard_put}
+use Rattle.server_core.specs.Sending.{is_open, Comes, IsSameSend, end_of, asked_of, heard_put}
 use Rattle.server_core.specs.Servers.{Server}
 use Rattle.server_core.specs.declared.order.Outcome.{Outcome}
 use Rattle.server_core.specs.declared.server_send.ServerSend.{ServerSend}
@@ -150,6 +150,8 @@ pub record TakesInTime (now : ℕ) (old new : Rounds) (Taken : Type 0) : Type 0 
   pub in_time : now < old.start + old.timeout → Taken
   pub round : now < old.start + old.timeout → IsNewRound now new
   pub late : old.start + old.timeout ≤ now → new.phase ≡ Decided (Err Timeout) now
+  pub still : old.start + old.timeout ≤ now → new.sends.items ≡ old.sends.items
+  pub same : IsSameLookup old new
 
 -- where no send is left, the next round begins; else nothing changes
 pub record GoesOnFrom (now : ℕ) (old new : Rounds) : Type 0 where
@@ -234,6 +236,7 @@ pub record HasEnded (s : Sending) (outcome : Outcome) (h : HeardEnd) : Type 0 wh
 pub record IsFed (s : Sending) (place : ℕ) (outcome : Outcome) (r : Rounds) : Type 0 where
   pub next : ServerSend
   pub comes : Comes s.send outcome next
+  pub same : IsSameSend s.send next
   pub there : slice_get r.sends.items place ≡ Some (record s { send = next; ended_by = ended_by_of next.stage (entry_of outcome) })
 
 -- a send to the same server is at the place
@@ -263,5 +266,6 @@ pub record HasTaken (now place : ℕ) (s : Sending) (outcome : Outcome) (table :
   pub fed : IsFed s place outcome mid
   pub others : remove mid.sends.items place ≡ remove old.sends.items place
   pub agenda : mid.agenda ≡ old.agenda
+  pub phase : mid.phase ≡ old.phase
   pub round : IsSameRound old mid
   pub settles : SettlesAt (end_of fed.next.stage) now place (record s { send = fed.next; ended_by = ended_by_of fed.next.stage (entry_of outcome) }) (heard_table s now outcome table) mid later new

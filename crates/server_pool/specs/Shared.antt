@@ -1,10 +1,52 @@
 -- What the pools of a resolver share.
-use Rattle.std.specs.Prelude.{ℕ, List}
+use Rattle.std.specs.Prelude.{◌≡◌, ◌≢◌, ℕ, List, Option, Some, map, unwrap_or}
+use Rattle.std.specs.BTreeMap.{is_at}
+use Rattle.std.specs.Map.{lookup}
+use Rattle.std.specs.Ordering.{nat_cmp}
+use Rattle.resolver_settings.specs.NameServer.{NameServer}
 use Rattle.server_core.specs.Context.{Context}
 use Rattle.server_core.specs.Servers.{Server}
+use Rattle.server_pool.specs.declared.open_lookup.OpenLookup.{OpenLookup}
 
--- the servers, each with its place as its number, the settings of all pools, and how many pools were numbered so far
+-- the servers, each with its place as its number; the settings of all pools; how many pools were numbered so far; the open lookups by their numbers; the lookup of each order that was given and has not
+-- ended, by its number; whose turn it is in each pool that takes turns; and how many lookups and orders were numbered so far
 pub record Shared : Type 0 where
   pub table : List Server
   pub context : Context
   pub pools : ℕ
+  pub lookups : List (ℕ × OpenLookup)
+  pub orders : List (ℕ × ℕ)
+  pub turns : List (ℕ × ℕ)
+  pub begun : ℕ
+  pub given : ℕ
+
+-- what stands under a number
+abbrev pub under : {X : Type 0} → ℕ → List (ℕ × X) → Option X
+under n entries = lookup (is_at (nat_cmp n)) entries
+
+-- the open lookup of a number
+abbrev pub lookup_at : Shared → ℕ → Option OpenLookup
+lookup_at shared n = under n shared.lookups
+
+-- the lookup of an order that was given and has not ended
+abbrev pub lookup_of : Shared → ℕ → Option ℕ
+lookup_of shared number = under number shared.orders
+
+-- whose turn it is in a pool: at first it is the first server's
+abbrev pub turn_at : Shared → ℕ → ℕ
+turn_at shared pool = unwrap_or (under pool shared.turns) 0
+
+-- how the servers are reached
+abbrev pub configs : List Server → List NameServer
+configs table = map (λ server. server.config) table
+
+-- The settings are the same, and so are the servers, but for their connections and delays.
+pub record SameServers (old new : Shared) : Type 0 where
+  pub context : new.context ≡ old.context
+  pub configs : configs new.table ≡ configs old.table
+
+-- Only the lookup of the number, and orders of it, are other than before.
+pub record SameBut (n : ℕ) (old new : Shared) : Type 0 where
+  pub servers : SameServers old new
+  pub lookups : (m : ℕ) → m ≢ n → lookup_at new m ≡ lookup_at old m
+  pub orders : (number m : ℕ) → m ≢ n → lookup_of old number ≡ Some m → lookup_of new number ≡ Some m

@@ -5,7 +5,6 @@ use Rattle.dns_core.specs.Connection.{Peer, protocol_of}
 use Rattle.dns_core.specs.Log.{Log, log_of}
 use Rattle.dns_core.specs.declared.log.LogEntry.{LogEntry}
 use Rattle.dns_core.specs.declared.log.LogEntry.TheVariants as line
-use Rattle.dns_core.specs.declared.log.ToldOutcome.TheVariants as said
 use Rattle.dns_core.specs.declared.net_error.NetError.{NetError}
 use Rattle.dns_core.specs.declared.provider.ConnectionProvider.{Ghosts}
 use Rattle.resolution.specs.Telling.{Logged}
@@ -83,7 +82,7 @@ MadeFor order new = elim (opened_by order) [
 -- what becomes of an order by its outcome
 abbrev pub StandsAfter : Order → Outcome → Stand → Type 0
 StandsAfter order (outcome.Pending entry) new = new ≡ UnderWay order
-StandsAfter order (outcome.Connected entry) new = MadeFor order new
+StandsAfter order (outcome.Connected entry sent) new = MadeFor order new
 StandsAfter order (outcome.Told entry sent message) new = new ≡ Over
 StandsAfter order (outcome.Failed entry sent refused error) new = new ≡ Over
 StandsAfter order (outcome.GaveUp entry sent polls) new = new ≡ Over
@@ -122,7 +121,7 @@ IsSleptOut now (Sleep until) = until ≤ now
 -- The outcome is one of the order: of its form, and of what was sent to its address, with its question, where it has one.
 abbrev pub IsOf : ℕ → Order → Outcome → Type 0
 IsOf now order (outcome.Pending entry) = IsPendingOf now order entry
-IsOf now order (outcome.Connected entry) = IsOpen order
+IsOf now order (outcome.Connected entry sent) = IsOpen order × IsSentFor order sent
 IsOf now order (outcome.Told entry sent message) = IsAsk order × IsSentFor order sent
 IsOf now order (outcome.Failed entry sent refused error) = IsSentFor order sent
 IsOf now order (outcome.GaveUp entry sent polls) = ⊥
@@ -144,7 +143,7 @@ IsPendingBy log order entry = elim (aim_of order) [
 -- What the entry of a pending or connected order tells of it; of the other outcomes that it fits says so.
 abbrev pub IsLogged : Log → ℕ → Order → Outcome → Type 0
 IsLogged log now order (outcome.Pending entry) = IsPendingBy log order entry
-IsLogged log now order (outcome.Connected entry) = IsToldOf log order entry (λ of. line.Told of now said.Connected)
+IsLogged log now order (outcome.Connected entry sent) = Unit {0}
 IsLogged log now order (outcome.Told entry sent message) = Unit {0}
 IsLogged log now order (outcome.Failed entry sent refused error) = Unit {0}
 IsLogged log now order (outcome.GaveUp entry sent polls) = Unit {0}
@@ -186,7 +185,7 @@ open_key slots number =
 -- What is given up answers so; a sleep has ended.
 abbrev pub IsGivenUp : Order → Outcome → Type 0
 IsGivenUp order (outcome.Pending entry) = ⊥
-IsGivenUp order (outcome.Connected entry) = ⊥
+IsGivenUp order (outcome.Connected entry sent) = ⊥
 IsGivenUp order (outcome.Told entry sent message) = ⊥
 IsGivenUp order (outcome.Failed entry sent refused error) = ⊥
 IsGivenUp order (outcome.GaveUp entry sent polls) = IsSentFor order sent

@@ -2,6 +2,7 @@
 ghost use Rattle.std.specs.Prelude.{◌≡◌, ◌-◌, length, if◌then◌else◌};
 ghost use Rattle.std.specs.List.{list_any};
 ghost use Rattle.server_core.specs.Hearing.{changed_at};
+ghost use Rattle.server_pool.specs.Shared.{configs};
 ghost use Rattle.server_pool.specs.Cancelling.{ends_by_message, after_cancelled, address_of, is_at, is_apart, cancelled_table, settled_table};
 
 use crate::rounds::Rounds;
@@ -80,6 +81,7 @@ impl Rounds {
     pub(crate) fn settle_others(&self, won: bool, table: &mut ServerTable, now: u64)
         ensures table { table.new ≡ settled_table now won self.now table.old }
         ensures count { length table.new ≡ length table.old }
+        ensures reached { configs table.new ≡ configs table.old }
     {
         if won {
             self.cancel_others(table, now);

@@ -230,16 +230,16 @@ impl<P: ConnectionProvider> Carrier<P> {
         })
     }
 
-    fn connected(&mut self, key: OrderKey, connection: Connection<P>) -> Outcome
+    fn connected(&mut self, key: OrderKey, sent: Sent, connection: Connection<P>) -> Outcome
         requires { slot_at self.old.slots key ≡ Some Slot.Over }
-        ensures outcome { result ≡ Outcome.Connected self.new.entries }
+        ensures outcome { result ≡ Outcome.Connected self.new.entries sent }
         ensures counts { self.new.entries ≡ min (self.old.entries + 1) (2 ^ 64 - 1) }
         ensures provider { self.new.provider ≡ self.old.provider }
         ensures slots { (k : Key) → slot_at self.new.slots k ≡ (if same_key key k then Some (Slot.Made connection) else slot_at self.old.slots k) }
     {
         let entry = self.count();
         self.keep(key, Slot::Made(connection));
-        Outcome::Connected { entry }
+        Outcome::Connected { entry, sent }
     }
 
     fn poll_opening(
@@ -290,7 +290,7 @@ impl<P: ConnectionProvider> Carrier<P> {
             Poll::Ready(Ok(conn)) => {
                 let ip = sent.ip;
                 let connection = Connection { conn, ip, protocol };
-                Ok(self.connected(key, connection))
+                Ok(self.connected(key, sent, connection))
             }
             Poll::Ready(Err(error)) => {
                 if error.is_memory() {

@@ -5,6 +5,7 @@
 mod agenda;
 mod agenda_laws;
 mod answer_filter;
+mod by_number;
 mod cancelling;
 mod candidate;
 mod candidates;
@@ -15,9 +16,11 @@ mod kept_error_laws;
 mod key;
 mod new_pool;
 mod next_step;
+mod open_lookup;
 mod ordering;
 mod pool;
 mod pool_laws;
+mod pool_lookup;
 mod pool_shared;
 mod rounds;
 mod slot;
@@ -34,12 +37,6 @@ pub use next_step::RoundStep;
 pub use ordering::ordered;
 pub use pool::NameServerPool;
 pub use pool_laws::a_pool_expires_after_its_ttl;
-pub use pool_shared::PoolShared;
+pub use pool_lookup::PoolLookup;
+pub use pool_shared::{PoolShared, PoolStep};
 pub use statistics::sort_servers_by_query_statistics;
-
-#[cfg(test)]
-mod answer_filter_tests;
-#[cfg(test)]
-mod kept_error_tests;
-#[cfg(test)]
-mod ordering_tests;

@@ -9,8 +9,9 @@ ghost use Rattle.server_core.specs.Hearing.{changed_at};
 ghost use Rattle.server_pool.specs.declared.candidate.Candidate.{Candidate};
 ghost use Rattle.server_pool.specs.declared.rounds.Sending.{Sending};
 ghost use Rattle.server_pool.specs.Orders.{opens, HasSameOrders, HasSameOrdersBut, OpensMade, OpensBy, OpensNext};
+ghost use Rattle.server_pool.specs.Shared.{configs};
 ghost use Rattle.server_pool.specs.Rounds.{Goes, HeardEnd, RoundsStand, IsSameRound, DecidesAt, SettlesAt, IsSameLookup, steps_left, IsEndOf, StandsAtEnd, StandsStill, CanWake};
-ghost use Rattle.server_pool.specs.NextStep.{is_idle, IsTaken, Steps, StepsAt, Tells, doing_of, IsFirstIdle, NextStands, IsHalted, changed_for, halted_table, HasGiven, HasHalted};
+ghost use Rattle.server_pool.specs.NextStep.{is_idle, IsTaken, IsClosed, Steps, StepsAt, Tells, doing_of, IsFirstIdle, NextStands, IsHalted, changed_for, halted_table, HasGiven, HasHalted};
 
 use crate::rounds::{Phase, Rounds, Sending};
 use dns_core::{Message, NetError, NoMemory};
@@ -74,6 +75,7 @@ impl Sending {
         ensures table { OnOk result (table.new ≡ changed_at (after_step self.old.send.stage) self.old.send.server table.old) }
         ensures want { OnErr result (table.new ≡ changed_at (after_want self.old.send.stage) self.old.send.server table.old) }
         ensures count { length table.new ≡ length table.old }
+        ensures reached { configs table.new ≡ configs table.old }
     {
         let step = self.send.next(alloc, table, number, tick)?;
         let made = self.take_step(number, step);
@@ -121,6 +123,7 @@ impl Rounds {
         ensures table { (s : Sending) → slice_get self.old.sends.items place ≡ Some s → OnOk result (table.new ≡ changed_for after_step (Some s) table.old) }
         ensures want { (s : Sending) → slice_get self.old.sends.items place ≡ Some s → OnErr result (table.new ≡ changed_for after_want (Some s) table.old) }
         ensures count { length table.new ≡ length table.old }
+        ensures reached { configs table.new ≡ configs table.old }
         ensures beside { (s : Sending) → slice_get self.old.sends.items place ≡ Some s → is_idle s ≡ true → HasSameOrdersBut number self.old.sends.items self.new.sends.items }
         ensures own { (s : Sending) → slice_get self.old.sends.items place ≡ Some s → is_idle s ≡ true → opens number self.old.sends.items ≡ []
             → OpensMade number (length table.old) result self.new.sends.items }
@@ -155,6 +158,7 @@ impl Rounds {
         ensures settles { made ≡ None → (s : Sending) → slice_get self.old.sends.items place ≡ Some s → OnOk result (SettlesAt (end_of s.send.stage) now place s table.old self.old table.new self.new) }
         ensures err { OnErr result (table.new ≡ table.old) }
         ensures count { length table.new ≡ length table.old }
+        ensures reached { configs table.new ≡ configs table.old }
         ensures decides { DecidesAt now self.old.phase self.new.phase }
         ensures orders { HasSameOrders self.old.sends.items self.new.sends.items }
     {
@@ -187,6 +191,7 @@ impl Rounds {
         ensures falls { IfOk result (λ step. step ≡ None → steps_left self.new < steps_left self.old) }
         ensures halted { (s : Sending) → IsFirstIdle place s self.old → OnErr result (table.new ≡ changed_for after_want (Some s) table.old) }
         ensures count { length table.new ≡ length table.old }
+        ensures reached { configs table.new ≡ configs table.old }
         ensures beside { (s : Sending) → slice_get self.old.sends.items place ≡ Some s → is_idle s ≡ true → HasSameOrdersBut number self.old.sends.items self.new.sends.items }
         ensures own { (s : Sending) → slice_get self.old.sends.items place ≡ Some s → is_idle s ≡ true → opens number self.old.sends.items ≡ []
             → OpensBy number (length table.old) result self.new.sends.items }
@@ -235,6 +240,7 @@ impl Rounds {
         ensures falls { IfOk result (λ step. step ≡ None → steps_left self.new < steps_left self.old) }
         ensures halted { OnErr result (table.new ≡ changed_for after_want (find is_idle self.old.sends.items) table.old) }
         ensures count { length table.new ≡ length table.old }
+        ensures reached { configs table.new ≡ configs table.old }
         ensures beside { HasSameOrdersBut number self.old.sends.items self.new.sends.items }
         ensures own { opens number self.old.sends.items ≡ [] → OpensBy number (length table.old) result self.new.sends.items }
     {
@@ -245,7 +251,7 @@ impl Rounds {
     }
 
     /// Whether it may wake: nothing is under way or waits, and it may sleep as it did.
-    fn may_wake(&self) -> bool
+    pub(crate) fn may_wake(&self) -> bool
         ensures { IsTrue result ↔ CanWake self.now }
     {
         self.sends.is_empty() && self.agenda.has_none_waiting() && self.agenda.may_sleep()
@@ -297,12 +303,15 @@ impl Rounds {
         ensures want { (pool : List Candidate) (heard : List HeardEnd) → RoundsStand pool heard self.old
             → OnErr result (IsHalted number tick.now table.old pool heard self.old self.new) }
         ensures same { IsSameLookup self.old self.new }
+        ensures closed { IsClosed self.old.phase → IsClosed self.new.phase }
         ensures decides { DecidesAt tick.now self.old.phase self.new.phase }
         ensures falls { IfOk result (λ step. step ≡ None → steps_left self.new < steps_left self.old) }
         ensures halted { OnErr result (table.new ≡ halted_table self.old table.old) }
         ensures count { length table.new ≡ length table.old }
+        ensures reached { configs table.new ≡ configs table.old }
         ensures beside { HasSameOrdersBut number self.old.sends.items self.new.sends.items }
         ensures own { opens number self.old.sends.items ≡ [] → OpensBy number (length table.old) result self.new.sends.items }
+        ensures told { self.old.phase ≡ Phase.Told → (result ≡ Ok (Some RoundStep.Told)) × (self.new ≡ self.old) × (table.new ≡ table.old) }
     {
         match self.doing() {
             Doing::Asks => self.ask_next(alloc, table, number, tick),
@@ -326,10 +335,13 @@ impl Rounds {
         ensures want { (pool : List Candidate) (heard : List HeardEnd) → RoundsStand pool heard self.old
             → OnErr result (HasHalted number tick.now pool heard table.old self.old table.new self.new) }
         ensures same { IsSameLookup self.old self.new }
+        ensures closed { IsClosed self.old.phase → IsClosed self.new.phase }
         ensures decides { DecidesAt tick.now self.old.phase self.new.phase }
         ensures count { length table.new ≡ length table.old }
+        ensures reached { configs table.new ≡ configs table.old }
         ensures beside { HasSameOrdersBut number self.old.sends.items self.new.sends.items }
         ensures own { opens number self.old.sends.items ≡ [] → OpensNext number (length table.old) result self.new.sends.items }
+        ensures told { self.old.phase ≡ Phase.Told → (result ≡ Ok RoundStep.Told) × (self.new ≡ self.old) × (table.new ≡ table.old) }
     {
         'going: loop {
             match self.advance(alloc, table, number, tick)? {

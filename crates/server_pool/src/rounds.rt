@@ -4,12 +4,14 @@ ghost use Rattle.std.specs.Prelude.{vec_len, vec_capacity, ◌≡◌, ◌≤◌,
 ghost use Rattle.std.specs.List.{position, remove};
 ghost use Rattle.resolution.specs.Lookups.{Answered, End};
 ghost use Rattle.server_core.specs.Order.{entry_of};
-ghost use Rattle.server_core.specs.Sending.{is_open, end_of, after_put, Comes};
+ghost use Rattle.server_core.specs.Sending.{is_open, end_of, after_put, Comes, IsSameSend};
 ghost use Rattle.server_pool.specs.declared.candidate.Candidate.{Candidate};
 ghost use Rattle.server_pool.specs.declared.rounds.Sending.{Sending};
 ghost use Rattle.server_pool.specs.Agenda.{may_sleep, sleep_time, end_at};
 ghost use Rattle.server_pool.specs.Ordering.{side_by_side};
 ghost use Rattle.server_pool.specs.Orders.{opens, HasSameOrders, HasSameOrdersBut, TakesBy};
+ghost use Rattle.server_pool.specs.Running.{Runs};
+ghost use Rattle.server_pool.specs.Shared.{configs};
 ghost use Rattle.server_pool.specs.Rounds.{Goes, PhaseStands, RoundsStand, HeardEnd, listed, ended_by_of, IsDecidedAt, DecidesAt, IsSameRound, IsNewRound, SettlesAt, HasTaken, IsSameLookup, MayBeLate, IsFed, IsOpenAt, IsStillAt, IsEndOf, HasEnded, StandsAtEnd, StandsBy, StandsStill, wakes_at, work, steps_left, first_send, Takes, TakesRound, TakesBusy, heard_table};
 
 use crate::agenda::Agenda;
@@ -123,8 +125,10 @@ impl Sending {
         ensures candidate { self.new.candidate ≡ self.old.candidate }
         ensures order { self.new.order ≡ self.old.order }
         ensures server { self.new.send.server ≡ self.old.send.server }
+        ensures same { IsSameSend self.old.send self.new.send }
         ensures err { OnErr result ((self.new ≡ self.old) × (table.new ≡ table.old)) }
         ensures count { length table.new ≡ length table.old }
+        ensures reached { configs table.new ≡ configs table.old }
     {
         let entry = outcome.entry();
         let after = self.send.put(alloc, table, outcome, tick)?;
@@ -273,6 +277,7 @@ impl Rounds {
         ensures work { work self.new ≤ work self.old }
         ensures phase { OnErr result (self.new.phase ≡ self.old.phase) }
         ensures late { self.old.start + self.old.timeout ≤ now → OnOk result (self.new.phase ≡ Phase.Decided (Err NetError.Timeout) now) }
+        ensures still { self.old.start + self.old.timeout ≤ now → self.new.sends.items ≡ self.old.sends.items }
         ensures asks { OnOk result (self.new.phase ≡ Phase.Asking → 0 < length self.new.sends.items) }
         ensures orders { HasSameOrders self.old.sends.items self.new.sends.items }
     {
@@ -307,6 +312,8 @@ impl Rounds {
         ensures takes { 0 < options.now.timeout → IfOk result (λ r. r.sends.items ≡ map (first_send request false) (take (side_by_side options.now) pool.now)) }
         ensures late { options.now.timeout ≡ 0 → IfOk result (λ r. r.phase ≡ Phase.Decided (Err NetError.Timeout) now) }
         ensures orders { IfOk result (λ r. (n : ℕ) → opens n r.sends.items ≡ []) }
+        ensures still { options.now.timeout ≡ 0 → IfOk result (λ r. r.sends.items ≡ []) }
+        ensures runs { IfOk result (λ r. Runs pool.now [] now (record { rounds = r; nap = None; answer = None })) }
     {
         let mut rounds = Rounds {
             request,
@@ -337,6 +344,7 @@ impl Rounds {
         ensures takes { now < self.old.start + self.old.timeout → OnOk result (TakesBusy self.old self.new) }
         ensures work { work self.new < work self.old }
         ensures late { self.old.start + self.old.timeout ≤ now → OnOk result (self.new.phase ≡ Phase.Decided (Err NetError.Timeout) now) }
+        ensures still { self.old.start + self.old.timeout ≤ now → self.new.sends.items ≡ self.old.sends.items }
         ensures asks { OnOk result (self.new.phase ≡ Phase.Asking → 0 < length self.new.sends.items) }
         ensures orders { HasSameOrders self.old.sends.items self.new.sends.items }
     {
@@ -455,6 +463,7 @@ impl Rounds {
         ensures agenda { self.new.agenda ≡ self.old.agenda }
         ensures past { (s : Sending) → slice_get self.old.sends.items place ≡ Some s → length table.old ≤ s.send.server → (table.new ≡ table.old) × (slice_get self.new.sends.items place ≡ Some s) }
         ensures servers { length table.new ≡ length table.old }
+        ensures reached { configs table.new ≡ configs table.old }
         ensures beside { (s : Sending) → slice_get self.old.sends.items place ≡ Some s → HasSameOrdersBut s.order self.old.sends.items self.new.sends.items }
         ensures own { (s : Sending) → slice_get self.old.sends.items place ≡ Some s → IsTrue (is_open s.send.stage) → s.send.server < length table.old
             → opens s.order self.old.sends.items ≡ s ∷ [] → TakesBy s.order s outcome result self.new.sends.items }
@@ -495,6 +504,7 @@ impl Rounds {
         ensures decides { DecidesAt now self.old.phase self.new.phase }
         ensures begins { self.old.phase ≡ Phase.Asking → length self.old.sends.items ≡ 0 → now < self.old.start + self.old.timeout → OnOk result (TakesRound self.old self.new) }
         ensures late { self.old.phase ≡ Phase.Asking → length self.old.sends.items ≡ 0 → self.old.start + self.old.timeout ≤ now → OnOk result (self.new.phase ≡ Phase.Decided (Err NetError.Timeout) now) }
+        ensures still { self.old.phase ≡ Phase.Asking → length self.old.sends.items ≡ 0 → self.old.start + self.old.timeout ≤ now → self.new.sends.items ≡ self.old.sends.items }
         ensures rests { (self.old.phase ≡ Phase.Asking → length self.old.sends.items ≡ 0 → ⊥) → self.new ≡ self.old }
         ensures work { work self.new ≤ work self.old }
         ensures asks { OnOk result (self.new.phase ≡ Phase.Asking → 0 < length self.new.sends.items) }
@@ -526,6 +536,7 @@ impl Rounds {
         ensures settles { (s : Sending) → slice_get self.old.sends.items place ≡ Some s → OnOk result (SettlesAt (end_of s.send.stage) now place s table.old self.old table.new self.new) }
         ensures err { OnErr result (table.new ≡ table.old) }
         ensures servers { length table.new ≡ length table.old }
+        ensures reached { configs table.new ≡ configs table.old }
         ensures decides { DecidesAt now self.old.phase self.new.phase }
         ensures falls { (s : Sending) (o : Answered) → slice_get self.old.sends.items place ≡ Some s → end_of s.send.stage ≡ Some o → OnOk result (steps_left self.new < steps_left self.old) }
         ensures orders { HasSameOrders self.old.sends.items self.new.sends.items }
@@ -566,6 +577,7 @@ impl Rounds {
         ensures past { (s : Sending) → slice_get self.old.sends.items place ≡ Some s → IsTrue (is_open s.send.stage) → length table.old ≤ s.send.server → table.new ≡ table.old }
         ensures halted { (s : Sending) → slice_get self.old.sends.items place ≡ Some s → OnErr result ((table.new ≡ table.old) ⊎ (table.new ≡ heard_table s tick.now outcome table.old)) }
         ensures table { length table.new ≡ length table.old }
+        ensures reached { configs table.new ≡ configs table.old }
         ensures beside { (s : Sending) → slice_get self.old.sends.items place ≡ Some s → HasSameOrdersBut s.order self.old.sends.items self.new.sends.items }
         ensures own { (s : Sending) → slice_get self.old.sends.items place ≡ Some s → IsTrue (is_open s.send.stage) → s.send.server < length table.old
             → opens s.order self.old.sends.items ≡ s ∷ [] → TakesBy s.order s outcome result self.new.sends.items }
@@ -576,7 +588,7 @@ impl Rounds {
     }
 
     /// The place of the send of which this is the open order, while the lookup asks.
-    fn open_place(&self, number: u64) -> Option<usize>
+    pub(crate) fn open_place(&self, number: u64) -> Option<usize>
         ensures some { IfSome result (λ place. (place < length self.now.sends.items) × (self.now.phase ≡ Phase.Asking)) }
         ensures place { self.now.phase ≡ Phase.Asking → result ≡ position (λ s. s.order == number && is_open s.send.stage) self.now.sends.items }
     {
@@ -614,6 +626,7 @@ impl Rounds {
         ensures past { (place : ℕ) (s : Sending) → IsOpenAt number place s self.old → length table.old ≤ s.send.server → table.new ≡ table.old }
         ensures halted { (place : ℕ) (s : Sending) → IsOpenAt number place s self.old → OnErr result ((table.new ≡ table.old) ⊎ (table.new ≡ heard_table s tick.now outcome table.old)) }
         ensures table { length table.new ≡ length table.old }
+        ensures reached { configs table.new ≡ configs table.old }
         ensures beside { HasSameOrdersBut number self.old.sends.items self.new.sends.items }
         ensures own { (s : Sending) → self.old.phase ≡ Phase.Asking → s.send.server < length table.old → opens number self.old.sends.items ≡ s ∷ [] → TakesBy number s outcome result self.new.sends.items }
     {

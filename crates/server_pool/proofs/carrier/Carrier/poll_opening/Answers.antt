@@ -1,4 +1,4 @@
-use Rattle.std.proofs.Common.{◌≡◌, ◌+◌, true, refl, sym, ◌∙◌, ap, cond, arith}
+use Rattle.std.proofs.Common.{◌≡◌, ◌+◌, Some, true, refl, sym, ◌∙◌, ap, cond, arith}
 use Rattle.dns_core.specs.Log.{added}
 use Rattle.dns_core.specs.declared.log.LogEntry.TheVariants.{Told, Waited}
 use Rattle.dns_core.specs.declared.log.ToldOutcome.TheVariants.{Error, Connected}
@@ -6,7 +6,11 @@ use Rattle.server_pool.proofs.Growing.{Grown-added, Grown-unless, AsksServers-ad
 use Rattle.server_pool.proofs.Patience.{IsPatient-added, IsPatient-unless, IsPatient-waited}
 use Rattle.server_pool.proofs.Slots.{Stops-newest, holds_added, holds_waited, holds_unless, holds_kept, holds_quiet, IsAlone-added, IsWaitedFor-polled, Fits-failed}
 use Rattle.server_pool.proofs.Carried.{at-put}
-use Rattle.server_pool.specs.Stands.{stand_of}
+use Rattle.dns_core.specs.Connection.{Peer}
+use Rattle.server_core.specs.declared.order.Order.{Order}
+use Rattle.server_core.specs.declared.order.Order.TheVariants.{Open, Ask, Sleep}
+use Rattle.server_pool.specs.Fits.{opened_by}
+use Rattle.server_pool.specs.Stands.{stand_of, IsOpen}
 use Rattle.server_pool.proofs.carrier.Carrier.poll_opening.Goals as goal
 
 pub returns-in-Pending-clause-holds : goal.returns-in-Pending-clause-holds
@@ -136,8 +140,14 @@ returns-in-Pending-clause-logged g c es told =
     c.requires.opened.1 es told in
     rw o.sends (record { sent = o.sent; sends = o.sends; tells = stops.closes })
 
-pub returns-in-Ready-Ok-clause-logged : goal.returns-in-Ready-Ok-clause-logged
-returns-in-Ready-Ok-clause-logged g c =
+-- an order that opens a connection is one to open
+opens-open : (order : Order) (peer : Peer) → opened_by order ≡ Some peer → IsOpen order
+opens-open (Open ip config) peer e = tt
+opens-open (Ask conn ip protocol request) peer e = cc
+opens-open (Sleep until) peer e = cc
+
+pub returns-in-Ready-Ok-clause-fits : goal.returns-in-Ready-Ok-clause-fits
+returns-in-Ready-Ok-clause-fits g c =
     let p = g.P.ConnectionProvider in
     let o = c.args.opening in
     let was = c.args.self.now in
@@ -147,4 +157,7 @@ returns-in-Ready-Ok-clause-logged g c =
     rw made.outcome (λ es told.
     let stops = Stops-newest (λ of. Told of c.args.now Connected) (p.opened o.future) o.sent o.polls was.entries c.connected.new.self.entries _ _
     (ap p.log made.provider ∙ heard) (c.requires.holds.counted (omega (arith, c.requires.room))) number c.requires.opened.1 es told in
-    record { sent = o.sent; sends = o.sends; tells = stops.closes })
+    record { within = stops.within; is = stops.closes })
+
+pub returns-in-Ready-Ok-clause-of : goal.returns-in-Ready-Ok-clause-of
+returns-in-Ready-Ok-clause-of g c = rw c.connected.ensures.outcome (opens-open c.args.opening.order _ c.args.opening.opens, c.args.opening.sends)

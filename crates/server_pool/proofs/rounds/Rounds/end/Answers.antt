@@ -55,6 +55,8 @@ returns-in_ok-go_on-in-Some-clause-settles c = λ s there.
           in_time = λ soon. c.in_ok-go_on-in-Some.ensures.begins asks none soon;
           round = λ soon. c.go_on.ensures.round asks none soon;
           late = λ over. c.in_ok-go_on-in-Some.ensures.late asks none over;
+          still = λ over. c.go_on.ensures.still asks none over;
+          same = c.go_on.ensures.same;
         };
         rests = c.go_on.ensures.rests;
       };

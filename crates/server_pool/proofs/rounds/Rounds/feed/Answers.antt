@@ -69,7 +69,7 @@ returns-clause-fed c = λ s there is live.
     let mid = c.put.new.self in
     let whole : OnOk c.put.result ((mid ≡ fed_of c.args.outcome lent mid.send) × Comes lent.send c.args.outcome mid.send) = on_ok_both _ _ c.put.result c.put.ensures.rest (c.put.ensures.comes open_then) in
     on_ok_weaker c.put.result
-    (λ b. fed_send c.args.self.now.sends.items c.args.place s lent mid.send c.args.outcome _ there c.index_mut-sending.ensures.value (ap (set c.args.self.now.sends.items c.args.place) b.0) b.1) whole
+    (λ b. fed_send c.args.self.now.sends.items c.args.place s lent mid.send c.args.outcome _ there c.index_mut-sending.ensures.value (ap (set c.args.self.now.sends.items c.args.place) b.0) b.1 c.put.ensures.same) whole
 
 pub returns-then-sending-len-clause-others : goal.returns-then-sending-len-clause-others
 returns-then-sending-len-clause-others c = removed_set c.args.self.now.sends.items c.args.place _

@@ -1,6 +1,9 @@
 use Rattle.std.proofs.Common.{◌≡◌, ◌∙◌, ℕ, ◌+◌, ◌≤◌, ◌<◌, [], arith, eq-eqb}
 use Rattle.server_pool.proofs.Sendings.{same_sends}
 use Rattle.server_pool.proofs.Taking.{takes_first}
+use Rattle.server_pool.specs.Ordering.{side_by_side}
+use Rattle.server_pool.specs.declared.rounds.Phase.TheVariants.{Asking}
+use Rattle.server_pool.proofs.RunsTaken.{runs_new, decides_moment, asks_not}
 use Rattle.server_pool.proofs.rounds.Rounds.new.Goals as goal
 
 no_time : (now timeout : ℕ) → now + timeout ≤ now → timeout ≡ 0
@@ -23,3 +26,17 @@ pub returns-clause-takes : goal.returns-clause-takes
 returns-clause-takes c = λ soon.
     takes_first c.args.pool.now c.args.options.now.num_concurrent_reqs _ c.begin.new.self (c.in_ok-begin.ensures.takes (in_time c.args.now c.args.options.now.timeout soon)) c.new-2.ensures.items c.in_ok-new.ensures.plan
     c.side_by_side.ensures
+
+no_time_over : (now timeout : ℕ) → timeout ≡ 0 → now + timeout ≤ now
+no_time_over now timeout h = omega arith
+
+pub returns-clause-still : goal.returns-clause-still
+returns-clause-still c = λ none. c.begin.ensures.still (no_time_over c.args.now c.args.options.now.timeout none) ∙ c.new-2.ensures.items
+
+pub returns-clause-runs : goal.returns-clause-runs
+returns-clause-runs c =
+    let st = returns-clause-stands c in
+    let takes = returns-clause-takes c in
+    let still = returns-clause-still c in
+    runs_new c.args.pool.now c.args.request c.args.options.now.timeout (side_by_side c.args.options.now) c.args.now c.begin.new.self st
+    (decides_moment c.args.now Asking c.begin.new.self.phase asks_not c.begin.ensures.decides) c.begin.ensures.same.request takes still

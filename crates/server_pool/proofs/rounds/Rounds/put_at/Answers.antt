@@ -38,6 +38,7 @@ returns-clause-settles c = λ s there is live.
       fed = fed;
       others = c.feed.ensures.others;
       agenda = c.feed.ensures.agenda;
+      phase = c.feed.ensures.phase;
       round = c.feed.ensures.round;
       settles =
           subst (λ (t : List Server). SettlesAt (end_of fed.next.stage) c.args.tick.now c.args.place (record s { send = fed.next; ended_by = ended_by_of fed.next.stage (entry_of c.args.outcome) }) t c.feed.new.self c.end.new.table c.end.new.self)
