@@ -1,7 +1,7 @@
 -- The machine after a step of one of its resolutions.
 use Rattle.std.proofs.Common.{◌≡◌, ◌≤◌, ◌<◌, ◌+◌, ℕ, zero, suc, List, [], ◌∷◌, ◌++◌, length, All, get_or, Option, Some, None, Result, Ok, Err, refl, sym, ◌∙◌, ap, subst, arith}
 use Rattle.std.specs.Global.{Box}
-use Rattle.std.specs.Prelude.{slice_get, sum_by, IfSome, IsErr}
+use Rattle.std.specs.Prelude.{slice_get, sum_by, IfSome, IsErr, OnOk, OnErr}
 use Rattle.std.proofs.lemmas.List.Elements.{All-set}
 use Rattle.std.proofs.Math.ListN.{set}
 use Rattle.std.specs.Option.{option_map}
@@ -11,13 +11,15 @@ use Rattle.dns_core.specs.declared.request.Question.{Question}
 use Rattle.dns_core.specs.declared.errors.NoMemory.{NoMemory}
 use Rattle.resolver_cache.specs.Cached.{Cached}
 use Rattle.server_pool.specs.Fits.{GoesToServer}
+use Rattle.recursor_core.specs.Pools.{PoolsHold}
+use Rattle.recursor_core.specs.declared.pools.Pools.{Pools}
 use Rattle.recursor_core.specs.Remembered.{CacheHolds}
 use Rattle.recursor_core.specs.Replies.{Terms, terms_with, given_of, ReplyHolds}
 use Rattle.recursor_core.specs.Tried.{machine_timer}
 use Rattle.recursor_core.specs.Derived.{ResolutionHolds, terms_of, Derived}
 use Rattle.recursor_core.specs.Resolving as one
 use Rattle.recursor_core.specs.Resolving.{SameBegun}
-use Rattle.recursor_core.specs.Machine.{Begun, begun_of, begun_at, rank, GoesOn, ReplyGiven, StepGives, Gives, SameCore, IsSetAs}
+use Rattle.recursor_core.specs.Machine.{Begun, begun_of, begun_at, rank, GoesOn, ReplyGiven, StepGives, Gives, SameCore}
 use Rattle.recursor_core.specs.declared.setting.Setting.{Setting}
 use Rattle.recursor_core.specs.declared.machine.RecursorCore.{RecursorCore}
 use Rattle.recursor_core.specs.declared.machine.Step.{Step}
@@ -60,10 +62,10 @@ begun-last [] r = refl
 begun-last (x ∷ xs) r = begun-last xs r
 
 -- a reply that holds is one that a step gives
-pub given-some : (terms : Terms) (log : Log) (reply : Option (Box Reply)) (here : Option Begun) (b : Begun) → here ≡ Some b
-    → IfSome reply (λ given. ReplyHolds terms machine_timer log b.moment b.question given.value) → IfSome reply (λ given. ReplyGiven terms log here given.value)
-given-some terms log None here b is h = tt
-given-some terms log (Some reply) here b is h = subst (λ (o : Option Begun). ReplyGiven terms log o reply.value) (sym is) h
+pub given-some : (terms : Terms) (now : ℕ) (log : Log) (reply : Option (Box Reply)) (here : Option Begun) (b : Begun) → here ≡ Some b
+    → IfSome reply (λ given. ReplyHolds terms (machine_timer now) log b.moment b.question given.value) → IfSome reply (λ given. ReplyGiven terms now log here given.value)
+given-some terms now log None here b is h = tt
+given-some terms now log (Some reply) here b is h = subst (λ (o : Option Begun). ReplyGiven terms now log o reply.value) (sym is) h
 
 -- what a step gives holds by the machine before it too, where the two agree
 pub gives-before : (old mid : RecursorCore) (log : Log) (r : ℕ) (s : Step) → SameCore old mid
@@ -73,8 +75,9 @@ gives-before old mid log r (step.Order number order) same h =
     (subst (λ (g : ℕ). GoesToServer (given_of (terms_of mid)) log (g + 1) order.value) same.greatest h)
 gives-before old mid log r (step.Waiting number) same h = tt
 gives-before old mid log r (step.Done reply) same h =
-    subst (λ (held : Setting). ReplyGiven (terms_with held) log (begun_at old r) reply.value) same.setting
-    (subst (λ (o : Option Begun). ReplyGiven (terms_of mid) log o reply.value) (same.begun r) h)
+    subst (λ (held : Setting). ReplyGiven (terms_with held) old.moment log (begun_at old r) reply.value) same.setting
+    (subst (λ (n : ℕ). ReplyGiven (terms_of mid) n log (begun_at old r) reply.value) same.moment
+    (subst (λ (o : Option Begun). ReplyGiven (terms_of mid) mid.moment log o reply.value) (same.begun r) h))
 gives-before old mid log r step.Ended same h = tt
 
 -- so with a step inside the machine
@@ -93,44 +96,33 @@ same-trans a b c x y = record {
   begun = λ k. y.begun k ∙ x.begun k;
 }
 
--- new numbers and connections leave the questions
-pub same-set : (a b : RecursorCore) → IsSetAs a b → SameCore a b
-same-set a b h = record {
-  setting = h.1;
-  cache = h.4;
-  greatest = h.2;
-  moment = h.3;
-  begun = λ k. ap (λ (rs : Vec Resolution). option_map begun_of (slice_get rs.items k)) h.0;
-}
-
 -- what is derived, by its parts
-pub derived-is : (core : RecursorCore) (log : Log) (setting : Setting) (greatest moment : ℕ) (cache : Cached) (rs : List Resolution) → core.setting ≡ setting
-    → core.greatest ≡ greatest → core.moment ≡ moment → core.cache ≡ cache → core.resolutions.items ≡ rs → greatest < log.next → 0 < length setting.roots
-    → CacheHolds (terms_with setting) greatest log cache
+pub derived-is : (core : RecursorCore) (log : Log) (setting : Setting) (greatest moment : ℕ) (cache : Cached) (pools : Pools) (rs : List Resolution) → core.setting ≡ setting
+    → core.greatest ≡ greatest → core.moment ≡ moment → core.cache ≡ cache → core.pools ≡ pools → core.resolutions.items ≡ rs → greatest < log.next → 0 < length setting.roots
+    → CacheHolds (terms_with setting) greatest log cache → PoolsHold (terms_with setting) greatest moment log pools
     → All (ResolutionHolds (terms_with setting) greatest moment log) rs → Derived core log
-derived-is core log setting greatest moment cache rs a b c d e bound some kept all = record {
+derived-is core log setting greatest moment cache pools rs a b c d p e bound some kept held all = record {
   bound = subst (λ (g : ℕ). g < log.next) (sym b) bound;
   some = subst (λ (held : Setting). 0 < length held.roots) (sym a) some;
   cache = subst (λ (held : Setting). CacheHolds (terms_with held) core.greatest log core.cache) (sym a)
       (subst (λ (g : ℕ). CacheHolds (terms_with setting) g log core.cache) (sym b)
       (subst (CacheHolds (terms_with setting) greatest log) (sym d) kept));
+  pools = subst (λ (s : Setting). PoolsHold (terms_with s) core.greatest core.moment log core.pools) (sym a)
+      (subst (λ (g : ℕ). PoolsHold (terms_with setting) g core.moment log core.pools) (sym b)
+      (subst (λ (m : ℕ). PoolsHold (terms_with setting) greatest m log core.pools) (sym c)
+      (subst (PoolsHold (terms_with setting) greatest moment log) (sym p) held)));
   resolutions = subst (λ (held : Setting). All (ResolutionHolds (terms_with held) core.greatest core.moment log) core.resolutions.items) (sym a)
       (subst (λ (g : ℕ). All (ResolutionHolds (terms_with setting) g core.moment log) core.resolutions.items) (sym b)
       (subst (λ (m : ℕ). All (ResolutionHolds (terms_with setting) greatest m log) core.resolutions.items) (sym c)
       (subst (All (ResolutionHolds (terms_with setting) greatest moment log)) (sym e) all)));
 }
 
--- new numbers and connections leave what is derived
-pub derived-set : (a b : RecursorCore) (log : Log) → IsSetAs a b → Derived a log → Derived b log
-derived-set a b log h d =
-    derived-is b log a.setting a.greatest a.moment a.cache a.resolutions.items h.1 h.2 h.3 h.4 (ap (λ (rs : Vec Resolution). rs.items) h.0)
-    d.bound d.some d.cache d.resolutions
-
--- nor do they add steps
-pub set-rank : (a b : RecursorCore) (p : ℕ) → IsSetAs a b → rank p b ≡ rank p a
-set-rank a b p h = ap (λ (rs : Vec Resolution). sum_by (one.rank p) rs.items) h.0
-
 -- on want of memory no step is added
 pub goes-err : (old new : RecursorCore) (result : Result Progress NoMemory) → IsErr result → ((p : ℕ) → rank p new ≤ rank p old) → GoesOn old new result
 goes-err old new (Ok p) e h = cc
 goes-err old new (Err e) is h = h
+
+-- what follows with memory and without it follows
+pub either-way : {A : Type 0} (result : Result A NoMemory) (P Q R : Type 0) → OnOk result P → OnErr result Q → (P → R) → (Q → R) → R
+either-way (Ok x) P Q R p q f g = f p
+either-way (Err e) P Q R p q f g = g q

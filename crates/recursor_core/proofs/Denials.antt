@@ -1,8 +1,9 @@
 -- What the reply of a walk rests on.
-use Rattle.std.proofs.Common.{◌≡◌, ℕ, Bool, true, false, cond, List, [], ◌∷◌, Option, Some, None, Contains, refl, sym, ap, subst, ◌∙◌, ◌≤◌, arith, inl, inr, Result, Ok, Err, IfOk}
+use Rattle.std.proofs.Common.{◌≡◌, ℕ, Bool, true, false, cond, List, [], ◌∷◌, ◌++◌, Option, Some, None, Contains, refl, sym, ap, subst, ◌∙◌, ◌≤◌, arith, inl, inr, Result, Ok, Err, IfOk}
 use Rattle.std.proofs.lemmas.Result.{IfOk-weaker}
 use Rattle.std.proofs.lemmas.Option.{same_Some, none-some}
-use Rattle.std.specs.Prelude.{◌||◌, ◌&&◌, ◌==◌, not, find, option_and_then}
+use Rattle.std.specs.Prelude.{◌||◌, ◌&&◌, ◌==◌, not, find, filter, if◌then◌else◌, option_and_then}
+use Rattle.std.proofs.lemmas.List.Elements.{filter-append}
 use Rattle.std.specs.Option.{is_none}
 use Rattle.std.specs.Cmp.{second_so}
 use Rattle.std.specs.Global.{Box}
@@ -24,12 +25,12 @@ use Rattle.dns_core.specs.declared.net_error.NetError.{NetError}
 use Rattle.dns_core.specs.declared.net_error.NetError.TheVariants as net
 use Rattle.dns_core.specs.declared.net_error.DnsError.TheVariants as dns
 use Rattle.resolution.specs.Names.{candidates, walk, question}
-use Rattle.resolution.specs.Records.{records}
+use Rattle.resolution.specs.Records.{records, only}
 use Rattle.resolution.specs.Failing as failing
-use Rattle.resolution.specs.Class.{class_of_message, class_of_classified, has_no_data_for, is_foreign}
+use Rattle.resolution.specs.Class.{class_of, class_of_message, class_of_classified, has_no_data_for, is_foreign}
 use Rattle.resolution.specs.Given.{allows_all}
 use Rattle.resolver_settings.specs.Access.{denies as access_denies}
-use Rattle.resolution.specs.Verdict.{verdict_of_told, verdict_of_class}
+use Rattle.resolution.specs.Verdict.{verdict, verdict_of_told, verdict_of_class, verdict_of_message, is_all_denied, without_denied, holds_denied, within, emptied}
 use Rattle.resolution.specs.Serving.{is_delegation, glue, allowed}
 use Rattle.resolution.specs.Answering.{Base}
 use Rattle.resolution.specs.Answering.Answers.{direct}
@@ -40,43 +41,116 @@ use Rattle.resolution.specs.declared.class.Class.TheVariants.{Error, Code, Trunc
 use Rattle.resolution.specs.declared.verdict.Verdict.TheVariants.{Pos, Neg, Made}
 use Rattle.resolution.specs.declared.verdict.Verdict.{Verdict}
 use Rattle.resolution.specs.declared.verdict.Cause.{Cause}
+use Rattle.resolution.specs.declared.verdict.Cause.TheVariants.{Filter, Zone}
 use Rattle.resolution.proofs.SameDelegations.{Same-is_delegation, Same-glue, Same-strip}
+use Rattle.resolution.specs.Same.{Same}
 use Rattle.recursor_walk.specs.Response.{error_of}
-use Rattle.recursor_core.specs.Plain.{IsPlainlyTold}
+use Rattle.recursor_walk.proofs.Allowing.{verdict_allowed}
+use Rattle.resolution.proofs.Invented.{class_of-positive}
 use Rattle.recursor_core.specs.Replies.{Terms, given_of, IsToldAnswer, ReplyHolds, IsReply}
 use Rattle.recursor_core.specs.Tried.{Concluded, machine_timer}
-use Rattle.recursor_core.specs.Causes.{told_data, is_lookup_error, WalksTo, ErrorHolds, HasFailed, HasNoAddress}
+use Rattle.recursor_core.specs.Causes.{told_data, ErrorHolds, HasFailed, HasNoAddress}
+use Rattle.resolution.specs.Walking.{Walked}
+use Rattle.resolution.specs.Serving.{Heard}
+use Rattle.resolution.proofs.Sameness.{Same-refl}
+use Rattle.dns_core.specs.declared.log.ToldOutcome.{ToldOutcome}
 use Rattle.recursor_core.specs.Causes.IsDenied.{told as denial_told, made as denial_made, told_on_the_way, made_on_the_way}
 use Rattle.recursor_core.specs.Causes.IsReferred.{referred}
 use Rattle.recursor_core.specs.Counted.{Stands, Answers, IsCurrentVerdict, kept_of}
 use Rattle.recursor_core.specs.Remembered.{response_in}
-use Rattle.recursor_core.specs.SameTold.{SameIfAny, SameReferrals, SameNegative, SameVerdict}
+use Rattle.recursor_core.specs.SameTold.{SameIfAny, SameReferrals, SameNegative, SameVerdict, IsShown, IsMadeFor, IsNothingLeft, nothing_left_for}
 use Rattle.recursor_core.specs.Walk.{told_negative, made_negative, ends_walk}
-use Rattle.recursor_core.specs.Derived.{IsConcluded, Counts, WalkComes}
+use Rattle.recursor_core.specs.Derived.{left_of_class, IsTold, WalkComes}
 use Rattle.recursor_core.specs.declared.error.RecursorError.{RecursorError}
 use Rattle.recursor_core.specs.declared.error.RecursorError.TheVariants.{Negative, ForwardNS}
 use Rattle.recursor_core.specs.declared.reply.Reply.{Reply}
 use Rattle.recursor_core.specs.declared.walk.Walk.{Walk}
-use Rattle.recursor_core.proofs.Classified.{same-class}
-use Rattle.recursor_core.proofs.Lowered.{verdict_same, data_same}
+use Rattle.recursor_core.proofs.Sends.{same_query-refl}
+use Rattle.recursor_core.proofs.Lowered.{negative_same, data_same}
 
--- ---- what counts, and what fails
+-- ---- what counts
 
--- the verdict of a class is that of the message
-pub counts-of : (terms : Terms) (greatest t0 : ℕ) (log : Log) (zone : DomainName) (q : Query) (g : List ℕ) (entry : ℕ) (class : Result Message DnsError)
-    (v : Verdict) → IsConcluded terms greatest t0 log zone q g entry class
-    → verdict_of_told allows_all (Some (class_of_classified q class)) zone ≡ Some v → Counts terms greatest t0 log zone q entry v
-counts-of terms greatest t0 log zone q g entry class v h is = record {
-  message = h.message;
-  is = h.heard;
-  counts = ap (λ (c : Class). verdict_of_told allows_all (Some c) zone) (same-class h.message q class h.heard.asked h.classified) ∙ is;
-}
+-- A response was told that counts so, and is shown so.
+pub record Counts (terms : Terms) (greatest t0 : ℕ) (log : Log) (zone : DomainName) (q : Query) (entry at : ℕ) (v : Verdict) : Type 0 where
+  pub outcome : ToldOutcome
+  pub whole : Verdict
+  pub early : entry ≤ greatest
+  pub heard : Heard (given_of terms) log entry q outcome at zone
+  pub late : t0 ≤ at
+  pub counts : verdict (given_of terms) outcome q zone ≡ Some whole
+  pub shown : IsShown q v whole
 
--- what counts was told of the question, since it began
-abbrev pub base-of : (terms : Terms) (greatest t0 : ℕ) (log : Log) (zone : DomainName) (q : Query) (entry : ℕ) (v : Verdict)
-    → Counts terms greatest t0 log zone q entry v → Base (given_of terms) log t0 q entry zone v
-base-of terms greatest t0 log zone q entry v h =
-    record { told = told.Message h.message; moment = h.is.moment; heard = h.is.heard; counts = h.counts; fresh = inl h.is.late }
+-- What is left of a message counts without a filter as the message counts with it, where anything is left.
+left-counts : (denied : IpAddr → Bool) (m : Message) (zone : DomainName) → is_all_denied denied m ≡ false
+    → verdict_of_message denied m zone ≡ verdict_of_message allows_all (without_denied denied m) zone
+left-counts denied m zone some =
+    let kept = without_denied denied m in
+    ap (λ (b : Bool). if b then Made Filter else (if emptied kept (within zone kept) then Made Zone else Pos (within zone kept))) some
+    ∙ sym (verdict_allowed kept zone)
+
+-- each verdict but one that the zone made is shown as it is
+shown-itself : (q : Query) (v : Verdict) → IsShown q v v
+shown-itself q (Pos a) = refl
+shown-itself q (Neg a) = refl
+shown-itself q (Made a) = refl
+
+-- what counts of a message that was told as one
+told-counts : (m : Message) (zone : DomainName) (v : Verdict) (cut : Bool) (o : Option Record)
+    → verdict_of_told allows_all (Some (cond cut Truncated (elim o [ Some r ↦ Foreign r | None ↦ Positive m ]))) zone ≡ Some v → verdict_of_message allows_all m zone ≡ v
+told-counts m zone v true o counts = absurd (none-some v counts)
+told-counts m zone v false (Some r) counts = absurd (none-some v counts)
+told-counts m zone v false None counts = same_Some _ _ counts
+
+-- what the filter leaves of a message, where it leaves something or nothing
+left-of-message : (denied : IpAddr → Bool) (q : Query) (m : Message) (zone : DomainName) (v : Verdict) (all : Bool) → is_all_denied denied m ≡ all
+    → verdict_of_told allows_all (Some (class_of_classified q (if all then Err (dns.NoRecordsFound (nothing_left_for q)) else Ok (without_denied denied m)))) zone ≡ Some v
+    → (whole : Verdict) × (Some (verdict_of_message denied m zone) ≡ Some whole) × IsShown q v whole
+left-of-message denied q m zone v true is counts =
+    let kept = without_denied denied m in
+    let made : verdict_of_message denied m zone ≡ Made Filter = ap (λ (b : Bool). if b then Made Filter else (if emptied kept (within zone kept) then Made Zone else Pos (within zone kept))) is in
+    let nothing : IsNothingLeft q (nothing_left_for q) = record { first = q; same = same_query-refl q; is = refl } in
+    (Made Filter, ap Some made, subst (λ (w : Verdict). IsShown q w (Made Filter)) (same_Some _ _ counts) nothing)
+left-of-message denied q m zone v false is counts =
+    let kept = without_denied denied m in
+    let same : verdict_of_message denied m zone ≡ v = left-counts denied m zone is ∙ told-counts kept zone v kept.truncation (find (is_foreign q) (records kept)) counts in
+    (v, ap Some same, shown-itself q v)
+
+-- the verdict of what the filter of answers leaves of a response shows that of the response
+left-shown : (denied : IpAddr → Bool) (q : Query) (response : Class) (class : Result Message DnsError) (zone : DomainName) (v : Verdict)
+    → left_of_class denied q response ≡ Some class → verdict_of_told allows_all (Some (class_of_classified q class)) zone ≡ Some v
+    → (whole : Verdict) × (verdict_of_class denied response zone ≡ Some whole) × IsShown q v whole
+left-shown denied q (Positive m) class zone v left counts =
+    left-of-message denied q m zone v (is_all_denied denied m) refl
+    (subst (λ (c : Result Message DnsError). verdict_of_told allows_all (Some (class_of_classified q c)) zone ≡ Some v) (sym (same_Some _ _ left)) counts)
+left-shown denied q (NoData n) class zone v left counts =
+    let told = subst (λ (c : Result Message DnsError). verdict_of_told allows_all (Some (class_of_classified q c)) zone ≡ Some v) (sym (same_Some _ _ left)) counts in
+    (v, told, shown-itself q v)
+left-shown denied q (Error e) class zone v left counts = cc
+left-shown denied q (Code c) class zone v left counts = cc
+left-shown denied q Truncated class zone v left counts = cc
+left-shown denied q (Foreign r) class zone v left counts = cc
+
+-- the verdict of a class is that of what was told
+pub counts-of : (terms : Terms) (greatest t0 : ℕ) (log : Log) (zone : DomainName) (q : Query) (entry at : ℕ) (class : Result Message DnsError)
+    (v : Verdict) → IsTold terms greatest t0 log zone q entry at class
+    → verdict_of_told allows_all (Some (class_of_classified q class)) zone ≡ Some v → Counts terms greatest t0 log zone q entry at v
+counts-of terms greatest t0 log zone q entry at class v h is =
+    let shown = left-shown (access_denies terms.answer_filter) q h.response class zone v h.left is in
+    record {
+      outcome = h.outcome;
+      whole = shown.0;
+      early = h.early;
+      heard = h.heard;
+      late = h.late;
+      counts = ap (λ (c : Option Class). verdict_of_told (access_denies terms.answer_filter) c zone) h.is ∙ shown.1;
+      shown = shown.2;
+    }
+
+-- it was told of the question, since it began
+abbrev pub base-of : (terms : Terms) (greatest t0 : ℕ) (log : Log) (zone : DomainName) (q : Query) (entry at : ℕ) (v : Verdict)
+    → (h : Counts terms greatest t0 log zone q entry at v) → Base (given_of terms) log t0 q entry zone h.whole
+base-of terms greatest t0 log zone q entry at v h =
+    record { told = h.outcome; moment = at; heard = h.heard; counts = h.counts; fresh = inl h.late }
 
 -- what counts was told at or after t0
 current-of : (t0 moment : ℕ) (v : Verdict) → t0 ≤ moment → IsCurrentVerdict t0 moment v
@@ -84,56 +158,95 @@ current-of t0 moment (Pos kept) late = inr late
 current-of t0 moment (Neg n) late = tt
 current-of t0 moment (Made cause) late = tt
 
+-- what is shown so is the same
+pub shown-same : (q : Query) (v whole : Verdict) → IsShown q v whole → SameVerdict q v whole
+shown-same q (Pos a) (Pos b) h = subst (Same a) h (Same-refl a)
+shown-same q (Pos a) (Neg b) h = absurd h
+shown-same q (Pos a) (Made Filter) h = absurd h
+shown-same q (Pos a) (Made Zone) h = absurd h
+shown-same q (Neg a) (Pos b) h = absurd h
+shown-same q (Neg a) (Neg b) h = subst (SameNegative a) h (negative_same a)
+shown-same q (Neg a) (Made Filter) h = h
+shown-same q (Neg a) (Made Zone) h = absurd h
+shown-same q (Made a) (Pos b) h = absurd h
+shown-same q (Made a) (Neg b) h = absurd h
+shown-same q (Made a) (Made b) h = h
+
 -- what counts, of a server of the zone to which a walk went down, stands
-abbrev pub stands-of : (terms : Terms) (greatest t0 : ℕ) (log : Log) (zone : DomainName) (q : Query) (entry : ℕ) (v : Verdict)
-    → Counts terms greatest t0 log zone q entry v → WalksTo (given_of terms) log q zone → Stands terms greatest t0 log q entry v
-stands-of terms greatest t0 log zone q entry v h walked = record {
+abbrev pub stands-of : (terms : Terms) (greatest t0 : ℕ) (log : Log) (zone : DomainName) (q : Query) (entry at : ℕ) (v : Verdict)
+    → Counts terms greatest t0 log zone q entry at v → Walked (given_of terms) log q zone → Stands terms greatest t0 log q entry v
+stands-of terms greatest t0 log zone q entry at v h walked = record {
   zone = zone;
-  whole = v;
-  early = h.is.early;
-  base = base-of terms greatest t0 log zone q entry v h;
+  whole = h.whole;
+  early = h.early;
+  base = base-of terms greatest t0 log zone q entry at v h;
   walked = walked;
-  same = verdict_same v;
+  same = shown-same q v h.whole h.shown;
 }
 
 -- and it may be answered
-pub answers-of : (terms : Terms) (greatest t0 : ℕ) (log : Log) (zone : DomainName) (q : Query) (entry : ℕ) (v : Verdict)
-    → Counts terms greatest t0 log zone q entry v → WalksTo (given_of terms) log q zone → Answers terms greatest t0 log q entry v
-answers-of terms greatest t0 log zone q entry v h walked =
-    record { stands = stands-of terms greatest t0 log zone q entry v h walked; current = current-of t0 h.is.moment v h.is.late }
+pub answers-of : (terms : Terms) (greatest t0 : ℕ) (log : Log) (zone : DomainName) (q : Query) (entry at : ℕ) (v : Verdict)
+    → Counts terms greatest t0 log zone q entry at v → Walked (given_of terms) log q zone → Answers terms greatest t0 log q entry v
+answers-of terms greatest t0 log zone q entry at v h walked =
+    record { stands = stands-of terms greatest t0 log zone q entry at v h walked; current = current-of t0 at h.whole h.late }
 
--- The class is answered with this error, which is no timeout.
-abbrev Fails : Class → NetError → Type 0
-Fails class e = (answer_of class ≡ Err e) × (is_timeout e ≡ false) × (is_lookup_error e ≡ true)
+-- an answer is not cut, and has no record of another class
+whole_by : (q : Query) (m m' : Message) (code cut bare : Bool) (o : Option Record)
+    → cond code (Code m.response_code) (cond cut Truncated (cond bare (NoData (no_records m)) (elim o [ Some r ↦ Foreign r | None ↦ Positive m ]))) ≡ Positive m' → (cut ≡ false) × (o ≡ None)
+whole_by q m m' true cut bare o e = cc
+whole_by q m m' false true bare o e = cc
+whole_by q m m' false false true o e = cc
+whole_by q m m' false false false (Some r) e = cc
+whole_by q m m' false false false None e = (refl, refl)
 
--- what a message is by three tests of it and its first record of another class
-abbrev class_by : Message → Bool → Bool → Bool → Option Record → Class
-class_by m coded cut empty foreign =
-    cond coded (Code m.response_code) (cond cut Truncated (cond empty (NoData (no_records m)) (elim foreign [ Some r ↦ Foreign r | None ↦ Positive m ])))
+pub answer-whole : (outcome : ToldOutcome) (q : Query) (m : Message) → class_of outcome q ≡ Some (Positive m) → (m.truncation ≡ false) × (find (is_foreign q) (records m) ≡ None)
+answer-whole outcome q m is =
+    let told : class_of_message m q ≡ Positive m = same_Some _ _ (subst (λ (o : ToldOutcome). class_of o q ≡ Some (Positive m)) (class_of-positive outcome q m is) is) in
+    whole_by q m m (not (m.response_code.code == 0 || m.response_code.code == 3)) m.truncation (has_no_data_for q m) (find (is_foreign q) (records m)) told
 
--- a class without a verdict is answered with the error that it is
-fails-by : (m : Message) (e : NetError) (coded cut empty : Bool) (foreign : Option Record)
-    → error_of (class_by m coded cut empty foreign) ≡ Some e → Fails (class_by m coded cut empty foreign) e
-fails-by m e true cut empty foreign h =
-    subst (Fails (Code m.response_code)) (same_Some (net.Dns (dns.ResponseCode m.response_code)) e h) (refl, refl, refl)
-fails-by m e false true empty foreign h = subst (Fails Truncated) (same_Some net.Truncated e h) (refl, refl, refl)
-fails-by m e false false true foreign h = absurd (none-some e h)
-fails-by m e false false false (Some r) h =
-    subst (Fails (Foreign r)) (same_Some (net.ForeignClassRecord r.name r.dns_class r.record_type) e h) (refl, refl, refl)
-fails-by m e false false false None h = absurd (none-some e h)
+-- what is not found is not found where less is left
+not_found_in : {X : Type 0} (p f : X → Bool) (xs : List X) → find p xs ≡ None → find p (filter f xs) ≡ None
+not_found_in p f [] e = refl
+not_found_in {X} p f (x ∷ xs) e = at_head (f x) (p x) refl e (not_found_in p f xs)
+  where
+    at_head : (b c : Bool) → p x ≡ c → cond c (Some x) (find p xs) ≡ None → (find p xs ≡ None → find p (filter f xs) ≡ None) → find p (cond b (x ∷ filter f xs) (filter f xs)) ≡ None
+    at_head b true same h next = cc
+    at_head true false same h next = ap (λ (t : Bool). cond t (Some x) (find p (filter f xs))) same ∙ next h
+    at_head false false same h next = next h
 
--- a message without a verdict is answered with the error that it is
-fails : (m : Message) (q : Query) (e : NetError) → error_of (class_of_message m q) ≡ Some e → Fails (class_of_message m q) e
-fails m q e h =
-    fails-by m e (not (m.response_code.code == 0 || m.response_code.code == 3)) m.truncation (has_no_data_for q m) (find (is_foreign q) (records m)) h
+-- the records that are left of a message
+records-left : (f : Record → Bool) (m : Message) → records (only f m) ≡ filter f (records m)
+records-left f m =
+    ap (λ (rs : List Record). rs ++ filter f m.additionals) (sym (filter-append f m.answers m.authorities)) ∙ sym (filter-append f (m.answers ++ m.authorities) m.additionals)
 
--- a lookup that ended by a class without a verdict ended with the error that it is, which is no timeout
-pub error-told : (terms : Terms) (greatest t0 : ℕ) (log : Log) (zone : DomainName) (q : Query) (g : List ℕ) (entry : ℕ) (class : Result Message DnsError)
-    (e : NetError) → IsConcluded terms greatest t0 log zone q g entry class → error_of (class_of_classified q class) ≡ Some e
-    → Concluded terms t0 log zone q g (Err e) × (is_timeout e ≡ false) × (is_lookup_error e ≡ true)
-error-told terms greatest t0 log zone q g entry class e h is =
-    let failed = fails h.message q e (ap error_of (same-class h.message q class h.heard.asked h.classified) ∙ is) in
-    (subst (Concluded terms t0 log zone q g) failed.0 h.concluded, failed.1, failed.2)
+left-message-fails : (q : Query) (kept : Message) (cut : Bool) (o : Option Record) (e : NetError) → cut ≡ false → o ≡ None
+    → error_of (cond cut Truncated (elim o [ Some r ↦ Foreign r | None ↦ Positive kept ])) ≡ Some e → ⊥
+left-message-fails q kept true o e whole none fails = cc
+left-message-fails q kept false (Some r) e whole none fails = cc
+left-message-fails q kept false None e whole none fails = cc
+
+left-fails : (denied : IpAddr → Bool) (q : Query) (m : Message) (e : NetError) (all : Bool) → m.truncation ≡ false → find (is_foreign q) (records m) ≡ None
+    → error_of (class_of_classified q (if all then Err (dns.NoRecordsFound (nothing_left_for q)) else Ok (without_denied denied m))) ≡ Some e → ⊥
+left-fails denied q m e true whole none fails = cc
+left-fails denied q m e false whole none fails =
+    let f : Record → Bool = λ r. not (holds_denied denied r) in
+    let kept = without_denied denied m in
+    let left : find (is_foreign q) (records kept) ≡ None = ap (find (is_foreign q)) (records-left f m) ∙ not_found_in (is_foreign q) f (records m) none in
+    left-message-fails q kept kept.truncation (find (is_foreign q) (records kept)) e whole left fails
+
+-- what is left of a response has a verdict
+pub left-no-error : (denied : IpAddr → Bool) (outcome : ToldOutcome) (q : Query) (response : Class) (class : Result Message DnsError) (e : NetError) → class_of outcome q ≡ Some response
+    → left_of_class denied q response ≡ Some class → error_of (class_of_classified q class) ≡ Some e → ⊥
+left-no-error denied outcome q (Positive m) class e is left fails =
+    let whole = answer-whole outcome q m is in
+    left-fails denied q m e (is_all_denied denied m) whole.0 whole.1
+    (subst (λ (c : Result Message DnsError). error_of (class_of_classified q c) ≡ Some e) (sym (same_Some _ _ left)) fails)
+left-no-error denied outcome q (NoData n) class e is left fails =
+    absurd (none-some e (subst (λ (c : Result Message DnsError). error_of (class_of_classified q c) ≡ Some e) (sym (same_Some _ _ left)) fails))
+left-no-error denied outcome q (Error f) class e is left fails = cc
+left-no-error denied outcome q (Code c) class e is left fails = cc
+left-no-error denied outcome q Truncated class e is left fails = cc
+left-no-error denied outcome q (Foreign r) class e is left fails = cc
 
 -- a class that is an error counts for nothing
 counts-none : (class : Class) (zone : DomainName) (e : NetError) → error_of class ≡ Some e → verdict_of_class allows_all class zone ≡ None
@@ -153,8 +266,8 @@ not-kept q class zone e h = sym (ap (λ (v : Option Verdict). option_and_then ke
 
 -- a response that stands is the answer, less what was not asked for
 told-by : (terms : Terms) (t0 : ℕ) (log : Log) (q : Query) (entry : ℕ) (zone : DomainName) (kept : Message) (dnssec : Bool) (whole : Verdict)
-    → (base : Base (given_of terms) log t0 q entry zone whole) → IsCurrentVerdict t0 base.moment whole → WalksTo (given_of terms) log q zone
-    → SameVerdict (Pos kept) whole → IsToldAnswer (given_of terms) log t0 q dnssec (entry ∷ []) (strip_of kept dnssec)
+    → (base : Base (given_of terms) log t0 q entry zone whole) → IsCurrentVerdict t0 base.moment whole → Walked (given_of terms) log q zone
+    → SameVerdict q (Pos kept) whole → IsToldAnswer (given_of terms) log t0 q dnssec (entry ∷ []) (strip_of kept dnssec)
 told-by terms t0 log q entry zone kept dnssec (Pos before) base current walked same =
     let stripped = Same-strip kept before dnssec same in
     record {
@@ -169,7 +282,8 @@ told-by terms t0 log q entry zone kept dnssec (Pos before) base current walked s
       answer = λ done. record { answers = direct base current done stripped; few = omega arith };
     }
 told-by terms t0 log q entry zone kept dnssec (Neg n) base current walked same = absurd same
-told-by terms t0 log q entry zone kept dnssec (Made cause) base current walked same = absurd same
+told-by terms t0 log q entry zone kept dnssec (Made Filter) base current walked same = absurd same
+told-by terms t0 log q entry zone kept dnssec (Made Zone) base current walked same = absurd same
 
 pub told-answer : (terms : Terms) (greatest t0 : ℕ) (log : Log) (q : Query) (entry : ℕ) (kept : Message) (dnssec : Bool)
     → Answers terms greatest t0 log q entry (Pos kept) → IsToldAnswer (given_of terms) log t0 q dnssec (entry ∷ []) (strip_of kept dnssec)
@@ -177,84 +291,92 @@ told-answer terms greatest t0 log q entry kept dnssec h =
     told-by terms t0 log q entry h.stands.zone kept dnssec h.stands.whole h.stands.base h.current h.stands.walked h.stands.same
 
 -- a reply with the answer
-pub replies : (terms : Terms) (t0 : ℕ) (log : Log) (asked : Question) (r : Result (Box Reply) NoMemory) (m : Message) (entry : ℕ)
+pub replies : (terms : Terms) (moment t0 : ℕ) (log : Log) (asked : Question) (r : Result (Box Reply) NoMemory) (m : Message) (entry : ℕ)
     → IfOk r (λ reply. reply.value ≡ record { outcome = Ok m; grounds = entry ∷ [] })
     → IsToldAnswer (given_of terms) log t0 asked.query asked.dnssec_ok (entry ∷ []) m
-    → IfOk r (λ reply. ReplyHolds terms machine_timer log t0 asked reply.value)
-replies terms t0 log asked r m entry is told =
-    IfOk-weaker r _ (λ reply. ReplyHolds terms machine_timer log t0 asked reply.value) (λ reply e. subst (ReplyHolds terms machine_timer log t0 asked) (sym e) told) is
+    → IfOk r (λ reply. ReplyHolds terms (machine_timer moment) log t0 asked reply.value)
+replies terms moment t0 log asked r m entry is told =
+    IfOk-weaker r _ (λ reply. ReplyHolds terms (machine_timer moment) log t0 asked reply.value) (λ reply e. subst (ReplyHolds terms (machine_timer moment) log t0 asked) (sym e) told) is
 
 -- one reply with an error that has its cause
-pub denied : (terms : Terms) (t0 : ℕ) (log : Log) (asked : Question) (reply : Reply) (error : RecursorError) (g : List ℕ)
-    → reply ≡ record { outcome = Err error; grounds = g } → ErrorHolds (given_of terms) (machine_timer log t0) log t0 asked.query g error
-    → ReplyHolds terms machine_timer log t0 asked reply
-denied terms t0 log asked reply error g is cause = subst (ReplyHolds terms machine_timer log t0 asked) (sym is) cause
+pub denied : (terms : Terms) (moment t0 : ℕ) (log : Log) (asked : Question) (reply : Reply) (error : RecursorError) (g : List ℕ)
+    → reply ≡ record { outcome = Err error; grounds = g } → ErrorHolds (given_of terms) (machine_timer moment log t0) log t0 asked.query g error
+    → ReplyHolds terms (machine_timer moment) log t0 asked reply
+denied terms moment t0 log asked reply error g is cause = subst (ReplyHolds terms (machine_timer moment) log t0 asked) (sym is) cause
 
 -- a reply with an error that has its cause
-pub denies : (terms : Terms) (t0 : ℕ) (log : Log) (asked : Question) (r : Result (Box Reply) NoMemory) (error : RecursorError) (g : List ℕ)
+pub denies : (terms : Terms) (moment t0 : ℕ) (log : Log) (asked : Question) (r : Result (Box Reply) NoMemory) (error : RecursorError) (g : List ℕ)
     → IfOk r (λ reply. reply.value ≡ record { outcome = Err error; grounds = g })
-    → ErrorHolds (given_of terms) (machine_timer log t0) log t0 asked.query g error
-    → IfOk r (λ reply. ReplyHolds terms machine_timer log t0 asked reply.value)
-denies terms t0 log asked r error g is cause =
-    IfOk-weaker r _ (λ reply. ReplyHolds terms machine_timer log t0 asked reply.value) (λ reply e. denied terms t0 log asked reply.value error g e cause) is
+    → ErrorHolds (given_of terms) (machine_timer moment log t0) log t0 asked.query g error
+    → IfOk r (λ reply. ReplyHolds terms (machine_timer moment) log t0 asked reply.value)
+denies terms moment t0 log asked r error g is cause =
+    IfOk-weaker r _ (λ reply. ReplyHolds terms (machine_timer moment) log t0 asked reply.value) (λ reply e. denied terms moment t0 log asked reply.value error g e cause) is
 
 -- it is the reply of a walk
 stopped : (terms : Terms) (greatest moment t0 : ℕ) (log : Log) (asked : Question) (w : Walk) (reply : Reply) (given : Option (Box Reply))
-    → IsReply reply given → ReplyHolds terms machine_timer log t0 asked reply → WalkComes terms greatest moment t0 log asked w given
+    → IsReply reply given → ReplyHolds terms (machine_timer moment) log t0 asked reply → WalkComes terms greatest moment t0 log asked w given
 stopped terms greatest moment t0 log asked w reply None is h = absurd is
-stopped terms greatest moment t0 log asked w reply (Some b) is h = subst (ReplyHolds terms machine_timer log t0 asked) (sym is) h
+stopped terms greatest moment t0 log asked w reply (Some b) is h = subst (ReplyHolds terms (machine_timer moment) log t0 asked) (sym is) h
 
 -- a walk that stops with a reply
 pub stops : (terms : Terms) (greatest moment t0 : ℕ) (log : Log) (asked : Question) (w : Walk) (r : Result (Option (Box Reply)) NoMemory) (reply : Reply)
-    → IfOk r (IsReply reply) → ReplyHolds terms machine_timer log t0 asked reply → IfOk r (WalkComes terms greatest moment t0 log asked w)
+    → IfOk r (IsReply reply) → ReplyHolds terms (machine_timer moment) log t0 asked reply → IfOk r (WalkComes terms greatest moment t0 log asked w)
 stops terms greatest moment t0 log asked w r reply is h =
     IfOk-weaker r _ (WalkComes terms greatest moment t0 log asked w) (λ given e. stopped terms greatest moment t0 log asked w reply given e h) is
 
 -- a lookup for a question at the servers of the zone to which its walk went down failed
-pub has-failed : (terms : Terms) (t0 : ℕ) (log : Log) (zone : DomainName) (asked q : Query) (g : List ℕ) (e : NetError)
-    → asked ≡ q → Concluded terms t0 log zone asked g (Err e) → WalksTo (given_of terms) log q zone
-    → IsPlainlyTold log → HasFailed (given_of terms) (machine_timer log t0) log t0 q g e
-has-failed terms t0 log zone asked q g e same ended walked plain = record {
+pub has-failed : (terms : Terms) (moment t0 : ℕ) (log : Log) (zone : DomainName) (asked q : Query) (g : List ℕ) (e : NetError)
+    → asked ≡ q → Concluded terms moment t0 log zone asked g (Err e) → Walked (given_of terms) log q zone
+    → HasFailed (given_of terms) (machine_timer moment log t0) log t0 q g e
+has-failed terms moment t0 log zone asked q g e same ended walked = record {
   zone = zone;
-  ended = subst (λ (p : Query). Finished (given_of terms) (machine_timer log t0) log t0 p zone g (Err e)) same (ended plain);
-  walked = walked plain;
+  ended = subst (λ (p : Query). Finished (given_of terms) (machine_timer moment log t0) log t0 p zone g (Err e)) same ended;
+  walked = walked;
 }
 
 -- ---- negatives
 
 -- a negative that is answered at last: itself, or a referral
-negative-by : (terms : Terms) (t0 : ℕ) (log : Log) (q : Query) (entry : ℕ) (zone : DomainName) (n : NoRecords) (whole : Verdict)
-    → Base (given_of terms) log t0 q entry zone whole → WalksTo (given_of terms) log q zone → SameVerdict (Neg n) whole
-    → ErrorHolds (given_of terms) (machine_timer log t0) log t0 q (entry ∷ []) (told_negative n)
-negative-by terms t0 log q entry zone n (Pos kept) base walked same = absurd same
-negative-by terms t0 log q entry zone n (Made cause) base walked same = absurd same
-negative-by terms t0 log q entry zone n (Neg before) base walked same = by n.ns before.ns refl same.ns
+negative-by : (terms : Terms) (moment t0 : ℕ) (log : Log) (q : Query) (entry : ℕ) (zone : DomainName) (n : NoRecords) (whole : Verdict)
+    → Base (given_of terms) log t0 q entry zone whole → Walked (given_of terms) log q zone → SameVerdict q (Neg n) whole
+    → ErrorHolds (given_of terms) (machine_timer moment log t0) log t0 q (entry ∷ []) (told_negative n)
+negative-by terms moment t0 log q entry zone n (Pos kept) base walked same = absurd same
+negative-by terms moment t0 log q entry zone n (Made Zone) base walked same = absurd same
+negative-by terms moment t0 log q entry zone n (Made Filter) base walked same =
+    subst (λ (m : NoRecords). ErrorHolds (given_of terms) (machine_timer moment log t0) log t0 q (entry ∷ []) (told_negative m)) (sym same.is)
+    (denial_made {p = same.first} base walked same.same)
+negative-by terms moment t0 log q entry zone n (Neg before) base walked same = by n.ns before.ns refl same.ns
   where
     by : (o p : Option (List ForwardNsData)) → before.ns ≡ p → SameIfAny SameReferrals o p
-        → ErrorHolds (given_of terms) (machine_timer log t0) log t0 q (entry ∷ []) (elim o [ Some forward ↦ ForwardNS forward | None ↦ Negative (told_data n) ])
+        → ErrorHolds (given_of terms) (machine_timer moment log t0) log t0 q (entry ∷ []) (elim o [ Some forward ↦ ForwardNS forward | None ↦ Negative (told_data n) ])
     by None None e alike = denial_told base walked e (data_same n before same)
     by (Some forward) (Some servers) e alike = referred base walked e alike
     by None (Some servers) e alike = absurd alike
     by (Some forward) None e alike = absurd alike
 
-pub answers-negative : (terms : Terms) (greatest t0 : ℕ) (log : Log) (q : Query) (entry : ℕ) (n : NoRecords)
+pub answers-negative : (terms : Terms) (greatest moment t0 : ℕ) (log : Log) (q : Query) (entry : ℕ) (n : NoRecords)
     → Stands terms greatest t0 log q entry (Neg n)
-    → ErrorHolds (given_of terms) (machine_timer log t0) log t0 q (entry ∷ []) (told_negative n)
-answers-negative terms greatest t0 log q entry n h = negative-by terms t0 log q entry h.zone n h.whole h.base h.walked h.same
+    → ErrorHolds (given_of terms) (machine_timer moment log t0) log t0 q (entry ∷ []) (told_negative n)
+answers-negative terms greatest moment t0 log q entry n h = negative-by terms moment t0 log q entry h.zone n h.whole h.base h.walked h.same
+
+-- a question is the same as itself, in any case
+made-for : (cause : Cause) (q : Query) → IsMadeFor cause q q
+made-for Filter q = same_query-refl q
+made-for Zone q = refl
 
 -- a negative that the recursor makes is answered at last
-made-by : (terms : Terms) (t0 : ℕ) (log : Log) (q : Query) (entry : ℕ) (zone : DomainName) (cause : Cause) (whole : Verdict)
-    → Base (given_of terms) log t0 q entry zone whole → WalksTo (given_of terms) log q zone → SameVerdict (Made cause) whole
-    → ErrorHolds (given_of terms) (machine_timer log t0) log t0 q (entry ∷ []) (made_negative q cause)
-made-by terms t0 log q entry zone cause (Pos kept) base walked same = absurd same
-made-by terms t0 log q entry zone cause (Neg n) base walked same = absurd same
-made-by terms t0 log q entry zone cause (Made before) base walked same =
-    subst (λ (x : Cause). ErrorHolds (given_of terms) (machine_timer log t0) log t0 q (entry ∷ []) (made_negative q x)) (sym same) (denial_made base walked)
+made-by : (terms : Terms) (moment t0 : ℕ) (log : Log) (q : Query) (entry : ℕ) (zone : DomainName) (cause : Cause) (whole : Verdict)
+    → Base (given_of terms) log t0 q entry zone whole → Walked (given_of terms) log q zone → SameVerdict q (Made cause) whole
+    → ErrorHolds (given_of terms) (machine_timer moment log t0) log t0 q (entry ∷ []) (made_negative q cause)
+made-by terms moment t0 log q entry zone cause (Pos kept) base walked same = absurd same
+made-by terms moment t0 log q entry zone cause (Neg n) base walked same = absurd same
+made-by terms moment t0 log q entry zone cause (Made before) base walked same =
+    subst (λ (x : Cause). ErrorHolds (given_of terms) (machine_timer moment log t0) log t0 q (entry ∷ []) (made_negative q x)) (sym same) (denial_made base walked (made-for before q))
 
-pub answers-made : (terms : Terms) (greatest t0 : ℕ) (log : Log) (q : Query) (entry : ℕ) (cause : Cause)
+pub answers-made : (terms : Terms) (greatest moment t0 : ℕ) (log : Log) (q : Query) (entry : ℕ) (cause : Cause)
     → Stands terms greatest t0 log q entry (Made cause)
-    → ErrorHolds (given_of terms) (machine_timer log t0) log t0 q (entry ∷ []) (made_negative q cause)
-answers-made terms greatest t0 log q entry cause h = made-by terms t0 log q entry h.zone cause h.whole h.base h.walked h.same
+    → ErrorHolds (given_of terms) (machine_timer moment log t0) log t0 q (entry ∷ []) (made_negative q cause)
+answers-made terms greatest moment t0 log q entry cause h = made-by terms moment t0 log q entry h.zone cause h.whole h.base h.walked h.same
 
 -- a negative that ends a walk names no servers
 ends-none : (n : NoRecords) → ends_walk n ≡ true → n.ns ≡ None
@@ -277,41 +399,44 @@ ends-verdict n before same e =
     both-none (Some forward) None alike = absurd alike
 
 -- a negative that ends a walk at a candidate
-way-negative-by : (terms : Terms) (t0 : ℕ) (log : Log) (q : Query) (entry : ℕ) (zone c : DomainName) (n : NoRecords) (whole : Verdict)
+way-negative-by : (terms : Terms) (moment t0 : ℕ) (log : Log) (q : Query) (entry : ℕ) (zone c : DomainName) (n : NoRecords) (whole : Verdict)
     → Contains (candidates (walk q)) c → Base (given_of terms) log t0 (question c 2) entry zone whole
-    → WalksTo (given_of terms) log (question c 2) zone → SameVerdict (Neg n) whole → ends_walk n ≡ true
-    → ErrorHolds (given_of terms) (machine_timer log t0) log t0 q (entry ∷ []) (told_negative n)
-way-negative-by terms t0 log q entry zone c n (Pos kept) has base walked same ends = absurd same
-way-negative-by terms t0 log q entry zone c n (Made cause) has base walked same ends = absurd same
-way-negative-by terms t0 log q entry zone c n (Neg before) has base walked same ends =
+    → Walked (given_of terms) log (question c 2) zone → SameVerdict (question c 2) (Neg n) whole → ends_walk n ≡ true
+    → ErrorHolds (given_of terms) (machine_timer moment log t0) log t0 q (entry ∷ []) (told_negative n)
+way-negative-by terms moment t0 log q entry zone c n (Pos kept) has base walked same ends = absurd same
+way-negative-by terms moment t0 log q entry zone c n (Made Zone) has base walked same ends = absurd same
+way-negative-by terms moment t0 log q entry zone c n (Made Filter) has base walked same ends =
+    subst (λ (m : NoRecords). ErrorHolds (given_of terms) (machine_timer moment log t0) log t0 q (entry ∷ []) (told_negative m)) (sym same.is)
+    (made_on_the_way {p = same.first} refl has base walked same.same)
+way-negative-by terms moment t0 log q entry zone c n (Neg before) has base walked same ends =
     let none = ends-none n ends in
-    subst (ErrorHolds (given_of terms) (machine_timer log t0) log t0 q (entry ∷ [])) (sym (ap (λ (o : Option (List ForwardNsData)). negative-of n o) none))
+    subst (ErrorHolds (given_of terms) (machine_timer moment log t0) log t0 q (entry ∷ [])) (sym (ap (λ (o : Option (List ForwardNsData)). negative-of n o) none))
     (told_on_the_way refl has base walked (ends-verdict n before same ends) (data_same n before same))
   where
     negative-of : NoRecords → Option (List ForwardNsData) → RecursorError
     negative-of m o = elim o [ Some forward ↦ ForwardNS forward | None ↦ Negative (told_data m) ]
 
-pub answers-on-the-way : (terms : Terms) (greatest t0 : ℕ) (log : Log) (q : Query) (entry : ℕ) (c : DomainName) (n : NoRecords)
+pub answers-on-the-way : (terms : Terms) (greatest moment t0 : ℕ) (log : Log) (q : Query) (entry : ℕ) (c : DomainName) (n : NoRecords)
     → Contains (candidates (walk q)) c → Stands terms greatest t0 log (question c 2) entry (Neg n) → ends_walk n ≡ true
-    → ErrorHolds (given_of terms) (machine_timer log t0) log t0 q (entry ∷ []) (told_negative n)
-answers-on-the-way terms greatest t0 log q entry c n has h ends =
-    way-negative-by terms t0 log q entry h.zone c n h.whole has h.base h.walked h.same ends
+    → ErrorHolds (given_of terms) (machine_timer moment log t0) log t0 q (entry ∷ []) (told_negative n)
+answers-on-the-way terms greatest moment t0 log q entry c n has h ends =
+    way-negative-by terms moment t0 log q entry h.zone c n h.whole has h.base h.walked h.same ends
 
 -- a negative that the recursor makes at a candidate
-way-made-by : (terms : Terms) (t0 : ℕ) (log : Log) (q : Query) (entry : ℕ) (zone c : DomainName) (cause : Cause) (whole : Verdict)
+way-made-by : (terms : Terms) (moment t0 : ℕ) (log : Log) (q : Query) (entry : ℕ) (zone c : DomainName) (cause : Cause) (whole : Verdict)
     → Contains (candidates (walk q)) c → Base (given_of terms) log t0 (question c 2) entry zone whole
-    → WalksTo (given_of terms) log (question c 2) zone → SameVerdict (Made cause) whole
-    → ErrorHolds (given_of terms) (machine_timer log t0) log t0 q (entry ∷ []) (made_negative (question c 2) cause)
-way-made-by terms t0 log q entry zone c cause (Pos kept) has base walked same = absurd same
-way-made-by terms t0 log q entry zone c cause (Neg n) has base walked same = absurd same
-way-made-by terms t0 log q entry zone c cause (Made before) has base walked same =
-    subst (λ (x : Cause). ErrorHolds (given_of terms) (machine_timer log t0) log t0 q (entry ∷ []) (made_negative (question c 2) x)) (sym same)
-    (made_on_the_way refl has base walked)
+    → Walked (given_of terms) log (question c 2) zone → SameVerdict (question c 2) (Made cause) whole
+    → ErrorHolds (given_of terms) (machine_timer moment log t0) log t0 q (entry ∷ []) (made_negative (question c 2) cause)
+way-made-by terms moment t0 log q entry zone c cause (Pos kept) has base walked same = absurd same
+way-made-by terms moment t0 log q entry zone c cause (Neg n) has base walked same = absurd same
+way-made-by terms moment t0 log q entry zone c cause (Made before) has base walked same =
+    subst (λ (x : Cause). ErrorHolds (given_of terms) (machine_timer moment log t0) log t0 q (entry ∷ []) (made_negative (question c 2) x)) (sym same)
+    (made_on_the_way refl has base walked (made-for before (question c 2)))
 
-pub made-on-the-way : (terms : Terms) (greatest t0 : ℕ) (log : Log) (q : Query) (entry : ℕ) (c : DomainName) (cause : Cause)
+pub made-on-the-way : (terms : Terms) (greatest moment t0 : ℕ) (log : Log) (q : Query) (entry : ℕ) (c : DomainName) (cause : Cause)
     → Contains (candidates (walk q)) c → Stands terms greatest t0 log (question c 2) entry (Made cause)
-    → ErrorHolds (given_of terms) (machine_timer log t0) log t0 q (entry ∷ []) (made_negative (question c 2) cause)
-made-on-the-way terms greatest t0 log q entry c cause has h = way-made-by terms t0 log q entry h.zone c cause h.whole has h.base h.walked h.same
+    → ErrorHolds (given_of terms) (machine_timer moment log t0) log t0 q (entry ∷ []) (made_negative (question c 2) cause)
+made-on-the-way terms greatest moment t0 log q entry c cause has h = way-made-by terms moment t0 log q entry h.zone c cause h.whole has h.base h.walked h.same
 
 -- ---- delegations without addresses
 
@@ -322,10 +447,11 @@ none-in (x ∷ xs) h = absurd (h x (0, omega arith, refl))
 
 -- a delegation that stands and gives no address that may be asked
 glueless-by : (terms : Terms) (t0 : ℕ) (log : Log) (q : Query) (zone c : DomainName) (entry : ℕ) (kept : Message) (whole : Verdict)
-    → Contains (candidates (walk q)) c → Base (given_of terms) log t0 (question c 2) entry zone whole → SameVerdict (Pos kept) whole
+    → Contains (candidates (walk q)) c → Base (given_of terms) log t0 (question c 2) entry zone whole → SameVerdict (question c 2) (Pos kept) whole
     → is_delegation kept c ≡ true → allowed (access_denies terms.server_filter) (glue kept c) ≡ [] → HasNoAddress (given_of terms) log t0 q
 glueless-by terms t0 log q zone c entry kept (Neg n) has base same delegates none = absurd same
-glueless-by terms t0 log q zone c entry kept (Made cause) has base same delegates none = absurd same
+glueless-by terms t0 log q zone c entry kept (Made Filter) has base same delegates none = absurd same
+glueless-by terms t0 log q zone c entry kept (Made Zone) has base same delegates none = absurd same
 glueless-by terms t0 log q zone c entry kept (Pos before) has base same delegates none = record {
   candidate = c;
   told = before;

@@ -13,7 +13,10 @@ use Rattle.resolution.specs.Given.{Given}
 use Rattle.resolution.specs.Life.{Fresh, life_in_seconds}
 use Rattle.resolution.specs.Answering.{Base, IsCurrent, Answers, Answer}
 use Rattle.resolution.specs.Answering.Answers.{direct, by_alias}
-use Rattle.resolution.specs.Lookups.{End, Answered}
+use Rattle.resolution.specs.Lookups.{End, Answered, Rules, PoolRun}
+use Rattle.resolution.specs.Lookups.PoolRun.{decided, spent, late as timed_out}
+use Rattle.resolution.specs.declared.class.Class.{Class}
+use Rattle.recursor_core.proofs.KeptPools.{below-greater}
 use Rattle.resolution.specs.Ending.{Known, EndSends, Finished}
 use Rattle.resolution.specs.declared.verdict.Verdict.{Verdict}
 use Rattle.recursor_core.specs.Causes.{IsDenied, IsReferred, HasFailed, HasNoServer, ErrorHolds}
@@ -25,7 +28,7 @@ use Rattle.recursor_core.specs.declared.error.WalkCause.TheVariants as why
 use Rattle.recursor_core.specs.declared.error.RecursorError.{RecursorError}
 use Rattle.recursor_core.specs.declared.error.RecursorError.TheVariants as error
 use Rattle.recursor_core.specs.Replies.{Terms, given_of, IsToldAnswer, OutcomeHolds, ReplyHolds}
-use Rattle.recursor_core.specs.Tried.{Began, machine_timer}
+use Rattle.recursor_core.specs.Tried.{machine_timer}
 use Rattle.recursor_core.specs.declared.reply.Reply.{Reply}
 
 -- a life that lasts until late lasts until early
@@ -47,10 +50,18 @@ last_earlier : (o : Option ℕ) (early late : ℕ) → early ≤ late → IsSome
 last_earlier None early late le h = h
 last_earlier (Some m) early late le h = omega arith
 
+-- what was answered at a moment was so by a later one
+pub run-later : {S : Type 0} {rules : Rules S} {class : Answered → Class} {servers : List S} {ends : List (End S)} {result : Answered} {start : ℕ} (now later : ℕ) → now ≤ later
+    → PoolRun rules class servers ends result start now → PoolRun rules class servers ends result start later
+run-later now later le (decided d) = decided d
+run-later now later le (spent s) = spent s
+run-later now later le (timed_out l) = timed_out (record { none = l.none; answers = l.answers; reached = let r = l.reached in omega arith; some = l.some })
+
 -- The late moment may be the early one: then a reply holds by what else is known of moments.
 module _ (given : Given) (log : Log) (early late : ℕ) (le : early ≤ late) (known wider : Known)
     (timed : (q : Query) (ips : List IpAddr) (g moments : List ℕ) (ends : List (End IpAddr)) (start now : ℕ)
-    → EndSends given log q ips g ends moments → late ≤ now → known.Timed q ips g ends moments start now → wider.Timed q ips g ends moments start now) where
+    → EndSends given log q ips g ends moments → late ≤ now → known.Timed q ips g ends moments start now
+    → (later : ℕ) × (now ≤ later) × wider.Timed q ips g ends moments start later) where
   -- an entry that counts for late counts for early
   abbrev Base-earlier : {q : Query} {i : ℕ} {z : DomainName} {v : Verdict} → Base given log late q i z v → Base given log early q i z v
   Base-earlier {q = q} {v = v} b = record {
@@ -88,9 +99,9 @@ module _ (given : Given) (log : Log) (early late : ℕ) (le : early ≤ late) (k
   -- a denial at late is one at early
   denied-earlier : (q : Query) (g : List ℕ) (d : AuthorityData) → IsDenied given log late q g d → IsDenied given log early q g d
   denied-earlier q _ _ (denial_told b w n s) = denial_told (Base-earlier b) w n s
-  denied-earlier q _ _ (denial_made b w) = denial_made (Base-earlier b) w
+  denied-earlier q _ _ (denial_made b w m) = denial_made (Base-earlier b) w m
   denied-earlier q _ _ (told_on_the_way s c b w e t) = told_on_the_way s c (Base-earlier b) w e t
-  denied-earlier q _ _ (made_on_the_way s c b w) = made_on_the_way s c (Base-earlier b) w
+  denied-earlier q _ _ (made_on_the_way s c b w m) = made_on_the_way s c (Base-earlier b) w m
 
   -- a referral at late is one at early
   referred-earlier : (q : Query) (g : List ℕ) (servers : List ForwardNsData) → IsReferred given log late q g servers → IsReferred given log early q g servers
@@ -99,23 +110,25 @@ module _ (given : Given) (log : Log) (early late : ℕ) (le : early ≤ late) (k
   -- a lookup that was finished in time for the late moment was so for the early one
   abbrev Finished-earlier : {q : Query} {z : DomainName} {g : List ℕ} {result : Answered} → Finished given known log late q z g result
       → Finished given wider log early q z g result
-  Finished-earlier f = record {
-    ips = f.ips;
-    ends = f.ends;
-    moments = f.moments;
-    start = f.start;
-    now = f.now;
-    above = f.above;
-    listed = f.listed;
-    rises = f.rises;
-    logged = f.logged;
-    run = f.run;
-    since = f.since;
-    till = f.till;
-    asked = let a = f.asked in omega arith;
-    timed = timed _ _ _ _ _ _ _ f.logged f.asked f.timed;
-    fresh = ⊎_elim (λ h. inl (last_earlier (last_or None f.moments) early late le h)) (λ h. inr h) f.fresh;
-  }
+  Finished-earlier f =
+      let t = timed _ _ _ _ _ _ _ f.logged f.asked f.timed in
+      record {
+        ips = f.ips;
+        ends = f.ends;
+        moments = f.moments;
+        start = f.start;
+        now = t.0;
+        above = f.above;
+        listed = f.listed;
+        rises = f.rises;
+        logged = f.logged;
+        run = run-later _ _ t.1 f.run;
+        since = f.since;
+        till = below-greater f.now t.0 t.1 f.moments f.till;
+        asked = let a = f.asked in let l = t.1 in omega arith;
+        timed = t.2;
+        fresh = ⊎_elim (λ h. inl (last_earlier (last_or None f.moments) early late le h)) (λ h. inr (h.0, let r = h.1 in let l = t.1 in omega arith)) f.fresh;
+      }
 
   -- a failure at late is one at early
   failed-earlier : (q : Query) (g : List ℕ) (e : NetError) → HasFailed given known log late q g e → HasFailed given wider log early q g e
@@ -129,9 +142,8 @@ module _ (given : Given) (log : Log) (early late : ℕ) (le : early ≤ late) (k
     on_the_way = h.on_the_way;
     glueless = record { i = h.glueless.i; z = h.glueless.z; base = Base-earlier h.glueless.base; delegates = h.glueless.delegates; none = h.glueless.none };
   }
-  server-earlier q why.Timeout h = λ plain.
-      let t = h plain in
-      record { candidate = t.candidate; on_the_way = t.on_the_way; g = t.g; failed = failed-earlier _ _ _ t.failed }
+  server-earlier q why.Timeout h =
+      record { candidate = h.candidate; on_the_way = h.on_the_way; g = h.g; failed = failed-earlier _ _ _ h.failed }
   server-earlier q why.DepthLimit h = h
   server-earlier q why.Budget h = h
   server-earlier q why.ZoneEntries h = h
@@ -142,7 +154,7 @@ module _ (given : Given) (log : Log) (early late : ℕ) (le : early ≤ late) (k
   error-earlier q g (error.Message kind) h = h
   error-earlier q g (error.Negative d) h = denied-earlier q g d h
   error-earlier q g (error.ForwardNS servers) h = referred-earlier q g servers h
-  error-earlier q g (error.Net e) h = λ plain. let t = h plain in (t.0, failed-earlier q g e t.1)
+  error-earlier q g (error.Net e) h = (h.0, failed-earlier q g e h.1)
   error-earlier q g (error.NoNameServer zone cause) h = (h.0, h.1, server-earlier q cause h.2)
   error-earlier q g error.NoMemory h = h
   error-earlier q g (error.MaxRecordLimitExceeded count kind) h = h
@@ -158,18 +170,10 @@ module _ (given : Given) (log : Log) (early late : ℕ) (le : early ≤ late) (k
   outcome-earlier question g (Ok m) h = ToldAnswer-earlier question.query question.dnssec_ok g m h
   outcome-earlier question g (Err e) h = error-earlier question.query g e h
 
--- the first send of a lookup that began no earlier than late began no earlier than early
-Began-earlier : (log : Log) (early late : ℕ) (q : Query) (g : List ℕ) (ends : List (End IpAddr)) (start : ℕ) → early ≤ late → Began log late q g ends start
-    → Began log early q g ends start
-Began-earlier log early late q (n ∷ g) (e ∷ ends) start le b =
-    record { n = b.n; e = b.e; begun = b.begun; is = b.is; at = b.at; early = b.early; since = let s = b.since in omega arith }
-Began-earlier log early late q [] ends start le b = tt
-Began-earlier log early late q (n ∷ g) [] start le b = tt
-
 -- a reply at the late moment is one at the early one
-pub ReplyHolds-earlier : (terms : Terms) (log : Log) (early late : ℕ) (question : Question) (reply : Reply) → early ≤ late
-    → ReplyHolds terms machine_timer log late question reply → ReplyHolds terms machine_timer log early question reply
-ReplyHolds-earlier terms log early late question reply le h =
-    outcome-earlier (given_of terms) log early late le (machine_timer log late) (machine_timer log early)
-    (λ q ips g moments ends start now sends asked t. record { some = t.some; began = Began-earlier log early late q g ends start le t.began; answered = t.answered })
+pub ReplyHolds-earlier : (terms : Terms) (now : ℕ) (log : Log) (early late : ℕ) (question : Question) (reply : Reply) → early ≤ late
+    → ReplyHolds terms (machine_timer now) log late question reply → ReplyHolds terms (machine_timer now) log early question reply
+ReplyHolds-earlier terms now log early late question reply le h =
+    outcome-earlier (given_of terms) log early late le (machine_timer now log late) (machine_timer now log early)
+    (λ q ips g moments ends start at sends asked t. (at, omega arith, record { some = t.some; began = t.began; since = let s = t.since in omega arith; answered = t.answered }))
     question reply.grounds reply.outcome h

@@ -1,5 +1,5 @@
 -- What was derived from a log is derived from a longer one, and after later entries.
-use Rattle.std.proofs.Common.{◌≤◌, ◌+◌, ℕ, List, All, Result, Ok, Err, refl, arith}
+use Rattle.std.proofs.Common.{◌≤◌, ◌+◌, ℕ, List, All, None, Result, Ok, Err, refl, arith}
 use Rattle.std.proofs.lemmas.List.Elements.{All-weaker}
 use Rattle.std.specs.declared.net.ip_addr.IpAddr.{IpAddr}
 use Rattle.dns_core.specs.Name.{DomainName}
@@ -15,10 +15,10 @@ use Rattle.resolution.specs.Answering.{Base}
 use Rattle.resolution.specs.Lookups.{End, Answered}
 use Rattle.resolution.specs.Ending.{EndSends, Finished}
 use Rattle.resolution.specs.declared.verdict.Verdict.{Verdict}
-use Rattle.resolution.proofs.Keeping.{Logged-extend, Base-extend, Answer-extend}
+use Rattle.resolution.proofs.Keeping.{Base-extend, Answer-extend}
 use Rattle.resolution.proofs.FailuresKept.{Finished-extend, NoCut-extend, Walked-extend, Glueless-extend}
-use Rattle.recursor_core.specs.Plain.{IsPlainlyTold}
-use Rattle.recursor_core.specs.Causes.{WalksTo, IsDenied, IsReferred, HasFailed, HasNoAddress, HasTimedOut, HasNoServer, ErrorHolds}
+use Rattle.resolution.specs.Walking.{Walked}
+use Rattle.recursor_core.specs.Causes.{IsDenied, IsReferred, HasFailed, HasNoAddress, HasTimedOut, HasNoServer, ErrorHolds}
 use Rattle.recursor_core.specs.Causes.IsDenied.{told as denial_told, made as denial_made, told_on_the_way, made_on_the_way}
 use Rattle.recursor_core.specs.Causes.IsReferred.{referred}
 use Rattle.recursor_core.specs.declared.error.AuthorityData.{AuthorityData}
@@ -35,42 +35,39 @@ use Rattle.recursor_core.specs.declared.resolving.State.{State}
 use Rattle.recursor_core.specs.declared.resolving.State.TheVariants.{New, Under, Done, Ended}
 use Rattle.recursor_core.specs.declared.resolving.Resolution.{Resolution}
 use Rattle.recursor_core.specs.declared.machine.RecursorCore.{RecursorCore}
-use Rattle.recursor_core.proofs.KeptLookups.{lookup-kept, pool-kept, began-kept}
+use Rattle.recursor_core.proofs.KeptPools.{began-kept, pool-kept, lookup-kept, pools-kept}
 use Rattle.recursor_core.proofs.Remembering.{cache-kept}
 
 -- a log has what it has
 pub same-log : (log : Log) → Extends log log
 same-log log = record { later = omega arith; kept = λ n h. refl }
 
-module _ (terms : Terms) (log longer : Log) (x : Extends log longer) where
-  -- what is told plainly in the longer log was so in the shorter
-  plainly-before : IsPlainlyTold longer → IsPlainlyTold log
-  plainly-before plain i e h = plain i e (Logged-extend log longer x i e h)
-
+module _ (terms : Terms) (log longer : Log) (x : Extends log longer) (m m' : ℕ) (later : m ≤ m') where
   -- the moments of a lookup are known by the longer log too
   timed-kept : (t0 : ℕ) (q : Query) (ips : List IpAddr) (g moments : List ℕ) (ends : List (End IpAddr)) (start now : ℕ)
-      → EndSends (given_of terms) log q ips g ends moments → IsTimed log t0 q g ends moments start now → IsTimed longer t0 q g ends moments start now
+      → EndSends (given_of terms) log q ips g ends moments → IsTimed m log t0 q g ends start now → IsTimed m' longer t0 q g ends start now
   timed-kept t0 q ips g moments ends start now s t = record {
     some = t.some;
-    began = began-kept terms log longer x t0 q g ends start t.began;
-    answered = t.answered;
+    began = began-kept log longer x q 0 0 None g ends start (omega arith) t.began;
+    since = t.since;
+    answered = let a = t.answered in omega arith;
   }
 
   -- a lookup that ended has ended by the longer log
   finished-kept : (t0 : ℕ) (q : Query) (zone : DomainName) (g : List ℕ) (result : Answered)
-      → Finished (given_of terms) (machine_timer log t0) log t0 q zone g result
-      → Finished (given_of terms) (machine_timer longer t0) longer t0 q zone g result
+      → Finished (given_of terms) (machine_timer m log t0) log t0 q zone g result
+      → Finished (given_of terms) (machine_timer m' longer t0) longer t0 q zone g result
   finished-kept t0 q zone g result f =
-      Finished-extend (given_of terms) terms.patience (omega arith) log longer x (machine_timer log t0) (machine_timer longer t0) (timed-kept t0) (λ e. e) f
+      Finished-extend (given_of terms) terms.patience (omega arith) log longer x (machine_timer m log t0) (machine_timer m' longer t0) (timed-kept t0) (λ e. e) f
 
   -- a walk down to a zone
-  walks-kept : (q : Query) (zone : DomainName) → WalksTo (given_of terms) log q zone → WalksTo (given_of terms) longer q zone
-  walks-kept q zone w plain = Walked-extend (given_of terms) terms.patience (omega arith) log longer x q zone (w (plainly-before plain))
+  walks-kept : (q : Query) (zone : DomainName) → Walked (given_of terms) log q zone → Walked (given_of terms) longer q zone
+  walks-kept q zone w = Walked-extend (given_of terms) terms.patience (omega arith) log longer x q zone w
 
   -- the candidates that were passed
   passed-kept : (zone name : DomainName) (n : ℕ) → Passed terms log zone name n → Passed terms longer zone name n
-  passed-kept zone name n p plain k below above =
-      NoCut-extend (given_of terms) terms.patience (omega arith) log longer x (p (plainly-before plain) k below above)
+  passed-kept zone name n p k below above =
+      NoCut-extend (given_of terms) terms.patience (omega arith) log longer x (p k below above)
 
   -- the way of a walk
   pub way-kept : (g g' : ℕ) (q : Query) (w : Walk) → g ≤ g' → WayHolds terms g log q w → WayHolds terms g' longer q w
@@ -104,9 +101,9 @@ module _ (terms : Terms) (log longer : Log) (x : Extends log longer) where
   -- a denial
   denied-kept : (t0 : ℕ) (q : Query) (g : List ℕ) (d : AuthorityData) → IsDenied (given_of terms) log t0 q g d → IsDenied (given_of terms) longer t0 q g d
   denied-kept t0 q _ d (denial_told {z = z} b w n s) = denial_told (based b) (walks-kept q z w) n s
-  denied-kept t0 q _ _ (denial_made {z = z} b w) = denial_made (based b) (walks-kept q z w)
+  denied-kept t0 q _ _ (denial_made {z = z} b w m) = denial_made (based b) (walks-kept q z w) m
   denied-kept t0 q _ _ (told_on_the_way {z = z} {c = c} s on b w e same) = told_on_the_way s on (based b) (walks-kept (question_for c 2) z w) e same
-  denied-kept t0 q _ _ (made_on_the_way {z = z} {c = c} s on b w) = made_on_the_way s on (based b) (walks-kept (question_for c 2) z w)
+  denied-kept t0 q _ _ (made_on_the_way {z = z} {c = c} s on b w m) = made_on_the_way s on (based b) (walks-kept (question_for c 2) z w) m
 
   -- a referral
   referred-kept : (t0 : ℕ) (q : Query) (g : List ℕ) (servers : List ForwardNsData)
@@ -115,7 +112,7 @@ module _ (terms : Terms) (log longer : Log) (x : Extends log longer) where
 
   -- a failed lookup
   failed-kept : (t0 : ℕ) (q : Query) (g : List ℕ) (e : NetError)
-      → HasFailed (given_of terms) (machine_timer log t0) log t0 q g e → HasFailed (given_of terms) (machine_timer longer t0) longer t0 q g e
+      → HasFailed (given_of terms) (machine_timer m log t0) log t0 q g e → HasFailed (given_of terms) (machine_timer m' longer t0) longer t0 q g e
   failed-kept t0 q g e h = record {
     zone = h.zone;
     ended = finished-kept t0 q h.zone g (Err e) h.ended;
@@ -133,14 +130,14 @@ module _ (terms : Terms) (log longer : Log) (x : Extends log longer) where
 
   -- servers that stayed silent
   timed-out-kept : (t0 : ℕ) (q : Query)
-      → HasTimedOut (given_of terms) (machine_timer log t0) log t0 q → HasTimedOut (given_of terms) (machine_timer longer t0) longer t0 q
+      → HasTimedOut (given_of terms) (machine_timer m log t0) log t0 q → HasTimedOut (given_of terms) (machine_timer m' longer t0) longer t0 q
   timed-out-kept t0 q h = record { candidate = h.candidate; on_the_way = h.on_the_way; g = h.g; failed = failed-kept t0 _ h.g _ h.failed }
 
   -- why no server was found
   server-kept : (t0 : ℕ) (q : Query) (cause : WalkCause)
-      → HasNoServer (given_of terms) (machine_timer log t0) log t0 q cause → HasNoServer (given_of terms) (machine_timer longer t0) longer t0 q cause
+      → HasNoServer (given_of terms) (machine_timer m log t0) log t0 q cause → HasNoServer (given_of terms) (machine_timer m' longer t0) longer t0 q cause
   server-kept t0 q why.NoAddress h = no-address-kept t0 q h
-  server-kept t0 q why.Timeout h = λ plain. timed-out-kept t0 q (h (plainly-before plain))
+  server-kept t0 q why.Timeout h = timed-out-kept t0 q h
   server-kept t0 q why.DepthLimit h = h
   server-kept t0 q why.Budget h = h
   server-kept t0 q why.ZoneEntries h = h
@@ -148,11 +145,11 @@ module _ (terms : Terms) (log longer : Log) (x : Extends log longer) where
 
   -- an error and its cause
   error-kept : (t0 : ℕ) (q : Query) (g : List ℕ) (e : RecursorError)
-      → ErrorHolds (given_of terms) (machine_timer log t0) log t0 q g e → ErrorHolds (given_of terms) (machine_timer longer t0) longer t0 q g e
+      → ErrorHolds (given_of terms) (machine_timer m log t0) log t0 q g e → ErrorHolds (given_of terms) (machine_timer m' longer t0) longer t0 q g e
   error-kept t0 q g (error.Message kind) h = h
   error-kept t0 q g (error.Negative d) h = denied-kept t0 q g d h
   error-kept t0 q g (error.ForwardNS servers) h = referred-kept t0 q g servers h
-  error-kept t0 q g (error.Net e) h = λ plain. let before = h (plainly-before plain) in (before.0, failed-kept t0 q g e before.1)
+  error-kept t0 q g (error.Net e) h = (h.0, failed-kept t0 q g e h.1)
   error-kept t0 q g (error.NoNameServer zone cause) h = (h.0, h.1, server-kept t0 q cause h.2)
   error-kept t0 q g error.NoMemory h = h
   error-kept t0 q g (error.MaxRecordLimitExceeded count kind) h = h
@@ -164,44 +161,44 @@ module _ (terms : Terms) (log longer : Log) (x : Extends log longer) where
 
   -- what is answered
   outcome-kept : (t0 : ℕ) (question : Question) (g : List ℕ) (o : Result Message RecursorError)
-      → OutcomeHolds (given_of terms) (machine_timer log t0) log t0 question g o
-      → OutcomeHolds (given_of terms) (machine_timer longer t0) longer t0 question g o
+      → OutcomeHolds (given_of terms) (machine_timer m log t0) log t0 question g o
+      → OutcomeHolds (given_of terms) (machine_timer m' longer t0) longer t0 question g o
   outcome-kept t0 question g (Ok m) h = told-kept t0 question.query question.dnssec_ok g m h
   outcome-kept t0 question g (Err e) h = error-kept t0 question.query g e h
 
   -- a reply
   pub reply-kept : (t0 : ℕ) (question : Question) (reply : Reply)
-      → ReplyHolds terms machine_timer log t0 question reply → ReplyHolds terms machine_timer longer t0 question reply
+      → ReplyHolds terms (machine_timer m) log t0 question reply → ReplyHolds terms (machine_timer m') longer t0 question reply
   reply-kept t0 question reply h = outcome-kept t0 question reply.grounds reply.outcome h
 
   -- where a resolution stands
-  state-kept : (g g' m m' t0 : ℕ) (question : Question) (s : State) → g ≤ g' → m ≤ m'
+  state-kept : (g g' t0 : ℕ) (question : Question) (s : State) → g ≤ g'
       → StateHolds terms g m t0 log question s → StateHolds terms g' m' t0 longer question s
-  state-kept g g' m m' t0 question New le later h = h
-  state-kept g g' m m' t0 question (Under w) le later h = record {
+  state-kept g g' t0 question New le h = h
+  state-kept g g' t0 question (Under w) le h = record {
     way = way-kept g g' question.query w.value le h.way;
-    lookup = lookup-kept terms log longer x g g' m m' t0 w.value.zone w.value.lookup le later h.lookup;
+    lookup = lookup-kept terms log longer x m m' later g g' t0 w.value.zone w.value.lookup le h.lookup;
   }
-  state-kept g g' m m' t0 question (Done reply) le later h = reply-kept t0 question reply.value h
-  state-kept g g' m m' t0 question Ended le later h = tt
+  state-kept g g' t0 question (Done reply) le h = reply-kept t0 question reply.value h
+  state-kept g g' t0 question Ended le h = tt
 
   -- a resolution
-  pub resolution-kept : (g g' m m' : ℕ) (r : Resolution) → g ≤ g' → m ≤ m' → ResolutionHolds terms g m log r → ResolutionHolds terms g' m' longer r
-  resolution-kept g g' m m' r le later h = record {
+  pub resolution-kept : (g g' : ℕ) (r : Resolution) → g ≤ g' → ResolutionHolds terms g m log r → ResolutionHolds terms g' m' longer r
+  resolution-kept g g' r le h = record {
     begun = let b = h.begun in omega arith;
-    state = state-kept g g' m m' r.begun r.question r.state le later h.state;
+    state = state-kept g g' r.begun r.question r.state le h.state;
   }
 
   -- all of them
-  pub resolutions-kept : (g g' m m' : ℕ) (rs : List Resolution) → g ≤ g' → m ≤ m'
+  pub resolutions-kept : (g g' : ℕ) (rs : List Resolution) → g ≤ g'
       → All (ResolutionHolds terms g m log) rs → All (ResolutionHolds terms g' m' longer) rs
-  resolutions-kept g g' m m' rs le later =
-      All-weaker (ResolutionHolds terms g m log) (ResolutionHolds terms g' m' longer) (λ r. resolution-kept g g' m m' r le later) rs
+  resolutions-kept g g' rs le =
+      All-weaker (ResolutionHolds terms g m log) (ResolutionHolds terms g' m' longer) (λ r. resolution-kept g g' r le) rs
 
--- a reply holds by a longer log
-pub ReplyHolds-extends : (terms : Terms) (log longer : Log) (t0 : ℕ) (question : Question) (reply : Reply) → Extends log longer
-    → ReplyHolds terms machine_timer log t0 question reply → ReplyHolds terms machine_timer longer t0 question reply
-ReplyHolds-extends terms log longer t0 question reply x h = reply-kept terms log longer x t0 question reply h
+-- a reply holds by a longer log, and at a later moment
+pub ReplyHolds-extends : (terms : Terms) (m m' : ℕ) (log longer : Log) (t0 : ℕ) (question : Question) (reply : Reply) → m ≤ m' → Extends log longer
+    → ReplyHolds terms (machine_timer m) log t0 question reply → ReplyHolds terms (machine_timer m') longer t0 question reply
+ReplyHolds-extends terms m m' log longer t0 question reply later x h = reply-kept terms log longer x m m' later t0 question reply h
 
 -- what the machine keeps is derived from a longer log
 pub Derived-extends : (core : RecursorCore) (log longer : Log) → Extends log longer → Derived core log → Derived core longer
@@ -209,6 +206,7 @@ Derived-extends core log longer x d = record {
   bound = let b = d.bound in let l = x.later in omega arith;
   some = d.some;
   cache = cache-kept (terms_of core) log longer x core.greatest core.greatest core.cache (omega arith) d.cache;
-  resolutions = resolutions-kept (terms_of core) log longer x core.greatest core.greatest core.moment core.moment core.resolutions.items
-      (omega arith) (omega arith) d.resolutions;
+  pools = pools-kept (terms_of core) log longer x core.greatest core.greatest core.moment core.moment core.pools (omega arith) (omega arith) d.pools;
+  resolutions = resolutions-kept (terms_of core) log longer x core.moment core.moment (omega arith) core.greatest core.greatest core.resolutions.items
+      (omega arith) d.resolutions;
 }

@@ -8,10 +8,8 @@ use Rattle.dns_core.specs.declared.net_error.ForwardNsData.{ForwardNsData}
 use Rattle.dns_core.specs.declared.net_error.NoRecords.{NoRecords}
 use Rattle.resolver_cache.specs.Lowering.{lowered_record, lowered_message, lowered_delegation, lowered_denial}
 use Rattle.resolution.specs.Same.{SameRecord, SameRecords, Same}
-use Rattle.resolution.specs.declared.verdict.Verdict.{Verdict}
-use Rattle.resolution.specs.declared.verdict.Verdict.TheVariants.{Pos, Neg, Made}
-use Rattle.resolution.proofs.Sameness.{SameRecords-refl, Same-refl}
-use Rattle.recursor_core.specs.SameTold.{SameIfAny, SameReferrals, SameNegative, SameDenial, SameVerdict}
+use Rattle.resolution.proofs.Sameness.{SameRecords-refl}
+use Rattle.recursor_core.specs.SameTold.{SameIfAny, SameReferrals, SameNegative, SameDenial}
 use Rattle.recursor_core.specs.Causes.{told_data}
 
 -- ---- itself
@@ -33,11 +31,6 @@ ns_same (Some xs) = referrals_same xs
 
 pub negative_same : (n : NoRecords) → SameNegative n n
 negative_same n = record { soa = soa_same n.soa; ns = ns_same n.ns; authorities = SameRecords-refl n.authorities; rest = refl }
-
-pub verdict_same : (v : Verdict) → SameVerdict v v
-verdict_same (Pos k) = Same-refl k
-verdict_same (Neg n) = negative_same n
-verdict_same (Made cause) = refl
 
 -- ---- lowered
 

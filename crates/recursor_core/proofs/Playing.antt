@@ -1,5 +1,5 @@
 -- The questions of a run, as their turns are played.
-use Rattle.std.proofs.Common.{◌≡◌, ◌≢◌, ◌≤◌, ◌<◌, ◌+◌, ◌-◌, ◌++◌, ◌∙◌, ◌⊎◌, ⊎_elim, inl, inr, ℕ, zero, suc, max, List, [], ◌∷◌, length, get_or, Bool, true, false, MatchBool, Option, Some, None, Err, refl, sym, ap, subst, arith, slice_get, if◌then◌else◌, eq-eqb, All}
+use Rattle.std.proofs.Common.{◌≡◌, ◌≢◌, ◌≤◌, ◌<◌, ◌+◌, ◌-◌, ◌++◌, ◌∙◌, ◌⊎◌, ⊎_elim, inl, inr, ℕ, zero, suc, max, List, [], ◌∷◌, length, get_or, Bool, true, false, MatchBool, Option, Some, None, Err, refl, sym, ap, subst, arith, slice_get, if◌then◌else◌, eq-eqb, All, Contains}
 use Rattle.std.specs.Global.{Box}
 use Rattle.std.proofs.Math.ListN.{set}
 use Rattle.std.proofs.lemmas.Bool.{ne_eqb}
@@ -15,7 +15,7 @@ use Rattle.recursor_core.specs.Tried.{machine_timer}
 use Rattle.server_pool.specs.Carrying.{TellsThat, Grown}
 use Rattle.recursor_core.specs.Derived.{terms_of}
 use Rattle.recursor_core.specs.Machine.{Begun, begun_at}
-use Rattle.recursor_core.specs.Standing.{Moves, ReplyTold, IsTimely, first_moment, last_moment, begin_moment, run_moments, run_timer, PlayHolds, PlaysHold, RepliesHold}
+use Rattle.recursor_core.specs.Standing.{Moves, ReplyTold, AnsweredAt, first_moment, last_moment, begin_moment, run_moments, run_timer, PlayHolds, PlaysHold, RepliesHold}
 use Rattle.recursor_core.specs.Turns.{Begins, BeginsIf, BeginsAt, IsRefused, ReplyOf}
 use Rattle.server_core.specs.declared.order.Order.{Order}
 use Rattle.recursor_core.specs.declared.setting.Setting.{Setting}
@@ -27,7 +27,7 @@ use Rattle.recursor_core.specs.declared.turns.Played.{Played}
 use Rattle.recursor_core.specs.declared.turns.Played.TheVariants as played
 use Rattle.recursor_core.proofs.Earlier.{ReplyHolds-earlier}
 use Rattle.recursor_core.proofs.Standing.{ReplyHolds-grown, Grown-refl}
-use Rattle.recursor_core.proofs.Timed.{reply-timed}
+use Rattle.recursor_core.proofs.Timed.{reply-timed, run_first}
 
 -- two numbers are equal, or not
 same_or_not : (k n : ℕ) → (k ≡ n) ⊎ (k ≢ n)
@@ -132,9 +132,13 @@ play_on now core new told later start turns rest left q question played.Waiting 
 play_on now core new told later start turns rest left q question (played.Begun r o) setting begun grown same h =
     record { begun = h.begun; is = begun r h.begun h.is; question = h.question; late = h.late }
 play_on now core new told later start turns rest left q question (played.Answered reply) setting begun grown same h =
-    subst (λ (held : Setting). TellsThat later (λ log. ReplyHolds (terms_with held) machine_timer log
-    (begin_moment start turns q) question reply.value)) (sym setting)
-    (ReplyHolds-grown now (terms_of core) (begin_moment start turns q) question reply.value told later grown h)
+    record {
+      now = h.now;
+      in_run = h.in_run;
+      holds = subst (λ (held : Setting). TellsThat later (λ log. ReplyHolds (terms_with held) (machine_timer h.now) log
+          (begin_moment start turns q) question reply.value)) (sym setting)
+          (ReplyHolds-grown now h.now (terms_of core) (begin_moment start turns q) question reply.value told later grown h.holds);
+    }
 play_on now core new told later start turns rest left q question played.Unanswered setting begun grown same h = tt
 
 -- a question at the place where one begins
@@ -149,7 +153,7 @@ begin_here core new told start turns rest left q now question (Some played.Waiti
 begin_here core new told start turns rest left q now question (Some played.Waiting) (played.Begun r o) setting begun due begins h =
     record { begun = record { question = question; moment = now }; is = begins; question = refl; late = due (h played.Waiting refl) }
 begin_here core new told start turns rest left q now question (Some played.Waiting) (played.Answered reply) setting begun due begins h =
-    λ es t. refused_holds (terms_of new) machine_timer (log_of es) (begin_moment start turns q) question reply.value begins
+    record { now = start; in_run = run_first start turns; holds = λ es t. refused_holds (terms_of new) (machine_timer start) (log_of es) (begin_moment start turns q) question reply.value begins }
 begin_here core new told start turns rest left q now question (Some played.Waiting) played.Unanswered setting begun due begins h = tt
 begin_here core new told start turns rest left q now question (Some (played.Begun r o)) p setting begun due begins h =
     subst (λ (x : Played). PlayHolds new told start turns left q question x) (sym (same_Some _ _ begins))
@@ -192,10 +196,10 @@ module _ {P C F E : Type 0} (p : Ghosts P C F E) (patience now : ℕ) (core new 
 
   -- one has its reply
   pub plays_answered : (start : ℕ) (turns rest : List Turn) (questions : List Question) (plays : List Played) (q r : ℕ) (order : Option (Box Order)) (reply : Box Reply)
-      → slice_get plays q ≡ Some (played.Begun r order) → ReplyTold (terms_of core) (p.log later.provider) (begun_at core r) reply.value
+      → slice_get plays q ≡ Some (played.Begun r order) → Contains (run_moments start turns) now → ReplyTold (terms_of core) now (p.log later.provider) (begun_at core r) reply.value
       → PlaysHold core (p.log c.provider) start turns rest questions plays
       → PlaysHold new (p.log later.provider) start turns rest questions (set plays q (played.Answered reply))
-  plays_answered start turns rest questions plays q r order reply at told h k question play asks play_k = ⊎_elim
+  plays_answered start turns rest questions plays q r order reply at here told h k question play asks play_k = ⊎_elim
       (λ (same : k ≡ q).
       let told_now = p.log later.provider in
       let asks_q : slice_get questions q ≡ Some question = subst (λ i. slice_get questions i ≡ Some question) same asks in
@@ -203,11 +207,15 @@ module _ {P C F E : Type 0} (p : Ghosts P C F E) (patience now : ℕ) (core new 
       (ap (slice_get (set plays q (played.Answered reply))) same ∙ slice_get-set_same plays q (played.Answered reply) (slice_get_within plays q _ at))) in
       let f = h q question (played.Begun r order) asks_q at in
       let b = f.begun in
-      let holds : TellsThat told_now (λ log. ReplyHolds (terms_of core) machine_timer log b.moment b.question reply.value) = rw f.is at told in
-      let given : PlayHolds new told_now start turns rest q question (played.Answered reply) = λ es t.
-      ReplyHolds-earlier (terms_of new) (log_of es) (begin_moment start turns q) b.moment question reply.value f.late
-      (subst (λ (held : Setting). ReplyHolds (terms_with held) machine_timer (log_of es) b.moment question reply.value) (sym moves.setting)
-      (subst (λ (x : Question). ReplyHolds (terms_of core) machine_timer (log_of es) b.moment x reply.value) f.question (holds es t))) in
+      let holds : TellsThat told_now (λ log. ReplyHolds (terms_of core) (machine_timer now) log b.moment b.question reply.value) = rw f.is at told in
+      let given : PlayHolds new told_now start turns rest q question (played.Answered reply) = record {
+        now = now;
+        in_run = here;
+        holds = λ es t.
+            ReplyHolds-earlier (terms_of new) now (log_of es) (begin_moment start turns q) b.moment question reply.value f.late
+            (subst (λ (held : Setting). ReplyHolds (terms_with held) (machine_timer now) (log_of es) b.moment question reply.value) (sym moves.setting)
+            (subst (λ (x : Question). ReplyHolds (terms_of core) (machine_timer now) (log_of es) b.moment x reply.value) f.question (holds es t)));
+      } in
       subst (λ i. PlayHolds new told_now start turns rest i question play) (sym same)
       (subst (λ (x : Played). PlayHolds new told_now start turns rest q question x) (sym is) given))
       (λ ne. plays_moved start turns rest questions plays h k question play asks (sym (slice_get-set_other plays q k (played.Answered reply) ne) ∙ play_k))
@@ -244,31 +252,30 @@ plays_ordered core told start turns rest questions plays q r old new at h k ques
 -- the reply that a question is given at last
 reply_of_play : (core : RecursorCore) (told : Option (List LogEntry)) (start : ℕ) (turns rest : List Turn) (q : ℕ) (question : Question)
     (found : Option Played) (reply : Reply) (es : List LogEntry)
-    → told ≡ Some es → IsTimely start (run_moments start turns) (log_of es) → ReplyOf found reply
+    → told ≡ Some es → ReplyOf found reply
     → ((p : Played) → found ≡ Some p → PlayHolds core told start turns rest q question p)
     → ReplyHolds (terms_of core) (run_timer start turns) (log_of es) (begin_moment start turns q) question reply
-reply_of_play core told start turns rest q question None reply es t timely of h =
+reply_of_play core told start turns rest q question None reply es t of h =
     memory_holds (terms_of core) (run_timer start turns) (log_of es) (begin_moment start turns q) question reply of.0 of.1
-reply_of_play core told start turns rest q question (Some played.Waiting) reply es t timely of h =
+reply_of_play core told start turns rest q question (Some played.Waiting) reply es t of h =
     memory_holds (terms_of core) (run_timer start turns) (log_of es) (begin_moment start turns q) question reply of.0 of.1
-reply_of_play core told start turns rest q question (Some (played.Begun r o)) reply es t timely of h =
+reply_of_play core told start turns rest q question (Some (played.Begun r o)) reply es t of h =
     memory_holds (terms_of core) (run_timer start turns) (log_of es) (begin_moment start turns q) question reply of.0 of.1
-reply_of_play core told start turns rest q question (Some (played.Answered a)) reply es t timely of h =
+reply_of_play core told start turns rest q question (Some (played.Answered a)) reply es t of h =
     subst (λ (x : Reply). ReplyHolds (terms_of core) (run_timer start turns) (log_of es) (begin_moment start turns q) question x) (sym of)
-    (reply-timed (terms_of core) (log_of es) start turns (begin_moment start turns q) question a.value timely (begins_in_run start turns q)
-    (h (played.Answered a) refl es t))
-reply_of_play core told start turns rest q question (Some played.Unanswered) reply es t timely of h =
+    (let given = h (played.Answered a) refl in
+    reply-timed (terms_of core) given.now (log_of es) start turns (begin_moment start turns q) question a.value given.in_run (given.holds es t))
+reply_of_play core told start turns rest q question (Some played.Unanswered) reply es t of h =
     memory_holds (terms_of core) (run_timer start turns) (log_of es) (begin_moment start turns q) question reply of.0 of.1
 
 -- the replies that are given hold
 pub replies_hold : (core : RecursorCore) (told : Option (List LogEntry)) (start : ℕ) (turns rest : List Turn) (questions : List Question)
     (plays : List Played) (replies : List Reply)
-    → TellsThat told (IsTimely start (run_moments start turns))
     → PlaysHold core told start turns rest questions plays
     → ((q : ℕ) (reply : Reply) → slice_get replies q ≡ Some reply → ReplyOf (slice_get plays q) reply)
     → TellsThat told (λ log. RepliesHold (terms_of core) log start turns questions replies)
-replies_hold core told start turns rest questions plays replies timely h of es t q question reply asks at =
-    reply_of_play core told start turns rest q question (slice_get plays q) reply es t (timely es t) (of q reply at) (λ p e. h q question p asks e)
+replies_hold core told start turns rest questions plays replies h of es t q question reply asks at =
+    reply_of_play core told start turns rest q question (slice_get plays q) reply es t (of q reply at) (λ p e. h q question p asks e)
 
 -- before the first turn each question waits
 pub plays_wait : (core : RecursorCore) (told : Option (List LogEntry)) (start : ℕ) (turns : List Turn) (questions : List Question)

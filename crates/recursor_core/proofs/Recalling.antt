@@ -1,5 +1,5 @@
 -- What is read from the cache stands for the question that reads it.
-use Rattle.std.proofs.Common.{◌≡◌, ℕ, ◌+◌, ◌*◌, ◌≤◌, true, ◌&&◌, Option, Some, None, Result, Ok, Err, IsTrue, refl, sym, subst, inl, inr, arith}
+use Rattle.std.proofs.Common.{◌≡◌, ℕ, ◌+◌, ◌*◌, ◌≤◌, true, ◌&&◌, Option, Some, None, Result, Ok, Err, IsTrue, refl, sym, ap, subst, inl, inr, arith}
 use Rattle.std.specs.Prelude.{◌==◌, IsSomeAnd, option_and_then}
 use Rattle.std.specs.Option.{option_map}
 use Rattle.std.specs.Cmp.{first_so, second_so}
@@ -25,12 +25,14 @@ use Rattle.resolution.specs.Life.{Fresh, life_in_seconds}
 use Rattle.resolution.specs.Answering.{Base}
 use Rattle.resolution.specs.declared.verdict.Verdict.{Verdict}
 use Rattle.resolution.specs.declared.verdict.Verdict.TheVariants.{Pos, Neg, Made}
-use Rattle.resolution.proofs.Caseless.{Base-same, both}
+use Rattle.resolution.specs.declared.verdict.Cause.TheVariants.{Filter, Zone}
+use Rattle.dns_core.specs.declared.net_error.NoRecords.{NoRecords}
+use Rattle.resolution.proofs.Caseless.{Base-same, both, same_through}
 use Rattle.resolution.proofs.WalksCaseless.{Walked-same}
 use Rattle.recursor_core.specs.Counted.{kept_of, verdict_kept, counted_for, recalled, may_answer, IsCurrentVerdict, Stands, Answers, IsRecalled}
 use Rattle.recursor_core.specs.Remembered.{EntryHolds, CacheHolds}
 use Rattle.recursor_core.specs.Replies.{Terms, given_of}
-use Rattle.recursor_core.specs.SameTold.{SameVerdict}
+use Rattle.recursor_core.specs.SameTold.{SameVerdict, IsShown}
 use Rattle.recursor_core.specs.declared.counted.Counted.{Counted}
 use Rattle.recursor_core.proofs.Lowered.{lower_message, lower_denial}
 
@@ -47,22 +49,50 @@ same_question a b h =
         → ((a.query_type.code == b.query_type.code && a.query_class.code == b.query_class.code) && same_names a.name b.name) ≡ true
     regroup a b h = h
 
--- what is read of a verdict that was kept is the same but for TTLs, and answers only where that one may
-record ReadsAs (n : ℕ) (whole v : Verdict) : Type 0 where
-  same : SameVerdict v whole
+-- what is read of a verdict that was kept as it is shown is the same but for TTLs, and answers only where that one may
+record ReadsAs (q : Query) (whole v : Verdict) : Type 0 where
+  same : SameVerdict q v whole
   current : (t0 moment : ℕ) → IsTrue (may_answer v) → IsCurrentVerdict t0 moment whole
 
-reads_as : (n : ℕ) (whole v : Verdict) (response : Result Message NetError) → kept_of whole ≡ Some response
-    → verdict_kept (lowered n response) ≡ Some v → ReadsAs n whole v
-reads_as n (Pos k) v response kept h =
-    let is : response ≡ Ok k = sym (same_Some _ _ kept) in
-    let read : Some (Pos (lowered_message n k)) ≡ Some v = subst (λ (r : Result Message NetError). verdict_kept (lowered n r) ≡ Some v) is h in
-    subst (ReadsAs n (Pos k)) (same_Some _ _ read) (record { same = lower_message n k; current = λ t0 moment may. inl may })
-reads_as n (Neg d) v response kept h =
-    let is : response ≡ Err (net.Dns (dns.NoRecordsFound d)) = sym (same_Some _ _ kept) in
-    let read : Some (Neg (lowered_denial n d)) ≡ Some v = subst (λ (r : Result Message NetError). verdict_kept (lowered n r) ≡ Some v) is h in
-    subst (ReadsAs n (Neg d)) (same_Some _ _ read) (record { same = lower_denial n d; current = λ t0 moment may. tt })
-reads_as n (Made cause) v response kept h = cc
+reads_pos : (q : Query) (n : ℕ) (k : Message) (whole v : Verdict) → IsShown q (Pos k) whole → verdict_kept (lowered n (Ok k)) ≡ Some v → ReadsAs q whole v
+reads_pos q n k (Pos l) v shown h =
+    subst (ReadsAs q (Pos l)) (same_Some _ _ h)
+    (subst (λ (m : Message). ReadsAs q (Pos m) (Pos (lowered_message n k))) shown (record { same = lower_message n k; current = λ t0 moment may. inl may }))
+reads_pos q n k (Neg d) v shown h = absurd shown
+reads_pos q n k (Made Filter) v shown h = absurd shown
+reads_pos q n k (Made Zone) v shown h = absurd shown
+
+reads_neg : (q : Query) (n : ℕ) (d : NoRecords) (whole v : Verdict) → IsShown q (Neg d) whole → verdict_kept (lowered n (Err (net.Dns (dns.NoRecordsFound d)))) ≡ Some v → ReadsAs q whole v
+reads_neg q n d (Pos l) v shown h = absurd shown
+reads_neg q n d (Neg e) v shown h =
+    subst (ReadsAs q (Neg e)) (same_Some _ _ h)
+    (subst (λ (x : NoRecords). ReadsAs q (Neg x) (Neg (lowered_denial n d))) shown (record { same = lower_denial n d; current = λ t0 moment may. tt }))
+reads_neg q n d (Made Filter) v shown h =
+    subst (ReadsAs q (Made Filter)) (same_Some _ _ h)
+    (record { same = record { first = shown.first; same = shown.same; is = ap (lowered_denial n) shown.is }; current = λ t0 moment may. tt })
+reads_neg q n d (Made Zone) v shown h = absurd shown
+
+reads_as : (q : Query) (n : ℕ) (whole shown v : Verdict) (response : Result Message NetError) → IsShown q shown whole → kept_of shown ≡ Some response
+    → verdict_kept (lowered n response) ≡ Some v → ReadsAs q whole v
+reads_as q n whole (Pos k) v response shown kept h =
+    reads_pos q n k whole v shown (subst (λ (r : Result Message NetError). verdict_kept (lowered n r) ≡ Some v) (sym (same_Some _ _ kept)) h)
+reads_as q n whole (Neg d) v response shown kept h =
+    reads_neg q n d whole v shown (subst (λ (r : Result Message NetError). verdict_kept (lowered n r) ≡ Some v) (sym (same_Some _ _ kept)) h)
+reads_as q n whole (Made cause) v response shown kept h = cc
+
+-- what is the same for one spelling of a question is so for another
+respelled : (a b : Query) (v whole : Verdict) → same_query a b ≡ true → SameVerdict a v whole → SameVerdict b v whole
+respelled a b (Pos k) (Pos l) same h = h
+respelled a b (Pos k) (Neg n) same h = absurd h
+respelled a b (Pos k) (Made Filter) same h = absurd h
+respelled a b (Pos k) (Made Zone) same h = absurd h
+respelled a b (Neg n) (Pos k) same h = absurd h
+respelled a b (Neg n) (Neg m) same h = h
+respelled a b (Neg n) (Made Filter) same h = record { first = h.first; same = same_through a b same h.first h.same; is = h.is }
+respelled a b (Neg n) (Made Zone) same h = absurd h
+respelled a b (Made cause) (Pos k) same h = absurd h
+respelled a b (Made cause) (Neg n) same h = absurd h
+respelled a b (Made cause) (Made other) same h = h
 
 module _ (terms : Terms) (greatest t0 now : ℕ) (log : Log) (cache : Cached) (q : Query) (begun : t0 ≤ now) (holds : CacheHolds terms greatest log cache) where
   -- an entry that is current was told within its life
@@ -89,15 +119,15 @@ module _ (terms : Terms) (greatest t0 now : ℕ) (log : Log) (cache : Cached) (q
         counts = held.counts;
         fresh = fresh-of e held.moment held.whole found.current held.expires;
       } in
-      let reads = reads_as (seconds_between e.written now) held.whole v e.response held.kept
+      let reads = reads_as e.query (seconds_between e.written now) held.whole held.shown v e.response held.as_shown held.kept
       (subst (λ (r : Result Message NetError). verdict_kept r ≡ Some v) found.reads h) in
       let stands : Stands terms greatest t0 log q e.source v = record {
         zone = held.zone;
         whole = held.whole;
         early = held.early;
         base = Base-same e.query q same base;
-        walked = λ plain. Walked-same (given_of terms) log e.query q held.zone same (held.walked plain);
-        same = reads.same;
+        walked = Walked-same (given_of terms) log e.query q held.zone same held.walked;
+        same = respelled e.query q v held.whole same reads.same;
       } in
       subst (λ (s : ℕ). IsRecalled terms greatest t0 log q (record { entry = s; verdict = v })) (sym found.source)
       (record { stands = stands; current = reads.current t0 stands.base.moment })

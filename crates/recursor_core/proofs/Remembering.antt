@@ -1,5 +1,5 @@
 -- What the machine writes into its cache is derived from the log, and stays so.
-use Rattle.std.proofs.Common.{◌≡◌, ℕ, ◌+◌, ◌*◌, ◌≤◌, ⊎_elim, Option, Some, None, Result, Contains, refl, sym, ap, ◌∙◌, arith}
+use Rattle.std.proofs.Common.{◌≡◌, ℕ, ◌+◌, ◌*◌, ◌≤◌, ⊎_elim, Option, Some, None, Result, Ok, Err, Contains, refl, sym, ap, ◌∙◌, arith}
 use Rattle.std.specs.Prelude.{◌==◌, option_and_then}
 use Rattle.std.proofs.lemmas.Option.{same_Some}
 use Rattle.std.proofs.lemmas.List.Elements.{All-contains, All-weaker, All-contains_itself}
@@ -23,14 +23,19 @@ use Rattle.resolution.specs.Verdict.{verdict_of_told}
 use Rattle.resolution.specs.Life.{life_in_seconds}
 use Rattle.resolution.specs.declared.verdict.Verdict.{Verdict}
 use Rattle.resolution.specs.declared.verdict.Verdict.TheVariants.{Pos, Neg, Made}
-use Rattle.resolution.proofs.Keeping.{Heard-extend, Logged-extend}
+use Rattle.resolution.specs.declared.verdict.Cause.TheVariants.{Filter, Zone}
+use Rattle.dns_core.specs.declared.net_error.NoRecords.{NoRecords}
+use Rattle.dns_core.specs.declared.net_error.NetError.TheVariants as net
+use Rattle.dns_core.specs.declared.net_error.DnsError.TheVariants as dns
+use Rattle.resolution.proofs.Keeping.{Heard-extend}
 use Rattle.resolution.proofs.FailuresKept.{Walked-extend}
-use Rattle.recursor_core.specs.Causes.{WalksTo}
+use Rattle.resolution.specs.Walking.{Walked}
 use Rattle.recursor_core.specs.Counted.{kept_of}
-use Rattle.recursor_core.specs.Derived.{IsHeardAt}
+use Rattle.recursor_core.specs.Derived.{IsTold}
+use Rattle.recursor_core.specs.SameTold.{IsShown}
 use Rattle.recursor_core.specs.Remembered.{EntryHolds, CacheHolds, Telling, response_in, written, remembered}
 use Rattle.recursor_core.specs.Replies.{Terms, given_of}
-use Rattle.recursor_core.proofs.Classified.{same-class}
+use Rattle.recursor_core.proofs.Denials.{Counts, counts-of}
 
 -- ---- longer logs, and less patience
 
@@ -40,8 +45,8 @@ less_patient less terms = record terms { patience = less }
 
 module _ (terms : Terms) (less : ℕ) (fewer : less ≤ terms.patience) (log longer : Log) (x : Extends log longer) where
   -- a walk went down to a zone by the longer log, too
-  walks-on : (q : Query) (zone : DomainName) → WalksTo (given_of terms) log q zone → WalksTo (given_of (less_patient less terms)) longer q zone
-  walks-on q zone w plain = Walked-extend (given_of terms) less fewer log longer x q zone (w (λ i e h. plain i e (Logged-extend log longer x i e h)))
+  walks-on : (q : Query) (zone : DomainName) → Walked (given_of terms) log q zone → Walked (given_of (less_patient less terms)) longer q zone
+  walks-on q zone w = Walked-extend (given_of terms) less fewer log longer x q zone w
 
   entry-on : (g g' : ℕ) (e : Entry) → g ≤ g' → EntryHolds terms g log e → EntryHolds (less_patient less terms) g' longer e
   entry-on g g' e le h = record {
@@ -53,6 +58,8 @@ module _ (terms : Terms) (less : ℕ) (fewer : less ≤ terms.patience) (log lon
     heard = Heard-extend (given_of terms) less log longer x h.heard;
     counts = h.counts;
     walked = walks-on e.query h.zone h.walked;
+    shown = h.shown;
+    as_shown = h.as_shown;
     kept = h.kept;
     expires = h.expires;
   }
@@ -71,44 +78,51 @@ cache-kept terms log longer x g g' cache le h = cache-on terms terms.patience (o
 
 -- ---- a response that is written
 
--- A message of the class was told by a server of the zone to which a walk went down for the question.
+-- The class was told by a server of the zone to which a walk went down for the question.
 pub record TellingHolds (terms : Terms) (greatest : ℕ) (log : Log) (t : Telling) : Type 0 where
   pub t0 : ℕ
-  pub message : Message
-  pub classified : t.class ≡ classify_of message
-  pub heard : IsHeardAt terms greatest t0 log t.zone t.query t.entry t.at message
-  pub walked : WalksTo (given_of terms) log t.query t.zone
+  pub told : IsTold terms greatest t0 log t.zone t.query t.entry t.at t.class
+  pub walked : Walked (given_of terms) log t.query t.zone
 
 -- the lives of a verdict and of what it is kept as are one
-same-life : (terms : Terms) (q : Query) (v : Verdict) (response : Result Message NetError) → kept_of v ≡ Some response
-    → life_of terms.lives q.query_type response ≡ life_in_seconds (given_of terms) q.query_type v
-same-life terms q (Pos k) response h = sym (ap (life_of terms.lives q.query_type) (same_Some _ _ h))
-same-life terms q (Neg n) response h = sym (ap (life_of terms.lives q.query_type) (same_Some _ _ h))
-same-life terms q (Made cause) response h = cc
+same-life : (terms : Terms) (q : Query) (v whole : Verdict) (response : Result Message NetError) → IsShown q v whole → kept_of v ≡ Some response
+    → life_of terms.lives q.query_type response ≡ life_in_seconds (given_of terms) q.query_type whole
+same-life terms q (Pos k) (Pos l) response shown h = sym (ap (λ (m : Message). life_in_seconds (given_of terms) q.query_type (Pos m)) (sym shown) ∙ ap (life_of terms.lives q.query_type) (same_Some _ _ h))
+same-life terms q (Pos k) (Neg n) response shown h = absurd shown
+same-life terms q (Pos k) (Made Filter) response shown h = absurd shown
+same-life terms q (Pos k) (Made Zone) response shown h = absurd shown
+same-life terms q (Neg n) (Pos k) response shown h = absurd shown
+same-life terms q (Neg n) (Neg m) response shown h = sym (ap (λ (d : NoRecords). life_in_seconds (given_of terms) q.query_type (Neg d)) (sym shown) ∙ ap (life_of terms.lives q.query_type) (same_Some _ _ h))
+same-life terms q (Neg n) (Made Filter) response shown h =
+    sym (ap (life_of terms.lives q.query_type) (same_Some _ _ h))
+    ∙ ap (λ (d : NoRecords). life_of terms.lives q.query_type (Err (net.Dns (dns.NoRecordsFound d)))) shown.is
+same-life terms q (Neg n) (Made Zone) response shown h = absurd shown
+same-life terms q (Made cause) whole response shown h = cc
 
 module _ (terms : Terms) (greatest : ℕ) (log : Log) (cache : Cached) (t : Telling) (holds : CacheHolds terms greatest log cache)
     (told : TellingHolds terms greatest log t) where
-  -- the entry that is written is the verdict of the telling
+  -- the entry that is written shows the verdict of the telling
   just-written : (v : Verdict) (response : Result Message NetError) (e : Entry)
       → verdict_of_told allows_all (Some (class_of_classified t.query t.class)) t.zone ≡ Some v → kept_of v ≡ Some response
       → IsJustWritten cache t.query response t.entry t.at e → EntryHolds terms greatest log e
-  just-written v response e counts kept w =
-      let heard = told.heard.heard in
+  just-written v response e is kept w =
+      let counts = counts-of terms greatest told.t0 log t.zone t.query t.entry t.at t.class v told.told is in
       let query : e.query ≡ t.query = w.question in
       let source : e.source ≡ t.entry = w.source in
-      let moment : heard.moment ≡ t.at = told.heard.is in
-      let lives : life_in_seconds (given_of terms) t.query.query_type v ≡ Some w.life =
-      sym (same-life terms t.query v response kept) ∙ ap (λ config. life_of config t.query.query_type response) (sym holds.lives) ∙ w.lives in
-      let expires : e.expiry ≤ heard.moment + 1000000 * w.life = omega (arith, moment, w.no_longer) in
+      let lives : life_in_seconds (given_of terms) t.query.query_type counts.whole ≡ Some w.life =
+      sym (same-life terms t.query v counts.whole response counts.shown kept) ∙ ap (λ config. life_of config t.query.query_type response) (sym holds.lives) ∙ w.lives in
+      let expires : e.expiry ≤ t.at + 1000000 * w.life = omega (arith, w.no_longer) in
       rw (query, source) (record {
         zone = t.zone;
-        told = outcome.Message told.message;
-        moment = heard.moment;
-        whole = v;
-        early = heard.early;
-        heard = heard.heard;
-        counts = ap (λ (class : Class). verdict_of_told allows_all (Some class) t.zone) (same-class told.message t.query t.class heard.asked told.classified) ∙ counts;
+        told = counts.outcome;
+        moment = t.at;
+        whole = counts.whole;
+        early = counts.early;
+        heard = counts.heard;
+        counts = counts.counts;
         walked = told.walked;
+        shown = v;
+        as_shown = counts.shown;
         kept = kept ∙ ap Some (sym w.answer);
         expires = rw lives expires;
       })

@@ -1,5 +1,5 @@
 -- A resolution after a step.
-use Rattle.std.proofs.Common.{◌≡◌, ◌≤◌, ◌<◌, ℕ, true, Option, Some, None, Result, Ok, Err, IfOk, IfSome, sym, ap, subst, arith}
+use Rattle.std.proofs.Common.{◌≡◌, ◌≤◌, ◌<◌, ◌∙◌, ℕ, true, Option, Some, None, Result, Ok, Err, IfOk, IfSome, sym, ap, subst, arith}
 use Rattle.std.specs.Global.{Box}
 use Rattle.dns_core.specs.Log.{Log}
 use Rattle.dns_core.specs.declared.message.Query.{Query}
@@ -11,9 +11,8 @@ use Rattle.recursor_core.specs.Remembered.{CacheHolds}
 use Rattle.recursor_core.specs.Replies.{Terms}
 use Rattle.recursor_core.specs.Walk.{Goes}
 use Rattle.recursor_core.specs.Resolving.{state_want, state_steps, steps, IsSettled, SameBegun}
-use Rattle.recursor_core.specs.Derived.{StageHolds, LookupHolds, WayHolds, WalkComes, StateHolds, ResolutionHolds}
+use Rattle.recursor_core.specs.Derived.{WalkHolds, WalkComes, StateHolds, ResolutionHolds}
 use Rattle.recursor_core.specs.declared.counted.Counted.{Counted}
-use Rattle.recursor_core.specs.declared.lookup.Lookup.{Lookup}
 use Rattle.recursor_core.specs.declared.reply.Reply.{Reply}
 use Rattle.recursor_core.specs.declared.resolving.State.{State}
 use Rattle.recursor_core.specs.declared.resolving.State.TheVariants.{New, Under, Done, Ended}
@@ -22,25 +21,18 @@ use Rattle.recursor_core.specs.declared.resolving.Need.TheVariants as need
 use Rattle.recursor_core.specs.declared.walk.Walk.{Walk}
 use Rattle.recursor_core.proofs.Recalling.{recalled-stands}
 
--- a walk whose lookup has gone on is on the same way
-way-goes : (terms : Terms) (greatest : ℕ) (log : Log) (q : Query) (w : Walk) (l : Lookup) → l.query ≡ w.lookup.query
-    → WayHolds terms greatest log q w → WayHolds terms greatest log q (record w { lookup = l })
-way-goes terms greatest log q w l same way = record {
-  name = way.name;
-  above = way.above;
-  pool = way.pool;
-  stage = subst (λ (a : Query). StageHolds q w.zone w.name a w.stage) (sym same) way.stage;
-  passed = way.passed;
-}
+-- a resolution whose walk is as it was is as it was
+pub same-walk : (r : Resolution) (b : Box Walk) (w : Walk) → r.state ≡ Under b → w ≡ b.value
+    → record { question = r.question; begun = r.begun; state = Under (record b { value = w }) } ≡ r
+same-walk r b w is same =
+    let state : Under (record b { value = w }) ≡ r.state = ap (λ (x : Walk). Under (record b { value = x })) same ∙ sym is in
+    ap (λ (s : State). let new : Resolution = record { question = r.question; begun = r.begun; state = s } in new) state
 
--- a walk whose lookup has gone on
-pub under-holds : (terms : Terms) (greatest moment : ℕ) (log : Log) (question : Question) (begun : ℕ) (b : Box Walk) (l : Lookup) → begun ≤ moment
-    → WayHolds terms greatest log question.query b.value → l.query ≡ b.value.lookup.query → LookupHolds terms greatest moment begun log b.value.zone l
-    → ResolutionHolds terms greatest moment log (record { question = question; begun = begun; state = Under (record b { value = record b.value { lookup = l } }) })
-under-holds terms greatest moment log question begun b l early way same h = record {
-  begun = early;
-  state = record { way = way-goes terms greatest log question.query b.value l same way; lookup = h };
-}
+-- a resolution whose walk has gone on
+pub walk-holds : (terms : Terms) (greatest now : ℕ) (log : Log) (r : Resolution) (b : Box Walk) (w : Walk) (before : ℕ) → r.begun ≤ before → before ≤ now
+    → WalkHolds terms greatest now r.begun log r.question.query w
+    → ResolutionHolds terms greatest now log (record { question = r.question; begun = r.begun; state = Under (record b { value = w }) })
+walk-holds terms greatest now log r b w before early later h = record { begun = omega arith; state = h }
 
 -- a walk that goes on, or has its reply, or has ended for want of memory
 settled-state : (terms : Terms) (greatest moment t0 : ℕ) (log : Log) (question : Question) (w : Box Walk) (came : Result (Option (Box Reply)) NoMemory) (state : State)

@@ -1,8 +1,10 @@
 -- What holds of the machine and its provider goes on holding at each step of the two.
-use Rattle.std.proofs.Common.{◌≡◌, ◌≤◌, ◌<◌, ◌+◌, ◌∙◌, ◌⊎◌, ⊎_elim, inl, inr, ℕ, zero, suc, List, length, Option, Some, None, Result, Ok, Err, OnOk, IfOk, refl, sym, subst, arith, min, max}
+use Rattle.std.proofs.Common.{◌≡◌, ◌≤◌, ◌<◌, ◌+◌, ◌∙◌, ◌⊎◌, ⊎_elim, inl, inr, ℕ, zero, suc, List, [], length, All, Option, Some, None, Result, Ok, Err, OnOk, IfOk, refl, sym, ap, subst, arith, min, max}
 use Rattle.std.specs.Global.{Box}
 use Rattle.dns_core.specs.Log.{Log, Extends, log_of}
+use Rattle.std.specs.declared.net.ip_addr.IpAddr.{IpAddr}
 use Rattle.dns_core.specs.declared.log.LogEntry.{LogEntry}
+use Rattle.dns_core.specs.declared.log.LogEntry.TheVariants.{Opened, Asked}
 use Rattle.dns_core.specs.declared.request.Question.{Question}
 use Rattle.dns_core.specs.declared.provider.ConnectionProvider.{Ghosts}
 use Rattle.resolution.specs.Given.{Given, with_patience}
@@ -13,13 +15,16 @@ use Rattle.server_pool.specs.Fits.{Fits, GoesToServer}
 use Rattle.recursor_core.specs.Replies.{Terms, terms_with, given_of, ReplyHolds}
 use Rattle.recursor_core.specs.Tried.{machine_timer}
 use Rattle.server_pool.specs.Carrying.{TellsThat, Grown, CarrierHolds}
+use Rattle.recursor_core.specs.Pools.{PoolsHold}
 use Rattle.recursor_core.specs.Derived.{terms_of, Derived}
 use Rattle.server_pool.specs.Patience.{IsPatient}
-use Rattle.recursor_core.specs.Remembered.{CacheHolds}
+use Rattle.resolver_cache.specs.Cached.{Cached}
+use Rattle.recursor_core.specs.Remembered.{EntryHolds, CacheHolds}
 use Rattle.recursor_core.specs.Setting.{with_patience as setting_with}
-use Rattle.recursor_core.specs.Machine.{Begun, begun_at, ReplyGiven, StepGives}
+use Rattle.recursor_core.specs.Machine.{Begun, begun_at, ReplyGiven, StepGives, IsNewCore}
 use Rattle.recursor_core.specs.Standing.{IsPast, Holds, Rests, Moves, ReplyTold}
 use Rattle.recursor_core.specs.Turns.{TurnFalls}
+use Rattle.recursor_core.specs.declared.options.RecursorOptions.{RecursorOptions}
 use Rattle.recursor_core.specs.declared.setting.Setting.{Setting}
 use Rattle.server_pool.specs.declared.carrier.Carrier.{Carrier}
 use Rattle.recursor_core.specs.declared.machine.RecursorCore.{RecursorCore}
@@ -100,12 +105,12 @@ Derived-grown : (now : ℕ) (core : RecursorCore) (old new : Option (List LogEnt
 Derived-grown now core old new grown d es t = let l = grown es t in Derived-extends core (log_of l.before) (log_of es) l.extends (d l.before l.was)
 
 -- a reply holds by a longer log
-pub ReplyHolds-grown : (now : ℕ) (terms : Terms) (moment : ℕ) (question : Question) (reply : Reply) (old new : Option (List LogEntry)) → Grown now old new
-    → TellsThat old (λ log. ReplyHolds terms machine_timer log moment question reply)
-    → TellsThat new (λ log. ReplyHolds terms machine_timer log moment question reply)
-ReplyHolds-grown now terms moment question reply old new grown h es t =
+pub ReplyHolds-grown : (now at : ℕ) (terms : Terms) (moment : ℕ) (question : Question) (reply : Reply) (old new : Option (List LogEntry)) → Grown now old new
+    → TellsThat old (λ log. ReplyHolds terms (machine_timer at) log moment question reply)
+    → TellsThat new (λ log. ReplyHolds terms (machine_timer at) log moment question reply)
+ReplyHolds-grown now at terms moment question reply old new grown h es t =
     let l = grown es t in
-    ReplyHolds-extends terms (log_of l.before) (log_of es) moment question reply l.extends (h l.before l.was)
+    ReplyHolds-extends terms at at (log_of l.before) (log_of es) moment question reply (omega arith) l.extends (h l.before l.was)
 
 -- ---- moments: each step leaves it as it was, or at this one
 
@@ -137,15 +142,15 @@ module _ (core new : RecursorCore) (told : Option (List LogEntry)) where
       (GoesToServer-later (given_of (terms_of core)) (log_of es) (core.greatest + 1) (length es + 1) order.value (omega arith) given)
 
   -- a reply that is given to a question that has begun is told
-  reply_told : (b : Option Begun) (reply : Reply) → TellsThat told (λ log. ReplyGiven (terms_of core) log b reply)
-      → ReplyTold (terms_of core) told b reply
+  reply_told : (b : Option Begun) (reply : Reply) → TellsThat told (λ log. ReplyGiven (terms_of core) core.moment log b reply)
+      → ReplyTold (terms_of core) core.moment told b reply
   reply_told None reply h = tt
   reply_told (Some b) reply h = h
 
   -- a reply that it gives is told
   pub step_replies : (r : ℕ) (next : Step) (reply : Box Reply) → next ≡ step.Done reply → TellsThat told (Derived core)
       → ((log : Log) → Derived core log → Derived new log × StepGives core log r next)
-      → ReplyTold (terms_of core) told (begun_at core r) reply.value
+      → ReplyTold (terms_of core) core.moment told (begun_at core r) reply.value
   step_replies r next reply is d gives =
       reply_told (begun_at core r) reply.value (λ es t. subst (λ (s : Step). StepGives core (log_of es) r s) is (gives (log_of es) (d es t)).1)
 
@@ -162,10 +167,10 @@ AsksServers-patience given patience log a =
     }
 
 -- a reply to a question that has begun is one to the same question later
-pub ReplyTold-later : (terms : Terms) (told : Option (List LogEntry)) (old new : Option Begun) (reply : Reply) → ((b : Begun) → old ≡ Some b → new ≡ Some b)
-    → ReplyTold terms told new reply → ReplyTold terms told old reply
-ReplyTold-later terms told None new reply same h = tt
-ReplyTold-later terms told (Some b) new reply same h = subst (λ (x : Option Begun). ReplyTold terms told x reply) (same b refl) h
+pub ReplyTold-later : (terms : Terms) (now : ℕ) (told : Option (List LogEntry)) (old new : Option Begun) (reply : Reply) → ((b : Begun) → old ≡ Some b → new ≡ Some b)
+    → ReplyTold terms now told new reply → ReplyTold terms now told old reply
+ReplyTold-later terms now told None new reply same h = tt
+ReplyTold-later terms now told (Some b) new reply same h = subst (λ (x : Option Begun). ReplyTold terms now told x reply) (same b refl) h
 
 -- what a step leaves less a turn leaves less
 turned_falls : (new mid old : ℕ) (t : Turned) → new < mid → mid ≤ old → TurnFalls new old t
@@ -178,6 +183,11 @@ turned_falls new mid old turned.Ended h le = omega arith
 pub turn_falls : (new mid old : ℕ) (result : Result Turned NoMemory) → OnOk result (new < mid) → mid ≤ old → IfOk result (TurnFalls new old)
 turn_falls new mid old (Ok t) h le = turned_falls new mid old t h le
 turn_falls new mid old (Err e) h le = tt
+
+-- a log without entries has none under any number
+unlogged : (n : ℕ) (e : LogEntry) → Logged (log_of []) n e → ⊥
+unlogged zero e h = let is : None ≡ Some e = h.is in cc
+unlogged (suc n) e h = let is : None ≡ Some e = h.is in cc
 
 -- ---- steps
 
@@ -248,12 +258,13 @@ module _ {P C F E : Type 0} (p : Ghosts P C F E) where
   -- a machine at rest begins a run: its questions are left, and its patience may be less
   pub rests_holds : (patience : ℕ) (core new : RecursorCore) (c : Carrier P C F E p) → new.setting ≡ setting_with core.setting patience
       → new.moment ≡ core.moment
-      → ((log : Log) → core.greatest < log.next → 0 < length core.setting.roots → CacheHolds (terms_of core) core.greatest log core.cache → Derived new log)
+      → ((log : Log) → core.greatest < log.next → 0 < length core.setting.roots → CacheHolds (terms_of core) core.greatest log core.cache
+      → PoolsHold (terms_of core) core.greatest core.moment log core.pools → Derived new log)
       → Rests p core c → Holds p patience new c
   rests_holds patience core new c setting moment derived h = record {
     carrier = h.carrier;
     patient = subst (λ (held : Setting). held.patience ≤ patience) (sym setting) (omega arith);
-    derived = λ es t. derived (log_of es) (h.bound es t) h.some (h.cache es t);
+    derived = λ es t. derived (log_of es) (h.bound es t) h.some (h.cache es t) (h.pools es t);
     asks = subst (λ (held : Setting). TellsThat (p.log c.provider) (AsksServers (given_of (terms_with held)))) (sym setting)
         (λ es t. AsksServers-patience (given_of (terms_of core)) (min core.setting.patience patience) (log_of es) (h.asks es t));
     past = subst (λ m. TellsThat (p.log c.provider) (IsPast m)) (sym moment) h.past;
@@ -266,6 +277,29 @@ module _ {P C F E : Type 0} (p : Ghosts P C F E) where
     carrier = h.carrier;
     bound = λ es t. (h.derived es t).bound;
     cache = λ es t. (h.derived es t).cache;
+    pools = λ es t. (h.derived es t).pools;
     asks = h.asks;
     past = h.past;
+  }
+
+  -- a new machine over a provider whose log is empty is at rest
+  pub new_rests : (roots : List IpAddr) (options : RecursorOptions) (core : RecursorCore) (c : Carrier P C F E p) → IsNewCore roots options core
+      → 0 < length roots → CarrierHolds p c → ((es : List LogEntry) → p.log c.provider ≡ Some es → es ≡ []) → Rests p core c
+  new_rests roots options core c new some holds empty = record {
+    some = subst (λ (held : Setting). 0 < length held.roots) (sym new.setting) some;
+    carrier = holds;
+    bound = λ es t. let zero = new.greatest in omega arith;
+    cache = λ es t. record {
+      lives = ap (λ (kept : Cached). kept.config) new.cache ∙ sym (ap (λ (held : Setting). held.lives) new.setting);
+      entries = subst (λ (kept : Cached). All (EntryHolds (terms_of core) core.greatest (log_of es)) kept.entries) (sym new.cache)
+          (λ k d low. absurd (omega (arith, low)));
+    };
+    pools = λ es t. new.pools (terms_of core) core.greatest core.moment (log_of es) (ap (λ (held : Setting). held.answer_filter) new.setting);
+    asks = λ es t. record {
+      opened = λ n ip protocol moment refused at. absurd (unlogged n (Opened ip protocol moment refused)
+          (subst (λ (xs : List LogEntry). Logged (log_of xs) n (Opened ip protocol moment refused)) (empty es t) at));
+      asked = λ n ip protocol q moment refused at. absurd (unlogged n (Asked ip protocol q moment refused)
+          (subst (λ (xs : List LogEntry). Logged (log_of xs) n (Asked ip protocol q moment refused)) (empty es t) at));
+    };
+    past = λ es t i moment e logged is. absurd (unlogged i e (subst (λ (xs : List LogEntry). Logged (log_of xs) i e) (empty es t) logged));
   }

@@ -9,15 +9,15 @@ use Rattle.dns_core.specs.declared.message.Query.{Query}
 use Rattle.dns_core.specs.declared.request.Question.{Question}
 use Rattle.dns_core.specs.declared.errors.NoMemory.{NoMemory}
 use Rattle.resolver_cache.specs.Cached.{Cached}
-use Rattle.recursor_core.specs.Causes.{WalksTo}
+use Rattle.resolution.specs.Walking.{Walked}
 use Rattle.recursor_core.specs.Replies.{Terms, given_of}
-use Rattle.recursor_core.specs.Derived.{SendHolds, WalkHolds, StateHolds, ResolutionHolds}
-use Rattle.recursor_core.specs.Lookup.{send_want}
+use Rattle.recursor_core.specs.Derived.{AskHolds, WalkHolds, StateHolds, ResolutionHolds}
+use Rattle.recursor_core.specs.Lookup.{want_of as wanted}
 use Rattle.recursor_core.specs.Walk.{IsCandidate}
 use Rattle.recursor_core.specs.Resolving.{order_of, state_want}
 use Rattle.recursor_core.specs.Remembered.{Telling, telling, telling_in, telling_of, CacheHolds, remembered}
-use Rattle.recursor_core.specs.declared.lookup.Send.{Send}
-use Rattle.recursor_core.specs.declared.lookup.Send.TheVariants as send
+use Rattle.recursor_core.specs.declared.lookup.Ask.{Ask}
+use Rattle.recursor_core.specs.declared.lookup.Ask.TheVariants as ask
 use Rattle.recursor_core.specs.declared.resolving.Need.TheVariants as need
 use Rattle.recursor_core.specs.declared.resolving.State.{State}
 use Rattle.recursor_core.specs.declared.resolving.State.TheVariants.{New, Under, Done, Ended}
@@ -31,17 +31,17 @@ use Rattle.recursor_core.proofs.Walks.{candidate-asked, candidate-walked, walked
 
 -- ---- who waits was told nothing
 
-send-untold : (zone : DomainName) (q : Query) (s : Send) → (order_of (need.Send (send_want s)) ≡ None → ⊥) → telling zone q s ≡ None
-send-untold zone q send.Fresh h = absurd (h refl)
-send-untold zone q send.Ready h = absurd (h refl)
-send-untold zone q (send.Chosen ip) h = absurd (h refl)
-send-untold zone q (send.Under u) h = refl
-send-untold zone q (send.Told ip entry at class) h = absurd (h refl)
-send-untold zone q (send.Failed ip entry error) h = absurd (h refl)
+ask-untold : (zone : DomainName) (q : Query) (a : Ask) → (order_of (need.Send (wanted a)) ≡ None → ⊥) → telling zone q a ≡ None
+ask-untold zone q ask.Fresh h = absurd (h refl)
+ask-untold zone q ask.Ready h = absurd (h refl)
+ask-untold zone q (ask.Under u) h = refl
+ask-untold zone q (ask.Told entry at class) h = absurd (h refl)
+ask-untold zone q (ask.Failed error) h = absurd (h refl)
+ask-untold zone q ask.Heard h = absurd (h refl)
 
 state-untold : (s : State) → (order_of (state_want s) ≡ None → ⊥) → telling_in s ≡ None
 state-untold New h = refl
-state-untold (Under w) h = send-untold w.value.zone w.value.lookup.query w.value.lookup.send h
+state-untold (Under w) h = ask-untold w.value.zone w.value.lookup.query w.value.lookup.ask h
 state-untold (Done reply) h = refl
 state-untold Ended h = refl
 
@@ -55,35 +55,34 @@ late-untold (x ∷ xs) (suc r) f g within at waits same = late-untold xs r f g (
 
 -- ---- what was told holds
 
--- the message of a send, as it is classified
-send-tells : (terms : Terms) (greatest moment t0 : ℕ) (log : Log) (zone : DomainName) (q : Query) (g moments : List ℕ) (s : Send) (t : Telling)
-    → WalksTo (given_of terms) log q zone → telling zone q s ≡ Some t → SendHolds terms greatest moment t0 log zone q g moments s → TellingHolds terms greatest log t
-send-tells terms greatest moment t0 log zone q g moments send.Fresh t walked is h = cc
-send-tells terms greatest moment t0 log zone q g moments send.Ready t walked is h = cc
-send-tells terms greatest moment t0 log zone q g moments (send.Chosen ip) t walked is h = cc
-send-tells terms greatest moment t0 log zone q g moments (send.Under u) t walked is h = cc
-send-tells terms greatest moment t0 log zone q g moments (send.Failed ip entry error) t walked is h = cc
-send-tells terms greatest moment t0 log zone q g moments (send.Told ip entry at class) t walked is h =
-    subst (TellingHolds terms greatest log) (same_Some _ _ is)
-    (record { t0 = t0; message = h.message; classified = h.classified; heard = h.heard; walked = walked })
+-- what a lookup was told
+ask-tells : (terms : Terms) (greatest moment t0 : ℕ) (log : Log) (zone : DomainName) (q : Query) (g : List ℕ) (a : Ask) (t : Telling)
+    → Walked (given_of terms) log q zone → telling zone q a ≡ Some t → AskHolds terms greatest moment t0 log zone q g a → TellingHolds terms greatest log t
+ask-tells terms greatest moment t0 log zone q g ask.Fresh t walked is h = cc
+ask-tells terms greatest moment t0 log zone q g ask.Ready t walked is h = cc
+ask-tells terms greatest moment t0 log zone q g (ask.Under u) t walked is h = cc
+ask-tells terms greatest moment t0 log zone q g (ask.Failed error) t walked is h = cc
+ask-tells terms greatest moment t0 log zone q g ask.Heard t walked is h = cc
+ask-tells terms greatest moment t0 log zone q g (ask.Told entry at class) t walked is h =
+    subst (TellingHolds terms greatest log) (same_Some _ _ is) (record { t0 = t0; told = h; walked = walked })
 
 -- the walk went down to its zone for what it asks
 stage-walked : (terms : Terms) (greatest moment t0 : ℕ) (log : Log) (q : Query) (w : Walk) (s : Stage) → w.stage ≡ s
-    → WalkHolds terms greatest moment t0 log q w → WalksTo (given_of terms) log w.lookup.query w.zone
+    → WalkHolds terms greatest moment t0 log q w → Walked (given_of terms) log w.lookup.query w.zone
 stage-walked terms greatest moment t0 log q w (Candidate labels) is h =
     let here = subst IsCandidate (sym is) tt in
-    subst (λ (p : Query). WalksTo (given_of terms) log p w.zone) (sym (candidate-asked terms greatest log q w here h.way))
+    subst (λ (p : Query). Walked (given_of terms) log p w.zone) (sym (candidate-asked terms greatest log q w here h.way))
     (candidate-walked terms greatest log q w here h.way)
 stage-walked terms greatest moment t0 log q w Last is h =
     let last = walked-at-last terms greatest log q w is h.way in
-    subst (λ (p : Query). WalksTo (given_of terms) log p w.zone) (sym last.0) last.1
+    subst (λ (p : Query). Walked (given_of terms) log p w.zone) (sym last.0) last.1
 
 state-tells : (terms : Terms) (greatest moment t0 : ℕ) (log : Log) (question : Question) (s : State) (t : Telling) → telling_in s ≡ Some t
     → StateHolds terms greatest moment t0 log question s → TellingHolds terms greatest log t
 state-tells terms greatest moment t0 log question New t is h = cc
 state-tells terms greatest moment t0 log question (Under w) t is h =
-    send-tells terms greatest moment t0 log w.value.zone w.value.lookup.query w.value.lookup.ends h.lookup.tried.moments w.value.lookup.send t
-    (stage-walked terms greatest moment t0 log question.query w.value w.value.stage refl h) is h.lookup.send
+    ask-tells terms greatest moment t0 log w.value.zone w.value.lookup.query w.value.lookup.ends w.value.lookup.ask t
+    (stage-walked terms greatest moment t0 log question.query w.value w.value.stage refl h) is h.lookup.ask
 state-tells terms greatest moment t0 log question (Done reply) t is h = cc
 state-tells terms greatest moment t0 log question Ended t is h = cc
 

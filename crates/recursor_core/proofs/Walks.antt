@@ -26,12 +26,13 @@ use Rattle.resolution.specs.Walking.{NoCut, Walked, at_any_time, is_cut}
 use Rattle.resolution.specs.Walking.NoCut.{told_otherwise, not_told}
 use Rattle.resolution.specs.Answering.{Base}
 use Rattle.resolution.specs.declared.verdict.Verdict.TheVariants.{Pos, Neg, Made}
+use Rattle.resolution.specs.declared.verdict.Cause.TheVariants.{Filter, Zone}
 use Rattle.resolution.specs.declared.verdict.Verdict.{Verdict}
 use Rattle.resolution.proofs.SameDelegations.{Same-is_delegation, Same-glue}
 use Rattle.resolution.proofs.Members.{Has-from_Contains, Contains-from_Has, Has-filter, Has-passes}
 use Rattle.recursor_core.specs.Replies.{Terms, given_of}
 use Rattle.recursor_core.specs.Tried.{Concluded, machine_timer}
-use Rattle.recursor_core.specs.Causes.{WalksTo, HasNoServer}
+use Rattle.recursor_core.specs.Causes.{HasNoServer}
 use Rattle.recursor_core.specs.Counted.{Stands, Answers, IsRecalled, may_answer}
 use Rattle.recursor_core.specs.SameTold.{SameVerdict}
 use Rattle.recursor_core.specs.Walk.{next_stage, query_of, IsCandidate}
@@ -85,16 +86,18 @@ at-candidate terms greatest log q w here way = by w.stage refl here
     by Last is x = absurd x
 
 -- a verdict shows a cut where one does that is the same but for TTLs
-cut-same : (v w : Verdict) (c : DomainName) → SameVerdict v w → is_cut v c ≡ is_cut w c
-cut-same (Pos a) (Pos b) c same = Same-is_delegation a b c same
-cut-same (Pos a) (Neg n) c same = absurd same
-cut-same (Pos a) (Made cause) c same = absurd same
-cut-same (Neg n) (Pos b) c same = absurd same
-cut-same (Neg n) (Neg m) c same = refl
-cut-same (Neg n) (Made cause) c same = absurd same
-cut-same (Made cause) (Pos b) c same = absurd same
-cut-same (Made cause) (Neg m) c same = absurd same
-cut-same (Made cause) (Made other) c same = refl
+cut-same : (q : Query) (v w : Verdict) (c : DomainName) → SameVerdict q v w → is_cut v c ≡ is_cut w c
+cut-same q (Pos a) (Pos b) c same = Same-is_delegation a b c same
+cut-same q (Pos a) (Neg n) c same = absurd same
+cut-same q (Pos a) (Made Filter) c same = absurd same
+cut-same q (Pos a) (Made Zone) c same = absurd same
+cut-same q (Neg n) (Pos b) c same = absurd same
+cut-same q (Neg n) (Neg m) c same = refl
+cut-same q (Neg n) (Made Filter) c same = refl
+cut-same q (Neg n) (Made Zone) c same = refl
+cut-same q (Made cause) (Pos b) c same = absurd same
+cut-same q (Made cause) (Neg m) c same = absurd same
+cut-same q (Made cause) (Made other) c same = refl
 
 module _ (terms : Terms) (greatest : ℕ) (log : Log) (q : Query) (w : Walk) (here : IsCandidate w.stage) (way : WayHolds terms greatest log q w) where
   -- the candidate
@@ -115,9 +118,9 @@ module _ (terms : Terms) (greatest : ℕ) (log : Log) (q : Query) (w : Walk) (he
       (subst (λ (d : DomainName). Contains (candidates d) (last_name at.labels w.name)) way.name (among w.name at.labels at.low at.high))
 
   -- the walk went down to its zone for the candidate
-  pub candidate-walked : WalksTo (given_of terms) log (question w.lookup.query.name 2) w.zone
-  candidate-walked plain = subst (λ (n : DomainName). Walked (given_of terms) log (question n 2) w.zone) (sym named)
-      (walked-at-candidate (given_of terms) log w.zone w.name at.labels way.above at.beyond at.high (at.passed plain))
+  pub candidate-walked : Walked (given_of terms) log (question w.lookup.query.name 2) w.zone
+  candidate-walked = subst (λ (n : DomainName). Walked (given_of terms) log (question n 2) w.zone) (sym named)
+      (walked-at-candidate (given_of terms) log w.zone w.name at.labels way.above at.beyond at.high at.passed)
 
   -- it has that many labels
   long : length w.lookup.query.name.labels ≡ at.labels
@@ -125,35 +128,35 @@ module _ (terms : Terms) (greatest : ℕ) (log : Log) (q : Query) (w : Walk) (he
 
   -- where no cut is shown at the candidate, none is shown up to it
   passed-by : LeavesBehind terms log w → Passed terms log w.zone w.name (at.labels + 1)
-  passed-by leaves plain k low short = pick (nat_lt k at.labels) refl
+  passed-by leaves k low short = pick (nat_lt k at.labels) refl
     where
       pick : (b : Bool) → nat_lt k at.labels ≡ b → NoCut (given_of terms) log (last_name k w.name)
-      pick true e = at.passed plain k low (grind (arith, nat_tests))
+      pick true e = at.passed k low (grind (arith, nat_tests))
       pick false e =
           let more : at.labels ≤ k = grind (arith, nat_tests) in
           let same : at.labels ≡ k = omega (arith, more, short) in
           let far : length w.zone.labels < length w.lookup.query.name.labels = omega (arith, long, same, low) in
-          subst (NoCut (given_of terms) log) (named ∙ ap (λ (j : ℕ). last_name j w.name) same) (leaves plain far)
+          subst (NoCut (given_of terms) log) (named ∙ ap (λ (j : ℕ). last_name j w.name) same) (leaves far)
 
   -- no cut is shown at the candidate by a verdict that is none
   pub leaves-told : (t0 entry : ℕ) (v : Verdict) → Stands terms greatest t0 log w.lookup.query entry v → is_cut v w.lookup.query.name ≡ false
       → LeavesBehind terms log w
-  leaves-told t0 entry v stands none plain far =
+  leaves-told t0 entry v stands none far =
       let now = subst (λ (p : Query). Stands terms greatest t0 log p entry v) candidate-asked stands in
-      told_otherwise now.base.heard now.base.counts (sym (cut-same v now.whole w.lookup.query.name now.same) ∙ none)
+      told_otherwise now.base.heard now.base.counts (sym (cut-same (question w.lookup.query.name 2) v now.whole w.lookup.query.name now.same) ∙ none)
 
   -- no cut is shown at the candidate by a lookup that failed otherwise than by a timeout
-  pub leaves-failed : (t0 : ℕ) (e : NetError) → Concluded terms t0 log w.zone w.lookup.query w.lookup.ends (Err e) → is_timeout e ≡ false
+  pub leaves-failed : (moment t0 : ℕ) (e : NetError) → Concluded terms moment t0 log w.zone w.lookup.query w.lookup.ends (Err e) → is_timeout e ≡ false
       → LeavesBehind terms log w
-  leaves-failed t0 e ended otherwise plain far =
-      let f = subst (λ (p : Query). Finished (given_of terms) (machine_timer log t0) log t0 p w.zone w.lookup.ends (Err e)) candidate-asked (ended plain) in
+  leaves-failed moment t0 e ended otherwise far =
+      let f = subst (λ (p : Query). Finished (given_of terms) (machine_timer moment log t0) log t0 p w.zone w.lookup.ends (Err e)) candidate-asked ended in
       not_told (at-any-time f) otherwise
     where
       from-start : (o : Option ℕ) → IsSomeAnd o (λ m. t0 ≤ m) → IsSomeAnd o (λ m. 0 ≤ m)
       from-start (Some m) h = omega arith
       from-start None h = absurd h
 
-      at-any-time : Finished (given_of terms) (machine_timer log t0) log t0 (question w.lookup.query.name 2) w.zone w.lookup.ends (Err e)
+      at-any-time : Finished (given_of terms) (machine_timer moment log t0) log t0 (question w.lookup.query.name 2) w.zone w.lookup.ends (Err e)
           → Finished (given_of terms) at_any_time log 0 (question w.lookup.query.name 2) w.zone w.lookup.ends (Err e)
       at-any-time f = record {
         ips = f.ips;
@@ -174,26 +177,26 @@ module _ (terms : Terms) (greatest : ℕ) (log : Log) (q : Query) (w : Walk) (he
       }
 
   -- the servers stayed silent for the candidate
-  pub timed-out : (t0 : ℕ) → Concluded terms t0 log w.zone w.lookup.query w.lookup.ends (Err net.Timeout)
-      → HasNoServer (given_of terms) (machine_timer log t0) log t0 q why.Timeout
-  timed-out t0 ended plain = record {
+  pub timed-out : (moment t0 : ℕ) → Concluded terms moment t0 log w.zone w.lookup.query w.lookup.ends (Err net.Timeout)
+      → HasNoServer (given_of terms) (machine_timer moment log t0) log t0 q why.Timeout
+  timed-out moment t0 ended = record {
     candidate = w.lookup.query.name;
     on_the_way = candidate-on-the-way;
     g = w.lookup.ends;
-    failed = has-failed terms t0 log w.zone w.lookup.query (question w.lookup.query.name 2) w.lookup.ends net.Timeout
-        candidate-asked ended candidate-walked plain;
+    failed = has-failed terms moment t0 log w.zone w.lookup.query (question w.lookup.query.name 2) w.lookup.ends net.Timeout
+        candidate-asked ended candidate-walked;
   }
 
 -- at last the walk has gone down to its zone for the question
 pub walked-at-last : (terms : Terms) (greatest : ℕ) (log : Log) (q : Query) (w : Walk) → w.stage ≡ Last → WayHolds terms greatest log q w
-    → (w.lookup.query ≡ q) × WalksTo (given_of terms) log q w.zone
+    → (w.lookup.query ≡ q) × Walked (given_of terms) log q w.zone
 walked-at-last terms greatest log q w is way = (subst (StageHolds q w.zone w.name w.lookup.query) is way.stage, walks)
   where
     passed : Passed terms log w.zone w.name (length w.name.labels + 1)
     passed = subst (λ (s : Stage). Passed terms log w.zone w.name (reached w.name s)) is way.passed
 
-    walks : WalksTo (given_of terms) log q w.zone
-    walks plain = walked-from-passed (given_of terms) log q w.zone w.name way.name way.above (λ k low high. passed plain k low (omega (arith, high)))
+    walks : Walked (given_of terms) log q w.zone
+    walks = walked-from-passed (given_of terms) log q w.zone w.name way.name way.above (λ k low high. passed k low (omega (arith, high)))
 
 -- ---- the next stage
 
@@ -218,19 +221,19 @@ next-passed terms log zone name labels passed = pick (nat_lt labels (length name
   where
     pick : (b : Bool) → nat_lt labels (length name.labels) ≡ b → Passed terms log zone name (reached name (cond b (Candidate (labels + 1)) Last))
     pick true e = passed
-    pick false e = λ plain k low short.
+    pick false e = λ k low short.
         let all : length name.labels ≤ labels = grind (arith, nat_tests) in
-        passed plain k low (omega (arith, all, short))
+        passed k low (omega (arith, all, short))
 
 -- the walk at its next stage, with the servers of its zone
-at-next : (terms : Terms) (greatest moment t0 : ℕ) (log : Log) (q : Query) (name zone : DomainName) (servers items : List IpAddr)
+at-next : (terms : Terms) (greatest moment t0 : ℕ) (log : Log) (q : Query) (name zone : DomainName) (servers : List IpAddr)
     (labels total : ℕ) (stage : Stage) (asked : Query) (l : Lookup)
     → name ≡ walk q → is_above zone name ≡ true → length zone.labels ≤ labels → ArePool terms log (greatest + 1) zone servers
-    → Passed terms log zone name (labels + 1) → items ≡ servers
+    → Passed terms log zone name (labels + 1)
     → total ≡ length name.labels → stage ≡ next_stage total labels → asked ≡ query_of name q stage → l.query ≡ asked
-    → ((z : DomainName) → IsTrue (is_above z (walk asked)) → ArePool terms log (greatest + 1) z items → LookupHolds terms greatest moment t0 log z l)
+    → ((z : DomainName) → IsTrue (is_above z (walk asked)) → LookupHolds terms greatest moment t0 log z l)
     → WalkHolds terms greatest moment t0 log q (record { name = name; zone = zone; servers = servers; stage = stage; lookup = l })
-at-next terms greatest moment t0 log q name zone servers items labels total stage asked l n above low pool passed same count next ask query made =
+at-next terms greatest moment t0 log q name zone servers labels total stage asked l n above low pool passed count next ask query made =
     let S = next_stage (length name.labels) labels in
     let nx = next-holds zone name q labels n above low in
     let is : stage ≡ S = next ∙ ap (λ (k : ℕ). next_stage k labels) count in
@@ -246,8 +249,7 @@ at-next terms greatest moment t0 log q name zone servers items labels total stag
         stage = subst (λ (a : Query). StageHolds q zone name a stage) (sym (query ∙ ask)) staged;
         passed = subst (λ (s : Stage). Passed terms log zone name (reached name s)) (sym is) (next-passed terms log zone name labels passed);
       };
-      lookup = made zone (subst (λ (a : Query). is_above zone (walk a) ≡ true) (sym ask) high)
-          (subst (ArePool terms log (greatest + 1) zone) (sym same) pool);
+      lookup = made zone (subst (λ (a : Query). is_above zone (walk a) ≡ true) (sym ask) high);
     }
 
 -- a question whose name is fully qualified is walked to such a name
@@ -268,37 +270,37 @@ roots-pool terms n log some = record {
 }
 
 -- a walk that begins at the roots
-pub at-start : (terms : Terms) (greatest moment t0 : ℕ) (log : Log) (q : Query) (name zone : DomainName) (servers items : List IpAddr)
+pub at-start : (terms : Terms) (greatest moment t0 : ℕ) (log : Log) (q : Query) (name zone : DomainName) (servers : List IpAddr)
     (total : ℕ) (stage : Stage) (asked : Query) (l : Lookup)
-    → 0 < length terms.roots → q.name.fqdn ≡ true → name ≡ walk q → zone ≡ root → servers ≡ terms.roots → items ≡ terms.roots
+    → 0 < length terms.roots → q.name.fqdn ≡ true → name ≡ walk q → zone ≡ root → servers ≡ terms.roots
     → total ≡ length name.labels → stage ≡ next_stage total 0 → asked ≡ query_of name q stage → l.query ≡ asked
-    → ((z : DomainName) → IsTrue (is_above z (walk asked)) → ArePool terms log (greatest + 1) z items → LookupHolds terms greatest moment t0 log z l)
+    → ((z : DomainName) → IsTrue (is_above z (walk asked)) → LookupHolds terms greatest moment t0 log z l)
     → WalkHolds terms greatest moment t0 log q (record { name = name; zone = zone; servers = servers; stage = stage; lookup = l })
-at-start terms greatest moment t0 log q name zone servers items total stage asked l some f n z s i count next ask query made =
+at-start terms greatest moment t0 log q name zone servers total stage asked l some f n z s count next ask query made =
     let qualified : name.fqdn ≡ true = subst (λ (d : DomainName). d.fqdn ≡ true) (sym n) (walk-qualified q f) in
     let above : is_above zone name ≡ true = subst (λ (d : DomainName). is_above d name ≡ true) (sym z) (root-above name qualified) in
     let low : length zone.labels ≤ 0 = subst (λ (d : DomainName). length d.labels ≤ 0) (sym z) (omega arith) in
     let pool : ArePool terms log (greatest + 1) zone servers =
     subst (λ (d : DomainName). ArePool terms log (greatest + 1) d servers) (sym z)
     (subst (ArePool terms log (greatest + 1) root) (sym s) (roots-pool terms (greatest + 1) log some)) in
-    at-next terms greatest moment t0 log q name zone servers items 0 total stage asked l n above low pool
-    (λ plain k longer short. absurd (omega (arith, longer, short))) (i ∙ sym s) count next ask query made
+    at-next terms greatest moment t0 log q name zone servers 0 total stage asked l n above low pool
+    (λ k longer short. absurd (omega (arith, longer, short))) count next ask query made
 
 -- a walk that goes on from a candidate
-pub goes-on : (terms : Terms) (greatest moment t0 : ℕ) (log : Log) (q : Query) (w : Walk) (items : List IpAddr)
+pub goes-on : (terms : Terms) (greatest moment t0 : ℕ) (log : Log) (q : Query) (w : Walk)
     (labels total : ℕ) (stage : Stage) (asked : Query) (l : Lookup)
-    → IsCandidate w.stage → WayHolds terms greatest log q w → LeavesBehind terms log w → w.stage ≡ Candidate labels → items ≡ w.servers
+    → IsCandidate w.stage → WayHolds terms greatest log q w → LeavesBehind terms log w → w.stage ≡ Candidate labels
     → total ≡ length w.name.labels → stage ≡ next_stage total labels → asked ≡ query_of w.name q stage → l.query ≡ asked
-    → ((z : DomainName) → IsTrue (is_above z (walk asked)) → ArePool terms log (greatest + 1) z items → LookupHolds terms greatest moment t0 log z l)
+    → ((z : DomainName) → IsTrue (is_above z (walk asked)) → LookupHolds terms greatest moment t0 log z l)
     → WalkHolds terms greatest moment t0 log q (record { name = w.name; zone = w.zone; servers = w.servers; stage = stage; lookup = l })
-goes-on terms greatest moment t0 log q w items labels total stage asked l here way leaves is same count next ask query made =
+goes-on terms greatest moment t0 log q w labels total stage asked l here way leaves is count next ask query made =
     let held : StageHolds q w.zone w.name w.lookup.query (Candidate labels) = subst (StageHolds q w.zone w.name w.lookup.query) is way.stage in
     let now = at terms greatest log q w here way in
     let labels-are : now.labels ≡ labels = same-labels now.labels labels (sym now.stage ∙ is) in
     let passed : Passed terms log w.zone w.name (labels + 1) =
     subst (λ (k : ℕ). Passed terms log w.zone w.name (k + 1)) labels-are (passed-by terms greatest log q w here way leaves) in
-    at-next terms greatest moment t0 log q w.name w.zone w.servers items labels total stage asked l
-    way.name way.above held.2 way.pool passed same count next ask query made
+    at-next terms greatest moment t0 log q w.name w.zone w.servers labels total stage asked l
+    way.name way.above held.2 way.pool passed count next ask query made
   where
     same-labels : (j k : ℕ) → Candidate j ≡ Candidate k → j ≡ k
     same-labels j k e = cc
@@ -320,10 +322,11 @@ record Cut (terms : Terms) (greatest : ℕ) (log : Log) (c : DomainName) (kept :
   beside : glue kept c ≡ glue told c
 
 cut-by : (terms : Terms) (greatest t0 : ℕ) (log : Log) (zone c : DomainName) (entry : ℕ) (kept : Message) (whole : Verdict)
-    → entry ≤ greatest → Base (given_of terms) log t0 (question c 2) entry zone whole → SameVerdict (Pos kept) whole
+    → entry ≤ greatest → Base (given_of terms) log t0 (question c 2) entry zone whole → SameVerdict (question c 2) (Pos kept) whole
     → is_delegation kept c ≡ true → 1 ≤ length c.labels → Cut terms greatest log c kept
 cut-by terms greatest t0 log zone c entry kept (Neg n) early base same d long = absurd same
-cut-by terms greatest t0 log zone c entry kept (Made cause) early base same d long = absurd same
+cut-by terms greatest t0 log zone c entry kept (Made Filter) early base same d long = absurd same
+cut-by terms greatest t0 log zone c entry kept (Made Zone) early base same d long = absurd same
 cut-by terms greatest t0 log zone c entry kept (Pos before) early base same d long = record {
   told = before;
   delegates = delegates (omega (arith, early)) base.heard base.counts (sym (Same-is_delegation kept before c same) ∙ d) (not-root c long);
@@ -395,13 +398,13 @@ cut-way terms greatest t0 log q w kept entry zone ips here way stands d z some g
           (λ ip. subst (λ (xs : List IpAddr). Contains ips ip ↔ Contains (allowed (denies terms.server_filter) xs) ip) cut.beside (glued ip)));
       stage = subst (StageHolds q zone w.name w.lookup.query) (sym now.stage) (now.low, now.high, omega (arith, count), now.asked);
       passed = subst (λ (s : Stage). Passed terms log zone w.name (reached w.name s)) (sym now.stage)
-          (λ plain k longer short. absurd (omega (arith, count, longer, short)));
+          (λ k longer short. absurd (omega (arith, count, longer, short)));
     }
 
 -- a zone cut leaves nothing behind
 pub cut-leaves : (terms : Terms) (log : Log) (w : Walk) (zone : DomainName) (ips : List IpAddr) → zone ≡ w.lookup.query.name
     → LeavesBehind terms log (record w { zone = zone; servers = ips })
-cut-leaves terms log w zone ips z plain far =
+cut-leaves terms log w zone ips z far =
     let same = ap (λ (x : DomainName). length x.labels) z in
     absurd (omega (arith, same, far))
 

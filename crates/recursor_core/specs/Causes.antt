@@ -18,8 +18,7 @@ use Rattle.resolution.specs.Failing.{Glueless, ends_walk}
 use Rattle.resolution.specs.declared.verdict.Verdict.TheVariants.{Neg, Made}
 use Rattle.resolution.specs.declared.verdict.Cause.{Cause}
 use Rattle.resolution.specs.declared.verdict.Cause.TheVariants.{Filter, Zone}
-use Rattle.recursor_core.specs.Plain.{IsPlainlyTold}
-use Rattle.recursor_core.specs.SameTold.{SameDenial, SameReferrals}
+use Rattle.recursor_core.specs.SameTold.{SameDenial, SameReferrals, IsMadeFor}
 use Rattle.recursor_core.specs.declared.error.AuthorityData.{AuthorityData}
 use Rattle.recursor_core.specs.declared.error.MessageKind.TheVariants.{NotQualified}
 use Rattle.recursor_core.specs.declared.error.WalkCause.{WalkCause}
@@ -39,30 +38,26 @@ is_filter Zone = false
 abbrev pub made_data : Query → Cause → AuthorityData
 made_data q cause = record { query = q; soa = None; no_records_found = is_filter cause; nx_domain = true; authorities = [] }
 
--- The zone is the deepest cut that the log shows for the question, where no server was to be asked again.
-abbrev pub WalksTo : Given → Log → Query → DomainName → Type 0
-WalksTo given log q zone = IsPlainlyTold log → Walked given log q zone
-
 -- A denial rests on one entry: of the question; or of a candidate on the way, where a name that is denied ends a walk (RFC 8020). What was told
--- may read with lower TTLs.
+-- may read with lower TTLs, and a question that reads a denial sees it as it was first asked.
 pub data IsDenied (given : Given) (log : Log) (t0 : ℕ) (q : Query) : List ℕ → AuthorityData → Type 0 where
   told : {i : ℕ} {z : DomainName} {n : NoRecords} {d : AuthorityData}
-      → Base given log t0 q i z (Neg n) → WalksTo given log q z → n.ns ≡ None → SameDenial d (told_data n) → IsDenied given log t0 q (i ∷ []) d
-  made : {i : ℕ} {z : DomainName} {cause : Cause}
-      → Base given log t0 q i z (Made cause) → WalksTo given log q z → IsDenied given log t0 q (i ∷ []) (made_data q cause)
+      → Base given log t0 q i z (Neg n) → Walked given log q z → n.ns ≡ None → SameDenial d (told_data n) → IsDenied given log t0 q (i ∷ []) d
+  made : {i : ℕ} {z : DomainName} {cause : Cause} {p : Query}
+      → Base given log t0 q i z (Made cause) → Walked given log q z → IsMadeFor cause p q → IsDenied given log t0 q (i ∷ []) (made_data p cause)
   told_on_the_way : {i : ℕ} {z c : DomainName} {n : NoRecords} {d : AuthorityData}
       → IsTrue given.strict → Contains (candidates (walk q)) c
-      → Base given log t0 (question c 2) i z (Neg n) → WalksTo given log (question c 2) z → IsTrue (ends_walk (Neg n))
+      → Base given log t0 (question c 2) i z (Neg n) → Walked given log (question c 2) z → IsTrue (ends_walk (Neg n))
       → SameDenial d (told_data n) → IsDenied given log t0 q (i ∷ []) d
-  made_on_the_way : {i : ℕ} {z c : DomainName} {cause : Cause}
+  made_on_the_way : {i : ℕ} {z c : DomainName} {cause : Cause} {p : Query}
       → IsTrue given.strict → Contains (candidates (walk q)) c
-      → Base given log t0 (question c 2) i z (Made cause) → WalksTo given log (question c 2) z
-      → IsDenied given log t0 q (i ∷ []) (made_data (question c 2) cause)
+      → Base given log t0 (question c 2) i z (Made cause) → Walked given log (question c 2) z → IsMadeFor cause p (question c 2)
+      → IsDenied given log t0 q (i ∷ []) (made_data p cause)
 
 -- A referral rests on one entry, a negative of the question that names servers; it may read with lower TTLs.
 pub data IsReferred (given : Given) (log : Log) (t0 : ℕ) (q : Query) : List ℕ → List ForwardNsData → Type 0 where
   referred : {i : ℕ} {z : DomainName} {n : NoRecords} {servers told : List ForwardNsData}
-      → Base given log t0 q i z (Neg n) → WalksTo given log q z → n.ns ≡ Some told → SameReferrals servers told → IsReferred given log t0 q (i ∷ []) servers
+      → Base given log t0 q i z (Neg n) → Walked given log q z → n.ns ≡ Some told → SameReferrals servers told → IsReferred given log t0 q (i ∷ []) servers
 
 -- Of the servers of a zone to which the walk went down, none had more for the question than the error; it ended by these entries.
 pub record HasFailed (given : Given) (known : Known) (log : Log) (t0 : ℕ) (q : Query) (g : List ℕ) (e : NetError) : Type 0 where
@@ -94,7 +89,7 @@ pub record HasTimedOut (given : Given) (known : Known) (log : Log) (t0 : ℕ) (q
 -- why no server was found
 abbrev pub HasNoServer : Given → Known → Log → ℕ → Query → WalkCause → Type 0
 HasNoServer given known log t0 q why.NoAddress = HasNoAddress given log t0 q
-HasNoServer given known log t0 q why.Timeout = IsPlainlyTold log → HasTimedOut given known log t0 q
+HasNoServer given known log t0 q why.Timeout = HasTimedOut given known log t0 q
 HasNoServer given known log t0 q why.DepthLimit = ⊥
 HasNoServer given known log t0 q why.Budget = ⊥
 HasNoServer given known log t0 q why.ZoneEntries = ⊥
@@ -105,7 +100,7 @@ abbrev pub ErrorHolds : Given → Known → Log → ℕ → Query → List ℕ �
 ErrorHolds given known log t0 q g (error.Message kind) = (kind ≡ NotQualified) × (q.name.fqdn ≡ false) × (g ≡ [])
 ErrorHolds given known log t0 q g (error.Negative d) = IsDenied given log t0 q g d
 ErrorHolds given known log t0 q g (error.ForwardNS servers) = IsReferred given log t0 q g servers
-ErrorHolds given known log t0 q g (error.Net e) = IsPlainlyTold log → IsTrue (is_lookup_error e) × HasFailed given known log t0 q g e
+ErrorHolds given known log t0 q g (error.Net e) = IsTrue (is_lookup_error e) × HasFailed given known log t0 q g e
 ErrorHolds given known log t0 q g (error.NoNameServer zone cause) = (zone ≡ walk q) × (g ≡ []) × HasNoServer given known log t0 q cause
 ErrorHolds given known log t0 q g error.NoMemory = g ≡ []
 ErrorHolds given known log t0 q g (error.MaxRecordLimitExceeded count kind) = ⊥

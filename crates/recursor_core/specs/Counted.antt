@@ -15,14 +15,14 @@ use Rattle.resolver_cache.specs.declared.entry.CachedResponse.{CachedResponse}
 use Rattle.resolution.specs.Answering.{Base, IsCurrent}
 use Rattle.resolution.specs.declared.verdict.Verdict.{Verdict}
 use Rattle.resolution.specs.declared.verdict.Verdict.TheVariants.{Pos, Neg, Made}
-use Rattle.recursor_core.specs.Causes.{WalksTo}
+use Rattle.resolution.specs.Walking.{Walked}
 use Rattle.recursor_core.specs.Replies.{Terms, given_of}
 use Rattle.recursor_core.specs.SameTold.{SameVerdict}
 use Rattle.recursor_core.specs.declared.counted.Counted.{Counted}
 
 -- ---- in the cache
 
--- as what a verdict is kept; a denial that the recursor made is not kept
+-- as what a verdict is kept; a denial that the zone made is not kept
 abbrev pub kept_of : Verdict → Option (Result Message NetError)
 kept_of (Pos k) = Some (Ok k)
 kept_of (Neg n) = Some (Err (net.Dns (dns.NoRecordsFound n)))
@@ -55,8 +55,8 @@ pub record Stands (terms : Terms) (greatest t0 : ℕ) (log : Log) (q : Query) (e
   pub whole : Verdict
   pub early : entry ≤ greatest
   pub base : Base (given_of terms) log t0 q entry zone whole
-  pub walked : WalksTo (given_of terms) log q zone
-  pub same : SameVerdict v whole
+  pub walked : Walked (given_of terms) log q zone
+  pub same : SameVerdict q v whole
 
 -- an answer is authoritative, or was told at or after t0
 abbrev pub IsCurrentVerdict : ℕ → ℕ → Verdict → Type 0

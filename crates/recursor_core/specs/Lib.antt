@@ -1,14 +1,13 @@
-pub mod Order
-pub mod Servers
 pub mod Lookup
 pub mod Walk
 pub mod Resolving
-pub mod Plain
+pub mod Order
 pub mod SameTold
 pub mod Causes
 pub mod Setting
 pub mod Replies
 pub mod Tried
+pub mod Pools
 pub mod Counted
 pub mod Remembered
 pub mod Derived

@@ -1,164 +1,98 @@
 -- Where a lookup stands, and how much of it is left.
-use Rattle.std.specs.Prelude.{◌≡◌, ℕ, ◌+◌, ◌-◌, ◌*◌, ◌<◌, ◌≤◌, Bool, true, false, if◌then◌else◌, IsTrue, List, [], ◌∷◌, vec_len, Option, Some, None, IfNone, Result, Ok, Err}
-use Rattle.std.specs.declared.net.ip_addr.IpAddr.{IpAddr}
-use Rattle.dns_core.specs.declared.message.Query.{Query}
-use Rattle.dns_core.specs.declared.message.Message.{Message}
+use Rattle.std.specs.Prelude.{ℕ, ◌≡◌, ◌<◌, ◌+◌, ◌-◌, ◌*◌, ◌^◌, List, Option, Some, None, Ok, Err}
+use Rattle.std.specs.List.{last_or}
 use Rattle.dns_core.specs.declared.net_error.NetError.{NetError}
 use Rattle.dns_core.specs.declared.net_error.NetError.TheVariants as net
-use Rattle.server_core.specs.declared.order.Sent.{Sent}
-use Rattle.server_core.specs.declared.order.Outcome.{Outcome}
-use Rattle.server_core.specs.declared.order.Outcome.TheVariants.{Pending, Connected, Told, Failed, GaveUp, Slept}
-use Rattle.server_core.specs.declared.server_send.Stage.{Stage}
-use Rattle.server_core.specs.declared.server_send.Stage.TheVariants as stage
-use Rattle.server_core.specs.declared.server_send.ServerSend.{ServerSend}
-use Rattle.server_core.specs.Sending.{is_open, pendings, end_of, after_put, Comes}
-use Rattle.recursor_core.specs.Servers.{send_left}
+use Rattle.dns_core.specs.declared.net_error.DnsError.TheVariants as dns
+use Rattle.resolution.specs.Lookups.{Answered}
+use Rattle.server_core.specs.declared.order.After.{After}
+use Rattle.server_core.specs.declared.order.After.TheVariants as after
+use Rattle.recursor_core.specs.declared.lookup.OpenOrder.{OpenOrder}
 use Rattle.recursor_core.specs.declared.lookup.Under.{Under}
-use Rattle.recursor_core.specs.declared.lookup.Taken.{Taken}
-use Rattle.recursor_core.specs.declared.lookup.Send.{Send}
-use Rattle.recursor_core.specs.declared.lookup.Send.TheVariants as send
+use Rattle.recursor_core.specs.declared.lookup.Ask.{Ask}
+use Rattle.recursor_core.specs.declared.lookup.Ask.TheVariants as ask
 use Rattle.recursor_core.specs.declared.lookup.Want.{Want}
-use Rattle.recursor_core.specs.declared.lookup.Want.TheVariants.{Recall, Choose, Begin, Order, Wait, Hear}
+use Rattle.recursor_core.specs.declared.lookup.Want.TheVariants.{Recall, Begin, Step, Wait, Hear}
 use Rattle.recursor_core.specs.declared.lookup.Lookup.{Lookup}
 
-abbrev pub under_want : Under → Want
-under_want u = if is_open u.send.stage then Wait u.order else Order
+abbrev pub under_want : Option OpenOrder → Want
+under_want None = Step
+under_want (Some given) = Wait given.number
 
-abbrev pub send_want : Send → Want
-send_want send.Fresh = Recall
-send_want send.Ready = Choose
-send_want (send.Chosen ip) = Begin ip
-send_want (send.Under u) = under_want u
-send_want (send.Told ip entry at class) = Hear
-send_want (send.Failed ip entry error) = Hear
+abbrev pub want_of : Ask → Want
+want_of ask.Fresh = Recall
+want_of ask.Ready = Begin
+want_of (ask.Under under) = under_want under.order
+want_of (ask.Told entry at class) = Hear
+want_of (ask.Failed error) = Hear
+want_of ask.Heard = Step
 
--- an order of it is open
-abbrev pub IsWaiting : Send → Type 0
-IsWaiting send.Fresh = ⊥
-IsWaiting send.Ready = ⊥
-IsWaiting (send.Chosen ip) = ⊥
-IsWaiting (send.Under u) = IsTrue (is_open u.send.stage)
-IsWaiting (send.Told ip entry at class) = ⊥
-IsWaiting (send.Failed ip entry error) = ⊥
+-- the last of the entries, 0 where there is none
+abbrev pub last_of : List ℕ → ℕ
+last_of g = elim (last_or None g) [ Some entry ↦ entry | None ↦ 0 ]
 
--- the server of the present send
-abbrev pub present : Send → List IpAddr
-present send.Fresh = []
-present send.Ready = []
-present (send.Chosen ip) = ip ∷ []
-present (send.Under u) = u.ip ∷ []
-present (send.Told ip entry at class) = ip ∷ []
-present (send.Failed ip entry error) = ip ∷ []
+-- where a lookup stands that failed, whose last end was by an entry, at a moment: a denial is told by it
+abbrev pub failed_by : ℕ → ℕ → NetError → Ask
+failed_by entry at (net.Dns (dns.NoRecordsFound found)) = ask.Told entry at (Err (dns.NoRecordsFound found))
+failed_by entry at error = ask.Failed error
 
--- what was sent opens a connection, or asks the question later than what was put before
-abbrev pub IsSentOver : ℕ → Sent → Query → Stage → Type 0
-IsSentOver since sent q stage.Ready = ⊥
-IsSentOver since sent q (stage.Opening protocol order polls) = sent.query ≡ None
-IsSentOver since sent q (stage.Opened protocol conn) = ⊥
-IsSentOver since sent q (stage.Asking asked polls) = (sent.query ≡ Some q) × (since < sent.of)
-IsSentOver since sent q (stage.Ended result) = ⊥
-IsSentOver since sent q stage.Over = ⊥
+-- where one stands that was answered so
+abbrev pub answered_by : ℕ → ℕ → Answered → Ask
+answered_by entry at (Ok message) = ask.Told entry at (Ok message)
+answered_by entry at (Err error) = failed_by entry at error
 
--- It was sent to the server of the present send, for its open order.
-abbrev pub IsSentBy : Sent → Query → Under → Type 0
-IsSentBy sent q u = (sent.ip ≡ u.ip) × IsSentOver u.since sent q u.send.stage
+abbrev pub order_steps : Option OpenOrder → ℕ
+order_steps None = 0
+order_steps (Some given) = 1
 
--- So it was, between the two moments.
-pub record IsOf (sent : Sent) (q : Query) (begun now : ℕ) (u : Under) : Type 0 where
-  pub sends : IsSentBy sent q u
-  pub late : begun ≤ sent.moment
-  pub early : sent.moment ≤ now
+-- how many steps it has before it: two for each order that it may still give
+abbrev pub ask_steps : Ask → ℕ
+ask_steps ask.Fresh = 2 ^ 66 + 1
+ask_steps ask.Ready = 2 ^ 66
+ask_steps (ask.Under under) = 2 + 2 * under.left + order_steps under.order
+ask_steps (ask.Told entry at class) = 1
+ask_steps (ask.Failed error) = 1
+ask_steps ask.Heard = 0
 
-abbrev pub IsOpening : Stage → Type 0
-IsOpening stage.Ready = ⊥
-IsOpening (stage.Opening protocol order polls) = Unit {0}
-IsOpening (stage.Opened protocol conn) = ⊥
-IsOpening (stage.Asking asked polls) = ⊥
-IsOpening (stage.Ended result) = ⊥
-IsOpening stage.Over = ⊥
-
-abbrev pub IsAsking : Stage → Type 0
-IsAsking stage.Ready = ⊥
-IsAsking (stage.Opening protocol order polls) = ⊥
-IsAsking (stage.Opened protocol conn) = ⊥
-IsAsking (stage.Asking asked polls) = Unit {0}
-IsAsking (stage.Ended result) = ⊥
-IsAsking stage.Over = ⊥
-
--- The outcome is one of the open order: of what was sent for it; a give-up counts where patience allows no more polls.
-abbrev pub MayTake : ℕ → Query → ℕ → ℕ → Outcome → Under → Type 0
-MayTake patience q begun now (Pending entry) u = Unit {0}
-MayTake patience q begun now (Connected entry) u = IsOpening u.send.stage
-MayTake patience q begun now (Told entry sent message) u = IsOf sent q begun now u
-MayTake patience q begun now (Failed entry sent refused error) u = IsOf sent q begun now u
-MayTake patience q begun now (GaveUp entry sent polls) u = (patience ≤ polls) × IsOf sent q begun now u
-MayTake patience q begun now Slept u = ⊥
-
--- so it is with a send
-abbrev pub MayTakeAt : ℕ → Query → ℕ → ℕ → Outcome → Send → Type 0
-MayTakeAt patience q begun now outcome send.Fresh = ⊥
-MayTakeAt patience q begun now outcome send.Ready = ⊥
-MayTakeAt patience q begun now outcome (send.Chosen ip) = ⊥
-MayTakeAt patience q begun now outcome (send.Under u) = MayTake patience q begun now outcome u
-MayTakeAt patience q begun now outcome (send.Told ip entry at class) = ⊥
-MayTakeAt patience q begun now outcome (send.Failed ip entry error) = ⊥
-
--- What the outcome of its open order did to a send under way: what that ended with, or how it goes on.
-pub record IsTaken (patience : ℕ) (u : Under) (outcome : Outcome) (next : Under) (taken : Taken) : Type 0 where
-  pub came : ServerSend
-  pub comes : Comes u.send outcome came
-  pub same : came.request ≡ u.send.request
-  pub end : taken.end ≡ end_of came.stage
-  pub goes_on : IfNone taken.end (next ≡ record u { send = came })
-  pub after : taken.after ≡ after_put patience u.send.stage outcome
-
--- a response was told
-abbrev pub is_told : Outcome → Bool
-is_told (Pending entry) = false
-is_told (Connected entry) = false
-is_told (Told entry sent message) = true
-is_told (Failed entry sent refused error) = false
-is_told (GaveUp entry sent polls) = false
-is_told Slept = false
-
--- a send that ended with an error: a response was told, or it failed
-abbrev pub failed : IpAddr → ℕ → ℕ → Bool → NetError → Send
-failed ip entry at true (net.Dns error) = send.Told ip entry at (Err error)
-failed ip entry at true error = send.Failed ip entry error
-failed ip entry at false error = send.Failed ip entry error
-
--- a send that ended
-abbrev pub ended : IpAddr → ℕ → ℕ → Bool → Result Message NetError → Send
-ended ip entry at told (Ok message) = send.Told ip entry at (Ok message)
-ended ip entry at told (Err error) = failed ip entry at told error
-
--- a send that goes on, or ended
-abbrev pub after_end_of : IpAddr → ℕ → ℕ → Bool → Send → Option (Result Message NetError) → Send
-after_end_of ip entry at told s None = s
-after_end_of ip entry at told s (Some end) = ended ip entry at told end
-
--- how many steps a send has before it
-abbrev pub send_steps : Send → ℕ
-send_steps send.Fresh = 1
-send_steps send.Ready = 0
-send_steps (send.Told ip entry at class) = 1
-send_steps (send.Failed ip entry error) = 1
-send_steps (send.Under u) = 1 + send_left u.send
-send_steps (send.Chosen ip) = 11
-
--- how many steps a lookup has before it: twelve for each server that was not asked
 abbrev pub steps : Lookup → ℕ
-steps l = 12 * vec_len l.servers + send_steps l.send
+steps l = ask_steps l.ask
+
+abbrev pub polls_of : ℕ → Option OpenOrder → ℕ
+polls_of patience None = 0
+polls_of patience (Some given) = patience - given.polls
 
 -- how many polls patience leaves to its open order
-abbrev pub polls_left : ℕ → Send → ℕ
-polls_left patience send.Fresh = 0
-polls_left patience send.Ready = 0
-polls_left patience (send.Chosen ip) = 0
-polls_left patience (send.Under u) = patience - pendings u.send.stage
-polls_left patience (send.Told ip entry at class) = 0
-polls_left patience (send.Failed ip entry error) = 0
+abbrev pub polls_left : ℕ → Ask → ℕ
+polls_left patience ask.Fresh = 0
+polls_left patience ask.Ready = 0
+polls_left patience (ask.Under under) = polls_of patience under.order
+polls_left patience (ask.Told entry at class) = 0
+polls_left patience (ask.Failed error) = 0
+polls_left patience ask.Heard = 0
 
 -- steps, each of which may be as many polls as patience allows
+abbrev pub ask_rank : ℕ → Ask → ℕ
+ask_rank patience a = (patience + 1) * ask_steps a + polls_left patience a
+
 abbrev pub rank : ℕ → Lookup → ℕ
-rank patience l = (patience + 1) * steps l + polls_left patience l.send
+rank patience l = ask_rank patience l.ask
+
+-- an order of it is open
+abbrev pub IsOpen : Option OpenOrder → Type 0
+IsOpen None = ⊥
+IsOpen (Some given) = Unit {0}
+
+abbrev pub IsWaiting : Ask → Type 0
+IsWaiting ask.Fresh = ⊥
+IsWaiting ask.Ready = ⊥
+IsWaiting (ask.Under under) = IsOpen under.order
+IsWaiting (ask.Told entry at class) = ⊥
+IsWaiting (ask.Failed error) = ⊥
+IsWaiting ask.Heard = ⊥
+
+-- The order was polled once more, of which patience allows another, has ended, or stays as it is.
+abbrev pub HasNoted : ℕ → Option OpenOrder → Option OpenOrder → After → Type 0
+HasNoted patience old new after.Kept = (given : OpenOrder) × (old ≡ Some given) × (new ≡ Some (record given { polls = given.polls + 1 })) × (given.polls + 1 < patience)
+HasNoted patience old new after.Ended = (new ≡ None) × IsOpen old
+HasNoted patience old new after.GiveUp = new ≡ old
+HasNoted patience old new after.Late = new ≡ old

@@ -5,10 +5,12 @@ use Rattle.std.specs.declared.net.ip_addr.IpAddr.{IpAddr}
 use Rattle.dns_core.specs.Log.{Log}
 use Rattle.dns_core.specs.declared.message.Query.{Query}
 use Rattle.dns_core.specs.declared.request.Question.{Question}
-use Rattle.server_core.specs.declared.server_send.ServerSend.{ServerSend}
+use Rattle.dns_core.specs.declared.request.DnsRequest.{DnsRequest}
 use Rattle.server_pool.specs.Fits.{GoesToServer}
 use Rattle.recursor_core.specs.Replies.{Terms, given_of, ReplyHolds}
 use Rattle.recursor_core.specs.Tried.{machine_timer}
+use Rattle.server_core.specs.declared.order.Order.{Order}
+use Rattle.recursor_core.specs.Pools.{StepGoes, PoolsHold}
 use Rattle.recursor_core.specs.Derived.{terms_of}
 use Rattle.recursor_core.specs.Remembered.{Telling, telling_of, remembered}
 use Rattle.server_core.specs.declared.order.After.{After}
@@ -16,7 +18,7 @@ use Rattle.server_core.specs.declared.order.After.TheVariants as after
 use Rattle.recursor_core.specs.declared.reply.Reply.{Reply}
 use Rattle.dns_core.specs.declared.errors.NoMemory.{NoMemory}
 use Rattle.recursor_core.specs.Resolving as one
-use Rattle.recursor_core.specs.Setting.{setting_of}
+use Rattle.recursor_core.specs.Setting.{setting_of, answer_filter_of}
 use Rattle.recursor_core.specs.declared.options.RecursorOptions.{RecursorOptions}
 use Rattle.recursor_core.specs.declared.error.MessageKind.TheVariants as kind
 use Rattle.recursor_core.specs.declared.error.RecursorError.{RecursorError}
@@ -50,9 +52,9 @@ asked_in (Some r) = one.asked_of r.state
 abbrev pub asked_at : RecursorCore → ℕ → Option Query
 asked_at core r = asked_in (slice_get core.resolutions.items r)
 
--- the send asks what the resolution at a place asks now
-abbrev pub AsksForAt : ServerSend → RecursorCore → ℕ → Type 0
-AsksForAt send core r = asked_at core r ≡ Some send.request.query
+-- the request asks what the resolution at a place asks now
+abbrev pub AsksForAt : DnsRequest → RecursorCore → ℕ → Type 0
+AsksForAt request core r = asked_at core r ≡ Some request.query
 
 -- a question, and the moment at which it began
 pub record Begun : Type 0 where
@@ -69,10 +71,6 @@ begun_at core r = option_map begun_of (slice_get core.resolutions.items r)
 -- the resolution at a place is of this question, which began at the moment
 abbrev pub IsBegunAt : RecursorCore → ℕ → Question → ℕ → Type 0
 IsBegunAt core r question now = begun_at core r ≡ Some (record { question = question; moment = now })
-
--- nothing but the numbers of orders and the servers has changed
-abbrev pub IsSetAs : RecursorCore → RecursorCore → Type 0
-IsSetAs old new = (new.resolutions ≡ old.resolutions) × (new.setting ≡ old.setting) × (new.greatest ≡ old.greatest) × (new.moment ≡ old.moment) × (new.cache ≡ old.cache)
 
 -- What it is set to, the cache, the greatest entry and moment and the questions are as before.
 pub record SameCore (old new : RecursorCore) : Type 0 where
@@ -106,16 +104,20 @@ GoesOn old new (Ok progress.Again) = (p : ℕ) → rank p new < rank p old
 GoesOn old new (Ok (progress.Step s)) = StepFalls old new s
 GoesOn old new (Err e) = (p : ℕ) → rank p new ≤ rank p old
 
-abbrev pub ReplyGiven : Terms → Log → Option Begun → Reply → Type 0
-ReplyGiven terms log None reply = Unit {0}
-ReplyGiven terms log (Some b) reply = ReplyHolds terms machine_timer log b.moment b.question reply
+abbrev pub ReplyGiven : Terms → ℕ → Log → Option Begun → Reply → Type 0
+ReplyGiven terms now log None reply = Unit {0}
+ReplyGiven terms now log (Some b) reply = ReplyHolds terms (machine_timer now) log b.moment b.question reply
 
 -- what a step gives is derived: an order goes to a server by what was put before, and a reply holds
 abbrev pub StepGives : RecursorCore → Log → ℕ → Step → Type 0
 StepGives core log r (step.Order number order) = GoesToServer (given_of (terms_of core)) log (core.greatest + 1) order.value
 StepGives core log r (step.Waiting number) = Unit {0}
-StepGives core log r (step.Done reply) = ReplyGiven (terms_of core) log (begun_at core r) reply.value
+StepGives core log r (step.Done reply) = ReplyGiven (terms_of core) core.moment log (begun_at core r) reply.value
 StepGives core log r step.Ended = Unit {0}
+
+-- what a step of a lookup gives is derived: an order goes to a server by what was put before
+abbrev pub LookupGives : RecursorCore → Log → Option (ℕ × Order) → Type 0
+LookupGives core log given = StepGoes (given_of (terms_of core)) log (core.greatest + 1) given
 
 abbrev pub Gives : RecursorCore → Log → ℕ → Progress → Type 0
 Gives core log r progress.Again = Unit {0}
@@ -125,13 +127,14 @@ Gives core log r (progress.Step s) = StepGives core log r s
 abbrev pub IsNewError : RecursorError → Type 0
 IsNewError e = (e ≡ error.Message kind.NoRoots) ⊎ (e ≡ error.Message kind.ReversedTtl) ⊎ (e ≡ error.NoMemory)
 
--- A new machine is set as the roots and the options say; its cache is empty, and nothing has happened.
+-- A new machine is set as the roots and the options say; its cache is empty, nothing has happened, and its pools hold by any log.
 pub record IsNewCore (roots : List IpAddr) (options : RecursorOptions) (core : RecursorCore) : Type 0 where
   pub setting : core.setting ≡ setting_of roots options
   pub cache : core.cache ≡ record { size = options.response_cache_size; config = options.cache_policy; entries = [] }
   pub moment : core.moment ≡ 0
   pub greatest : core.greatest ≡ 0
   pub resolutions : core.resolutions.items ≡ []
+  pub pools : (terms : Terms) (greatest moment : ℕ) (log : Log) → terms.answer_filter ≡ answer_filter_of options → PoolsHold terms greatest moment log core.pools
 
 -- what a question is refused for as it begins
 abbrev pub IsBeginError : RecursorError → Type 0

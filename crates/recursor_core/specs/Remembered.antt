@@ -16,11 +16,12 @@ use Rattle.resolution.specs.Verdict.{verdict, verdict_of_told}
 use Rattle.resolution.specs.Life.{life_in_seconds}
 use Rattle.resolution.specs.Serving.{Heard}
 use Rattle.resolution.specs.declared.verdict.Verdict.{Verdict}
-use Rattle.recursor_core.specs.Causes.{WalksTo}
+use Rattle.resolution.specs.Walking.{Walked}
 use Rattle.recursor_core.specs.Counted.{kept_of}
 use Rattle.recursor_core.specs.Replies.{Terms, given_of}
-use Rattle.recursor_core.specs.declared.lookup.Send.{Send}
-use Rattle.recursor_core.specs.declared.lookup.Send.TheVariants as send
+use Rattle.recursor_core.specs.SameTold.{IsShown}
+use Rattle.recursor_core.specs.declared.lookup.Ask.{Ask}
+use Rattle.recursor_core.specs.declared.lookup.Ask.TheVariants as ask
 use Rattle.recursor_core.specs.declared.walk.Walk.{Walk}
 use Rattle.recursor_core.specs.declared.resolving.State.{State}
 use Rattle.recursor_core.specs.declared.resolving.State.TheVariants.{New, Under, Done, Ended}
@@ -28,7 +29,7 @@ use Rattle.recursor_core.specs.declared.resolving.Resolution.{Resolution}
 
 -- ---- what holds of the cache
 
--- The response under a question is the verdict of the entry that it names, told by a server of a zone to which a walk went down, and it
+-- The response under a question shows the verdict of the entry that it names, told by a server of a zone to which a walk went down, and it
 -- expires no later than its life after the moment of the telling.
 pub record EntryHolds (terms : Terms) (greatest : ℕ) (log : Log) (e : Entry) : Type 0 where
   pub zone : DomainName
@@ -38,8 +39,10 @@ pub record EntryHolds (terms : Terms) (greatest : ℕ) (log : Log) (e : Entry) :
   pub early : e.source ≤ greatest
   pub heard : Heard (given_of terms) log e.source e.query told moment zone
   pub counts : verdict (given_of terms) told e.query zone ≡ Some whole
-  pub walked : WalksTo (given_of terms) log e.query zone
-  pub kept : kept_of whole ≡ Some e.response
+  pub walked : Walked (given_of terms) log e.query zone
+  pub shown : Verdict
+  pub as_shown : IsShown e.query shown whole
+  pub kept : kept_of shown ≡ Some e.response
   pub expires : IsSomeAnd (life_in_seconds (given_of terms) e.query.query_type whole) (λ life. e.expiry ≤ moment + 1000000 * life)
 
 -- Each response is so, and lives by the bounds of the terms.
@@ -57,13 +60,13 @@ pub record Telling : Type 0 where
   pub at : ℕ
   pub class : Result Message DnsError
 
-abbrev pub telling : DomainName → Query → Send → Option Telling
-telling zone q (send.Told ip entry at class) = Some (record { zone = zone; query = q; entry = entry; at = at; class = class })
+abbrev pub telling : DomainName → Query → Ask → Option Telling
+telling zone q (ask.Told entry at class) = Some (record { zone = zone; query = q; entry = entry; at = at; class = class })
 telling zone q _ = None
 
 -- what a walk was just told
 abbrev pub telling_of_walk : Walk → Option Telling
-telling_of_walk w = telling w.zone w.lookup.query w.lookup.send
+telling_of_walk w = telling w.zone w.lookup.query w.lookup.ask
 
 abbrev pub telling_in : State → Option Telling
 telling_in New = None
@@ -85,7 +88,7 @@ written cache t None = cache
 written cache t (Some response) = upserted cache t.query response t.entry t.at (t.query.query_type.code == 2)
 
 -- The cache with what was told: as it counts, under its question, by its entry, since its moment; a repeated answer for NS records does not
--- move the expiry of a current one to a later moment. Errors, and denials that the recursor made, are not written.
+-- move the expiry of a current one to a later moment. Errors, and denials that are made where the zone leaves nothing, are not written.
 abbrev pub remembered : Cached → Option Telling → Cached
 remembered cache None = cache
 remembered cache (Some t) = written cache t (response_in t.zone t.query t.class)

@@ -12,7 +12,7 @@ use Rattle.resolver_settings.specs.Access.{Access, denies}
 use Rattle.resolver_settings.specs.Ttl.{TtlTable, bounds_of}
 use Rattle.resolver_settings.specs.declared.ttl.TtlBounds.{TtlBounds}
 use Rattle.resolution.specs.Same.{Same}
-use Rattle.resolution.specs.Given.{Given, Bounds, allows_all}
+use Rattle.resolution.specs.Given.{Given, Bounds}
 use Rattle.resolution.specs.Following.{follow}
 use Rattle.resolution.specs.Answering.{Base, IsCurrent, Answer}
 use Rattle.resolution.specs.Ending.{Known}
@@ -21,7 +21,8 @@ use Rattle.resolution.specs.declared.following.Follow.TheVariants.{Done}
 use Rattle.recursor_core.specs.declared.error.RecursorError.{RecursorError}
 use Rattle.recursor_core.specs.declared.reply.Reply.{Reply}
 use Rattle.recursor_core.specs.declared.setting.Setting.{Setting}
-use Rattle.recursor_core.specs.Causes.{WalksTo, ErrorHolds}
+use Rattle.resolution.specs.Walking.{Walked}
+use Rattle.recursor_core.specs.Causes.{ErrorHolds}
 
 -- the bounds of the lives of answers, and of negatives
 abbrev pub positive_bounds : TtlBounds → Bounds
@@ -30,23 +31,25 @@ positive_bounds b = record { least = b.positive_min; most = b.positive_max }
 abbrev pub negative_bounds : TtlBounds → Bounds
 negative_bounds b = record { least = b.negative_min; most = b.negative_max }
 
--- the roots, the filter of other servers, the bounds of lives, and the least number of polls at which an order was given up so far
+-- the roots, the filter of other servers, that of the addresses of answers, the bounds of lives, and the least number of polls at which an order was
+-- given up so far
 pub record Terms : Type 0 where
   pub roots : List IpAddr
   pub server_filter : Access
+  pub answer_filter : Access
   pub lives : TtlTable
   pub patience : ℕ
 
 -- those of a machine
 abbrev pub terms_with : Setting → Terms
-terms_with setting = record { roots = setting.roots; server_filter = setting.server_filter; lives = setting.lives; patience = setting.patience }
+terms_with setting = record { roots = setting.roots; server_filter = setting.server_filter; answer_filter = setting.answer_filter; lives = setting.lives; patience = setting.patience }
 
--- these roots, this filter, these lives and this patience, answers with any address, and the standard limits
+-- these roots, these filters, these lives and this patience, and the standard limits
 abbrev pub given_of : Terms → Given
 given_of terms = record {
   roots = terms.roots;
   server_denied = denies terms.server_filter;
-  answer_denied = allows_all;
+  answer_denied = denies terms.answer_filter;
   positive_bounds = λ t. positive_bounds (bounds_of terms.lives t);
   negative_bounds = λ t. negative_bounds (bounds_of terms.lives t);
   timeout = 5000000;
@@ -64,7 +67,7 @@ pub record IsToldAnswer (given : Given) (log : Log) (t0 : ℕ) (q : Query) (dnss
   pub kept : Message
   pub only : g ≡ entry ∷ []
   pub base : Base given log t0 q entry zone (Pos kept)
-  pub walked : WalksTo given log q zone
+  pub walked : Walked given log q zone
   pub current : IsCurrent t0 base.moment kept
   pub same : Same r (strip_of kept dnssec)
   pub answer : follow kept q ≡ Done → Answer given log t0 q dnssec g r

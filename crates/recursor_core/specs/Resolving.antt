@@ -1,8 +1,8 @@
 -- What a resolution needs, and how much of it is left.
 use Rattle.std.specs.Prelude.{◌≡◌, ℕ, ◌+◌, ◌*◌, IsTrue, Option, Some, None, Result, Ok, Err}
 use Rattle.std.specs.Global.{Box}
-use Rattle.server_core.specs.declared.server_send.ServerSend.{ServerSend}
 use Rattle.dns_core.specs.declared.message.Query.{Query}
+use Rattle.dns_core.specs.declared.request.DnsRequest.{DnsRequest}
 use Rattle.recursor_core.specs.Counted.{may_answer}
 use Rattle.recursor_core.specs.Lookup as lookup
 use Rattle.recursor_core.specs.Walk as walk
@@ -18,7 +18,7 @@ use Rattle.recursor_core.specs.declared.resolving.Resolution.{Resolution}
 
 abbrev pub state_want : State → Need
 state_want New = need.SetOut
-state_want (Under w) = need.Send (lookup.send_want w.value.lookup.send)
+state_want (Under w) = need.Send (lookup.want_of w.value.lookup.ask)
 state_want (Done reply) = need.Reply
 state_want Ended = need.Nothing
 
@@ -28,9 +28,8 @@ want_of r = state_want r.state
 abbrev pub order_of : Need → Option ℕ
 order_of need.SetOut = None
 order_of (need.Send want.Recall) = None
-order_of (need.Send want.Choose) = None
-order_of (need.Send (want.Begin ip)) = None
-order_of (need.Send want.Order) = None
+order_of (need.Send want.Begin) = None
+order_of (need.Send want.Step) = None
 order_of (need.Send (want.Wait order)) = Some order
 order_of (need.Send want.Hear) = None
 order_of need.Reply = None
@@ -52,7 +51,7 @@ steps r = state_steps r.question.query r.state
 
 abbrev pub state_polls : ℕ → State → ℕ
 state_polls patience New = 0
-state_polls patience (Under w) = lookup.polls_left patience w.value.lookup.send
+state_polls patience (Under w) = lookup.polls_left patience w.value.lookup.ask
 state_polls patience (Done reply) = 0
 state_polls patience Ended = 0
 
@@ -67,9 +66,9 @@ asked_of (Under w) = Some w.value.lookup.query
 asked_of (Done reply) = None
 asked_of Ended = None
 
--- the send asks what it asks now
-abbrev pub AsksFor : ServerSend → State → Type 0
-AsksFor send state = asked_of state ≡ Some send.request.query
+-- the request asks what it asks now
+abbrev pub AsksFor : DnsRequest → State → Type 0
+AsksFor request state = asked_of state ≡ Some request.query
 
 -- It is still of the same question, which began when it began.
 abbrev pub SameBegun : Resolution → Resolution → Type 0

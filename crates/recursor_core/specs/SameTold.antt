@@ -1,11 +1,15 @@
 -- The same but for TTLs, as what was told reads later (RFC 1035 section 3.2.1).
-use Rattle.std.specs.Prelude.{◌≡◌, List, Option, Some, None}
+use Rattle.std.specs.Prelude.{◌≡◌, ◌⊎◌, IsTrue, List, [], Option, Some, None}
 use Rattle.std.specs.List.{AllZip}
+use Rattle.dns_core.specs.declared.message.Query.{Query}
 use Rattle.dns_core.specs.declared.net_error.NoRecords.{NoRecords}
 use Rattle.dns_core.specs.declared.net_error.ForwardNsData.{ForwardNsData}
+use Rattle.resolution.specs.Names.{same_query}
 use Rattle.resolution.specs.Same.{Same, SameRecord, SameRecords}
 use Rattle.resolution.specs.declared.verdict.Verdict.{Verdict}
 use Rattle.resolution.specs.declared.verdict.Verdict.TheVariants.{Pos, Neg, Made}
+use Rattle.resolution.specs.declared.verdict.Cause.{Cause}
+use Rattle.resolution.specs.declared.verdict.Cause.TheVariants.{Filter, Zone}
 use Rattle.recursor_core.specs.declared.error.AuthorityData.{AuthorityData}
 
 -- both or none
@@ -36,9 +40,33 @@ pub record SameDenial (a b : AuthorityData) : Type 0 where
   pub authorities : SameRecords a.authorities b.authorities
   pub rest : a ≡ record b { soa = a.soa; authorities = a.authorities }
 
--- what a response counts for
-abbrev pub SameVerdict : Verdict → Verdict → Type 0
-SameVerdict (Pos a) (Pos b) = Same a b
-SameVerdict (Neg a) (Neg b) = SameNegative a b
-SameVerdict (Made a) (Made b) = a ≡ b
-SameVerdict _ _ = ⊥
+-- what is left for a question where the filter of answers leaves nothing
+abbrev pub nothing_left_for : Query → NoRecords
+nothing_left_for q = record { query = q; soa = None; ns = None; response_code = record { code = 3 }; authorities = [] }
+
+-- It is that, for the question as it was first asked.
+pub record IsNothingLeft (q : Query) (n : NoRecords) : Type 0 where
+  pub first : Query
+  pub same : IsTrue (same_query first q)
+  pub is : n ≡ nothing_left_for first
+
+-- The question of a denial that the recursor made: one that may be read later is as it was first asked.
+abbrev pub IsMadeFor : Cause → Query → Query → Type 0
+IsMadeFor Filter p q = IsTrue (same_query p q)
+IsMadeFor Zone p q = p ≡ q
+
+-- what a response to a question counts for; what the filter of answers leaves nothing of is read as a negative
+abbrev pub SameVerdict : Query → Verdict → Verdict → Type 0
+SameVerdict q (Pos a) (Pos b) = Same a b
+SameVerdict q (Neg a) (Neg b) = SameNegative a b
+SameVerdict q (Neg a) (Made Filter) = IsNothingLeft q a
+SameVerdict q (Made a) (Made b) = a ≡ b
+SameVerdict q _ _ = ⊥
+
+-- as what a verdict is shown: as it is, or as a negative where the filter of answers left nothing
+abbrev pub IsShown : Query → Verdict → Verdict → Type 0
+IsShown q (Pos a) (Pos b) = a ≡ b
+IsShown q (Neg a) (Neg b) = a ≡ b
+IsShown q (Neg a) (Made Filter) = IsNothingLeft q a
+IsShown q (Made a) (Made b) = a ≡ b
+IsShown q _ _ = ⊥

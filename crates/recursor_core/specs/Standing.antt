@@ -16,6 +16,7 @@ use Rattle.recursor_core.specs.Tried.{machine_timer}
 use Rattle.server_pool.specs.Carrying.{TellsThat, Grown, CarrierHolds}
 use Rattle.recursor_core.specs.Derived.{terms_of, Derived}
 use Rattle.server_pool.specs.Patience.{IsPatient}
+use Rattle.recursor_core.specs.Pools.{PoolsHold}
 use Rattle.recursor_core.specs.Remembered.{CacheHolds}
 use Rattle.recursor_core.specs.Machine.{Begun, begun_at}
 use Rattle.server_pool.specs.declared.carrier.Carrier.{Carrier}
@@ -26,27 +27,24 @@ use Rattle.recursor_core.specs.declared.turns.Turned.TheVariants as turned
 use Rattle.recursor_core.specs.declared.turns.Played.{Played}
 use Rattle.recursor_core.specs.declared.turns.Played.TheVariants as played
 
--- a recursor: its provider, its roots, the filter of other servers, the bounds of lives, the least patience of its runs, and the greatest moment
--- handed in so far
+-- a recursor: its provider, its roots, the filters of other servers and of the addresses of answers, the bounds of lives, the least patience of its
+-- runs, and the greatest moment handed in so far
 pub record Standing (P : Type 0) : Type 0 where
   pub provider : P
   pub roots : List IpAddr
   pub server_filter : Access
+  pub answer_filter : Access
   pub lives : TtlTable
   pub patience : ℕ
   pub moment : ℕ
 
 -- the terms of a run with this patience, or with the least one of the runs before
 abbrev pub run_terms : {P : Type 0} → ℕ → Standing P → Terms
-run_terms patience recursor = record { roots = recursor.roots; server_filter = recursor.server_filter; lives = recursor.lives; patience = min recursor.patience patience }
+run_terms patience recursor = record { roots = recursor.roots; server_filter = recursor.server_filter; answer_filter = recursor.answer_filter; lives = recursor.lives; patience = min recursor.patience patience }
 
 -- no entry carries a later moment
 abbrev pub IsPast : ℕ → Log → Type 0
 IsPast now log = (i moment : ℕ) (e : LogEntry) → Logged log i e → moment_of e ≡ Some moment → moment ≤ now
-
--- each moment from `start` on is one of these
-abbrev pub IsTimely : ℕ → List ℕ → Log → Type 0
-IsTimely start moments log = (i moment : ℕ) (e : LogEntry) → Logged log i e → moment_of e ≡ Some moment → start ≤ moment → Contains moments moment
 
 -- What the machine keeps is derived from the provider's log, and only servers were asked, none later than its moment. Its least
 -- patience is no greater than this one.
@@ -63,6 +61,7 @@ pub record Rests {P C F E : Type 0} (p : Ghosts P C F E) (core : RecursorCore) (
   pub carrier : CarrierHolds p c
   pub bound : TellsThat (p.log c.provider) (λ log. core.greatest < log.next)
   pub cache : TellsThat (p.log c.provider) (λ log. CacheHolds (terms_of core) core.greatest log core.cache)
+  pub pools : TellsThat (p.log c.provider) (λ log. PoolsHold (terms_of core) core.greatest core.moment log core.pools)
   pub asks : TellsThat (p.log c.provider) (AsksServers (given_of (terms_of core)))
   pub past : TellsThat (p.log c.provider) (IsPast core.moment)
 
@@ -74,15 +73,15 @@ pub record Moves {P C F E : Type 0} (p : Ghosts P C F E) (patience now : ℕ) (c
   pub patient : IsPatient (max 1 patience) (p.log c.provider) (p.log new.provider)
 
 -- a reply holds by the log, where it is told
-abbrev pub ReplyTold : Terms → Option (List LogEntry) → Option Begun → Reply → Type 0
-ReplyTold terms told None reply = Unit {0}
-ReplyTold terms told (Some b) reply = TellsThat told (λ log. ReplyHolds terms machine_timer log b.moment b.question reply)
+abbrev pub ReplyTold : Terms → ℕ → Option (List LogEntry) → Option Begun → Reply → Type 0
+ReplyTold terms now told None reply = Unit {0}
+ReplyTold terms now told (Some b) reply = TellsThat told (λ log. ReplyHolds terms (machine_timer now) log b.moment b.question reply)
 
-abbrev pub TurnedTold : Terms → Option (List LogEntry) → Option Begun → Turned → Type 0
-TurnedTold terms told b turned.Again = Unit {0}
-TurnedTold terms told b turned.Pending = Unit {0}
-TurnedTold terms told b (turned.Done reply) = ReplyTold terms told b reply.value
-TurnedTold terms told b turned.Ended = Unit {0}
+abbrev pub TurnedTold : Terms → ℕ → Option (List LogEntry) → Option Begun → Turned → Type 0
+TurnedTold terms now told b turned.Again = Unit {0}
+TurnedTold terms now told b turned.Pending = Unit {0}
+TurnedTold terms now told b (turned.Done reply) = ReplyTold terms now told b reply.value
+TurnedTold terms now told b turned.Ended = Unit {0}
 
 -- the moment of the first turn of the question at a place
 abbrev pub first_moment : List Turn → ℕ → Option ℕ
@@ -113,13 +112,19 @@ pub record IsBegunFrom (core : RecursorCore) (r : ℕ) (q : Question) (moment : 
   pub question : begun.question ≡ q
   pub late : moment ≤ begun.moment
 
+-- The reply was given at a moment of the run, and holds.
+pub record AnsweredAt (terms : Terms) (told : Option (List LogEntry)) (moments : List ℕ) (t0 : ℕ) (question : Question) (reply : Reply) : Type 0 where
+  pub now : ℕ
+  pub in_run : Contains moments now
+  pub holds : TellsThat told (λ log. ReplyHolds terms (machine_timer now) log t0 question reply)
+
 -- A question that waits is named by no turn so far; one under way has begun at or after its moment; the reply of one that is answered holds, and
 -- for one that is not answered memory was wanting.
 abbrev pub PlayHolds : RecursorCore → Option (List LogEntry) → ℕ → List Turn → List Turn → ℕ → Question → Played → Type 0
 PlayHolds core told start turns rest q question played.Waiting = first_moment turns q ≡ first_moment rest q
 PlayHolds core told start turns rest q question (played.Begun r order) = IsBegunFrom core r question (begin_moment start turns q)
 PlayHolds core told start turns rest q question (played.Answered reply) =
-    TellsThat told (λ log. ReplyHolds (terms_of core) machine_timer log (begin_moment start turns q) question reply.value)
+    AnsweredAt (terms_of core) told (run_moments start turns) (begin_moment start turns q) question reply.value
 PlayHolds core told start turns rest q question played.Unanswered = Unit {0}
 
 -- so it is with each question, where `rest` are the turns that are not played yet

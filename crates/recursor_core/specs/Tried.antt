@@ -1,82 +1,81 @@
 -- What a lookup has behind it: how its sends ended, and when.
-use Rattle.std.specs.Prelude.{◌≡◌, ℕ, ◌<◌, ◌≤◌, Bool, true, false, nat_le, nat_lt, IsTrue, List, ◌∷◌, length, Some, None, Ok, Err}
-use Rattle.std.specs.List.{list_all, list_any, last_or}
+use Rattle.std.specs.Prelude.{◌≡◌, ℕ, ◌<◌, ◌≤◌, Bool, true, false, IsTrue, nat_le, List, [], ◌∷◌, length, Option, Some, None, Ok, Err, IfSome}
+use Rattle.std.specs.List.{list_all, last_or}
 use Rattle.std.specs.declared.net.ip_addr.IpAddr.{IpAddr}
 use Rattle.dns_core.specs.Name.{DomainName}
 use Rattle.dns_core.specs.Log.{Log}
 use Rattle.dns_core.specs.declared.message.Query.{Query}
 use Rattle.dns_core.specs.declared.log.LogEntry.{LogEntry}
-use Rattle.dns_core.specs.declared.net_error.NetError.{NetError}
-use Rattle.dns_core.specs.declared.net_error.NetError.TheVariants as net
+use Rattle.dns_core.specs.declared.log.ToldOutcome.{ToldOutcome}
+use Rattle.dns_core.specs.declared.log.ToldOutcome.TheVariants as told
 use Rattle.resolution.specs.Telling.{Logged, moment_of}
-use Rattle.resolution.specs.Lookups.{Answered, End, class_of_answer, is_timed_out, is_passing_error}
-use Rattle.resolution.specs.Ending.{EndsSend, EndSends, Rise, Finished}
+use Rattle.resolution.specs.Serving.{Heard}
+use Rattle.resolution.specs.Lookups.{Answered, End, class_of_answer}
+use Rattle.resolution.specs.Ending.{EndSends, Rise, Finished}
 use Rattle.resolution.specs.Timing.{is_send}
-use Rattle.recursor_core.specs.Plain.{IsPlainlyTold}
+use Rattle.resolution.specs.declared.class.Class.{Class}
+use Rattle.resolution.specs.declared.class.Class.TheVariants.{Error, Code, Truncated, Negative, Foreign, Positive}
 use Rattle.recursor_core.specs.Replies.{Terms, Timer, given_of}
 
--- A send to the server that ended by entry `first` began at the moment, no earlier than the question.
-pub record BeganBy (log : Log) (t0 : ℕ) (q : Query) (server : IpAddr) (first start : ℕ) : Type 0 where
+-- A send of the question to the server began at the moment, by an entry that is no later than this one.
+pub record BeganBy (log : Log) (q : Query) (server : IpAddr) (last start : ℕ) : Type 0 where
   pub n : ℕ
   pub e : LogEntry
   pub begun : Logged log n e
   pub is : IsTrue (is_send q server e)
   pub at : moment_of e ≡ Some start
-  pub early : n ≤ first
-  pub since : t0 ≤ start
+  pub early : n ≤ last
 
--- So began the first of these, where there is one.
-abbrev pub Began : Log → ℕ → Query → List ℕ → List (End IpAddr) → ℕ → Type 0
-Began log t0 q (n ∷ g) (e ∷ ends) start = BeganBy log t0 q e.server n start
-Began log t0 q _ _ start = Unit {0}
+-- So began the send that ended first; or before there is one the first send, where it is known to which server that goes.
+abbrev pub Began : Log → Query → ℕ → Option IpAddr → List ℕ → List (End IpAddr) → ℕ → Type 0
+Began log q greatest first (n ∷ g) (e ∷ ends) start = BeganBy log q e.server n start
+Began log q greatest first [] ends start = IfSome first (λ ip. BeganBy log q ip greatest start)
+Began log q greatest first (n ∷ g) [] start = Unit {0}
 
--- whether an end leaves the question to another server
-abbrev pub leaves : End IpAddr → Bool
-leaves end = elim (end.outcome) [ Ok m ↦ false | Err e ↦ is_passing_error e ]
+-- an answer or a denial
+abbrev pub is_response : Class → Bool
+is_response (Positive m) = true
+is_response (Negative n) = true
+is_response (Error e) = false
+is_response (Code c) = false
+is_response Truncated = false
+is_response (Foreign r) = false
 
--- with what a lookup fails where every server was tried
-abbrev pub last_error : Bool → NetError
-last_error true = net.Timeout
-last_error false = net.NoConnections
+-- what was told, where that is what a send ended with
+abbrev pub told_of : Answered → ToldOutcome
+told_of (Ok m) = told.Message m
+told_of (Err e) = told.Error e
 
--- These entries ended sends of the question to servers of the pool, and each left it to another one.
-pub record Tried (terms : Terms) (greatest moment t0 : ℕ) (log : Log) (q : Query) (pool : List IpAddr) (g : List ℕ) (timed_out : Bool) : Type 0 where
-  pub ends : List (End IpAddr)
+-- Each end that is an answer or a denial was heard for the question, from a server of the zone.
+abbrev pub AreHeard : Terms → Log → DomainName → Query → List ℕ → List (End IpAddr) → List ℕ → Type 0
+AreHeard terms log zone q (n ∷ g) (e ∷ ends) (m ∷ moments) =
+    (IsTrue (is_response (class_of_answer q e.outcome)) → Heard (given_of terms) log n q (told_of e.outcome) m zone) × AreHeard terms log zone q g ends moments
+AreHeard terms log zone q _ _ _ = Unit {0}
+
+-- These entries ended sends of the question to some of the addresses, one after the other, since the start; the last of them came at this moment.
+pub record Tried (terms : Terms) (greatest moment : ℕ) (log : Log) (zone : DomainName) (q : Query) (ips : List IpAddr) (start : ℕ) (first : Option IpAddr)
+    (g : List ℕ) (ends : List (End IpAddr)) (at : ℕ) : Type 0 where
   pub moments : List ℕ
-  pub start : ℕ
-  pub logged : EndSends (given_of terms) log q pool g ends moments
+  pub logged : EndSends (given_of terms) log q ips g ends moments
+  pub heard : AreHeard terms log zone q g ends moments
   pub rises : Rise g
   pub early : IsTrue (list_all (λ n. nat_le n greatest) g)
-  pub passing : IsTrue (list_all leaves ends)
-  pub timeouts : timed_out ≡ list_any (λ end. is_timed_out (class_of_answer q end.outcome)) ends
-  pub began : Began log t0 q g ends start
-  pub past : start ≤ moment
+  pub began : Began log q greatest first g ends start
   pub since : IsTrue (list_all (nat_le start) moments)
   pub till : IsTrue (list_all (λ m. nat_le m moment) moments)
-  pub rising : (now : ℕ) → last_or None moments ≡ Some now → IsTrue (list_all (λ m. nat_le m now) moments)
+  pub last : (m : ℕ) → last_or None moments ≡ Some m → m ≡ at
 
--- A send to the server ended with this outcome by the entry, later than those of g and no earlier than any of the moments.
-pub record Came (terms : Terms) (greatest moment t0 : ℕ) (log : Log) (q : Query) (g moments : List ℕ) (server : IpAddr) (entry : ℕ) (outcome : Answered) : Type 0 where
-  pub at : ℕ
-  pub start : ℕ
-  pub ends : EndsSend (given_of terms) log q entry (record { server = server; outcome = outcome }) at
-  pub began : BeganBy log t0 q server entry start
-  pub after : start ≤ at
-  pub later : IsTrue (list_all (λ m. nat_le m at) moments)
-  pub till : at ≤ moment
-  pub early : entry ≤ greatest
-  pub above : IsTrue (list_all (λ n. nat_lt n entry) g)
-
--- The lookup began no earlier than the question, and was answered when the last of its sends ended.
-pub record IsTimed (log : Log) (t0 : ℕ) (q : Query) (g : List ℕ) (ends : List (End IpAddr)) (moments : List ℕ) (start now : ℕ) : Type 0 where
+-- The lookup began with a send no earlier than the question, and was answered no later than the moment.
+pub record IsTimed (moment : ℕ) (log : Log) (t0 : ℕ) (q : Query) (g : List ℕ) (ends : List (End IpAddr)) (start now : ℕ) : Type 0 where
   pub some : 0 < length g
-  pub began : Began log t0 q g ends start
-  pub answered : last_or None moments ≡ Some now
+  pub began : Began log q 0 None g ends start
+  pub since : t0 ≤ start
+  pub answered : now ≤ moment
 
--- what the machine knows of the moments of a lookup
-abbrev pub machine_timer : Timer
-machine_timer log t0 = record { Timed = λ q ips g ends moments start now. IsTimed log t0 q g ends moments start now; exhausted = false }
+-- what the machine knows of the moments of a lookup, at a moment
+abbrev pub machine_timer : ℕ → Timer
+machine_timer moment log t0 = record { Timed = λ q ips g ends moments start now. IsTimed moment log t0 q g ends start now; exhausted = false }
 
--- A lookup for the question at servers of the zone came to this by the entries, where no server was to be asked again.
-abbrev pub Concluded : Terms → ℕ → Log → DomainName → Query → List ℕ → Answered → Type 0
-Concluded terms t0 log zone q g result = IsPlainlyTold log → Finished (given_of terms) (machine_timer log t0) log t0 q zone g result
+-- A lookup for the question at servers of the zone came to this by the entries, no later than the moment.
+abbrev pub Concluded : Terms → ℕ → ℕ → Log → DomainName → Query → List ℕ → Answered → Type 0
+Concluded terms moment t0 log zone q g result = Finished (given_of terms) (machine_timer moment log t0) log t0 q zone g result

@@ -9,8 +9,8 @@ ghost use Rattle.server_pool.specs.Carrying.{TellsThat, Grown};
 ghost use Rattle.server_pool.specs.Patience.{IsPatient};
 ghost use Rattle.recursor_core.specs.Derived.{terms_of, Derived};
 ghost use Rattle.recursor_core.specs.Machine.{Begun, begun_at};
-ghost use Rattle.recursor_core.specs.Standing.{Holds, run_terms, IsTimely, PlaysHold, RepliesHold, last_moment};
-ghost use Rattle.recursor_core.specs.Turns.{work, BeginsAt, ReplyOf};
+ghost use Rattle.recursor_core.specs.Standing.{Holds, run_terms, PlaysHold, RepliesHold, last_moment, run_moments};
+ghost use Rattle.recursor_core.specs.Turns.{BeginsAt, ReplyOf};
 ghost use Rattle.recursor_core.specs.declared.reply.Reply.{Reply};
 ghost use Rattle.dns_core.specs.declared.request.Question.{Question};
 
@@ -66,7 +66,7 @@ fn finish<P: ConnectionProvider>(
     ensures patient { IsPatient (max 1 tick.patience) (P.log carrier.old.provider) (P.log carrier.new.provider) }
     ensures moment { (core.new.moment ≡ core.old.moment) ⊎ (core.new.moment ≡ tick.now) }
     ensures grown { Grown tick.now (P.log carrier.old.provider) (P.log carrier.new.provider) }
-    ensures plays { (start : ℕ) (turns rest : List Turn) (questions : List Question) → PlaysHold core.old (P.log carrier.old.provider) start turns rest questions plays.old.items
+    ensures plays { (start : ℕ) (turns rest : List Turn) (questions : List Question) → Contains (run_moments start turns) tick.now → PlaysHold core.old (P.log carrier.old.provider) start turns rest questions plays.old.items
         → PlaysHold core.new (P.log carrier.new.provider) start turns rest questions plays.new.items }
     ensures count { vec_len plays.new ≡ vec_len plays.old }
 {
@@ -99,7 +99,7 @@ fn make_way<P: ConnectionProvider>(
     ensures patient { IsPatient (max 1 patience) (P.log carrier.old.provider) (P.log carrier.new.provider) }
     ensures moment { core.new.moment ≡ core.old.moment }
     ensures grown { Grown core.old.moment (P.log carrier.old.provider) (P.log carrier.new.provider) }
-    ensures plays { (start : ℕ) (turns rest : List Turn) (questions : List Question) → PlaysHold core.old (P.log carrier.old.provider) start turns rest questions plays.old.items
+    ensures plays { (start : ℕ) (turns rest : List Turn) (questions : List Question) → Contains (run_moments start turns) core.old.moment → PlaysHold core.old (P.log carrier.old.provider) start turns rest questions plays.old.items
         → PlaysHold core.new (P.log carrier.new.provider) start turns rest questions plays.new.items }
     ensures count { vec_len plays.new ≡ vec_len plays.old }
 {
@@ -130,9 +130,8 @@ fn play_turn<P: ConnectionProvider>(
     ensures setting { core.new.setting ≡ core.old.setting }
     ensures patient { IsPatient (max 1 patience) (P.log carrier.old.provider) (P.log carrier.new.provider) }
     ensures moment { core.old.moment ≤ core.new.moment }
-    ensures timely { (start : ℕ) (moments : List ℕ) → Contains moments core.old.moment → Contains moments turn.now.moment → TellsThat (P.log carrier.old.provider) (IsTimely start moments)
-        → Contains moments core.new.moment × TellsThat (P.log carrier.new.provider) (IsTimely start moments) }
-    ensures plays { (start : ℕ) (turns rest : List Turn) → start ≤ core.old.moment → PlaysHold core.old (P.log carrier.old.provider) start turns (turn.now ∷ rest) questions.now plays.old.items
+    ensures timely { (moments : List ℕ) → Contains moments core.old.moment → Contains moments turn.now.moment → Contains moments core.new.moment }
+    ensures plays { (start : ℕ) (turns rest : List Turn) → start ≤ core.old.moment → Contains (run_moments start turns) core.old.moment → Contains (run_moments start turns) turn.now.moment → PlaysHold core.old (P.log carrier.old.provider) start turns (turn.now ∷ rest) questions.now plays.old.items
         → PlaysHold core.new (P.log carrier.new.provider) start turns rest questions.now plays.new.items }
     ensures count { vec_len plays.new ≡ vec_len plays.old }
 {
@@ -163,9 +162,8 @@ fn play_turns<P: ConnectionProvider>(
     ensures setting { core.new.setting ≡ core.old.setting }
     ensures patient { IsPatient (max 1 patience) (P.log carrier.old.provider) (P.log carrier.new.provider) }
     ensures moment { core.old.moment ≤ core.new.moment }
-    ensures timely { (start : ℕ) (moments : List ℕ) → Contains moments core.old.moment → All (λ t. Contains moments t.moment) turns.now → TellsThat (P.log carrier.old.provider) (IsTimely start moments)
-        → Contains moments core.new.moment × TellsThat (P.log carrier.new.provider) (IsTimely start moments) }
-    ensures plays { (start : ℕ) → start ≤ core.old.moment → PlaysHold core.old (P.log carrier.old.provider) start turns.now turns.now questions.now plays.old.items
+    ensures timely { (moments : List ℕ) → Contains moments core.old.moment → All (λ t. Contains moments t.moment) turns.now → Contains moments core.new.moment }
+    ensures plays { (start : ℕ) → start ≤ core.old.moment → Contains (run_moments start turns.now) core.old.moment → PlaysHold core.old (P.log carrier.old.provider) start turns.now turns.now questions.now plays.old.items
         → PlaysHold core.new (P.log carrier.new.provider) start turns.now [] questions.now plays.new.items }
     ensures count { vec_len plays.new ≡ vec_len plays.old }
 {
@@ -196,7 +194,7 @@ fn play_one<P: ConnectionProvider>(
     ensures patient { IsPatient (max 1 tick.patience) (P.log carrier.old.provider) (P.log carrier.new.provider) }
     ensures moment { (core.new.moment ≡ core.old.moment) ⊎ (core.new.moment ≡ tick.now) }
     ensures grown { Grown tick.now (P.log carrier.old.provider) (P.log carrier.new.provider) }
-    ensures plays { (start : ℕ) (turns : List Turn) → start ≤ tick.now → last_moment start turns ≤ tick.now
+    ensures plays { (start : ℕ) (turns : List Turn) → start ≤ tick.now → last_moment start turns ≤ tick.now → Contains (run_moments start turns) tick.now
         → PlaysHold core.old (P.log carrier.old.provider) start turns [] questions.now plays.old.items
         → PlaysHold core.new (P.log carrier.new.provider) start turns [] questions.now plays.new.items }
     ensures count { vec_len plays.new ≡ vec_len plays.old }
@@ -222,7 +220,7 @@ fn play_rest<P: ConnectionProvider>(
     ensures patient { IsPatient (max 1 tick.patience) (P.log carrier.old.provider) (P.log carrier.new.provider) }
     ensures moment { (core.new.moment ≡ core.old.moment) ⊎ (core.new.moment ≡ tick.now) }
     ensures grown { Grown tick.now (P.log carrier.old.provider) (P.log carrier.new.provider) }
-    ensures plays { (start : ℕ) (turns : List Turn) → start ≤ tick.now → last_moment start turns ≤ tick.now
+    ensures plays { (start : ℕ) (turns : List Turn) → start ≤ tick.now → last_moment start turns ≤ tick.now → Contains (run_moments start turns) tick.now
         → PlaysHold core.old (P.log carrier.old.provider) start turns [] questions.now plays.old.items
         → PlaysHold core.new (P.log carrier.new.provider) start turns [] questions.now plays.new.items }
     ensures count { vec_len plays.new ≡ vec_len plays.old }
@@ -317,16 +315,17 @@ pub fn drive<P: ConnectionProvider>(
     // name told: since the question began, or within its life before that, and then it was authoritative.
     // The walk went down to this zone. Each error has its cause: a name that is not fully qualified, a
     // denial or a referral that such a server told, and that was as fresh, a delegation without an
-    // address that may be asked, or servers of such a zone of which none answered.
+    // address that may be asked, or a lookup at all servers of such a zone that ended so.
     ensures replies { IfOk result (λ replies. TellsThat (P.log recursor.new.provider) (λ log.
         RepliesHold (run_terms patience recursor.old) log recursor.old.moment turns.now questions.now replies.items)) }
 
     // No entry was waited for more often than patience allows, which is once at least, or than it was before.
     ensures patient { IsPatient (max 1 patience) (P.log recursor.old.provider) (P.log recursor.new.provider) }
 
-    // The roots, the filter and the bounds of lives stay, and the least patience is that of the runs so far.
+    // The roots, the filters and the bounds of lives stay, and the least patience is that of the runs so far.
     ensures roots { recursor.new.roots ≡ recursor.old.roots }
     ensures server_filter { recursor.new.server_filter ≡ recursor.old.server_filter }
+    ensures answer_filter { recursor.new.answer_filter ≡ recursor.old.answer_filter }
     ensures lives { recursor.new.lives ≡ recursor.old.lives }
     ensures patience { recursor.new.patience ≡ min recursor.old.patience patience }
 

@@ -21,7 +21,7 @@ pub fn kept_answer(
     now: u64,
 ) -> Result<Option<Box<Reply>>, NoMemory>
     ensures { (terms : Terms) (greatest t0 : ℕ) (log : Log) → t0 ≤ now → CacheHolds terms greatest log cache.now
-        → IfOk result (λ reply. IfSome reply (λ given. ReplyHolds terms machine_timer log t0 question.now given.value)) }
+        → IfOk result (λ reply. IfSome reply (λ given. ReplyHolds terms (machine_timer now) log t0 question.now given.value)) }
 {
     let Some(entry) = cache.current(&question.query, now) else {
         return Ok(None);

@@ -2,24 +2,25 @@
 ghost use Rattle.std.specs.Prelude.{◌≡◌, ◌≢◌, ◌≤◌, ◌<◌, ◌+◌, ◌⊎◌, ◌↔◌, ℕ, [], true, false, max, length, None, Some, Ok, Err, IfOk, IfSome, IfNone, IfErr, IsSome, OnOk, OnErr, IsTrue};
 ghost use Rattle.dns_core.specs.Log.{Log, Extends};
 ghost use Rattle.server_core.specs.Order.{entry_of};
-ghost use Rattle.server_pool.specs.Fits.{Fits, GoesToServer};
-ghost use Rattle.recursor_core.specs.Replies.{given_of};
+ghost use Rattle.server_pool.specs.Fits.{Fits};
 ghost use Rattle.resolver_settings.specs.Ttl.{has_reversed};
 ghost use Rattle.recursor_core.specs.Setting.{with_patience};
+ghost use Rattle.recursor_core.specs.declared.lookup.Want.TheVariants as want;
+ghost use Rattle.recursor_core.specs.Pools.{PoolsHold, IsNext};
 ghost use Rattle.recursor_core.specs.Remembered.{CacheHolds, remembered};
 ghost use Rattle.recursor_core.specs.Derived.{terms_of, Derived};
-ghost use Rattle.recursor_core.specs.Machine.{need_at, order_at, asked_at, begun_at, AsksForAt, rank, GoesOn, Steps, Gives, StepGives, IsAwaited, IsNewError, IsBeginError, IsNewCore, SameCore, IsSetAs, IsBegunAt, telling_at, Writes};
+ghost use Rattle.recursor_core.specs.Machine.{need_at, order_at, asked_at, begun_at, AsksForAt, rank, GoesOn, Steps, Gives, StepGives, IsAwaited, IsNewError, IsBeginError, IsNewCore, SameCore, LookupGives, IsBegunAt, telling_at, Writes};
 
 use crate::error::{MessageKind, RecursorError};
 use crate::lookup::Want;
 use crate::options::RecursorOptions;
+use crate::pools::Pools;
 use crate::reply::Reply;
 use crate::resolving::{Need, Resolution, State};
-use crate::servers::Servers;
 use crate::setting::Setting;
 use dns_core::{DnsRequest, DnsRequestOptions, NoMemory, Question, TryClone};
 use resolver_cache::ResponseCache;
-use server_core::{After, Order, Outcome, ServerSend, Tick};
+use server_core::{After, Order, Outcome, Tick};
 use std::alloc::Global;
 use std::net::IpAddr;
 
@@ -40,7 +41,7 @@ pub enum Progress {
 }
 
 /// The resolutions, in the order of their beginning, and what they share: the cache of responses, the
-/// servers that were met, the numbers of orders, the greatest moment handed in so far, and the greatest
+/// servers that were met and the lookups at them, the greatest moment handed in so far, and the greatest
 /// number of a log entry.
 #[derive(Drop, Debug)]
 pub struct RecursorCore {
@@ -48,8 +49,7 @@ pub struct RecursorCore {
     options: RecursorOptions,
     cache: ResponseCache,
     resolutions: Vec<Resolution>,
-    servers: Servers,
-    next_order: u64,
+    pools: Pools,
     moment: u64,
     greatest: u64,
 }
@@ -88,7 +88,7 @@ impl RecursorCore {
         ensures { IfOk result (IsNewCore roots.now options) }
     {
         let setting = Setting::new(alloc, roots, &options)?;
-        let servers = Servers::new(alloc, roots, &options)?;
+        let pools = Pools::new(alloc, &options)?;
         let policy = options.cache_policy.try_clone(alloc)?;
         let Ok(cache) = ResponseCache::new(alloc, options.response_cache_size, policy) else {
             unreachable!()
@@ -98,8 +98,7 @@ impl RecursorCore {
             options,
             cache,
             resolutions: Vec::new(alloc),
-            servers,
-            next_order: 1,
+            pools,
             moment: 0,
             greatest: 0,
         })
@@ -124,11 +123,13 @@ impl RecursorCore {
     /// Leaves all questions, for a run of this patience.
     pub fn clear(&mut self, patience: u32)
         ensures derived { (log : Log) → self.old.greatest < log.next → 0 < length self.old.setting.roots
-            → CacheHolds (terms_of self.old) self.old.greatest log self.old.cache → Derived self.new log }
+            → CacheHolds (terms_of self.old) self.old.greatest log self.old.cache
+            → PoolsHold (terms_of self.old) self.old.greatest self.old.moment log self.old.pools → Derived self.new log }
         ensures setting { self.new.setting ≡ with_patience self.old.setting patience }
         ensures same { (self.new.greatest ≡ self.old.greatest) × (self.new.moment ≡ self.old.moment) × (self.new.cache ≡ self.old.cache) }
     {
         self.resolutions.clear();
+        self.pools.clear();
         self.setting.with_patience(patience);
     }
 
@@ -162,6 +163,7 @@ impl RecursorCore {
         ensures same { (self.new.setting ≡ self.old.setting) × (self.new.moment ≡ self.old.moment) × (self.new.greatest ≡ self.old.greatest) × (self.new.cache ≡ self.old.cache) }
         ensures others { (k : ℕ) → k < length self.old.resolutions.items → begun_at self.new k ≡ begun_at self.old k }
         ensures begun { IfOk result (λ r. (r ≡ length self.old.resolutions.items) × IsBegunAt self.new r question now) }
+        ensures pools { self.new.pools ≡ self.old.pools }
         ensures err { IfErr result (λ e. self.new.resolutions.items ≡ self.old.resolutions.items) }
         ensures count { length self.old.resolutions.items ≤ length self.new.resolutions.items }
     {
@@ -191,22 +193,9 @@ impl RecursorCore {
         resolution.set_out(alloc, &self.setting.roots, &self.cache, now)
     }
 
-    /// Puts the servers of the present lookup of a resolution in the order in which they are to be asked.
-    fn arrange(&mut self, alloc: Global, r: usize) -> Result<(), NoMemory>
-        requires { need_at self.old r ≡ Need.Send Want.Recall }
-        ensures keeps { (p : ℕ) → rank p self.new ≤ rank p self.old }
-        ensures want { need_at self.new r ≡ Need.Send Want.Recall }
-        ensures derived { (log : Log) → Derived self.old log → Derived self.new log }
-        ensures same { SameCore self.old self.new }
-    {
-        let now = self.moment;
-        let resolution = &mut self.resolutions[r];
-        resolution.arrange(alloc, &mut self.servers, now)
-    }
-
     /// Goes by what the cache has for the present lookup of a resolution.
     fn recall(&mut self, alloc: Global, r: usize) -> Result<(), NoMemory>
-        requires { need_at self.old r ≡ Need.Send Want.Recall }
+        requires { need_at self.old r ≡ Need.Send want.Recall }
         ensures falls { (p : ℕ) → rank p self.new < rank p self.old }
         ensures derived { (log : Log) → Derived self.old log → Derived self.new log }
         ensures same { SameCore self.old self.new }
@@ -228,18 +217,8 @@ impl RecursorCore {
         }
     }
 
-    fn choose(&mut self, alloc: Global, r: usize) -> Result<(), NoMemory>
-        requires { need_at self.old r ≡ Need.Send Want.Choose }
-        ensures falls { (p : ℕ) → rank p self.new < rank p self.old }
-        ensures derived { (log : Log) → Derived self.old log → Derived self.new log }
-        ensures same { SameCore self.old self.new }
-    {
-        let resolution = &mut self.resolutions[r];
-        resolution.choose(alloc, &self.setting.server_filter)
-    }
-
     fn hear(&mut self, alloc: Global, r: usize) -> Result<(), NoMemory>
-        requires { need_at self.old r ≡ Need.Send Want.Hear }
+        requires { need_at self.old r ≡ Need.Send want.Hear }
         ensures falls { (p : ℕ) → rank p self.new < rank p self.old }
         ensures derived { (log : Log) → Derived self.old log → Derived self.new log }
         ensures same { SameCore self.old self.new }
@@ -248,31 +227,43 @@ impl RecursorCore {
         resolution.hear(alloc, &self.setting.server_filter)
     }
 
-    /// A send to the chosen server begins.
-    fn begin_send(&mut self, r: usize, ip: IpAddr, send: ServerSend)
-        requires want { need_at self.old r ≡ Need.Send (Want.Begin ip) }
-        requires fresh { AsksForAt send self.old r }
-        ensures falls { (p : ℕ) → rank p self.new < rank p self.old }
+    /// The present moment; a step that puts nothing reads no patience.
+    fn tick(&self) -> Tick
+        ensures { result.now ≡ self.now.moment }
+    {
+        Tick {
+            now: self.moment,
+            patience: 1,
+        }
+    }
+
+    /// The present lookup of a resolution begins at the servers of its zone.
+    fn begin_lookup(&mut self, alloc: Global, r: usize, request: DnsRequest) -> Result<(), NoMemory>
+        requires want { need_at self.old r ≡ Need.Send want.Begin }
+        requires asks { AsksForAt request self.old r }
+        ensures falls { (p : ℕ) → OnOk result (rank p self.new < rank p self.old) }
+        ensures keeps { (p : ℕ) → rank p self.new ≤ rank p self.old }
         ensures derived { (log : Log) → Derived self.old log → Derived self.new log }
         ensures same { SameCore self.old self.new }
     {
-        let since = self.greatest;
+        let tick = self.tick();
         let resolution = &mut self.resolutions[r];
-        resolution.begin_send(ip, send, since);
+        resolution.send(alloc, &mut self.pools, request, tick)
     }
 
-    /// The next order of the present send, of this number.
-    fn order(&mut self, alloc: Global, r: usize, number: u64) -> Result<Order, NoMemory>
-        requires { need_at self.old r ≡ Need.Send Want.Order }
+    /// The next step of the present lookup of a resolution: an order with its number, or none where it
+    /// has its answer.
+    fn step_lookup(&mut self, alloc: Global, r: usize) -> Result<Option<(u64, Order)>, NoMemory>
+        requires { need_at self.old r ≡ Need.Send want.Step }
         ensures falls { (p : ℕ) → OnOk result (rank p self.new < rank p self.old) }
         ensures keeps { (p : ℕ) → OnErr result (rank p self.new ≤ rank p self.old) }
-        ensures derived { (log : Log) → Derived self.old log → Derived self.new log × IfOk result (GoesToServer (given_of (terms_of self.old)) log (self.old.greatest + 1)) }
+        ensures derived { (log : Log) → Derived self.old log → Derived self.new log × IfOk result (LookupGives self.old log) }
         ensures same { SameCore self.old self.new }
     {
         let since = self.greatest;
-        let now = self.moment;
+        let tick = self.tick();
         let resolution = &mut self.resolutions[r];
-        resolution.order(alloc, &mut self.servers, number, since, now)
+        resolution.step(alloc, &mut self.pools, since, tick)
     }
 
     fn take_reply(&mut self, r: usize) -> Option<Box<Reply>>
@@ -284,17 +275,6 @@ impl RecursorCore {
     {
         let resolution = &mut self.resolutions[r];
         resolution.take_reply()
-    }
-
-    fn take_number(&mut self) -> Result<u64, NoMemory>
-        ensures { IsSetAs self.old self.new }
-    {
-        if self.next_order == u64::MAX {
-            return Err(NoMemory);
-        }
-        let number = self.next_order;
-        self.next_order += 1;
-        Ok(number)
     }
 
     fn request(&self, alloc: Global, r: usize) -> Result<DnsRequest, NoMemory>
@@ -314,28 +294,28 @@ impl RecursorCore {
         }
     }
 
-    /// Begins a send of the present question to the chosen server.
-    fn begin_asking(&mut self, alloc: Global, r: usize, ip: IpAddr) -> Result<Progress, NoMemory>
-        requires { need_at self.old r ≡ Need.Send (Want.Begin ip) }
+    /// Begins the present lookup at the servers of its zone.
+    fn begin_asking(&mut self, alloc: Global, r: usize) -> Result<Progress, NoMemory>
+        requires { need_at self.old r ≡ Need.Send want.Begin }
         ensures goes { GoesOn self.old self.new result }
         ensures gives { (log : Log) → Derived self.old log → Derived self.new log × IfOk result (Gives self.old log r) }
         ensures same { SameCore self.old self.new }
     {
         let request = self.request(alloc, r)?;
-        let send = self.servers.begin(ip, request)?;
-        self.begin_send(r, ip, send);
+        self.begin_lookup(alloc, r, request)?;
         Ok(Progress::Again)
     }
 
-    /// Gives the next order of the present send.
+    /// Gives the next order of the present lookup, or goes on where it has its answer.
     fn give_order(&mut self, alloc: Global, r: usize) -> Result<Progress, NoMemory>
-        requires { need_at self.old r ≡ Need.Send Want.Order }
+        requires { need_at self.old r ≡ Need.Send want.Step }
         ensures goes { GoesOn self.old self.new result }
         ensures gives { (log : Log) → Derived self.old log → Derived self.new log × IfOk result (Gives self.old log r) }
         ensures same { SameCore self.old self.new }
     {
-        let number = self.take_number()?;
-        let order = self.order(alloc, r, number)?;
+        let Some((number, order)) = self.step_lookup(alloc, r)? else {
+            return Ok(Progress::Again);
+        };
         let boxed = Box::new(alloc, order)?;
         Ok(Progress::Step(Step::Order {
             number,
@@ -364,16 +344,11 @@ impl RecursorCore {
     {
         match want {
             Want::Recall => {
-                self.arrange(alloc, r)?;
                 self.recall(alloc, r)?;
                 Ok(Progress::Again)
             }
-            Want::Choose => {
-                self.choose(alloc, r)?;
-                Ok(Progress::Again)
-            }
-            Want::Begin { ip } => self.begin_asking(alloc, r, ip),
-            Want::Order => self.give_order(alloc, r),
+            Want::Begin => self.begin_asking(alloc, r),
+            Want::Step => self.give_order(alloc, r),
             Want::Wait { order } => Ok(Progress::Step(Step::Waiting { number: order })),
             Want::Hear => {
                 self.hear(alloc, r)?;
@@ -435,14 +410,14 @@ impl RecursorCore {
         requires { order_at self.old r ≢ None }
         ensures falls { IfOk result (λ after. after ≢ After.Late → after ≢ After.GiveUp → rank tick.patience self.new < rank tick.patience self.old) }
         ensures keeps { rank tick.patience self.new ≤ rank tick.patience self.old }
-        ensures derived { (log longer : Log) → self.old.setting.patience ≤ tick.patience → self.old.greatest < entry_of outcome → self.old.moment ≤ tick.now
+        ensures derived { (log longer : Log) → self.old.setting.patience ≤ tick.patience → IsNext self.old.greatest (entry_of outcome) → self.old.moment ≤ tick.now
             → Derived self.old log → Extends log longer → Fits longer tick.now outcome
-            → Derived (record self.new { greatest = entry_of outcome; moment = tick.now }) longer }
+            → Derived (record self.new { greatest = max self.old.greatest (entry_of outcome); moment = tick.now }) longer }
         ensures same { SameCore self.old self.new }
         ensures late { result ≡ Ok After.Late → telling_at self.new r ≡ None }
     {
         let resolution = &mut self.resolutions[r];
-        resolution.take(alloc, &mut self.servers, outcome, tick)
+        resolution.take(alloc, &mut self.pools, outcome, tick)
     }
 
     /// Takes the outcome for the resolution that waits for its order.
@@ -456,7 +431,7 @@ impl RecursorCore {
         requires { order_at self.old r ≢ None }
         ensures falls { IfOk result (λ after. after ≢ After.Late → after ≢ After.GiveUp → rank tick.patience self.new < rank tick.patience self.old) }
         ensures keeps { rank tick.patience self.new ≤ rank tick.patience self.old }
-        ensures derived { (log longer : Log) → self.old.setting.patience ≤ tick.patience → self.old.greatest < entry_of outcome → self.old.moment ≤ tick.now
+        ensures derived { (log longer : Log) → self.old.setting.patience ≤ tick.patience → IsNext self.old.greatest (entry_of outcome) → self.old.moment ≤ tick.now
             → Derived self.old log → Extends log longer → Fits longer tick.now outcome → Derived self.new longer }
         ensures setting { self.new.setting ≡ self.old.setting }
         ensures cache { self.new.cache ≡ self.old.cache }
@@ -466,13 +441,20 @@ impl RecursorCore {
     {
         let entry = outcome.entry();
         let after = self.take(alloc, r, outcome, tick);
-        self.greatest = entry;
+        self.greatest = self.greatest.max(entry);
         self.moment = self.moment.max(tick.now);
         after
     }
 
+    /// Whether an entry is later than all that were put before, or there is none.
+    fn is_next(&self, entry: u64) -> bool
+        ensures { IsTrue result → IsNext self.now.greatest entry }
+    {
+        entry == 0 || self.greatest < entry
+    }
+
     /// Takes the outcome of an order. One that nobody waits for is late, and changes nothing; so is one
-    /// that does not fit the order, or whose number is not greater than all before. An order that is to
+    /// that does not fit the order, or whose number is not greater than all before; that of a sleep is 0. An order that is to
     /// be given up goes on until the outcome of the give-up is put. What counts of a message that was
     /// told is written into the cache; on want of memory for this the outcome is taken all the same, and
     /// on want of memory to take it its order stays open.
@@ -493,7 +475,7 @@ impl RecursorCore {
         ensures moment { self.old.moment ≡ tick.now → self.new.moment ≡ tick.now }
         ensures begun { (k : ℕ) → begun_at self.new k ≡ begun_at self.old k }
     {
-        if outcome.entry() <= self.greatest {
+        if !self.is_next(outcome.entry()) {
             return Ok(After::Late);
         }
         let Some(r) = self.waiter(number) else {
@@ -515,7 +497,7 @@ impl RecursorCore {
         }
         let resolution = &mut self.resolutions[r];
         let order = resolution.open_order();
-        resolution.end();
+        resolution.end(&mut self.pools);
         order
     }
 }

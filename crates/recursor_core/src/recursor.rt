@@ -4,7 +4,7 @@ ghost use Rattle.dns_core.specs.declared.log.LogEntry.{LogEntry};
 ghost use Rattle.resolver_settings.specs.Ttl.{has_reversed};
 ghost use Rattle.recursor_core.specs.Options.{has_bad_first_delays};
 ghost use Rattle.recursor_core.specs.Recursor.{IsSetupError};
-ghost use Rattle.recursor_core.specs.Setting.{server_filter_of};
+ghost use Rattle.recursor_core.specs.Setting.{server_filter_of, answer_filter_of};
 ghost use Rattle.recursor_core.specs.Standing.{Standing, Rests};
 
 use crate::error::{MessageKind, RecursorError};
@@ -16,8 +16,8 @@ use std::alloc::Global;
 use std::marker::Model;
 use std::net::IpAddr;
 
-/// A recursor over a provider. Contracts see the provider, the roots, the filter of other servers, the
-/// bounds of the lives of responses, the least patience of its runs and the greatest moment handed in so
+/// A recursor over a provider. Contracts see the provider, the roots, the filters of other servers and of
+/// the addresses of answers, the bounds of the lives of responses, the least patience of its runs and the greatest moment handed in so
 /// far. What it keeps, its cache of responses too, is derived from the provider's log.
 #[derive(Drop)]
 pub struct Recursor<P: ConnectionProvider> {
@@ -28,7 +28,7 @@ pub struct Recursor<P: ConnectionProvider> {
 impl<P: ConnectionProvider> Model for Recursor<P> {
     ghost Value = { Standing P };
 
-    ghost view = { λ a. record { provider = a.carrier.provider; roots = a.core.setting.roots; server_filter = a.core.setting.server_filter; lives = a.core.setting.lives; patience = a.core.setting.patience; moment = a.core.moment } };
+    ghost view = { λ a. record { provider = a.carrier.provider; roots = a.core.setting.roots; server_filter = a.core.setting.server_filter; answer_filter = a.core.setting.answer_filter; lives = a.core.setting.lives; patience = a.core.setting.patience; moment = a.core.moment } };
 
     ghost invariant = { λ a. Rests P.ConnectionProvider a.core a.carrier };
 }
@@ -56,7 +56,7 @@ impl<P: ConnectionProvider> Recursor<P> {
         provider: P,
     ) -> Result<Recursor<P>, RecursorError>
         requires { (es : List LogEntry) → P.log provider ≡ Some es → es ≡ [] }
-        ensures ok { IfOk result (λ recursor. recursor ≡ record { provider = provider; roots = roots.now; server_filter = server_filter_of options; lives = options.cache_policy; patience = 4294967295; moment = 0 }) }
+        ensures ok { IfOk result (λ recursor. recursor ≡ record { provider = provider; roots = roots.now; server_filter = server_filter_of options; answer_filter = answer_filter_of options; lives = options.cache_policy; patience = 4294967295; moment = 0 }) }
         ensures no_roots { (result ≡ Err (RecursorError.Message MessageKind.NoRoots)) ↔ (roots.now ≡ []) }
         ensures reversed { (result ≡ Err (RecursorError.Message MessageKind.ReversedTtl)) ↔ ((roots.now ≢ []) × IsTrue (has_reversed options.cache_policy)) }
         ensures first_delays { (result ≡ Err (RecursorError.Message MessageKind.FirstDelays)) ↔ ((roots.now ≢ []) × (has_reversed options.cache_policy ≡ false) × IsTrue (has_bad_first_delays options.first_delays)) }

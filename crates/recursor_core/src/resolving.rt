@@ -1,14 +1,16 @@
 //! One question under way, answered, or ended.
-ghost use Rattle.std.specs.Prelude.{◌≡◌, ◌≢◌, ◌≤◌, ◌<◌, ◌+◌, ℕ, true, length, Some, None, Ok, IfOk, IfSome, IsSome, OnOk, OnErr, is_ok};
+ghost use Rattle.std.specs.Prelude.{max, ◌≡◌, ◌≢◌, ◌≤◌, ◌<◌, ◌+◌, ℕ, true, length, Some, None, Ok, IfOk, IfSome, IsSome, OnOk, OnErr, is_ok};
 ghost use Rattle.std.specs.declared.net.ip_addr.IpAddr.{IpAddr};
 ghost use Rattle.dns_core.specs.Log.{Log, Extends};
 ghost use Rattle.server_core.specs.Order.{entry_of};
-ghost use Rattle.server_pool.specs.Fits.{Fits, GoesToServer};
+ghost use Rattle.server_pool.specs.Fits.{Fits};
 ghost use Rattle.recursor_core.specs.Replies.{Terms, given_of, ReplyHolds};
 ghost use Rattle.recursor_core.specs.Tried.{machine_timer};
 ghost use Rattle.recursor_core.specs.Counted.{IsRecalled, recalled};
 ghost use Rattle.recursor_core.specs.Remembered.{CacheHolds, telling_in, remembered};
-ghost use Rattle.recursor_core.specs.Lookup.{send_want};
+ghost use Rattle.recursor_core.specs.Lookup.{want_of as wanted};
+ghost use Rattle.recursor_core.specs.Pools.{PoolsHold, IsNext, StepGoes};
+ghost use Rattle.recursor_core.specs.declared.lookup.Want.TheVariants as want;
 ghost use Rattle.recursor_core.specs.Derived.{WalkHolds, WalkComes, StateHolds, ResolutionHolds};
 ghost use Rattle.recursor_core.specs.Walk.{begin_steps, Goes};
 ghost use Rattle.recursor_core.specs.Resolving.{want_of, waits_for, state_steps, steps, rank, IsSettled, SameBegun, asked_of, AsksFor, IsAnswered};
@@ -16,16 +18,15 @@ ghost use Rattle.recursor_core.specs.Resolving.{want_of, waits_for, state_steps,
 use crate::counted::{Counted, recalled};
 use crate::kept_answer::kept_answer;
 use crate::lookup::Want;
+use crate::pools::Pools;
 use crate::reply::Reply;
-use crate::servers::Servers;
 use crate::walk::{Walk, answer_with};
-use dns_core::{Ips, NoMemory, Query, Question, TryClone};
+use dns_core::{DnsRequest, Ips, NoMemory, Query, Question, TryClone};
 use resolver_cache::ResponseCache;
 use resolver_settings::AccessControlSet;
-use server_core::{After, Order, Outcome, ServerSend, Tick};
+use server_core::{After, Order, Outcome, Tick};
 use std::alloc::Global;
 use std::mem;
-use std::net::IpAddr;
 
 /// Not begun, under way to its servers, answered, or ended.
 #[derive(Drop, Debug)]
@@ -106,7 +107,7 @@ fn recall(
     cache: &ResponseCache,
     now: u64,
 ) -> Result<Option<Box<Reply>>, NoMemory>
-    requires { send_want walk.old.lookup.send ≡ Want.Recall }
+    requires { wanted walk.old.lookup.ask ≡ want.Recall }
     ensures falls { Goes walk.old walk.new result }
     ensures holds { (terms : Terms) (greatest t0 : ℕ) (log : Log) → terms.server_filter ≡ filter.now → CacheHolds terms greatest log cache.now → t0 ≤ now
         → WalkHolds terms greatest now t0 log question.now.query walk.old → IfOk result (WalkComes terms greatest now t0 log question.now walk.new) }
@@ -153,7 +154,7 @@ impl Resolution {
     {
         match &self.state {
             State::New => Need::SetOut,
-            State::Under(walk) => Need::Send(walk.lookup.send.want()),
+            State::Under(walk) => Need::Send(walk.lookup.want()),
             State::Done(_) => Need::Reply,
             State::Ended => Need::Nothing,
         }
@@ -209,7 +210,7 @@ impl Resolution {
         cache: &ResponseCache,
         now: u64,
     ) -> Result<(), NoMemory>
-        requires { want_of self.old ≡ Need.Send Want.Recall }
+        requires { want_of self.old ≡ Need.Send want.Recall }
         ensures falls { steps self.new < steps self.old }
         ensures begun { SameBegun self.old self.new }
         ensures holds { (terms : Terms) (greatest : ℕ) (log : Log) → terms.server_filter ≡ filter.now → CacheHolds terms greatest log cache.now
@@ -233,24 +234,9 @@ impl Resolution {
         }
     }
 
-    /// The next server is chosen. On want of memory it has ended.
-    pub fn choose(&mut self, alloc: Global, filter: &AccessControlSet) -> Result<(), NoMemory>
-        requires { want_of self.old ≡ Need.Send Want.Choose }
-        ensures falls { steps self.new < steps self.old }
-        ensures begun { SameBegun self.old self.new }
-        ensures holds { (terms : Terms) (greatest moment : ℕ) (log : Log) → terms.server_filter ≡ filter.now
-            → ResolutionHolds terms greatest moment log self.old → ResolutionHolds terms greatest moment log self.new }
-    {
-        let State::Under(walk) = &mut self.state else {
-            return Ok(());
-        };
-        let came = walk.choose(alloc, &self.question, filter);
-        self.settle(came)
-    }
-
     /// Hears what came of its order. On want of memory it has ended.
     pub fn hear(&mut self, alloc: Global, filter: &AccessControlSet) -> Result<(), NoMemory>
-        requires { want_of self.old ≡ Need.Send Want.Hear }
+        requires { want_of self.old ≡ Need.Send want.Hear }
         ensures falls { steps self.new < steps self.old }
         ensures begun { SameBegun self.old self.new }
         ensures holds { (terms : Terms) (greatest moment : ℕ) (log : Log) → terms.server_filter ≡ filter.now
@@ -263,69 +249,56 @@ impl Resolution {
         self.settle(came)
     }
 
-    /// Puts the servers of the present lookup in the order in which they are to be asked.
-    pub fn arrange(
+    /// The present lookup begins at the servers of its zone, with a request of its question.
+    pub fn send(
         &mut self,
         alloc: Global,
-        servers: &mut Servers,
-        now: u64,
+        pools: &mut Pools,
+        request: DnsRequest,
+        tick: Tick,
     ) -> Result<(), NoMemory>
-        requires { want_of self.old ≡ Need.Send Want.Recall }
-        ensures keeps { (p : ℕ) → rank p self.new ≡ rank p self.old }
-        ensures want { want_of self.new ≡ Need.Send Want.Recall }
-        ensures begun { SameBegun self.old self.new }
-        ensures holds { (terms : Terms) (greatest moment : ℕ) (log : Log)
-            → ResolutionHolds terms greatest moment log self.old → ResolutionHolds terms greatest moment log self.new }
-    {
-        match &mut self.state {
-            State::Under(walk) => walk.lookup.arrange(alloc, servers, now),
-            _ => Ok(()),
-        }
-    }
-
-    /// A send to the chosen server begins.
-    pub fn begin_send(&mut self, ip: IpAddr, send: ServerSend, since: u64)
-        requires want { want_of self.old ≡ Need.Send (Want.Begin ip) }
-        requires fresh { AsksFor send self.old.state }
-        ensures falls { steps self.new < steps self.old }
-        ensures begun { SameBegun self.old self.new }
-        ensures holds { (terms : Terms) (moment : ℕ) (log : Log)
-            → ResolutionHolds terms since moment log self.old → ResolutionHolds terms since moment log self.new }
-    {
-        if let State::Under(walk) = &mut self.state {
-            walk.lookup.begin_send(ip, send, since);
-        }
-    }
-
-    /// The next order of the present send.
-    pub fn order(
-        &mut self,
-        alloc: Global,
-        servers: &mut Servers,
-        number: u64,
-        since: u64,
-        now: u64,
-    ) -> Result<Order, NoMemory>
-        requires { want_of self.old ≡ Need.Send Want.Order }
+        requires want { want_of self.old ≡ Need.Send want.Begin }
+        requires asks { AsksFor request self.old.state }
         ensures falls { OnOk result (steps self.new < steps self.old) }
-        ensures keeps { (p : ℕ) → OnErr result (rank p self.new ≤ rank p self.old) }
+        ensures err { OnErr result (self.new ≡ self.old) }
         ensures begun { SameBegun self.old self.new }
-        ensures holds { (terms : Terms) (moment : ℕ) (log : Log)
-            → ResolutionHolds terms since moment log self.old → ResolutionHolds terms since moment log self.new }
-        ensures goes { (terms : Terms) (moment : ℕ) (log : Log)
-            → ResolutionHolds terms since moment log self.old → IfOk result (GoesToServer (given_of terms) log (since + 1)) }
+        ensures holds { (terms : Terms) (greatest : ℕ) (log : Log) → PoolsHold terms greatest tick.now log pools.old
+            → ResolutionHolds terms greatest tick.now log self.old → ResolutionHolds terms greatest tick.now log self.new × PoolsHold terms greatest tick.now log pools.new }
     {
         match &mut self.state {
-            State::Under(walk) => walk.lookup.order(alloc, servers, number, since, now),
+            State::Under(walk) => walk.send(alloc, pools, request, tick),
             _ => Err(NoMemory),
         }
     }
 
-    /// Takes the outcome of the order that it waits for. On want of memory it is as before.
+    /// The next step of the present lookup: an order with its number, or none where it has its answer.
+    pub fn step(
+        &mut self,
+        alloc: Global,
+        pools: &mut Pools,
+        since: u64,
+        tick: Tick,
+    ) -> Result<Option<(u64, Order)>, NoMemory>
+        requires { want_of self.old ≡ Need.Send want.Step }
+        ensures falls { OnOk result (steps self.new < steps self.old) }
+        ensures keeps { (p : ℕ) → OnErr result (rank p self.new ≤ rank p self.old) }
+        ensures begun { SameBegun self.old self.new }
+        ensures holds { (terms : Terms) (log : Log) → PoolsHold terms since tick.now log pools.old
+            → ResolutionHolds terms since tick.now log self.old → ResolutionHolds terms since tick.now log self.new × PoolsHold terms since tick.now log pools.new }
+        ensures goes { (terms : Terms) (log : Log) → PoolsHold terms since tick.now log pools.old → IfOk result (StepGoes (given_of terms) log (since + 1)) }
+    {
+        let begun = self.begun;
+        match &mut self.state {
+            State::Under(walk) => walk.step(alloc, pools, begun, since, tick),
+            _ => Err(NoMemory),
+        }
+    }
+
+    /// Takes the outcome of the order that it waits for.
     pub fn take(
         &mut self,
         alloc: Global,
-        servers: &mut Servers,
+        pools: &mut Pools,
         outcome: Outcome,
         tick: Tick,
     ) -> Result<After, NoMemory>
@@ -333,16 +306,15 @@ impl Resolution {
         ensures falls { IfOk result (λ after. after ≢ After.Late → after ≢ After.GiveUp → rank tick.patience self.new < rank tick.patience self.old) }
         ensures keeps { rank tick.patience self.new ≤ rank tick.patience self.old }
         ensures late { result ≡ Ok After.Late → self.new ≡ self.old }
-        ensures err { OnErr result (self.new ≡ self.old) }
         ensures begun { SameBegun self.old self.new }
         ensures holds { (terms : Terms) (greatest moment : ℕ) (log longer : Log)
-            → terms.patience ≤ tick.patience → greatest < entry_of outcome → moment ≤ tick.now
-            → ResolutionHolds terms greatest moment log self.old → Extends log longer → Fits longer tick.now outcome
-            → ResolutionHolds terms (entry_of outcome) tick.now longer self.new }
+            → terms.patience ≤ tick.patience → IsNext greatest (entry_of outcome) → moment ≤ tick.now
+            → PoolsHold terms greatest moment log pools.old → ResolutionHolds terms greatest moment log self.old → Extends log longer → Fits longer tick.now outcome
+            → ResolutionHolds terms (max greatest (entry_of outcome)) tick.now longer self.new × PoolsHold terms (max greatest (entry_of outcome)) tick.now longer pools.new }
     {
         let begun = self.begun;
         match &mut self.state {
-            State::Under(walk) => walk.lookup.take(alloc, servers, outcome, begun, tick),
+            State::Under(walk) => walk.take(alloc, pools, begun, outcome, tick),
             _ => unreachable!(),
         }
     }
@@ -355,7 +327,7 @@ impl Resolution {
         ensures begun { SameBegun self.old self.new }
         ensures holds { (terms : Terms) (greatest moment : ℕ) (log : Log)
             → ResolutionHolds terms greatest moment log self.old
-            → ResolutionHolds terms greatest moment log self.new × IfSome result (λ reply. ReplyHolds terms machine_timer log self.old.begun self.old.question reply.value) }
+            → ResolutionHolds terms greatest moment log self.new × IfSome result (λ reply. ReplyHolds terms (machine_timer moment) log self.old.begun self.old.question reply.value) }
     {
         match mem::replace(&mut self.state, State::Ended) {
             State::Done(reply) => Some(reply),
@@ -363,13 +335,16 @@ impl Resolution {
         }
     }
 
-    /// Ends without a reply.
-    pub fn end(&mut self)
+    /// Ends without a reply, and leaves its lookup.
+    pub fn end(&mut self, pools: &mut Pools)
         ensures nothing { want_of self.new ≡ Need.Nothing }
         ensures begun { SameBegun self.old self.new }
-        ensures holds { (terms : Terms) (greatest moment : ℕ) (log : Log)
-            → ResolutionHolds terms greatest moment log self.old → ResolutionHolds terms greatest moment log self.new }
+        ensures holds { (terms : Terms) (greatest moment : ℕ) (log : Log) → PoolsHold terms greatest moment log pools.old
+            → ResolutionHolds terms greatest moment log self.old → ResolutionHolds terms greatest moment log self.new × PoolsHold terms greatest moment log pools.new }
     {
-        self.state = State::Ended;
+        match mem::replace(&mut self.state, State::Ended) {
+            State::Under(mut walk) => walk.lookup.leave(pools),
+            _ => {}
+        }
     }
 }

@@ -1,6 +1,6 @@
 //! What a machine is set to.
 ghost use Rattle.std.specs.Prelude.{◌≡◌, IfOk};
-ghost use Rattle.recursor_core.specs.Setting.{server_filter_of, setting_of, with_patience};
+ghost use Rattle.recursor_core.specs.Setting.{server_filter_of, answer_filter_of, setting_of, with_patience};
 
 use crate::options::RecursorOptions;
 use dns_core::{Ips, NoMemory, TryClone};
@@ -9,12 +9,13 @@ use std::alloc::Global;
 use std::net::IpAddr;
 
 /// The roots, which are asked whatever the filter says, the filter of the addresses that delegations
-/// give, the bounds of the lives of responses, and the least number of polls at which an order is given
-/// up.
+/// give, that of the addresses that answers give, the bounds of the lives of responses, and the least
+/// number of polls at which an order is given up.
 #[derive(Drop, Debug)]
 pub struct Setting {
     pub roots: Ips,
     pub server_filter: AccessControlSet,
+    pub answer_filter: AccessControlSet,
     pub lives: TtlConfig,
     pub patience: u32,
 }
@@ -26,6 +27,16 @@ fn server_filter(alloc: Global, options: &RecursorOptions) -> Result<AccessContr
     let builder = AccessControlSetBuilder::new(alloc, "server");
     let builder = builder.allow(options.allow_server.items())?;
     let builder = builder.deny(options.deny_server.items())?;
+    Ok(builder.build())
+}
+
+/// The filter of the addresses of answers that the options say.
+pub fn answer_filter(alloc: Global, options: &RecursorOptions) -> Result<AccessControlSet, NoMemory>
+    ensures { IfOk result (λ filter. filter ≡ answer_filter_of options.now) }
+{
+    let builder = AccessControlSetBuilder::new(alloc, "answers");
+    let builder = builder.allow(options.allow_answers.items())?;
+    let builder = builder.deny(options.deny_answers.items())?;
     Ok(builder.build())
 }
 
@@ -41,10 +52,12 @@ impl Setting {
     {
         let roots = Vec::from_slice(alloc, roots)?;
         let server_filter = server_filter(alloc, options)?;
+        let answer_filter = answer_filter(alloc, options)?;
         let lives = options.cache_policy.try_clone(alloc)?;
         Ok(Setting {
             roots: Ips::new(roots),
             server_filter,
+            answer_filter,
             lives,
             patience: u32::MAX,
         })

@@ -1,5 +1,5 @@
 //! Turns of questions: the machine's orders are carried out until nothing new is found.
-ghost use Rattle.std.specs.Prelude.{◌≡◌, ◌≢◌, ◌≤◌, ◌<◌, ◌⊎◌, ℕ, List, [], Option, Some, Err, IfOk, IfSome, IfNone, OnOk, MatchBool, slice_get, slice_set, vec_len};
+ghost use Rattle.std.specs.Prelude.{Contains, ◌≡◌, ◌≢◌, ◌≤◌, ◌<◌, ◌⊎◌, ℕ, List, [], Option, Some, Err, IfOk, IfSome, IfNone, OnOk, MatchBool, slice_get, slice_set, vec_len};
 ghost use Rattle.dns_core.specs.Log.{Log};
 ghost use Rattle.dns_core.specs.declared.log.LogEntry.{LogEntry};
 ghost use Rattle.dns_core.specs.declared.request.Question.{Question};
@@ -12,7 +12,7 @@ ghost use Rattle.server_pool.specs.Stands.{stand_at};
 ghost use Rattle.server_pool.specs.Stands.Stand.{Unseen};
 ghost use Rattle.recursor_core.specs.Derived.{terms_of, Derived};
 ghost use Rattle.recursor_core.specs.Machine.{rank, Begun, begun_at};
-ghost use Rattle.recursor_core.specs.Standing.{Holds, Moves, ReplyTold, TurnedTold, PlaysHold};
+ghost use Rattle.recursor_core.specs.Standing.{Holds, Moves, ReplyTold, TurnedTold, PlaysHold, run_moments};
 ghost use Rattle.recursor_core.specs.Turns.{TurnFalls, work, open_plays, IsBegunAt, IsUnderWay, Begins, ReplyOf};
 
 use crate::error::RecursorError;
@@ -72,7 +72,7 @@ fn give_up_order<P: ConnectionProvider>(
     ensures moment { core.new.moment ≡ tick.now }
     ensures falls { OnOk result (rank tick.patience core.new < rank tick.patience core.old) }
     ensures keeps { rank tick.patience core.new ≤ rank tick.patience core.old }
-    ensures told { (b : Option Begun) → IfOk result (TurnedTold (terms_of core.old) (P.log carrier.new.provider) b) }
+    ensures told { (b : Option Begun) → IfOk result (TurnedTold (terms_of core.old) tick.now (P.log carrier.new.provider) b) }
 {
     let Some(outcome) = carrier.give_up(number, tick.now) else {
         return Err(NoMemory);
@@ -104,7 +104,7 @@ fn settle<P: ConnectionProvider>(
     ensures moment { core.new.moment ≡ tick.now }
     ensures falls { OnOk result (rank tick.patience core.new < rank tick.patience core.old) }
     ensures keeps { rank tick.patience core.new ≤ rank tick.patience core.old }
-    ensures told { (b : Option Begun) → IfOk result (TurnedTold (terms_of core.old) (P.log carrier.new.provider) b) }
+    ensures told { (b : Option Begun) → IfOk result (TurnedTold (terms_of core.old) tick.now (P.log carrier.new.provider) b) }
 {
     match core.put(alloc, number, outcome, tick)? {
         After::Kept => Ok(Turned::Pending),
@@ -134,7 +134,7 @@ fn carry_order<P: ConnectionProvider>(
     ensures moment { core.new.moment ≡ tick.now }
     ensures falls { OnOk result (rank tick.patience core.new < rank tick.patience core.old) }
     ensures keeps { rank tick.patience core.new ≤ rank tick.patience core.old }
-    ensures told { (b : Option Begun) → IfOk result (TurnedTold (terms_of core.old) (P.log carrier.new.provider) b) }
+    ensures told { (b : Option Begun) → IfOk result (TurnedTold (terms_of core.old) tick.now (P.log carrier.new.provider) b) }
 {
     if carrier.polls(number, order) >= tick.patience.max(1) {
         return give_up_order(alloc, core, carrier, number, tick);
@@ -162,7 +162,7 @@ fn poll_order<P: ConnectionProvider>(
     ensures moment { core.new.moment ≡ tick.now }
     ensures falls { OnOk result (rank tick.patience core.new < rank tick.patience core.old) }
     ensures keeps { rank tick.patience core.new ≤ rank tick.patience core.old }
-    ensures told { (b : Option Begun) → IfOk result (TurnedTold (terms_of core.old) (P.log carrier.new.provider) b) }
+    ensures told { (b : Option Begun) → IfOk result (TurnedTold (terms_of core.old) tick.now (P.log carrier.new.provider) b) }
 {
     if !carrier.is_under_way(number, order) {
         return Err(NoMemory);
@@ -186,7 +186,7 @@ fn step<P: ConnectionProvider>(
     ensures holds { Holds P.ConnectionProvider tick.patience core.new carrier.new }
     ensures moves { Moves P.ConnectionProvider tick.patience tick.now core.old core.new carrier.old carrier.new }
     ensures moment { core.new.moment ≡ tick.now }
-    ensures told { IfOk result (TurnedTold (terms_of core.old) (P.log carrier.new.provider) (begun_at core.old r)) }
+    ensures told { IfOk result (TurnedTold (terms_of core.old) tick.now (P.log carrier.new.provider) (begun_at core.old r)) }
     ensures falls { IfOk result (TurnFalls (rank tick.patience core.new) (rank tick.patience core.old)) }
     ensures keeps { rank tick.patience core.new ≤ rank tick.patience core.old }
 {
@@ -221,7 +221,7 @@ fn turn<P: ConnectionProvider>(
     ensures holds { Holds P.ConnectionProvider tick.patience core.new carrier.new }
     ensures moves { Moves P.ConnectionProvider tick.patience tick.now core.old core.new carrier.old carrier.new }
     ensures moment { core.new.moment ≡ tick.now }
-    ensures told { IfOk result (TurnedTold (terms_of core.old) (P.log carrier.new.provider) (begun_at core.old r)) }
+    ensures told { IfOk result (TurnedTold (terms_of core.old) tick.now (P.log carrier.new.provider) (begun_at core.old r)) }
     ensures falls { IfOk result (TurnFalls (rank tick.patience core.new) (rank tick.patience core.old)) }
     ensures keeps { rank tick.patience core.new ≤ rank tick.patience core.old }
 {
@@ -271,7 +271,7 @@ fn answer_of<P: ConnectionProvider>(
     ensures holds { Holds P.ConnectionProvider tick.patience core.new carrier.new }
     ensures moves { Moves P.ConnectionProvider tick.patience tick.now core.old core.new carrier.old carrier.new }
     ensures moment { core.new.moment ≡ tick.now }
-    ensures told { IfOk result (λ reply. IfSome reply (λ given. ReplyTold (terms_of core.old) (P.log carrier.new.provider) (begun_at core.old r) given.value)) }
+    ensures told { IfOk result (λ reply. IfSome reply (λ given. ReplyTold (terms_of core.old) tick.now (P.log carrier.new.provider) (begun_at core.old r) given.value)) }
     ensures falls { IfOk result (λ reply. IfNone reply (rank tick.patience core.new < rank tick.patience core.old)) }
     ensures keeps { rank tick.patience core.new ≤ rank tick.patience core.old }
 {
@@ -381,7 +381,7 @@ fn play_at<P: ConnectionProvider>(
     ensures holds { Holds P.ConnectionProvider tick.patience core.new carrier.new }
     ensures moves { Moves P.ConnectionProvider tick.patience tick.now core.old core.new carrier.old carrier.new }
     ensures moment { core.new.moment ≡ tick.now }
-    ensures plays { (start : ℕ) (turns rest : List Turn) (questions : List Question) → PlaysHold core.old (P.log carrier.old.provider) start turns rest questions plays.old.items
+    ensures plays { (start : ℕ) (turns rest : List Turn) (questions : List Question) → Contains (run_moments start turns) tick.now → PlaysHold core.old (P.log carrier.old.provider) start turns rest questions plays.old.items
         → PlaysHold core.new (P.log carrier.new.provider) start turns rest questions plays.new.items }
     ensures falls { work tick.patience core.new plays.new.items < work tick.patience core.old plays.old.items }
     ensures count { vec_len plays.new ≡ vec_len plays.old }
@@ -409,7 +409,7 @@ pub fn play<P: ConnectionProvider>(
     ensures holds { Holds P.ConnectionProvider tick.patience core.new carrier.new }
     ensures moves { Moves P.ConnectionProvider tick.patience tick.now core.old core.new carrier.old carrier.new }
     ensures moment { (core.new.moment ≡ core.old.moment) ⊎ (core.new.moment ≡ tick.now) }
-    ensures plays { (start : ℕ) (turns rest : List Turn) (questions : List Question) → PlaysHold core.old (P.log carrier.old.provider) start turns rest questions plays.old.items
+    ensures plays { (start : ℕ) (turns rest : List Turn) (questions : List Question) → Contains (run_moments start turns) tick.now → PlaysHold core.old (P.log carrier.old.provider) start turns rest questions plays.old.items
         → PlaysHold core.new (P.log carrier.new.provider) start turns rest questions plays.new.items }
     ensures falls { MatchBool result (work tick.patience core.new plays.new.items < work tick.patience core.old plays.old.items) (work tick.patience core.new plays.new.items ≤ work tick.patience core.old plays.old.items) }
     ensures count { vec_len plays.new ≡ vec_len plays.old }

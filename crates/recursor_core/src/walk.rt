@@ -1,28 +1,35 @@
 //! The way of one question: from the roots down the zone cuts to the servers of its name, and the
 //! question itself at them; at each step what the cache has comes first (RFC 1034 section 5.3.3).
-ghost use Rattle.std.specs.Prelude.{◌≡◌, ◌<◌, ◌≤◌, ◌+◌, ◌∷◌, [], ℕ, true, length, Ok, Err, Some, None, IfOk, IfSome, IsSome, OnOk, OnErr};
-ghost use Rattle.dns_core.specs.Log.{Log};
+ghost use Rattle.std.specs.Prelude.{◌≡◌, ◌≢◌, max, ◌<◌, ◌≤◌, ◌+◌, ◌∷◌, [], ℕ, true, length, Ok, Err, Some, None, IfOk, IfSome, IsSome, OnOk, OnErr};
+ghost use Rattle.dns_core.specs.Log.{Log, Extends};
+ghost use Rattle.dns_core.specs.declared.message.Query.{Query};
 ghost use Rattle.resolution.specs.Names.{walk};
-ghost use Rattle.recursor_core.specs.Replies.{Terms, ReplyHolds, IsReply};
+ghost use Rattle.recursor_core.specs.Replies.{Terms, given_of, ReplyHolds, IsReply};
 ghost use Rattle.recursor_core.specs.Tried.{machine_timer};
-ghost use Rattle.recursor_core.specs.Lookup.{send_want};
-ghost use Rattle.recursor_core.specs.Walk.{lookups_after, next_stage, query_of, made_negative, told_negative, ends_walk, IsCandidate, steps, begin_steps, Goes, Recalls};
+ghost use Rattle.recursor_core.specs.Lookup.{want_of, IsWaiting};
+ghost use Rattle.recursor_core.specs.Pools.{PoolsHold, IsNext, StepGoes};
+ghost use Rattle.server_core.specs.Order.{entry_of};
+ghost use Rattle.server_pool.specs.Fits.{Fits};
+ghost use Rattle.recursor_core.specs.Walk.{lookups_after, next_stage, query_of, made_negative, told_negative, ends_walk, IsCandidate, steps, rank, begin_steps, Goes, Recalls};
 ghost use Rattle.recursor_core.specs.Counted.{Stands, Answers, IsRecalled, may_answer};
 ghost use Rattle.recursor_core.specs.Remembered.{response_in, telling_of_walk, remembered};
+ghost use Rattle.recursor_core.specs.declared.lookup.Want.TheVariants as want;
 ghost use Rattle.recursor_core.specs.Derived.{FoundHolds, WayHolds, WalkHolds, WalkComes, LeavesBehind};
 
 use crate::counted::{Counted, kept_of};
 use crate::error::{AuthorityData, RecursorError, WalkCause};
-use crate::lookup::{Found, Lookup, Send, Want};
+use crate::lookup::{Ask, Found, Lookup};
+use crate::pools::Pools;
 use crate::reply::Reply;
 use dns_core::{
-    DnsClass, DnsError, Ips, Message, Name, NetError, NoMemory, NoRecords, Numbers, Query,
-    Question, RecordType, Records, TryClone, strip,
+    DnsClass, DnsError, DnsRequest, Ips, Message, Name, NetError, NoMemory, NoRecords, Numbers,
+    Query, Question, RecordType, Records, TryClone, strip,
 };
 use recursor_walk::{addresses, is_delegation, verdict_of_class};
 use resolution::{Cause, Verdict};
 use resolver_cache::ResponseCache;
 use resolver_settings::AccessControlSet;
+use server_core::{After, Order, Outcome, Tick};
 use std::alloc::Global;
 use std::mem;
 
@@ -182,8 +189,8 @@ pub(crate) fn answer_with(
     question: &Question,
     counted: Counted,
 ) -> Result<Box<Reply>, NoMemory>
-    ensures { (terms : Terms) (greatest t0 : ℕ) (log : Log) → Answers terms greatest t0 log question.now.query counted.entry counted.verdict
-        → IfOk result (λ reply. ReplyHolds terms machine_timer log t0 question.now reply.value) }
+    ensures { (terms : Terms) (greatest moment t0 : ℕ) (log : Log) → Answers terms greatest t0 log question.now.query counted.entry counted.verdict
+        → IfOk result (λ reply. ReplyHolds terms (machine_timer moment) log t0 question.now reply.value) }
 {
     let Counted { entry, verdict } = counted;
     match verdict {
@@ -206,7 +213,7 @@ impl Walk {
         let name = walked_name(alloc, &question.query)?;
         let stage = stage_after(name.labels().len(), 0);
         let query = query_at(alloc, &name, &question.query, stage)?;
-        let lookup = Lookup::new(alloc, query, roots.items())?;
+        let lookup = Lookup::new(alloc, query);
         let servers = roots.try_clone(alloc)?;
         Ok(Walk {
             name,
@@ -222,13 +229,7 @@ impl Walk {
         ensures ok { OnOk result (cache.new ≡ remembered cache.old (telling_of_walk self.now)) }
         ensures err { OnErr result (cache.new ≡ cache.old) }
     {
-        let Send::Told {
-            entry,
-            at,
-            class,
-            ..
-        } = &self.lookup.send
-        else {
+        let Ask::Told { entry, at, class } = &self.lookup.ask else {
             return Ok(());
         };
         let Some(response) = response_in(alloc, class, &self.lookup.query, &self.zone)? else {
@@ -248,7 +249,7 @@ impl Walk {
         filter: &AccessControlSet,
         counted: Option<Counted>,
     ) -> Result<Option<Box<Reply>>, NoMemory>
-        requires { send_want self.old.lookup.send ≡ Want.Recall }
+        requires { want_of self.old.lookup.ask ≡ want.Recall }
         ensures falls { Goes self.old self.new result }
         ensures holds { (terms : Terms) (greatest moment t0 : ℕ) (log : Log) → terms.server_filter ≡ filter.now
             → IfSome counted (IsRecalled terms greatest t0 log self.old.lookup.query)
@@ -273,7 +274,7 @@ impl Walk {
         question: &Question,
         counted: Counted,
     ) -> Result<Option<Box<Reply>>, NoMemory>
-        requires want { send_want self.old.lookup.send ≡ Want.Recall }
+        requires want { want_of self.old.lookup.ask ≡ want.Recall }
         requires stage { IsCandidate self.old.stage → ⊥ }
         ensures falls { Goes self.old self.new result }
         ensures holds { (terms : Terms) (greatest moment t0 : ℕ) (log : Log)
@@ -289,23 +290,66 @@ impl Walk {
         Ok(Some(answer_with(alloc, question, counted)?))
     }
 
-    /// The next server of the lookup is chosen; a reply where the walk ends for want of one.
-    pub fn choose(
+    /// The lookup begins at all servers of the zone.
+    pub fn send(
         &mut self,
         alloc: Global,
-        question: &Question,
-        filter: &AccessControlSet,
-    ) -> Result<Option<Box<Reply>>, NoMemory>
-        requires { send_want self.old.lookup.send ≡ Want.Choose }
-        ensures falls { Goes self.old self.new result }
-        ensures holds { (terms : Terms) (greatest moment t0 : ℕ) (log : Log) → terms.server_filter ≡ filter.now
-            → WalkHolds terms greatest moment t0 log question.now.query self.old
-            → IfOk result (WalkComes terms greatest moment t0 log question.now self.new) }
+        pools: &mut Pools,
+        request: DnsRequest,
+        tick: Tick,
+    ) -> Result<(), NoMemory>
+        requires want { want_of self.old.lookup.ask ≡ want.Begin }
+        requires asks { request.query ≡ self.old.lookup.query }
+        ensures falls { OnOk result (steps self.new < steps self.old) }
+        ensures err { OnErr result (self.new ≡ self.old) }
+        ensures holds { (terms : Terms) (greatest t0 : ℕ) (log : Log) (q : Query) → PoolsHold terms greatest tick.now log pools.old
+            → WalkHolds terms greatest tick.now t0 log q self.old → WalkHolds terms greatest tick.now t0 log q self.new × PoolsHold terms greatest tick.now log pools.new }
     {
-        match self.lookup.choose() {
-            None => Ok(None),
-            Some(found) => self.conclude(alloc, question, filter, found),
-        }
+        let ips = self.servers.items();
+        self.lookup
+            .send(alloc, pools, &self.zone, ips, request, tick)
+    }
+
+    /// The next step of the lookup: an order with its number, or none where it has its answer.
+    pub fn step(
+        &mut self,
+        alloc: Global,
+        pools: &mut Pools,
+        begun: u64,
+        since: u64,
+        tick: Tick,
+    ) -> Result<Option<(u64, Order)>, NoMemory>
+        requires want { want_of self.old.lookup.ask ≡ want.Step }
+        ensures falls { OnOk result (steps self.new < steps self.old) }
+        ensures keeps { (patience : ℕ) → OnErr result (rank patience self.new ≤ rank patience self.old) }
+        ensures holds { (terms : Terms) (log : Log) (q : Query) → PoolsHold terms since tick.now log pools.old
+            → WalkHolds terms since tick.now begun log q self.old → WalkHolds terms since tick.now begun log q self.new × PoolsHold terms since tick.now log pools.new }
+        ensures goes { (terms : Terms) (log : Log) → PoolsHold terms since tick.now log pools.old → IfOk result (StepGoes (given_of terms) log (since + 1)) }
+    {
+        self.lookup
+            .step(alloc, pools, &self.zone, begun, since, tick)
+    }
+
+    /// Takes the outcome of the order that the lookup waits for.
+    pub fn take(
+        &mut self,
+        alloc: Global,
+        pools: &mut Pools,
+        begun: u64,
+        outcome: Outcome,
+        tick: Tick,
+    ) -> Result<After, NoMemory>
+        requires { IsWaiting self.old.lookup.ask }
+        ensures falls { IfOk result (λ after. after ≢ After.Late → after ≢ After.GiveUp → rank tick.patience self.new < rank tick.patience self.old) }
+        ensures keeps { rank tick.patience self.new ≤ rank tick.patience self.old }
+        ensures late { result ≡ Ok After.Late → self.new ≡ self.old }
+        ensures holds { (terms : Terms) (greatest moment : ℕ) (log longer : Log) (q : Query)
+            → terms.patience ≤ tick.patience → IsNext greatest (entry_of outcome) → moment ≤ tick.now
+            → PoolsHold terms greatest moment log pools.old → WalkHolds terms greatest moment begun log q self.old → Extends log longer → Fits longer tick.now outcome
+            → WalkHolds terms (max greatest (entry_of outcome)) tick.now begun longer q self.new × PoolsHold terms (max greatest (entry_of outcome)) tick.now longer pools.new }
+    {
+        self.lookup
+            .take(alloc, pools, &self.zone, begun, outcome, tick)
     }
 
     /// Hears what was told to the lookup; a reply where the walk ends with it.
@@ -315,13 +359,13 @@ impl Walk {
         question: &Question,
         filter: &AccessControlSet,
     ) -> Result<Option<Box<Reply>>, NoMemory>
-        requires { send_want self.old.lookup.send ≡ Want.Hear }
+        requires { want_of self.old.lookup.ask ≡ want.Hear }
         ensures falls { Goes self.old self.new result }
         ensures holds { (terms : Terms) (greatest moment t0 : ℕ) (log : Log) → terms.server_filter ≡ filter.now
             → WalkHolds terms greatest moment t0 log question.now.query self.old
             → IfOk result (WalkComes terms greatest moment t0 log question.now self.new) }
     {
-        match self.lookup.hear()? {
+        match self.lookup.hear() {
             None => Ok(None),
             Some(found) => self.conclude(alloc, question, filter, found),
         }
@@ -338,7 +382,7 @@ impl Walk {
         ensures falls { Goes self.old self.new result }
         ensures holds { (terms : Terms) (greatest moment t0 : ℕ) (log : Log) → terms.server_filter ≡ filter.now
             → WayHolds terms greatest log question.now.query self.old
-            → FoundHolds terms greatest t0 log self.old.zone self.old.lookup.query self.old.lookup.ends found
+            → FoundHolds terms greatest moment t0 log self.old.zone self.old.lookup.query self.old.lookup.ends found
             → IfOk result (WalkComes terms greatest moment t0 log question.now self.new) }
     {
         match self.stage {
@@ -361,12 +405,12 @@ impl Walk {
         ensures falls { Goes self.old self.new result }
         ensures holds { (terms : Terms) (greatest moment t0 : ℕ) (log : Log) → terms.server_filter ≡ filter.now
             → WayHolds terms greatest log question.now.query self.old
-            → FoundHolds terms greatest t0 log self.old.zone self.old.lookup.query self.old.lookup.ends found
+            → FoundHolds terms greatest moment t0 log self.old.zone self.old.lookup.query self.old.lookup.ends found
             → IfOk result (WalkComes terms greatest moment t0 log question.now self.new) }
     {
         match found {
-            Found::Told { entry, class } => {
-                self.hear_candidate(alloc, question, filter, entry, class)
+            Found::Told { entry, at, class } => {
+                self.hear_candidate(alloc, question, filter, entry, at, class)
             }
             Found::Error(error) => match error {
                 NetError::Timeout => self.no_server(alloc, WalkCause::Timeout),
@@ -381,13 +425,14 @@ impl Walk {
         question: &Question,
         filter: &AccessControlSet,
         entry: u64,
+        _at: u64,
         class: Result<Message, DnsError>,
     ) -> Result<Option<Box<Reply>>, NoMemory>
         requires { IsCandidate self.old.stage }
         ensures falls { Goes self.old self.new result }
         ensures holds { (terms : Terms) (greatest moment t0 : ℕ) (log : Log) → terms.server_filter ≡ filter.now
             → WayHolds terms greatest log question.now.query self.old
-            → FoundHolds terms greatest t0 log self.old.zone self.old.lookup.query self.old.lookup.ends (Found.Told entry class)
+            → FoundHolds terms greatest moment t0 log self.old.zone self.old.lookup.query self.old.lookup.ends (Found.Told entry _at class)
             → IfOk result (WalkComes terms greatest moment t0 log question.now self.new) }
     {
         match verdict_of_class(class, &self.lookup.query, &self.zone) {
@@ -489,7 +534,7 @@ impl Walk {
         };
         let stage = stage_after(self.name.labels().len(), labels);
         let query = query_at(alloc, &self.name, &question.query, stage)?;
-        let lookup = Lookup::new(alloc, query, self.servers.items())?;
+        let lookup = Lookup::new(alloc, query);
         self.stage = stage;
         self.lookup = lookup;
         Ok(None)
@@ -512,12 +557,12 @@ impl Walk {
         question: &Question,
         found: Found,
     ) -> Result<Box<Reply>, NoMemory>
-        ensures { (terms : Terms) (greatest t0 : ℕ) (log : Log) → self.old.stage ≡ Stage.Last → WayHolds terms greatest log question.now.query self.old
-            → FoundHolds terms greatest t0 log self.old.zone self.old.lookup.query self.old.lookup.ends found
-            → IfOk result (λ reply. ReplyHolds terms machine_timer log t0 question.now reply.value) }
+        ensures { (terms : Terms) (greatest moment t0 : ℕ) (log : Log) → self.old.stage ≡ Stage.Last → WayHolds terms greatest log question.now.query self.old
+            → FoundHolds terms greatest moment t0 log self.old.zone self.old.lookup.query self.old.lookup.ends found
+            → IfOk result (λ reply. ReplyHolds terms (machine_timer moment) log t0 question.now reply.value) }
     {
         match found {
-            Found::Told { entry, class } => self.hear_last(alloc, question, entry, class),
+            Found::Told { entry, at, class } => self.hear_last(alloc, question, entry, at, class),
             Found::Error(error) => self.failed(alloc, error),
         }
     }
@@ -527,11 +572,12 @@ impl Walk {
         alloc: Global,
         question: &Question,
         entry: u64,
+        _at: u64,
         class: Result<Message, DnsError>,
     ) -> Result<Box<Reply>, NoMemory>
-        ensures { (terms : Terms) (greatest t0 : ℕ) (log : Log) → self.old.stage ≡ Stage.Last → WayHolds terms greatest log question.now.query self.old
-            → FoundHolds terms greatest t0 log self.old.zone self.old.lookup.query self.old.lookup.ends (Found.Told entry class)
-            → IfOk result (λ reply. ReplyHolds terms machine_timer log t0 question.now reply.value) }
+        ensures { (terms : Terms) (greatest moment t0 : ℕ) (log : Log) → self.old.stage ≡ Stage.Last → WayHolds terms greatest log question.now.query self.old
+            → FoundHolds terms greatest moment t0 log self.old.zone self.old.lookup.query self.old.lookup.ends (Found.Told entry _at class)
+            → IfOk result (λ reply. ReplyHolds terms (machine_timer moment) log t0 question.now reply.value) }
     {
         match verdict_of_class(class, &self.lookup.query, &self.zone) {
             Ok(verdict) => answer_with(alloc, question, Counted { entry, verdict }),

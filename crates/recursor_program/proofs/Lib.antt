@@ -2,4 +2,3 @@ pub mod Failures
 pub mod Held
 pub mod Qualified
 pub mod Runs
-pub mod Plainly

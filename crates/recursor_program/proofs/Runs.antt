@@ -13,10 +13,10 @@ use Rattle.recursor_core.specs.Standing.{Standing, run_terms, RepliesHold}
 use Rattle.recursor_core.specs.declared.reply.Reply.{Reply}
 
 -- the terms of a first run are those of its recursor
-pub terms-are : {P : Type 0} (patience least : ℕ) (r : Standing P) (roots : List IpAddr) (filter : Access) (lives : TtlTable) → r.roots ≡ roots
-    → r.server_filter ≡ filter → r.lives ≡ lives → min r.patience patience ≡ least
-    → run_terms patience r ≡ record { roots = roots; server_filter = filter; lives = lives; patience = least }
-terms-are patience least r roots filter lives a b l p = λ i. record { roots = a i; server_filter = b i; lives = l i; patience = p i }
+pub terms-are : {P : Type 0} (patience least : ℕ) (r : Standing P) (roots : List IpAddr) (servers answers : Access) (lives : TtlTable) → r.roots ≡ roots
+    → r.server_filter ≡ servers → r.answer_filter ≡ answers → r.lives ≡ lives → min r.patience patience ≡ least
+    → run_terms patience r ≡ record { roots = roots; server_filter = servers; answer_filter = answers; lives = lives; patience = least }
+terms-are patience least r roots servers answers lives a b f l p = λ i. record { roots = a i; server_filter = b i; answer_filter = f i; lives = l i; patience = p i }
 
 pub asks-of : (terms given : Terms) (log told : List LogEntry) → given ≡ terms → log ≡ told → AsksServers (given_of given) (log_of told) → AsksServers (given_of terms) (log_of log)
 asks-of terms given log told r l h =

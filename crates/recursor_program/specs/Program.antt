@@ -1,20 +1,16 @@
 -- What the program writes for what it reads.
-use Rattle.std.specs.Prelude.{◌≡◌, ◌≢◌, ◌⊎◌, ℕ, Bool, true, false, not, List, [], ◌∷◌, length, codes, Some, None, Ok, Err, IfSome}
+use Rattle.std.specs.Prelude.{◌≡◌, ◌≢◌, ◌⊎◌, ℕ, Bool, true, false, List, [], ◌∷◌, length, codes, IfSome}
 use Rattle.std.specs.declared.option.Option.{Option}
 use Rattle.std.specs.Io.KnownBytes.{Appends, Keeps}
-use Rattle.std.specs.List.{list_all}
 use Rattle.std.specs.Str.{bytes_eq}
 use Rattle.dns_core.specs.Faults.{Rose}
 use Rattle.recursor_world.specs.declared.script.Script.{Script}
-use Rattle.recursor_world.specs.declared.script.ScriptLine.{ScriptLine}
-use Rattle.recursor_world.specs.declared.script.ScriptLine.TheVariants as line
 use Rattle.recursor_world.specs.Script.{Gives}
 use Rattle.recursor_world.specs.Upstream.{Upstream}
 use Rattle.dns_core.specs.Log.{log_of}
 use Rattle.resolution.specs.Asking.{AsksServers}
-use Rattle.recursor_core.specs.Plain.{is_special_error, IsPlainlyTold}
 use Rattle.recursor_core.specs.Replies.{Terms, given_of}
-use Rattle.recursor_core.specs.Setting.{server_filter_of}
+use Rattle.recursor_core.specs.Setting.{server_filter_of, answer_filter_of}
 use Rattle.recursor_core.specs.Standing.{Standing, RepliesHold}
 use Rattle.recursor_core.specs.declared.options.RecursorOptions.{RecursorOptions}
 use Rattle.std.specs.declared.net.ip_addr.IpAddr.{IpAddr}
@@ -47,21 +43,11 @@ script_of (upstream.Script s) = s
 -- a new recursor over a script, with these options
 abbrev pub IsNewOver : List IpAddr → RecursorOptions → Script → Standing Upstream → Type 0
 IsNewOver roots options script r = (r.provider.script ≡ script) × (r.roots ≡ roots) × (r.server_filter ≡ server_filter_of options) × (r.moment ≡ 0) × (r.lives ≡ options.cache_policy) × (r.patience ≡ 4294967295)
+    × (r.answer_filter ≡ answer_filter_of options)
 
--- after the line no server is to be asked twice: it tells a message that is not truncated, an error of transport, or that a connection is there or is refused
-abbrev pub is_plain_line : ScriptLine → Bool
-is_plain_line (line.Reply ip protocol name query_type delay (Ok m)) = not m.truncation
-is_plain_line (line.Reply ip protocol name query_type delay (Err e)) = not (is_special_error e)
-is_plain_line (line.Connect ip protocol delay None) = true
-is_plain_line (line.Connect ip protocol delay (Some e)) = not (is_special_error e)
-is_plain_line (line.Refuse ip protocol) = true
-
-abbrev pub is_plain_script : Script → Bool
-is_plain_script s = list_all is_plain_line s.lines
-
--- the roots of a scenario, the filter of other servers and the bounds of lives that its options say, and its patience
+-- the roots of a scenario, the filters of other servers and of the addresses of answers and the bounds of lives that its options say, and its patience
 abbrev pub terms_of : Scenario → Terms
-terms_of s = record { roots = s.roots; server_filter = server_filter_of s.options; lives = s.options.cache_policy; patience = s.patience }
+terms_of s = record { roots = s.roots; server_filter = server_filter_of s.options; answer_filter = answer_filter_of s.options; lives = s.options.cache_policy; patience = s.patience }
 
 -- A run of a scenario: its log is one that the script gives, and each question has its reply, in order. Only servers were asked,
 -- by what was told before, each a root or at an address that is not denied. A reply with a message is what counts of a response that a server of a zone at or above the name told since the question
@@ -69,7 +55,6 @@ terms_of s = record { roots = s.roots; server_filter = server_filter_of s.option
 pub record Ran (s : Scenario) (t : Transcript) : Type 0 where
   pub gives : Gives (script_of s.upstream) t.log
   pub answered : length t.replies ≡ length s.questions
-  pub plain : IsPlainlyTold (log_of t.log)
   pub asks : AsksServers (given_of (terms_of s)) (log_of t.log)
   pub replies : RepliesHold (terms_of s) (log_of t.log) 0 s.turns s.questions t.replies
 

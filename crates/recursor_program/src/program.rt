@@ -6,7 +6,7 @@ ghost use Rattle.recursor_world.specs.Script.{Gives, is_qualified_script};
 ghost use Rattle.recursor_world.specs.Upstream.{told_by};
 ghost use Rattle.recursor_text.specs.Transcript.{transcript_text};
 ghost use Rattle.recursor_program.specs.Faults.{fault_text};
-ghost use Rattle.recursor_program.specs.Program.{are_words, script_of, is_plain_script, fault_of, IsNewOver, Ran, HasRun, HasOutput, IsFaultOf, Tells, HasWritten, HasRefused, IsTextFor, IsTextOf, WrotePart, ToldMemory, IsRefusal};
+ghost use Rattle.recursor_program.specs.Program.{are_words, script_of, fault_of, IsNewOver, Ran, HasRun, HasOutput, IsFaultOf, Tells, HasWritten, HasRefused, IsTextFor, IsTextOf, WrotePart, ToldMemory, IsRefusal};
 
 use crate::faults::{Fault, say};
 use crate::status::Status;
@@ -77,8 +77,7 @@ fn first_patience(patience: u32) -> u32
 
 /// Answers the questions of a scenario over its script.
 fn ran(alloc: Global, scenario: Scenario) -> Result<Transcript, NoMemory>
-    requires qualified { IsTrue (is_qualified_script (script_of scenario.upstream)) }
-    requires plain { IsTrue (is_plain_script (script_of scenario.upstream)) }
+    requires { IsTrue (is_qualified_script (script_of scenario.upstream)) }
     ensures { IfOk result (Ran scenario) }
 {
     let Scenario {
@@ -119,8 +118,7 @@ fn printed(alloc: Global, transcript: &Transcript) -> Result<Vec<u8>, NoMemory>
 
 /// The transcript of a scenario, as text.
 fn resolved(alloc: Global, scenario: Scenario) -> Result<Vec<u8>, NoMemory>
-    requires qualified { IsTrue (is_qualified_script (script_of scenario.upstream)) }
-    requires plain { IsTrue (is_plain_script (script_of scenario.upstream)) }
+    requires { IsTrue (is_qualified_script (script_of scenario.upstream)) }
     ensures { IfOk result (λ text. HasRun scenario text.items) }
 {
     let transcript = ran(alloc, scenario)?;

@@ -4,10 +4,9 @@ use Rattle.server_pool.specs.Carrying.{TellsThat}
 use Rattle.recursor_core.specs.Standing.{RepliesHold, last_moment, run_moments}
 use Rattle.recursor_core.specs.declared.setting.Setting.{Setting}
 use Rattle.recursor_core.specs.Replies.{terms_with}
-use Rattle.recursor_core.proofs.Standing.{Grown-trans}
 use Rattle.server_pool.proofs.Patience.{IsPatient-trans}
 use Rattle.recursor_core.proofs.Playing.{plays_wait, replies_hold}
-use Rattle.recursor_core.proofs.Timed.{timely_first, run_first, run_turns, run_last, contains_max, IsTimely-grown}
+use Rattle.recursor_core.proofs.Timed.{run_first, run_turns, run_last, contains_max}
 use Rattle.recursor_core.proofs.driving.answer.Goals as goal
 
 pub returns-clause-replies : goal.returns-clause-replies
@@ -18,27 +17,23 @@ returns-clause-replies g c =
     let questions = c.args.questions.now in
     let now = c.max-now.result in
     let first = g.P.ConnectionProvider.log c.args.carrier.now.provider in
-    let turned_to = g.P.ConnectionProvider.log c.play_turns-current.new.carrier.provider in
     let told = g.P.ConnectionProvider.log c.play_rest.new.carrier.provider in
     let last : c.last_moment-last.result ≡ last_moment start turns = rw c.moment.ensures at c.last_moment-last.ensures in
     let mid = c.play_turns-current.new.core.moment in
     let due : last_moment start turns ≤ now = omega (arith, last, c.max-now.ensures) in
     let after : start ≤ now = omega (arith, c.max-now.ensures, c.moment-2.ensures, c.play_turns-current.ensures.moment) in
     let is : max (last_moment start turns) mid ≡ now = omega (arith, last, c.max-now.ensures, c.moment-2.ensures) in
-    let turned = c.play_turns-current.ensures.timely start (run_moments start turns) (run_first start turns) (run_turns start turns)
-    (timely_first start turns first c.requires.past) in
+    let turned = c.play_turns-current.ensures.timely (run_moments start turns) (run_first start turns) (run_turns start turns) in
     let one : Contains (run_moments start turns) now = subst (Contains (run_moments start turns)) is
-    (contains_max (run_moments start turns) (last_moment start turns) mid (run_last start turns) turned.0) in
-    let grown = Grown-trans now turned_to (g.P.ConnectionProvider.log c.finish.new.carrier.provider) told c.finish.ensures.grown c.play_rest.ensures.grown in
-    let timely = IsTimely-grown now start (run_moments start turns) turned_to told grown one turned.1 in
+    (contains_max (run_moments start turns) (last_moment start turns) mid (run_last start turns) turned) in
     let waits = plays_wait core first start turns questions c.in_ok-plays.plays.items c.in_ok-plays.ensures.waits in
-    let played = c.play_turns-current.ensures.plays start (omega arith) waits in
-    let over = c.finish.ensures.plays start turns [] questions played in
-    let plays = c.play_rest.ensures.plays start turns after due over in
+    let played = c.play_turns-current.ensures.plays start (omega arith) (run_first start turns) waits in
+    let over = c.finish.ensures.plays start turns [] questions one played in
+    let plays = c.play_rest.ensures.plays start turns after due one over in
     let setting = c.play_rest.ensures.setting ∙ (c.finish.ensures.setting ∙ c.play_turns-current.ensures.setting) in
     IfOk-weaker c.replies.result _ _ (λ v each.
     subst (λ (held : Setting). TellsThat told (λ log. RepliesHold (terms_with held) log start turns questions v.items)) setting
-    (replies_hold c.play_rest.new.core told start turns [] questions c.play_rest.new.plays.items v.items timely plays each)) c.replies.ensures.each
+    (replies_hold c.play_rest.new.core told start turns [] questions c.play_rest.new.plays.items v.items plays each)) c.replies.ensures.each
 
 pub returns-clause-patient : goal.returns-clause-patient
 returns-clause-patient g c =

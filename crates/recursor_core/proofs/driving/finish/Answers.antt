@@ -17,7 +17,7 @@ turns-preserved g c =
       moment = moments_then c.args.core.now.moment c.turns.core.moment c.play.new.core.moment c.args.tick.now i.moment p.moment;
       grown = Grown-trans c.args.tick.now _ _ _ i.grown p.moves.grown;
       patient = IsPatient-trans _ _ _ _ i.patient p.moves.patient;
-      plays = λ start turns rest questions h. p.plays start turns rest questions (i.plays start turns rest questions h);
+      plays = λ start turns rest questions here h. p.plays start turns rest questions here (i.plays start turns rest questions here h);
       count = p.count ∙ i.count;
     }
 

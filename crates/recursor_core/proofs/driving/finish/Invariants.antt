@@ -1,10 +1,10 @@
-use Rattle.std.proofs.Common.{◌≡◌, ◌⊎◌, ℕ, max, List, vec_len}
+use Rattle.std.proofs.Common.{◌≡◌, ◌⊎◌, ℕ, max, List, Contains, vec_len}
 use Rattle.dns_core.specs.declared.log.LogEntry.{LogEntry}
 use Rattle.dns_core.specs.declared.request.Question.{Question}
 use Rattle.dns_core.specs.declared.request.Turn.{Turn}
 use Rattle.server_pool.specs.Carrying.{Grown}
 use Rattle.server_pool.specs.Patience.{IsPatient}
-use Rattle.recursor_core.specs.Standing.{Holds, PlaysHold}
+use Rattle.recursor_core.specs.Standing.{Holds, PlaysHold, run_moments}
 use Rattle.recursor_core.specs.Turns.{work}
 use Rattle.recursor_core.proofs.driving.finish.Given as goal
 
@@ -16,7 +16,7 @@ invariant-turns g l = record {
   moment : (l.core.moment ≡ l.fn.core.moment) ⊎ (l.core.moment ≡ l.tick.now);
   grown : Grown l.tick.now (g.P.ConnectionProvider.log l.fn.carrier.provider) (g.P.ConnectionProvider.log l.carrier.provider);
   patient : IsPatient (max 1 l.tick.patience) (g.P.ConnectionProvider.log l.fn.carrier.provider) (g.P.ConnectionProvider.log l.carrier.provider);
-  plays : (start : ℕ) (turns rest : List Turn) (questions : List Question)
+  plays : (start : ℕ) (turns rest : List Turn) (questions : List Question) → Contains (run_moments start turns) l.tick.now
       → PlaysHold l.fn.core (g.P.ConnectionProvider.log l.fn.carrier.provider) start turns rest questions l.fn.plays.items
       → PlaysHold l.core (g.P.ConnectionProvider.log l.carrier.provider) start turns rest questions l.plays.items;
   count : vec_len l.plays ≡ vec_len l.fn.plays;

@@ -15,8 +15,8 @@ returns-clause-moment g c =
     moments_then c.args.core.now.moment c.begin_one.new.core.moment c.finish.new.core.moment c.args.tick.now c.begin_one.ensures.moment c.finish.ensures.moment
 
 pub returns-clause-plays : goal.returns-clause-plays
-returns-clause-plays g c start turns after due h =
+returns-clause-plays g c start turns after due here h =
     let b = c.begin_one.ensures in
-    c.finish.ensures.plays start turns [] c.args.questions.now
+    c.finish.ensures.plays start turns [] c.args.questions.now here
     (plays_end c.args.core.now c.begin_one.new.core (g.P.ConnectionProvider.log c.args.carrier.now.provider) start turns c.args.questions.now
     c.args.plays.now.items c.begin_one.new.plays.items c.args.q c.args.tick.now after due b.setting b.begun b.others b.begins h)

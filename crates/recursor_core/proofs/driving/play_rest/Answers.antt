@@ -14,6 +14,6 @@ loop-q-preserved g c =
       moment = moments_then c.args.core.now.moment c.loop-q.core.moment c.play_one.new.core.moment c.args.tick.now i.moment p.moment;
       grown = Grown-trans c.args.tick.now _ _ _ i.grown p.grown;
       patient = IsPatient-trans _ _ _ _ i.patient p.patient;
-      plays = λ start turns after due h. p.plays start turns after due (i.plays start turns after due h);
+      plays = λ start turns after due here h. p.plays start turns after due here (i.plays start turns after due here h);
       count = p.count ∙ i.count;
     }

@@ -2,11 +2,12 @@ use Rattle.std.proofs.Common.{◌≡◌, ◌≤◌, ◌+◌, ◌-◌, ◌∷◌,
 use Rattle.server_pool.proofs.Patience.{IsPatient-trans}
 use Rattle.recursor_core.proofs.Standing.{holds_derived, moment_later}
 use Rattle.recursor_core.proofs.Playing.{plays_skip, plays_turn}
-use Rattle.recursor_core.proofs.Timed.{IsTimely-grown, contains_max, contains_moment}
+use Rattle.recursor_core.specs.Standing.{run_moments}
+use Rattle.recursor_core.proofs.Timed.{contains_max, contains_moment}
 use Rattle.recursor_core.proofs.driving.play_turn.Goals as goal
 
 pub returns-then-turn-eq0-clause-plays : goal.returns-then-turn-eq0-clause-plays
-returns-then-turn-eq0-clause-plays g c start turns rest after h =
+returns-then-turn-eq0-clause-plays g c start turns rest after was here h =
     plays_skip c.args.core.now (g.P.ConnectionProvider.log c.args.carrier.now.provider) start turns rest c.args.turn.now c.args.questions.now
     c.args.plays.now.items c.if-turn-eq0.true h
 
@@ -19,32 +20,32 @@ play-played-requires-clause-holds g c =
     (moment_later core.moment new.moment c.max-now.result come c.begin_one.ensures.moment) c.begin_one.ensures.derived c.make_way-next.ensures.holds
 
 pub returns-clause-timely : goal.returns-clause-timely
-returns-clause-timely g c start moments was here told =
+returns-clause-timely g c moments was here =
     let core = c.make_way-next.new.core in
     let begun = c.begin_one.new.core in
     let new = c.play-played.new.core in
     let now = c.max-now.result in
     let still : Contains moments core.moment = subst (Contains moments) (sym c.make_way-next.ensures.moment) was in
-    let way = IsTimely-grown c.args.core.now.moment start moments (g.P.ConnectionProvider.log c.args.carrier.now.provider)
-    (g.P.ConnectionProvider.log c.make_way-next.new.carrier.provider) c.make_way-next.ensures.grown was told in
     let is : max c.args.turn.now.moment core.moment ≡ now = omega (arith, c.max-now.ensures, c.moment.ensures) in
-    let one : Contains moments now = subst (Contains moments) is (contains_max moments c.args.turn.now.moment core.moment here still) in (
-      contains_moment moments begun.moment new.moment now c.play-played.ensures.moment
-          (contains_moment moments core.moment begun.moment now c.begin_one.ensures.moment still one) one,
-      IsTimely-grown now start moments (g.P.ConnectionProvider.log c.make_way-next.new.carrier.provider)
-          (g.P.ConnectionProvider.log c.play-played.new.carrier.provider) c.play-played.ensures.moves.grown one way,
-    )
+    let one : Contains moments now = subst (Contains moments) is (contains_max moments c.args.turn.now.moment core.moment here still) in
+    contains_moment moments begun.moment new.moment now c.play-played.ensures.moment
+    (contains_moment moments core.moment begun.moment now c.begin_one.ensures.moment still one) one
 
 pub returns-clause-plays : goal.returns-clause-plays
-returns-clause-plays g c start turns rest after h =
+returns-clause-plays g c start turns rest after was here h =
     let b = c.begin_one.ensures in
     let t = c.args.turn.now in
     let q : ℕ = t.question - 1 in
     let names : t.question ≡ q + 1 = omega (arith, c.if-turn-eq0.false) in
     let due : t.moment ≤ c.max-now.result = omega (arith, c.max-now.ensures) in
     let come : start ≤ c.max-now.result = omega (arith, c.max-now.ensures, c.moment.ensures, c.make_way-next.ensures.moment, after) in
-    let way = c.make_way-next.ensures.plays start turns (t ∷ rest) c.args.questions.now h in
-    c.play-played.ensures.plays start turns rest c.args.questions.now
+    let core = c.make_way-next.new.core in
+    let moments = run_moments start turns in
+    let still : Contains moments core.moment = subst (Contains moments) (sym c.make_way-next.ensures.moment) was in
+    let is : max t.moment core.moment ≡ c.max-now.result = omega (arith, c.max-now.ensures, c.moment.ensures) in
+    let one : Contains moments c.max-now.result = subst (Contains moments) is (contains_max moments t.moment core.moment here still) in
+    let way = c.make_way-next.ensures.plays start turns (t ∷ rest) c.args.questions.now was h in
+    c.play-played.ensures.plays start turns rest c.args.questions.now one
     (plays_turn c.make_way-next.new.core c.begin_one.new.core (g.P.ConnectionProvider.log c.make_way-next.new.carrier.provider) start turns rest t
     c.args.questions.now
     c.make_way-next.new.plays.items c.begin_one.new.plays.items q c.max-now.result names come due b.setting b.begun b.others b.begins way)

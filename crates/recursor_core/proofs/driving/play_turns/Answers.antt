@@ -2,7 +2,8 @@ use Rattle.std.proofs.Common.{◌<◌, ◌≤◌, ◌+◌, ◌∙◌, List, leng
 use Rattle.std.proofs.Math.ListN.{drop_of_length-le}
 use Rattle.std.proofs.lemmas.List.{drop_more}
 use Rattle.dns_core.specs.declared.request.Turn.{Turn}
-use Rattle.recursor_core.specs.Standing.{PlaysHold}
+use Rattle.recursor_core.specs.Standing.{PlaysHold, run_moments}
+use Rattle.recursor_core.proofs.Timed.{run_turns}
 use Rattle.server_pool.proofs.Patience.{IsPatient-trans}
 use Rattle.recursor_core.proofs.driving.play_turns.Goals as goal
 
@@ -21,18 +22,19 @@ loop-turn-preserved g c =
       setting = e.setting ∙ i.setting;
       patient = IsPatient-trans _ _ _ _ i.patient e.patient;
       moment = omega (arith, came, e.moment);
-      timely = λ start moments was all told. let t = i.timely start moments was all told in e.timely start moments t.0 (all n _ within) t.1;
-      plays = λ start after h. e.plays start turns (drop (n + 1) turns) (omega (arith, after, came))
+      timely = λ moments was all. e.timely moments (i.timely moments was all) (all n _ within);
+      plays = λ start after was h. e.plays start turns (drop (n + 1) turns) (omega (arith, after, came))
+          (i.timely (run_moments start turns) was (run_turns start turns)) (run_turns start turns n _ within)
           (subst (λ (ts : List Turn). PlaysHold c.loop-turn.core told start turns ts c.args.questions.now c.loop-turn.plays.items)
-          (drop_more turns n _ within) (i.plays start after h));
+          (drop_more turns n _ within) (i.plays start after was h));
       count = e.count ∙ i.count;
     }
 
 pub returns-clause-plays : goal.returns-clause-plays
-returns-clause-plays g c start after h =
+returns-clause-plays g c start after was h =
     let n = c.loop-turn.turn-index in
     let turns = c.args.turns.now in
     let told = g.P.ConnectionProvider.log c.loop-turn.carrier.provider in
     let past : length turns ≤ n = omega (arith, c.loop-turn-test.false) in
     subst (λ (ts : List Turn). PlaysHold c.loop-turn.core told start turns ts c.args.questions.now c.loop-turn.plays.items)
-    (drop_of_length-le turns past) (c.loop-turn.invariant.plays start after h)
+    (drop_of_length-le turns past) (c.loop-turn.invariant.plays start after was h)

@@ -15,5 +15,5 @@ returns-clause-holds c terms greatest t0 log qualified roots some begun cached =
 pub returns-in-Some-clause-holds : goal.returns-in-Some-clause-holds
 returns-in-Some-clause-holds c terms greatest t0 log qualified roots some begun cached =
     let asked = c.args.question.now in
-    subst (λ (o : Option (Box Reply)). IfSome o (λ given. ReplyHolds terms machine_timer log t0 asked given.value)) c.in-Some.is
+    subst (λ (o : Option (Box Reply)). IfSome o (λ given. ReplyHolds terms (machine_timer c.args.now) log t0 asked given.value)) c.in-Some.is
     (c.in_ok-reply.ensures terms greatest t0 log begun cached)

@@ -7,7 +7,7 @@ pub returns-then-may_answer-clause-holds : goal.returns-then-may_answer-clause-h
 returns-then-may_answer-clause-holds c terms greatest moment t0 log qualified roots some recalled =
     let q = c.args.question.now.query in
     let found = subst (λ (o : Option Counted). IfSome o (IsRecalled terms greatest t0 log q)) c.in-Some.is recalled in
-    c.in_ok-reply.ensures terms greatest t0 log
+    c.in_ok-reply.ensures terms greatest moment t0 log
     (record { stands = found.stands; current = found.current (sym c.may_answer.ensures ∙ c.if-may_answer.true) })
 
 pub returns-clause-holds : goal.returns-clause-holds

@@ -6,7 +6,7 @@ use Rattle.recursor_core.proofs.Playing.{plays_moved, plays_answered, plays_unan
 use Rattle.recursor_core.proofs.turns.play_at.Goals as goal
 
 pub returns-in-Ok-Some-clause-plays : goal.returns-in-Ok-Some-clause-plays
-returns-in-Ok-Some-clause-plays g c start turns rest questions h =
+returns-in-Ok-Some-clause-plays g c start turns rest questions here h =
     let p = g.P.ConnectionProvider in
     let under = c.requires.under_way in
     let old = c.args.plays.now.items in
@@ -16,11 +16,11 @@ returns-in-Ok-Some-clause-plays g c start turns rest questions h =
     let at : slice_get taken q ≡ Some (played.Begun r None) = slice_get-set_same old q (played.Begun r None) (slice_get_within old q _ under.1) in
     rw (c.put_answer.ensures.set, c.take_order-open.ensures.set) (plays_answered p c.args.tick.patience c.args.tick.now c.args.core.now c.answer_of.new.core
     c.args.carrier.now c.answer_of.new.carrier c.answer_of.ensures.moves
-    start turns rest questions taken q r None c.in-Ok-Some.reply at (rw c.in-Ok-Some.field-0-is at c.in-Ok-Some.ensures.told)
+    start turns rest questions taken q r None c.in-Ok-Some.reply at here (rw c.in-Ok-Some.field-0-is at c.in-Ok-Some.ensures.told)
     (plays_ordered c.args.core.now (p.log c.args.carrier.now.provider) start turns rest questions old q r under.0 None under.1 h))
 
 pub returns-in-Ok-None-clause-plays : goal.returns-in-Ok-None-clause-plays
-returns-in-Ok-None-clause-plays g c start turns rest questions h =
+returns-in-Ok-None-clause-plays g c start turns rest questions here h =
     let p = g.P.ConnectionProvider in
     let under = c.requires.under_way in
     let old = c.args.plays.now.items in
@@ -36,7 +36,7 @@ returns-in-Ok-None-clause-plays g c start turns rest questions h =
     (plays_ordered c.args.core.now (p.log c.args.carrier.now.provider) start turns rest questions old q r under.0 None under.1 h)))
 
 pub returns-in-Err-clause-plays : goal.returns-in-Err-clause-plays
-returns-in-Err-clause-plays g c start turns rest questions h =
+returns-in-Err-clause-plays g c start turns rest questions here h =
     let p = g.P.ConnectionProvider in
     let under = c.requires.under_way in
     let old = c.args.plays.now.items in

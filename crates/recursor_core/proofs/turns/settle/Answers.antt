@@ -36,7 +36,7 @@ give_up_order-requires-clause-holds g c =
 pub returns-in-GiveUp-clause-told : goal.returns-in-GiveUp-clause-told
 returns-in-GiveUp-clause-told g c b =
     let told = g.P.ConnectionProvider.log c.give_up_order.new.carrier.provider in
-    subst (λ (held : Setting). IfOk c.give_up_order.result (TurnedTold (terms_with held) told b))
+    subst (λ (held : Setting). IfOk c.give_up_order.result (TurnedTold (terms_with held) c.args.tick.now told b))
     c.put.ensures.setting (c.give_up_order.ensures.told b)
 
 pub returns-in_err-put-clause-holds : goal.returns-in_err-put-clause-holds

@@ -1,6 +1,7 @@
-use Rattle.std.proofs.Common.{◌≡◌, IfOk, arith, subst}
+use Rattle.std.proofs.Common.{◌≡◌, ℕ, IfOk, arith, subst}
 use Rattle.recursor_core.specs.Machine.{begun_at, rank, StepFalls}
-use Rattle.recursor_core.specs.Standing.{TurnedTold}
+use Rattle.recursor_core.specs.Derived.{terms_of}
+use Rattle.recursor_core.specs.Standing.{ReplyTold, TurnedTold}
 use Rattle.recursor_core.specs.declared.machine.Step.{Step}
 use Rattle.recursor_core.specs.declared.setting.Setting.{Setting}
 use Rattle.recursor_core.specs.Replies.{terms_with}
@@ -51,15 +52,16 @@ carry_order-turned-requires-clause-goes g c unseen =
 
 pub returns-in-Done-clause-told : goal.returns-in-Done-clause-told
 returns-in-Done-clause-told g c =
-    let patience = c.args.tick.patience in
-    step_replies c.args.core.now c.next.new.self (g.P.ConnectionProvider.log c.args.carrier.now.provider) c.args.r c.in_ok-next.next c.in-Done.reply
-    c.in-Done.is c.requires.holds.derived c.in_ok-next.ensures.gives
+    let core = c.args.core.now in
+    let told = g.P.ConnectionProvider.log c.args.carrier.now.provider in
+    subst (λ (now : ℕ). ReplyTold (terms_of core) now told (begun_at core c.args.r) c.in-Done.reply.value) c.requires.moment
+    (step_replies core c.next.new.self told c.args.r c.in_ok-next.next c.in-Done.reply c.in-Done.is c.requires.holds.derived c.in_ok-next.ensures.gives)
 
 pub returns-in-Order-clause-told : goal.returns-in-Order-clause-told
 returns-in-Order-clause-told g c =
     let b = begun_at c.args.core.now c.args.r in
     let told = g.P.ConnectionProvider.log c.carry_order-turned.new.carrier.provider in
-    subst (λ (held : Setting). IfOk c.carry_order-turned.result (TurnedTold (terms_with held) told b))
+    subst (λ (held : Setting). IfOk c.carry_order-turned.result (TurnedTold (terms_with held) c.args.tick.now told b))
     c.next.ensures.same.setting (c.carry_order-turned.ensures.told b)
 
 pub returns-in-Order-clause-falls : goal.returns-in-Order-clause-falls
@@ -73,7 +75,7 @@ pub returns-in-Some-clause-told : goal.returns-in-Some-clause-told
 returns-in-Some-clause-told g c =
     let b = begun_at c.args.core.now c.args.r in
     let told = g.P.ConnectionProvider.log c.poll_order.new.carrier.provider in
-    subst (λ (held : Setting). IfOk c.poll_order.result (TurnedTold (terms_with held) told b))
+    subst (λ (held : Setting). IfOk c.poll_order.result (TurnedTold (terms_with held) c.args.tick.now told b))
     c.next.ensures.same.setting (c.poll_order.ensures.told b)
 
 pub returns-in-Some-clause-falls : goal.returns-in-Some-clause-falls

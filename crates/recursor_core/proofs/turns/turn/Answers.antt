@@ -29,8 +29,8 @@ returns-in-Done-clause-told g c =
     let patience = c.args.tick.patience in
     let told = g.P.ConnectionProvider.log c.step.new.carrier.provider in
     let given = rw c.in-Done.is at c.in_ok-step.ensures.told in
-    subst (λ (held : Setting). ReplyTold (terms_with held) told (begun_at c.args.core.now c.args.r) c.in-Done.reply.value) m.setting
-    (ReplyTold-later (terms_of c.steps.core) told (begun_at c.args.core.now c.args.r) (begun_at c.steps.core c.args.r) c.in-Done.reply.value
+    subst (λ (held : Setting). ReplyTold (terms_with held) c.args.tick.now told (begun_at c.args.core.now c.args.r) c.in-Done.reply.value) m.setting
+    (ReplyTold-later (terms_of c.steps.core) c.args.tick.now told (begun_at c.args.core.now c.args.r) (begun_at c.steps.core c.args.r) c.in-Done.reply.value
     (m.begun c.args.r) given)
 
 pub steps-preserved : goal.steps-preserved

@@ -1,6 +1,6 @@
 use Rattle.std.proofs.Common.{◌≡◌, ◌∙◌, min, List, length, refl, ap, subst, arith}
 use Rattle.dns_core.specs.declared.request.Question.{Question}
-use Rattle.recursor_core.specs.Setting.{server_filter_of}
+use Rattle.recursor_core.specs.Setting.{server_filter_of, answer_filter_of}
 use Rattle.recursor_core.specs.Standing.{run_terms}
 use Rattle.recursor_core.specs.declared.reply.Reply.{Reply}
 use Rattle.recursor_world.specs.Script.{Gives}
@@ -8,7 +8,6 @@ use Rattle.recursor_world.specs.Upstream.{Upstream, told_by}
 use Rattle.recursor_world.specs.declared.script.Script.{Script}
 use Rattle.recursor_program.specs.Program.{script_of, terms_of}
 use Rattle.recursor_program.proofs.Runs.{terms-are, asks-of, replies-of}
-use Rattle.recursor_program.proofs.Plainly.{gives_plainly}
 use Rattle.recursor_program.proofs.program.ran.Goals as goal
 
 pub returns : goal.returns
@@ -26,10 +25,9 @@ returns c =
     let r = c.in_ok-recursor.recursor in
     let p = c.first_patience.result in
     let first : min r.patience p ≡ s.patience = rw (new.5, c.first_patience.ensures.same) c.first_patience.ensures.first in
-    let terms : run_terms p r ≡ terms_of s = terms-are p s.patience r s.roots (server_filter_of s.options) s.options.cache_policy new.1 new.2 new.4 first in
+    let terms : run_terms p r ≡ terms_of s = terms-are p s.patience r s.roots (server_filter_of s.options) (answer_filter_of s.options) s.options.cache_policy new.1 new.2 new.6 new.4 first in
     record {
       gives = given;
-      plain = gives_plainly (script_of s.upstream) log c.requires.plain given;
       answered = omega (arith, replied, asked, answered);
       asks = asks-of (terms_of s) (run_terms p r) log (told_by provider) terms is (c.drive.ensures.asks (told_by provider) refl);
       replies = replies-of (terms_of s) (run_terms p r) log (told_by provider) r.moment s.turns c.items-2.result.now s.questions c.items.result.now c.new.result c.in_ok-replies.replies.items

@@ -1,8 +1,36 @@
-use Rattle.std.proofs.Common.{arith}
+use Rattle.std.proofs.Common.{max, refl}
 use Rattle.server_core.specs.Order.{entry_of}
-use Rattle.recursor_core.proofs.KeptLookups.{lookup-kept}
+use Rattle.recursor_core.proofs.Heard.{under-less, under-most, under-same}
 use Rattle.recursor_core.proofs.lookup.Lookup.take.Goals as goal
 
-pub returns-then-not-fits-clause-holds : goal.returns-then-not-fits-clause-holds
-returns-then-not-fits-clause-holds c terms greatest moment log longer zone patient above now h x fits =
-    lookup-kept terms log longer x greatest (entry_of c.args.outcome) moment c.args.tick.now c.args.begun zone c.args.self.now (omega arith) now h
+pub returns-in_err-did-clause-holds : goal.returns-in_err-did-clause-holds
+returns-in_err-did-clause-holds c terms greatest moment log longer bound next later pools h x fits =
+    (record { above = h.above; ask = tt }, c.put.ensures.holds terms greatest moment log longer bound next later pools x fits)
+
+pub returns-in_err-_settled-in-Ended-clause-holds : goal.returns-in_err-_settled-in-Ended-clause-holds
+returns-in_err-_settled-in-Ended-clause-holds c terms greatest moment log longer bound next later pools h x fits =
+    c.settle.ensures.holds terms (max greatest (entry_of c.args.outcome)) c.args.tick.now longer
+    (c.put.ensures.holds terms greatest moment log longer bound next later pools x fits) (record { above = h.above; ask = tt })
+
+pub returns-in_ok-_settled-in-Ended-clause-holds : goal.returns-in_ok-_settled-in-Ended-clause-holds
+returns-in_ok-_settled-in-Ended-clause-holds c terms greatest moment log longer bound next later pools h x fits =
+    c.settle.ensures.holds terms (max greatest (entry_of c.args.outcome)) c.args.tick.now longer
+    (c.put.ensures.holds terms greatest moment log longer bound next later pools x fits) (record { above = h.above; ask = tt })
+
+pub returns-in_default-note-clause-falls : goal.returns-in_default-note-clause-falls
+returns-in_default-note-clause-falls c late gives =
+    rw c.in-Under.is (under-less c.args.tick.patience c.in-Under.under c.note.new.self c.note.result c.note.ensures.same.1 c.note.ensures.noted late gives)
+
+pub returns-in_default-note-clause-keeps : goal.returns-in_default-note-clause-keeps
+returns-in_default-note-clause-keeps c =
+    rw c.in-Under.is (under-most c.args.tick.patience c.in-Under.under c.note.new.self c.note.result c.note.ensures.same.1 c.note.ensures.noted)
+
+pub returns-in_default-note-clause-late : goal.returns-in_default-note-clause-late
+returns-in_default-note-clause-late c is =
+    let u = c.in-Under.under in
+    let same = under-same c.args.tick.patience u c.note.new.self c.note.result c.note.ensures.same.0 c.note.ensures.same.1 c.note.ensures.noted cc in
+    rw (same, c.in-Under.is) refl
+
+pub returns-in_default-note-clause-holds : goal.returns-in_default-note-clause-holds
+returns-in_default-note-clause-holds c terms greatest moment log longer bound next later pools h x fits =
+    (record { above = h.above; ask = tt }, c.put.ensures.holds terms greatest moment log longer bound next later pools x fits)

@@ -1,11 +1,17 @@
-use Rattle.std.proofs.Common.{◌∙◌, Some, Option, ap, sym}
-use Rattle.dns_core.specs.declared.message.Query.{Query}
-use Rattle.dns_core.specs.declared.request.DnsRequest.{DnsRequest}
+use Rattle.std.proofs.lemmas.Result.{IfOk-from_err}
+use Rattle.recursor_core.proofs.Cores.{goes-err}
 use Rattle.recursor_core.proofs.machine.RecursorCore.begin_asking.Goals as goal
 
-pub begin_send-requires-clause-fresh : goal.begin_send-requires-clause-fresh
-begin_send-requires-clause-fresh c =
-    c.in_ok-request.ensures ∙ ap (λ (r : DnsRequest). let o : Option Query = Some r.query in o) (sym c.in_ok-send.ensures.begun.asks)
+pub returns-in_err-begin_lookup-clause-goes : goal.returns-in_err-begin_lookup-clause-goes
+returns-in_err-begin_lookup-clause-goes c =
+    goes-err c.args.self.now c.begin_lookup.new.self c.from_residual-in_err-begin_lookup.result c.from_residual-in_err-begin_lookup.ensures.0
+    (λ p. c.in_err-begin_lookup.ensures.keeps p)
+
+pub returns-in_err-begin_lookup-clause-gives : goal.returns-in_err-begin_lookup-clause-gives
+returns-in_err-begin_lookup-clause-gives c log d = (
+  c.in_err-begin_lookup.ensures.derived log d,
+  IfOk-from_err c.from_residual-in_err-begin_lookup.result _ c.from_residual-in_err-begin_lookup.ensures.0,
+)
 
 pub returns-clause-gives : goal.returns-clause-gives
-returns-clause-gives c log d = (c.begin_send.ensures.derived log d, tt)
+returns-clause-gives c log d = (c.in_ok-begin_lookup.ensures.derived log d, tt)

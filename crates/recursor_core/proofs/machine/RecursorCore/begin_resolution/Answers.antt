@@ -6,6 +6,7 @@ use Rattle.recursor_core.specs.declared.resolving.Resolution.{Resolution}
 use Rattle.std.proofs.lemmas.List.Elements.{All-push}
 use Rattle.recursor_core.specs.Derived.{terms_of, ResolutionHolds}
 use Rattle.recursor_core.proofs.Kept.{same-log, resolutions-kept}
+use Rattle.recursor_core.proofs.KeptPools.{pools-kept}
 use Rattle.recursor_core.proofs.Cores.{derived-is, begun-push, begun-last}
 use Rattle.recursor_core.proofs.machine.RecursorCore.begin_resolution.Goals as goal
 
@@ -17,8 +18,9 @@ returns-clause-derived c log later d =
     let P = ResolutionHolds terms core.greatest c.args.now log in
     let g = core.greatest in
     let rs = core.resolutions.items in
-    let before = resolutions-kept terms log log (same-log log) g g core.moment c.args.now rs (omega arith) later d.resolutions in
-    derived-is _ log core.setting g c.args.now core.cache (rs ++ r ∷ []) refl refl refl refl c.in_ok-push.ensures.items d.bound d.some d.cache
+    let before = resolutions-kept terms log log (same-log log) core.moment c.args.now later g g rs (omega arith) d.resolutions in
+    let pools = pools-kept terms log log (same-log log) g g core.moment c.args.now core.pools (omega arith) later d.pools in
+    derived-is _ log core.setting g c.args.now core.cache core.pools (rs ++ r ∷ []) refl refl refl refl refl c.in_ok-push.ensures.items d.bound d.some d.cache pools
     (All-push P rs r before (c.begin.ensures.holds terms g log))
 
 pub returns-clause-others : goal.returns-clause-others

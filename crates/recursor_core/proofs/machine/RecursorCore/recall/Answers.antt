@@ -22,7 +22,7 @@ returns-clause-derived c log d =
     let within : c.args.r < length xs = need_within xs c.args.r (λ e. cc) in
     let P = ResolutionHolds terms core.greatest core.moment log in
     let kept = all-after P xs c.args.r f c.recall.new.self within at (c.recall.ensures.holds terms core.greatest log refl d.cache) d.resolutions in
-    record { bound = d.bound; some = d.some; cache = d.cache; resolutions = kept }
+    record { bound = d.bound; some = d.some; cache = d.cache; pools = d.pools; resolutions = kept }
 
 pub returns-clause-same : goal.returns-clause-same
 returns-clause-same c =

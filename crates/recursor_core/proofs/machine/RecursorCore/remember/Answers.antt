@@ -20,6 +20,7 @@ returns-in-Some-clause-derived c log d =
       some = d.some;
       cache = remembered-kept terms core.greatest core.moment log core.cache c.remember.new.cache f c.remember.result c.remember.ensures.ok c.remember.ensures.err
           d.cache held;
+      pools = d.pools;
       resolutions = d.resolutions;
     }
 

@@ -10,28 +10,18 @@ returns-in-Wait-clause-goes c = (λ p. omega arith, (c.args.r, ap order_of c.req
 
 pub returns-in_err-recall-in-Recall-clause-gives : goal.returns-in_err-recall-in-Recall-clause-gives
 returns-in_err-recall-in-Recall-clause-gives c log d = (
-  c.in_err-recall-in-Recall.ensures.derived log (c.in_ok-arrange-in-Recall.ensures.derived log d),
-  IfOk-from_err c.from_residual-in_err-recall-in-Recall.result _ c.from_residual-in_err-recall-in-Recall.ensures.0,
+  c.in_err-recall-in-Recall.ensures.derived log d,
+  IfOk-from_err c.from_residual.result _ c.from_residual.ensures.0,
 )
 
 pub returns-in_ok-recall-in-Recall-clause-gives : goal.returns-in_ok-recall-in-Recall-clause-gives
-returns-in_ok-recall-in-Recall-clause-gives c log d =
-    (c.in_ok-recall-in-Recall.ensures.derived log (c.in_ok-arrange-in-Recall.ensures.derived log d), tt)
-
-pub returns-in_err-choose-in-Choose-clause-gives : goal.returns-in_err-choose-in-Choose-clause-gives
-returns-in_err-choose-in-Choose-clause-gives c log d = (
-  c.in_err-choose-in-Choose.ensures.derived log d,
-  IfOk-from_err c.from_residual-in_err-choose-in-Choose.result _ c.from_residual-in_err-choose-in-Choose.ensures.0,
-)
+returns-in_ok-recall-in-Recall-clause-gives c log d = (c.in_ok-recall-in-Recall.ensures.derived log d, tt)
 
 pub returns-in_err-hear-in-Hear-clause-gives : goal.returns-in_err-hear-in-Hear-clause-gives
 returns-in_err-hear-in-Hear-clause-gives c log d = (
   c.in_err-hear-in-Hear.ensures.derived log d,
   IfOk-from_err c.from_residual-in_err-hear-in-Hear.result _ c.from_residual-in_err-hear-in-Hear.ensures.0,
 )
-
-pub returns-in_ok-choose-in-Choose-clause-gives : goal.returns-in_ok-choose-in-Choose-clause-gives
-returns-in_ok-choose-in-Choose-clause-gives c log d = (c.in_ok-choose-in-Choose.ensures.derived log d, tt)
 
 pub returns-in_ok-hear-in-Hear-clause-gives : goal.returns-in_ok-hear-in-Hear-clause-gives
 returns-in_ok-hear-in-Hear-clause-gives c log d = (c.in_ok-hear-in-Hear.ensures.derived log d, tt)

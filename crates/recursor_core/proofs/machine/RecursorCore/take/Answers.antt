@@ -1,4 +1,4 @@
-use Rattle.std.proofs.Common.{◌<◌, length, arith, refl}
+use Rattle.std.proofs.Common.{◌<◌, max, length, arith, refl}
 use Rattle.std.proofs.lemmas.List.Elements.{All-set}
 use Rattle.std.proofs.lemmas.Result.{IfOk-weaker}
 use Rattle.server_core.specs.Order.{entry_of}
@@ -28,7 +28,7 @@ returns-clause-keeps c =
     sum_keeps c.args.tick.patience xs c.args.r f c.take.new.self within at c.take.ensures.keeps
 
 pub returns-clause-derived : goal.returns-clause-derived
-returns-clause-derived c log longer bound above later d x fits =
+returns-clause-derived c log longer bound next later d x fits =
     let core = c.args.self.now in
     let terms = terms_of core in
     let xs = c.args.self.now.resolutions.items in
@@ -36,12 +36,22 @@ returns-clause-derived c log longer bound above later d x fits =
     let at = c.index_mut-resolution.ensures.value in
     let within : c.args.r < length xs = order_within xs c.args.r c.requires in
     let entry = entry_of c.args.outcome in
+    let g = max core.greatest entry in
     let now = c.args.tick.now in
     let held = held-at (ResolutionHolds terms core.greatest core.moment log) xs c.args.r f within at d.resolutions in
-    let new = c.take.ensures.holds terms core.greatest core.moment log longer bound above later held x fits in
-    let others = resolutions-kept terms log longer x core.greatest entry core.moment now xs (omega (arith, above)) later d.resolutions in
-    let cache = cache-kept terms log longer x core.greatest entry core.cache (omega (arith, above)) d.cache in
-    record { bound = fits.within; some = d.some; cache = cache; resolutions = All-set (ResolutionHolds terms entry now longer) xs c.args.r c.take.new.self new others }
+    let new = c.take.ensures.holds terms core.greatest core.moment log longer bound next later d.pools held x fits in
+    let others = resolutions-kept terms log longer x core.moment now later core.greatest g xs (omega arith) d.resolutions in
+    let cache = cache-kept terms log longer x core.greatest g core.cache (omega arith) d.cache in
+    let before = d.bound in
+    let longer_is = x.later in
+    let within_log = fits.within in
+    record {
+      bound = omega (arith, before, longer_is, within_log);
+      some = d.some;
+      cache = cache;
+      pools = new.1;
+      resolutions = All-set (ResolutionHolds terms g now longer) xs c.args.r c.take.new.self new.0 others;
+    }
 
 pub returns-clause-same : goal.returns-clause-same
 returns-clause-same c =

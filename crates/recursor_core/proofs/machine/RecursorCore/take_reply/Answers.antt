@@ -26,8 +26,8 @@ returns-clause-derived c log d =
     let P = ResolutionHolds terms core.greatest core.moment log in
     let read = read_at xs c.args.r f within at in
     let taken = c.take_reply.ensures.holds terms core.greatest core.moment log (held-at P xs c.args.r f within at d.resolutions) in (
-      record { bound = d.bound; some = d.some; cache = d.cache; resolutions = All-set P xs c.args.r c.take_reply.new.self taken.0 d.resolutions },
-      given-some terms log c.take_reply.result _ (begun_of f) (ap (option_map begun_of) read) taken.1,
+      record { bound = d.bound; some = d.some; cache = d.cache; pools = d.pools; resolutions = All-set P xs c.args.r c.take_reply.new.self taken.0 d.resolutions },
+      given-some terms core.moment log c.take_reply.result _ (begun_of f) (ap (option_map begun_of) read) taken.1,
     )
 
 pub returns-clause-same : goal.returns-clause-same

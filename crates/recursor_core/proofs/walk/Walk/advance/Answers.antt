@@ -4,8 +4,8 @@ use Rattle.recursor_core.proofs.walk.Walk.advance.Goals as goal
 
 pub returns-clause-holds : goal.returns-clause-holds
 returns-clause-holds c terms greatest moment t0 log way leaves =
-    goes-on terms greatest moment t0 log c.args.question.now.query c.args.self.now c.items.result.now c.in-Candidate.labels
-    (length c.labels.result.now) c.stage_after-stage.result c.in_ok-query.query c.in_ok-lookup.lookup
-    c.requires way leaves c.in-Candidate.is c.items.ensures
-    (ap (λ (ls : List (List ℕ)). length ls) c.labels.ensures.labels) c.stage_after-stage.ensures.next c.in_ok-query.ensures c.in_ok-lookup.ensures.query
-    (λ z. c.in_ok-lookup.ensures.holds terms greatest moment t0 log z)
+    goes-on terms greatest moment t0 log c.args.question.now.query c.args.self.now c.in-Candidate.labels
+    (length c.labels.result.now) c.stage_after-stage.result c.in_ok-query.query c.new-lookup.result
+    c.requires way leaves c.in-Candidate.is
+    (ap (λ (ls : List (List ℕ)). length ls) c.labels.ensures.labels) c.stage_after-stage.ensures.next c.in_ok-query.ensures c.new-lookup.ensures.query
+    (λ z. c.new-lookup.ensures.holds terms greatest moment t0 log z)

@@ -40,12 +40,12 @@ returns-after-error-clause-holds c terms greatest moment t0 log filtered way fou
     let failed = rw c.in-Error.is at found in
     elim c.match-error.branch [
       | in-Timeout v ↦
-          let ended = subst (λ (e : NetError). Concluded terms t0 log w.zone w.lookup.query w.lookup.ends (Err e)) v.in-Timeout.is failed.1 in
+          let ended = subst (λ (e : NetError). Concluded terms moment t0 log w.zone w.lookup.query w.lookup.ends (Err e)) v.in-Timeout.is failed.concluded in
           comes-as terms greatest moment t0 log asked w c.match-error.self v.no_server.result c.match-error.result v.self-is v.result-is
           (stops terms greatest moment t0 log asked w v.no_server.result (record { outcome = Err (NoNameServer w.name Timeout); grounds = [] }) v.no_server.ensures
-          (way.name, refl, timed-out terms greatest log asked.query w c.requires way t0 ended))
+          (way.name, refl, timed-out terms greatest log asked.query w c.requires way moment t0 ended))
       | in_default v ↦
           comes-as terms greatest moment t0 log asked v.advance.new.self c.match-error.self v.advance.result c.match-error.result v.self-is v.result-is
           (v.advance.ensures.holds terms greatest moment t0 log way
-          (leaves-failed terms greatest log asked.query w c.requires way t0 c.in-Error.error failed.1 (not-timeout c.in-Error.error v.in_default.not-Timeout)))
+          (leaves-failed terms greatest log asked.query w c.requires way moment t0 c.in-Error.error failed.concluded (not-timeout c.in-Error.error v.in_default.not-Timeout)))
     ]

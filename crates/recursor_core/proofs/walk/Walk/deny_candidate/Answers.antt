@@ -17,10 +17,10 @@ returns-then-ends_walk-clause-holds c terms greatest moment t0 log way stands =
     let n = c.args.found in
     let name = w.lookup.query.name in
     let here = subst (λ (p : Query). Stands terms greatest t0 log p c.args.entry (Neg n)) (candidate-asked terms greatest log q w c.requires way) stands in
-    let cause = answers-on-the-way terms greatest t0 log q c.args.entry name n (candidate-on-the-way terms greatest log q w c.requires way) here
+    let cause = answers-on-the-way terms greatest moment t0 log q c.args.entry name n (candidate-on-the-way terms greatest log q w c.requires way) here
     (sym c.ends_walk.ensures ∙ c.if-ends_walk.true) in
-    denied terms t0 log asked c.in_ok-reply_by.field-0.value c.told_negative.result (c.args.entry ∷ []) c.in_ok-reply_by.ensures
-    (subst (ErrorHolds (given_of terms) (machine_timer log t0) log t0 q (c.args.entry ∷ [])) (sym c.told_negative.ensures) cause)
+    denied terms moment t0 log asked c.in_ok-reply_by.field-0.value c.told_negative.result (c.args.entry ∷ []) c.in_ok-reply_by.ensures
+    (subst (ErrorHolds (given_of terms) (machine_timer moment log t0) log t0 q (c.args.entry ∷ [])) (sym c.told_negative.ensures) cause)
 
 pub returns-clause-holds : goal.returns-clause-holds
 returns-clause-holds c terms greatest moment t0 log way stands =

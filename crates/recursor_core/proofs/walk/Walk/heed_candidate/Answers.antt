@@ -31,7 +31,7 @@ returns-in_ok-reply_by-in-Made-clause-holds c terms greatest moment t0 log filte
     let now = subst (λ (v : Verdict). Stands terms greatest t0 log w.lookup.query entry v) c.in-Made.is h in
     let at = candidate-asked terms greatest log q w c.requires way in
     let here = subst (λ (p : Query). Stands terms greatest t0 log p entry (Made cause)) at now in
-    let made = made-on-the-way terms greatest t0 log q entry w.lookup.query.name cause (candidate-on-the-way terms greatest log q w c.requires way) here in
-    let told = subst (λ (p : Query). ErrorHolds (given_of terms) (machine_timer log t0) log t0 q (entry ∷ []) (made_negative p cause)) (sym at) made in
-    denied terms t0 log asked c.in_ok-reply_by-in-Made.field-0.value c.in_ok-denial-in-Made.denial (entry ∷ []) c.in_ok-reply_by-in-Made.ensures
-    (subst (ErrorHolds (given_of terms) (machine_timer log t0) log t0 q (entry ∷ [])) (sym c.in_ok-denial-in-Made.ensures) told)
+    let made = made-on-the-way terms greatest moment t0 log q entry w.lookup.query.name cause (candidate-on-the-way terms greatest log q w c.requires way) here in
+    let told = subst (λ (p : Query). ErrorHolds (given_of terms) (machine_timer moment log t0) log t0 q (entry ∷ []) (made_negative p cause)) (sym at) made in
+    denied terms moment t0 log asked c.in_ok-reply_by-in-Made.field-0.value c.in_ok-denial-in-Made.denial (entry ∷ []) c.in_ok-reply_by-in-Made.ensures
+    (subst (ErrorHolds (given_of terms) (machine_timer moment log t0) log t0 q (entry ∷ [])) (sym c.in_ok-denial-in-Made.ensures) told)

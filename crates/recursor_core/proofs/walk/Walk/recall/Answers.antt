@@ -2,6 +2,7 @@ use Rattle.std.proofs.Common.{IfSome, Option, sym, subst}
 use Rattle.recursor_core.specs.Counted.{IsRecalled}
 use Rattle.recursor_core.specs.Walk.{Recalls}
 use Rattle.recursor_core.specs.declared.counted.Counted.{Counted}
+use Rattle.recursor_core.proofs.Walks.{way-looked}
 use Rattle.recursor_core.proofs.walk.Walk.recall.Goals as goal
 
 pub returns-in-Candidate-clause-holds : goal.returns-in-Candidate-clause-holds
@@ -18,3 +19,11 @@ returns-in-Last c = record {
   answers = subst (λ (o : Option Counted). Recalls c.args.self.now o c.recall_answer.result) (sym c.in-Some.is)
       (λ other may. c.recall_answer.ensures.answers may);
 }
+
+pub returns-in_default-clause-holds : goal.returns-in_default-clause-holds
+returns-in_default-clause-holds c terms greatest moment t0 log filtered recalled h =
+    let w = c.args.self.now in
+    record {
+      way = way-looked terms greatest log c.args.question.now.query w c.begin.new.self c.begin.ensures.query h.way;
+      lookup = c.begin.ensures.holds terms greatest moment t0 log w.zone h.lookup;
+    }

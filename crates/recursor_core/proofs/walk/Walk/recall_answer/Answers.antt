@@ -12,6 +12,6 @@ returns-then-not-may_answer-clause-holds c terms greatest moment t0 log recalled
 
 pub returns-clause-holds : goal.returns-clause-holds
 returns-clause-holds c terms greatest moment t0 log recalled h =
-    c.in_ok-answer_with.ensures terms greatest t0 log
+    c.in_ok-answer_with.ensures terms greatest moment t0 log
     (recalled-answers terms greatest t0 log c.args.question.now.query c.args.self.now c.args.counted c.requires.stage h.way recalled
     (sym c.may_answer.ensures ∙ c.if-not-may_answer.false))

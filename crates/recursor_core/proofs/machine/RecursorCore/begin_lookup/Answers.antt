@@ -1,0 +1,50 @@
+use Rattle.std.proofs.Common.{◌<◌, ◌≤◌, length, refl, sym, ap, arith}
+use Rattle.std.proofs.lemmas.List.Elements.{All-set}
+use Rattle.std.proofs.lemmas.Result.{on_ok_weaker}
+use Rattle.recursor_core.specs.Derived.{terms_of, ResolutionHolds}
+use Rattle.recursor_core.specs.Resolving.{rank}
+use Rattle.recursor_core.specs.declared.resolving.Resolution.{Resolution}
+use Rattle.recursor_core.proofs.Ranks.{rank_falls, sum_falls, sum_keeps, need_within}
+use Rattle.recursor_core.proofs.Cores.{held-at, begun-set, either-way}
+use Rattle.recursor_core.proofs.machine.RecursorCore.begin_lookup.Goals as goal
+
+pub returns-clause-falls : goal.returns-clause-falls
+returns-clause-falls c p =
+    let xs = c.args.self.now.resolutions.items in
+    let f = c.index_mut-resolution.result.now in
+    let at = c.index_mut-resolution.ensures.value in
+    let within : c.args.r < length xs = need_within xs c.args.r (λ e. cc) in
+    on_ok_weaker c.send.result (λ fewer. sum_falls p xs c.args.r f c.send.new.self within at (rank_falls p f c.send.new.self fewer)) c.send.ensures.falls
+
+pub returns-clause-keeps : goal.returns-clause-keeps
+returns-clause-keeps c p =
+    let xs = c.args.self.now.resolutions.items in
+    let f = c.index_mut-resolution.result.now in
+    let at = c.index_mut-resolution.ensures.value in
+    let within : c.args.r < length xs = need_within xs c.args.r (λ e. cc) in
+    let g = c.send.new.self in
+    let most : rank p g ≤ rank p f = either-way c.send.result _ _ _ c.send.ensures.falls c.send.ensures.err
+    (λ fewer. let less = rank_falls p f g fewer in omega (arith, less)) (λ as_before. let same = ap (rank p) as_before in omega (arith, same)) in
+    sum_keeps p xs c.args.r f g within at most
+
+pub returns-clause-derived : goal.returns-clause-derived
+returns-clause-derived c log d =
+    let core = c.args.self.now in
+    let terms = terms_of core in
+    let xs = c.args.self.now.resolutions.items in
+    let f = c.index_mut-resolution.result.now in
+    let at = c.index_mut-resolution.ensures.value in
+    let within : c.args.r < length xs = need_within xs c.args.r (λ e. cc) in
+    let P = ResolutionHolds terms core.greatest core.moment log in
+    let held = held-at P xs c.args.r f within at d.resolutions in
+    let sent = rw c.tick-tick.ensures at c.send.ensures.holds terms core.greatest log in
+    let new = sent d.pools held in
+    record { bound = d.bound; some = d.some; cache = d.cache; pools = new.1; resolutions = All-set P xs c.args.r c.send.new.self new.0 d.resolutions }
+
+pub returns-clause-same : goal.returns-clause-same
+returns-clause-same c =
+    let xs = c.args.self.now.resolutions.items in
+    let f = c.index_mut-resolution.result.now in
+    let at = c.index_mut-resolution.ensures.value in
+    let within : c.args.r < length xs = need_within xs c.args.r (λ e. cc) in
+    record { setting = refl; cache = refl; greatest = refl; moment = refl; begun = begun-set xs c.args.r f c.send.new.self within at c.send.ensures.begun }

@@ -1,0 +1,16 @@
+use Rattle.std.proofs.Common.{◌≡◌, ◌<◌, ◌==◌, ◌∙◌, false, Some, List, [], ◌∷◌, length, sym, arith}
+use Rattle.dns_core.specs.declared.log.LogEntry.{LogEntry}
+use Rattle.recursor_core.proofs.Standing.{new_rests}
+use Rattle.recursor_core.proofs.recursor.Recursor.with_options.Goals as goal
+
+-- a list that is not empty has something
+has_some : {X : Type 0} (xs : List X) → (length xs == 0) ≡ false → 0 < length xs
+has_some [] h = cc
+has_some (x ∷ xs) h = omega arith
+
+pub invariant_of-result : goal.invariant_of-result
+invariant_of-result g c =
+    let p = g.P.ConnectionProvider in
+    let some : 0 < length c.args.roots.now = has_some c.args.roots.now (sym c.is_empty.ensures ∙ c.if-is_empty.false) in
+    let empty : (es : List LogEntry) → p.log c.new-2.result.provider ≡ Some es → es ≡ [] = rw c.new-2.ensures.provider c.requires in
+    new_rests p c.args.roots.now c.args.options c.in-Ok-new.core c.new-2.result c.in-Ok-new.ensures.new some (c.new-2.ensures.holds c.requires) empty

@@ -1,0 +1,20 @@
+use Rattle.std.proofs.Common.{◌≤◌, ◌+◌, ◌*◌, arith, subst, sym}
+use Rattle.std.proofs.lemmas.Result.{on_err_weaker}
+use Rattle.recursor_core.specs.Walk as walk
+use Rattle.recursor_core.specs.Resolving.{state_steps, state_polls}
+use Rattle.recursor_core.specs.declared.resolving.State.{State}
+use Rattle.recursor_core.proofs.Resolved.{walk-holds}
+use Rattle.recursor_core.proofs.resolving.Resolution.step.Goals as goal
+
+pub returns-in-Under-clause-keeps : goal.returns-in-Under-clause-keeps
+returns-in-Under-clause-keeps c p =
+    on_err_weaker c.step.result (λ keeps.
+    subst (λ (s : State). walk.rank p c.step.new.self ≤ (p + 1) * state_steps c.args.self.now.question.query s + state_polls p s) (sym c.in-Under.is) keeps)
+    (rw c.deref_mut.ensures.value at c.step.ensures.keeps p)
+
+pub returns-in-Under-clause-holds : goal.returns-in-Under-clause-holds
+returns-in-Under-clause-holds c terms log pools h =
+    let r = c.args.self.now in
+    let now = c.args.tick.now in
+    let stepped = c.step.ensures.holds terms log r.question.query pools (rw c.deref_mut.ensures.value (rw c.in-Under.is at h.state)) in
+    (walk-holds terms c.args.since now log r c.in-Under.walk c.step.new.self now h.begun (omega arith) stepped.0, stepped.1)
