@@ -24,7 +24,7 @@ use Rattle.recursor_text.specs.declared.reading.draft.Stage.{Stage}
 use Rattle.recursor_text.specs.declared.reading.draft.Stage.TheVariants.{Headed, Rooted, Optioned, Patient, Scripted, Asked, Turned, Ended}
 use Rattle.recursor_text.specs.declared.reading.draft.Draft.{Draft}
 use Rattle.recursor_text.specs.Numbers.{◌>>=◌}
-use Rattle.recursor_text.specs.RecordLines.{class_in}
+use Rattle.recursor_text.specs.Codes.{class_in}
 use Rattle.recursor_text.specs.Steps.{start, may_turn, may_end, is_settled, rule_of, settle, add, put, taken_at, taken, scenario_of}
 use Rattle.recursor_text.specs.Spelling.{spelled, record_text, record_texts, script_lines, root_line, option_line, question_line, turn_line, rules_of, to_roots, to_options, to_patience, to_told, to_rules, to_questions, to_turns, scenario_lines, patience_words, told_words, end_words, options_with, option_rank, last_rank, RiseAbove, most_roots, most_questions, most_turns, IsAddress, IsRecord, IsRule, IsScriptLine, IsQuestion, IsTurn, NoneFalls, last_moment, IsOption, IsScenario}
 use Rattle.recursor_text.proofs.Binds.{bind_some}
@@ -181,7 +181,6 @@ is_bare ip protocol n t delay m fits = record {
   soon = fits.soon;
   class = refl;
   fine = fits.fine;
-  full = fits.full;
   few = (fits.few_answers, fits.few_authorities, fits.few_additionals);
   no_answers = refl;
   no_authorities = refl;

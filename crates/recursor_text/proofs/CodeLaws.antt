@@ -1,4 +1,4 @@
--- Types: each has one word, which is read as it.
+-- Types, classes and response codes: each has one word, which is read as it.
 use Rattle.std.proofs.Common.{◌≡◌, ℕ, ◌^◌, ◌<◌, ◌≤◌, Bool, true, false, cond, ◌&&◌, eqb, ltb, leb, List, [], ◌∷◌, ◌++◌, length, take, drop, Option, Some, None, refl, sym, ap, subst, ◌∙◌, arith, inl, inr, lit<, length-append, take-append-drop, drop_at}
 use Rattle.std.specs.Prelude.{codes, decimal, is_some, is_none, unwrap_or}
 use Rattle.std.specs.Str.{bytes_eq}
@@ -8,9 +8,11 @@ use Rattle.std.proofs.lemmas.Fmt.{decimal_nonempty}
 use Rattle.std.proofs.lemmas.Slice.Eq.{bytes_eq-Decides}
 use Rattle.std.proofs.Math.Seq.{take-append_seam}
 use Rattle.dns_core.specs.declared.codes.RecordType.{RecordType}
-use Rattle.recursor_text.specs.Codes.{code_in, number_behind, first_of, code_of, type_of}
+use Rattle.dns_core.specs.declared.codes.DnsClass.{DnsClass}
+use Rattle.dns_core.specs.declared.codes.ResponseCode.{ResponseCode}
+use Rattle.recursor_text.specs.Codes.{code_in, number_behind, first_of, code_of, type_of, class_of, response_code_of}
 use Rattle.recursor_text.specs.Numbers.{◌>>=◌, number_of}
-use Rattle.recursor_text.specs.Texts.{name_in, code_text, type_names, type_text}
+use Rattle.recursor_text.specs.Texts.{name_in, code_text, type_names, class_names, code_names, type_text, class_text, response_code_text}
 use Rattle.recursor_text.proofs.Binds.{bind_some, guard_some, guard_not, some_is, chosen}
 use Rattle.recursor_text.proofs.FieldLaws.{IsField, bytes_same}
 use Rattle.recursor_text.proofs.NumberLaws.{is_word_byte, number_takes, number_again, decimal_plain}
@@ -129,30 +131,57 @@ code_again names other apart n le (Some w) is = rw (name_stands other names apar
 code_again names other apart n le None is =
     rw (no_code names other apart n le (code_in names (other ++ decimal n)) refl, behind_again other n le, is) refl
 
-pub code_field : (names : Names) (other : List ℕ) → is_apart other names ≡ true → IsField (code_of names other) (code_text names other) (λ n. n ≤ 65535)
+code_field : (names : Names) (other : List ℕ) → is_apart other names ≡ true → IsField (code_of names other) (code_text names other) (λ n. n ≤ 65535)
 code_field names other apart = record {
   takes = λ w n e. code_takes names other apart w (code_in names w) refl n e;
   again = λ n le. code_again names other apart n le (name_in names n) refl;
 }
 
--- ---- types
+-- what a number is the code of
+coded_field : {X : Type 0} (names : Names) (other : List ℕ) → is_apart other names ≡ true → (made : ℕ → X) (number : X → ℕ) → ((n : ℕ) → number (made n) ≡ n) → ((x : X) → made (number x) ≡ x)
+    → IsField (λ w. code_of names other w >>= λ n. Some (made n)) (λ x. code_text names other (number x)) (λ x. number x ≤ 65535)
+coded_field {X = X} names other apart made number same back = record {
+  takes = λ w x e.
+      let b = bind_some (code_of names other w) (λ n. Some (made n)) x e in
+      let is : number x ≡ b.0 = ap number (sym (some_is (made b.0) x b.2)) ∙ same b.0 in
+      subst (Spells names other w) (sym is) ((code_field names other apart).takes w b.0 b.1);
+  again = λ x le. rw ((code_field names other apart).again (number x) le) (ap (λ (y : X). Some y) (back x));
+}
+
+-- ---- the tables
 
 types_apart : is_apart (codes "TYPE") type_names ≡ true
 unfolding type_names
 types_apart = refl
 
+classes_apart : is_apart (codes "CLASS") class_names ≡ true
+unfolding class_names
+classes_apart = refl
+
+codes_apart : is_apart (codes "RCODE") code_names ≡ true
+unfolding code_names
+codes_apart = refl
+
 abbrev typed : ℕ → RecordType
 typed n = record { code = n }
 
+abbrev classed : ℕ → DnsClass
+classed n = record { code = n }
+
+abbrev responded : ℕ → ResponseCode
+responded n = record { code = n }
+
 pub type_field : IsField type_of type_text (λ t. t.code ≤ 65535)
 unfolding type_of type_text
-type_field = record {
-  takes = λ w t e.
-      let b = bind_some (code_of type_names (codes "TYPE") w) (λ n. Some (typed n)) t e in
-      let s = (code_field type_names (codes "TYPE") types_apart).takes w b.0 b.1 in
-      subst (λ (u : RecordType). (w ≡ code_text type_names (codes "TYPE") u.code) × (u.code ≤ 65535)) (some_is (typed b.0) t b.2) s;
-  again = λ t le. rw ((code_field type_names (codes "TYPE") types_apart).again t.code le) refl;
-}
+type_field = coded_field type_names (codes "TYPE") types_apart typed (λ t. t.code) (λ n. refl) (λ t. refl)
+
+pub class_field : IsField class_of class_text (λ c. c.code ≤ 65535)
+unfolding class_of class_text
+class_field = coded_field class_names (codes "CLASS") classes_apart classed (λ c. c.code) (λ n. refl) (λ c. refl)
+
+pub response_code_field : IsField response_code_of response_code_text (λ c. c.code ≤ 65535)
+unfolding response_code_of response_code_text
+response_code_field = coded_field code_names (codes "RCODE") codes_apart responded (λ c. c.code) (λ n. refl) (λ c. refl)
 
 -- ---- plain bytes
 
@@ -176,6 +205,22 @@ types_plain : are_plain type_names ≡ true
 unfolding type_names
 types_plain = refl
 
+classes_plain : are_plain class_names ≡ true
+unfolding class_names
+classes_plain = refl
+
+codes_plain : are_plain code_names ≡ true
+unfolding code_names
+codes_plain = refl
+
 pub type_plain : (t : RecordType) → t.code ≤ 65535 → AllBytes is_word_byte (type_text t)
 unfolding type_text
 type_plain t le = code_plain type_names (codes "TYPE") types_plain refl t.code (omega arith) (name_in type_names t.code) refl
+
+pub class_plain : (c : DnsClass) → c.code ≤ 65535 → AllBytes is_word_byte (class_text c)
+unfolding class_text
+class_plain c le = code_plain class_names (codes "CLASS") classes_plain refl c.code (omega arith) (name_in class_names c.code) refl
+
+pub response_code_plain : (c : ResponseCode) → c.code ≤ 65535 → AllBytes is_word_byte (response_code_text c)
+unfolding response_code_text
+response_code_plain c le = code_plain code_names (codes "RCODE") codes_plain refl c.code (omega arith) (name_in code_names c.code) refl

@@ -380,7 +380,6 @@ is_rule o fits z = record {
   soon = fits.soon;
   query = λ i. record { name = o.message.query.name; query_type = o.message.query.query_type; query_class = fits.class i };
   fine = fits.fine;
-  full = fits.full;
   few_answers = omega (arith, fits.few_answers, z.0);
   few_authorities = omega (arith, fits.few_authorities, z.1);
   few_additionals = omega (arith, fits.few_additionals, z.2);
@@ -596,7 +595,6 @@ is_new o b = record {
   soon = b.soon;
   class = b.class;
   fine = b.fine;
-  full = b.full;
   few_answers = omega (arith, b.few.0, none_long o.message.answers b.no_answers);
   few_authorities = omega (arith, b.few.1, none_long o.message.authorities b.no_authorities);
   few_additionals = omega (arith, b.few.2, none_long o.message.additionals b.no_additionals);

@@ -25,7 +25,7 @@ use Rattle.recursor_text.specs.declared.reading.draft.Refusal.{Refusal}
 use Rattle.recursor_text.specs.declared.reading.draft.Refusal.TheVariants.{Bad, NotBuilt}
 use Rattle.recursor_text.specs.Pieces.{pieces}
 use Rattle.recursor_text.specs.Numbers.{◌>>=◌}
-use Rattle.recursor_text.specs.RecordLines.{class_in}
+use Rattle.recursor_text.specs.Codes.{class_in}
 use Rattle.recursor_text.specs.Steps.{start, may_wait, may_end, settle, rule_of, add, put, taken, is_settled, is_ended, scenario_of}
 use Rattle.recursor_text.specs.Unbuilt.{refusal_of}
 use Rattle.recursor_text.specs.Reading.{cause_of, step_by, finish, onward, read_from, scenario_in, GivesScenario, FailsBy}
@@ -79,7 +79,7 @@ abbrev dummy : Record
 dummy = record { name = root_name; ttl = 0; dns_class = class_in; record_type = type_a; rdata = A nowhere; typed = refl }
 
 is_dummy : IsRecord dummy
-is_dummy = record { name = (refl, refl); life = lit≤ tt; class = refl; type = (lit≤ tt, refl); told = is_ipv4 }
+is_dummy = record { name = (refl, refl); life = lit≤ tt; class = lit≤ tt; type = (lit≤ tt, refl); told = is_ipv4 }
 
 abbrev total : Counts → ℕ
 total c = c.answers + c.authorities + c.additionals

@@ -19,18 +19,18 @@ use Rattle.recursor_text.specs.Addresses.{ip_of}
 use Rattle.recursor_text.specs.OptionForm.{option_line_of}
 use Rattle.recursor_text.specs.Pieces.{pieces}
 use Rattle.recursor_text.specs.Fields.{Fields, field, in_table, whole, nothing}
-use Rattle.recursor_text.specs.RecordLines.{class_in}
+use Rattle.recursor_text.specs.Codes.{class_in}
 use Rattle.recursor_text.specs.Lines.{protocols, head_fields, patience_fields, told_fields, count_field, three_counts, counts_from, counts_fields, head_from, head_parts_fields, message_fields, delay_field, failure_field, outcome_fields, connected_fields, answered_fields, refuse_fields, connect_parts, connect_fields, connect_from, reply_parts, reply_fields, reply_from, question_fields, question_from, turn_fields, turn_from, head_of, root_of, option_of, patience_of, told_of, connect_of, refuse_of, reply_of, question_of, turn_of, end_line_of, forms_of, form_of}
 use Rattle.recursor_text.specs.Texts.{ip_text, type_text, response_code_text, protocol_text, error_word, flags_text}
 use Rattle.recursor_text.specs.Spelling.{dnssec_text, head_words, root_words, option_words, patience_words, told_words, question_words, turn_words, end_words, reply_words, error_words, failed_words, connected_words, connect_words, refuse_words, script_lines, spelled, most_delay, IsFullName, IsAddress, IsOption, IsType, IsTransport, IsCode, IsFailure, IsScriptLine, IsQuestion, IsTurn}
 use Rattle.recursor_text.proofs.AddressLaws.{ip_field}
 use Rattle.recursor_text.proofs.Binds.{bind_some, guard_some, some_is, chosen}
-use Rattle.recursor_text.proofs.CodeLaws.{type_plain}
+use Rattle.recursor_text.proofs.CodeLaws.{response_code_field, type_plain, response_code_plain}
 use Rattle.recursor_text.proofs.PlainLaws.{AllBytes, AllPlain, pieces_take}
 use Rattle.recursor_text.proofs.NumberLaws.{is_word_byte}
 use Rattle.recursor_text.proofs.OptionLaws.{option_takes, option_again, option_plain}
 use Rattle.recursor_text.proofs.FieldLaws.{IsSeq, one, pair_law, skip_law, nothing_law, view_law, whole_takes, whole_again, IsWithin, number_field, IsShort, short_name_field, bytes_same}
-use Rattle.recursor_text.proofs.WordLaws.{protocol_field, failure_is_field, asked_type_field, code_field, flags_field, dnssec_field, full_law, wide_law, low, response_plain, protocol_plain, failure_plain, flags_plain, dnssec_plain, address_plain, named_plain, small, words_again}
+use Rattle.recursor_text.proofs.WordLaws.{protocol_field, failure_is_field, asked_type_field, flags_field, dnssec_field, full_law, wide_law, low, protocol_plain, failure_plain, flags_plain, dnssec_plain, address_plain, named_plain, small, words_again}
 
 abbrev any : {A : Type 0} → A → Type 0
 any x = Unit {0}
@@ -66,11 +66,11 @@ abbrev head_words_of : MessageHead → List (List ℕ)
 head_words_of h = response_code_text h.response_code ∷ flags_text h.authoritative h.truncation ∷ count_words h.owed
 
 abbrev IsHead : MessageHead → Type 0
-IsHead h = IsCode h.response_code × ((h.truncation ≡ false) × IsFew h.owed)
+IsHead h = IsCode h.response_code × IsFew h.owed
 
 message_law : IsSeq message_fields head_words_of IsHead
-message_law = view_law head_parts_fields _ _ (pair_law _ _ _ _ _ _ (one _ _ _ code_field) (pair_law _ _ _ _ _ _ (one _ _ _ flags_field) counts_law))
-    head_from (λ h. (h.response_code, ((h.authoritative, h.truncation), h.owed))) head_words_of IsHead (λ x. refl) (λ x fits. fits) (λ h. refl) (λ h fits. fits) (λ h. refl)
+message_law = view_law head_parts_fields _ _ (pair_law _ _ _ _ _ _ (one _ _ _ response_code_field) (pair_law _ _ _ _ _ _ (one _ _ _ flags_field) counts_law))
+    head_from (λ h. (h.response_code, ((h.authoritative, h.truncation), h.owed))) head_words_of IsHead (λ x. refl) (λ x fits. (fits.0, fits.1.1)) (λ h. refl) (λ h fits. (fits.0, (tt, fits.1))) (λ h. refl)
 
 delay_law : IsSeq delay_field (λ n. decimal n ∷ []) (IsWithin 0 most_delay)
 delay_law = one _ _ _ (number_field 0 most_delay (lit< tt))
@@ -209,7 +209,6 @@ pub record IsBare (o : OpenRule) : Type 0 where
   pub soon : o.delay ≤ most_delay
   pub class : o.message.query.query_class ≡ class_in
   pub fine : IsCode o.message.response_code
-  pub full : o.message.truncation ≡ false
   pub few : IsFew o.owed
   pub no_answers : o.message.answers ≡ []
   pub no_authorities : o.message.authorities ≡ []
@@ -256,8 +255,7 @@ reply_suits (ip, (protocol, (n, (t, (delay, Ok h))))) fits = record {
   soon = fits.1.1.1.1.0.1;
   class = refl;
   fine = fits.1.1.1.1.1.0;
-  full = fits.1.1.1.1.1.1.0;
-  few = fits.1.1.1.1.1.1.1;
+  few = fits.1.1.1.1.1.1;
   no_answers = refl;
   no_authorities = refl;
   no_additionals = refl;
@@ -341,7 +339,7 @@ reply_again : (o : OpenRule) → IsBare o → forms_of (form_words (form.Reply o
 unfolding forms_of reply_of
 reply_again o b =
     subst (λ (z : Form). forms_of (form_words z) ≡ Some z) (bare_is o b)
-    (whole_again reply_fields _ ReplyFits reply_law reply_from (bare_parts o) (b.address, (b.transport, (b.named, (b.typed, (low most_delay o.delay b.soon, (b.fine, (b.full, b.few))))))))
+    (whole_again reply_fields _ ReplyFits reply_law reply_from (bare_parts o) (b.address, (b.transport, (b.named, (b.typed, (low most_delay o.delay b.soon, (b.fine, b.few)))))))
 
 -- what a connection comes to, as it is read
 abbrev there : Option NetError → Result (Unit {0}) NetError
@@ -422,7 +420,7 @@ form_plain (form.Reply o) fits = (
             (
               refl,
               (
-                response_plain o.message.response_code fits.fine,
+                response_code_plain o.message.response_code fits.fine,
                 (
                   flags_plain o.message.authoritative o.message.truncation,
                   (small 65535 o.owed.answers fits.few.0 (lit< tt), (small 65535 o.owed.authorities fits.few.1 (lit< tt), (small 65535 o.owed.additionals fits.few.2 (lit< tt), tt))),

@@ -5,7 +5,7 @@ use Rattle.std.proofs.lemmas.Bool.{ltb-true, ltb-false}
 use Rattle.std.proofs.lemmas.List.{append-nil, map_push, length_push}
 use Rattle.dns_core.specs.declared.record.Record.{Record}
 use Rattle.recursor_text.specs.declared.reading.rules.OpenRule.{OpenRule}
-use Rattle.recursor_text.specs.RecordLines.{class_in}
+use Rattle.recursor_text.specs.Codes.{class_in}
 use Rattle.recursor_text.specs.Steps.{add}
 use Rattle.recursor_text.specs.Spelling.{reply_words, spelled, record_text, record_texts, most_delay, IsFullName, IsAddress, IsTransport, IsType, IsCode, IsRecord}
 use Rattle.recursor_text.proofs.Binds.{guard_some, some_is, chosen}
@@ -29,7 +29,6 @@ pub record IsOpen (o : OpenRule) : Type 0 where
   pub soon : o.delay ≤ most_delay
   pub class : o.message.query.query_class ≡ class_in
   pub fine : IsCode o.message.response_code
-  pub full : o.message.truncation ≡ false
   pub few_answers : length o.message.answers + o.owed.answers ≤ 65535
   pub few_authorities : length o.message.authorities + o.owed.authorities ≤ 65535
   pub few_additionals : length o.message.additionals + o.owed.additionals ≤ 65535
@@ -84,7 +83,6 @@ answer_added o r g fits lt = (
     soon = g.soon;
     class = g.class;
     fine = g.fine;
-    full = g.full;
     few_answers = omega (arith, moved o.message.answers r o.owed.answers lt, g.few_answers);
     few_authorities = g.few_authorities;
     few_additionals = g.few_additionals;
@@ -107,7 +105,6 @@ authority_added o r g fits none lt = (
     soon = g.soon;
     class = g.class;
     fine = g.fine;
-    full = g.full;
     few_answers = g.few_answers;
     few_authorities = omega (arith, moved o.message.authorities r o.owed.authorities lt, g.few_authorities);
     few_additionals = g.few_additionals;
@@ -130,7 +127,6 @@ additional_added o r g fits none neither lt = (
     soon = g.soon;
     class = g.class;
     fine = g.fine;
-    full = g.full;
     few_answers = g.few_answers;
     few_authorities = g.few_authorities;
     few_additionals = omega (arith, moved o.message.additionals r o.owed.additionals lt, g.few_additionals);

@@ -1,6 +1,6 @@
 -- Option lines: each is read exactly where it is spelled so, in bytes that no line is cut at; their
 -- ranks, and what they change.
-use Rattle.std.proofs.Common.{◌≡◌, ℕ, suc, ◌-◌, ◌<◌, ◌≤◌, true, List, [], ◌∷◌, ◌++◌, length, slice_get, Some, refl, sym, ap, subst, ◌∙◌, arith, lit<, inl, inr}
+use Rattle.std.proofs.Common.{◌≡◌, ℕ, suc, ◌-◌, ◌<◌, ◌≤◌, Bool, true, false, List, [], ◌∷◌, ◌++◌, length, slice_get, Some, refl, sym, ap, subst, ◌∙◌, arith, lit<, inl, inr}
 use Rattle.std.proofs.lemmas.Option.{same_Some}
 use Rattle.std.specs.Prelude.{codes, decimal}
 use Rattle.std.specs.Str.{bytes_eq}
@@ -8,18 +8,19 @@ use Rattle.std.specs.List.{AllByRecursion}
 use Rattle.recursor_core.specs.declared.options.RecursorOptions.{RecursorOptions}
 use Rattle.recursor_text.specs.declared.reading.option_form.Bounds.{Bounds}
 use Rattle.recursor_text.specs.declared.reading.option_form.OptionLine.{OptionLine}
-use Rattle.recursor_text.specs.declared.reading.option_form.OptionLine.TheVariants.{ResponseCacheSize, AllowServer, DenyServer, AvoidLocalUdpPorts, PositiveTtl, NegativeTtl, EdnsPayloadLen, FirstDelays}
-use Rattle.recursor_text.specs.Fields.{Fields, field, whole}
+use Rattle.recursor_text.specs.declared.reading.option_form.OptionLine.TheVariants.{ResponseCacheSize, AllowAnswers, DenyAnswers, AllowServer, DenyServer, AvoidLocalUdpPorts, PositiveTtl, NegativeTtl, CaseRandomization, EdnsPayloadLen, FirstDelays}
+use Rattle.recursor_text.specs.Errors.{flag_text}
+use Rattle.recursor_text.specs.Fields.{Fields, field, in_table, whole}
 use Rattle.recursor_text.specs.Numbers.{◌>>=◌, number_within}
-use Rattle.recursor_text.specs.OptionForm.{size_field, nets_field, ports_field, payload_field, delays_field, bounds_fields, response_cache_size_of, allow_server_of, deny_server_of, avoid_local_udp_ports_of, positive_ttl_of, negative_ttl_of, edns_payload_len_of, first_delays_of, option_line_of}
+use Rattle.recursor_text.specs.OptionForm.{size_field, nets_field, ports_field, switches, switch_field, payload_field, delays_field, bounds_fields, response_cache_size_of, allow_answers_of, deny_answers_of, allow_server_of, deny_server_of, avoid_local_udp_ports_of, positive_ttl_of, negative_ttl_of, case_randomization_of, edns_payload_len_of, first_delays_of, option_line_of}
 use Rattle.recursor_text.specs.RecordLines.{wide_field}
 use Rattle.recursor_text.specs.Spelling.{nets_text, numbers_text, bounds_words, named_words, IsNet, ArePorts, AreFirstDelays, IsBounds, IsOption, option_rank, RiseAbove, last_rank, changed, changed_by}
 use Rattle.recursor_text.proofs.Binds.{bind_some, guard_some, some_is, chosen}
-use Rattle.recursor_text.proofs.FieldLaws.{IsSeq, one, whole_takes, whole_again, IsWithin, number_field, bytes_same}
+use Rattle.recursor_text.proofs.FieldLaws.{IsField, IsSeq, one, whole_takes, whole_again, IsWithin, number_field, bytes_same, table_field}
 use Rattle.recursor_text.proofs.NetLaws.{nets_are, nets_plain}
 use Rattle.recursor_text.proofs.NumberLaws.{is_word_byte}
 use Rattle.recursor_text.proofs.NumberListLaws.{ports_are, ports_plain, delays_are, delays_plain}
-use Rattle.recursor_text.proofs.PlainLaws.{AllPlain}
+use Rattle.recursor_text.proofs.PlainLaws.{AllBytes, AllPlain}
 use Rattle.recursor_text.proofs.WordLaws.{wide_law, low, small}
 
 -- ---- each line
@@ -32,6 +33,16 @@ nets_law = one _ _ _ nets_are
 
 ports_law : IsSeq ports_field (λ ps. numbers_text ps ∷ []) (ArePorts 0)
 ports_law = one _ _ _ ports_are
+
+switch_is_field : IsField (in_table switches) flag_text (λ on. Unit {0})
+switch_is_field = table_field _ _ switches ((refl, tt), ((refl, tt), tt)) again
+  where
+    again : (on : Bool) → Unit {0} → in_table switches (flag_text on) ≡ Some on
+    again false fits = refl
+    again true fits = refl
+
+switch_law : IsSeq switch_field (λ on. flag_text on ∷ []) (λ on. Unit {0})
+switch_law = one _ _ _ switch_is_field
 
 payload_law : IsSeq payload_field (λ n. decimal n ∷ []) (IsWithin 0 65535)
 payload_law = one _ _ _ (number_field 0 65535 (lit< tt))
@@ -71,24 +82,33 @@ named_takes key p text Fits law f words suits w ws o same e =
     subst (λ (p : OptionLine). (w ∷ ws ≡ named_words p) × IsOption p) t.3 (spelt, suits t.0 t.2)
 
 pub option_takes : (ws : List (List ℕ)) (o : OptionLine) → option_line_of ws ≡ Some o → (ws ≡ named_words o) × IsOption o
-unfolding option_line_of response_cache_size_of allow_server_of deny_server_of avoid_local_udp_ports_of positive_ttl_of negative_ttl_of edns_payload_len_of first_delays_of
+unfolding option_line_of response_cache_size_of allow_answers_of deny_answers_of allow_server_of deny_server_of avoid_local_udp_ports_of positive_ttl_of negative_ttl_of case_randomization_of edns_payload_len_of first_delays_of
 option_takes [] o e = absurd cc
 option_takes (w ∷ ws) o e = elim (chosen (bytes_eq w (codes "response_cache_size")) _ _ _ e) [
   | inl h ↦ named_takes (codes "response_cache_size") size_field _ _ size_law ResponseCacheSize (λ n. refl) (λ n fits. fits.1) w ws o h.0 h.1
-  | inr h ↦ elim (chosen (bytes_eq w (codes "allow_server")) _ _ _ h.1) [
-    | inl h ↦ named_takes (codes "allow_server") nets_field _ _ nets_law AllowServer (λ ns. refl) (λ ns fits. fits) w ws o h.0 h.1
-    | inr h ↦ elim (chosen (bytes_eq w (codes "deny_server")) _ _ _ h.1) [
-      | inl h ↦ named_takes (codes "deny_server") nets_field _ _ nets_law DenyServer (λ ns. refl) (λ ns fits. fits) w ws o h.0 h.1
-      | inr h ↦ elim (chosen (bytes_eq w (codes "avoid_local_udp_ports")) _ _ _ h.1) [
-        | inl h ↦ named_takes (codes "avoid_local_udp_ports") ports_field _ _ ports_law AvoidLocalUdpPorts (λ ps. refl) (λ ps fits. fits) w ws o h.0 h.1
-        | inr h ↦ elim (chosen (bytes_eq w (codes "positive_ttl")) _ _ _ h.1) [
-          | inl h ↦ named_takes (codes "positive_ttl") bounds_fields _ _ bounds_law PositiveTtl (λ b. refl) (λ b fits. fits) w ws o h.0 h.1
-          | inr h ↦ elim (chosen (bytes_eq w (codes "negative_ttl")) _ _ _ h.1) [
-            | inl h ↦ named_takes (codes "negative_ttl") bounds_fields _ _ bounds_law NegativeTtl (λ b. refl) (λ b fits. fits) w ws o h.0 h.1
-            | inr h ↦ elim (chosen (bytes_eq w (codes "edns_payload_len")) _ _ _ h.1) [
-              | inl h ↦ named_takes (codes "edns_payload_len") payload_field _ _ payload_law EdnsPayloadLen (λ n. refl) (λ n fits. fits.1) w ws o h.0 h.1
-              | inr h ↦ let g = guard_some (bytes_eq w (codes "first_delays")) (first_delays_of ws) o h.1 in
-                  named_takes (codes "first_delays") delays_field _ _ delays_law FirstDelays (λ ds. refl) (λ ds fits. fits) w ws o g.0 g.1
+  | inr h ↦ elim (chosen (bytes_eq w (codes "allow_answers")) _ _ _ h.1) [
+    | inl h ↦ named_takes (codes "allow_answers") nets_field _ _ nets_law AllowAnswers (λ ns. refl) (λ ns fits. fits) w ws o h.0 h.1
+    | inr h ↦ elim (chosen (bytes_eq w (codes "deny_answers")) _ _ _ h.1) [
+      | inl h ↦ named_takes (codes "deny_answers") nets_field _ _ nets_law DenyAnswers (λ ns. refl) (λ ns fits. fits) w ws o h.0 h.1
+      | inr h ↦ elim (chosen (bytes_eq w (codes "allow_server")) _ _ _ h.1) [
+        | inl h ↦ named_takes (codes "allow_server") nets_field _ _ nets_law AllowServer (λ ns. refl) (λ ns fits. fits) w ws o h.0 h.1
+        | inr h ↦ elim (chosen (bytes_eq w (codes "deny_server")) _ _ _ h.1) [
+          | inl h ↦ named_takes (codes "deny_server") nets_field _ _ nets_law DenyServer (λ ns. refl) (λ ns fits. fits) w ws o h.0 h.1
+          | inr h ↦ elim (chosen (bytes_eq w (codes "avoid_local_udp_ports")) _ _ _ h.1) [
+            | inl h ↦ named_takes (codes "avoid_local_udp_ports") ports_field _ _ ports_law AvoidLocalUdpPorts (λ ps. refl) (λ ps fits. fits) w ws o h.0 h.1
+            | inr h ↦ elim (chosen (bytes_eq w (codes "positive_ttl")) _ _ _ h.1) [
+              | inl h ↦ named_takes (codes "positive_ttl") bounds_fields _ _ bounds_law PositiveTtl (λ b. refl) (λ b fits. fits) w ws o h.0 h.1
+              | inr h ↦ elim (chosen (bytes_eq w (codes "negative_ttl")) _ _ _ h.1) [
+                | inl h ↦ named_takes (codes "negative_ttl") bounds_fields _ _ bounds_law NegativeTtl (λ b. refl) (λ b fits. fits) w ws o h.0 h.1
+                | inr h ↦ elim (chosen (bytes_eq w (codes "case_randomization")) _ _ _ h.1) [
+                  | inl h ↦ named_takes (codes "case_randomization") switch_field _ _ switch_law CaseRandomization (λ b. refl) (λ b fits. fits) w ws o h.0 h.1
+                  | inr h ↦ elim (chosen (bytes_eq w (codes "edns_payload_len")) _ _ _ h.1) [
+                    | inl h ↦ named_takes (codes "edns_payload_len") payload_field _ _ payload_law EdnsPayloadLen (λ n. refl) (λ n fits. fits.1) w ws o h.0 h.1
+                    | inr h ↦ let g = guard_some (bytes_eq w (codes "first_delays")) (first_delays_of ws) o h.1 in
+                        named_takes (codes "first_delays") delays_field _ _ delays_law FirstDelays (λ ds. refl) (λ ds fits. fits) w ws o g.0 g.1
+                  ]
+                ]
+              ]
             ]
           ]
         ]
@@ -98,13 +118,16 @@ option_takes (w ∷ ws) o e = elim (chosen (bytes_eq w (codes "response_cache_si
 ]
 
 pub option_again : (o : OptionLine) → IsOption o → option_line_of (named_words o) ≡ Some o
-unfolding option_line_of response_cache_size_of allow_server_of deny_server_of avoid_local_udp_ports_of positive_ttl_of negative_ttl_of edns_payload_len_of first_delays_of
+unfolding option_line_of response_cache_size_of allow_answers_of deny_answers_of allow_server_of deny_server_of avoid_local_udp_ports_of positive_ttl_of negative_ttl_of case_randomization_of edns_payload_len_of first_delays_of
 option_again (ResponseCacheSize size) fits = whole_again _ _ _ size_law ResponseCacheSize size (low 4194304 size fits)
+option_again (AllowAnswers nets) fits = whole_again _ _ _ nets_law AllowAnswers nets fits
+option_again (DenyAnswers nets) fits = whole_again _ _ _ nets_law DenyAnswers nets fits
 option_again (AllowServer nets) fits = whole_again _ _ _ nets_law AllowServer nets fits
 option_again (DenyServer nets) fits = whole_again _ _ _ nets_law DenyServer nets fits
 option_again (AvoidLocalUdpPorts ports) fits = whole_again _ _ _ ports_law AvoidLocalUdpPorts ports fits
 option_again (PositiveTtl b) fits = whole_again _ _ _ bounds_law PositiveTtl b fits
 option_again (NegativeTtl b) fits = whole_again _ _ _ bounds_law NegativeTtl b fits
+option_again (CaseRandomization on) fits = whole_again _ _ _ switch_law CaseRandomization on fits
 option_again (EdnsPayloadLen bytes) fits = whole_again _ _ _ payload_law EdnsPayloadLen bytes (low 65535 bytes fits)
 option_again (FirstDelays delays) fits = whole_again _ _ _ delays_law FirstDelays delays fits
 
@@ -114,13 +137,20 @@ bounds_plain b fits =
     let wide : b.most ≤ 4294967295 = fits.wide in
     (small 4294967295 b.least (omega arith) (lit< tt), (small 4294967295 b.most wide (lit< tt), tt))
 
+switch_plain : (on : Bool) → AllBytes is_word_byte (flag_text on)
+switch_plain false = refl
+switch_plain true = refl
+
 pub option_plain : (o : OptionLine) → IsOption o → AllPlain is_word_byte (named_words o)
 option_plain (ResponseCacheSize size) fits = (refl, (small 4194304 size fits (lit< tt), tt))
+option_plain (AllowAnswers nets) fits = (refl, (nets_plain nets fits, tt))
+option_plain (DenyAnswers nets) fits = (refl, (nets_plain nets fits, tt))
 option_plain (AllowServer nets) fits = (refl, (nets_plain nets fits, tt))
 option_plain (DenyServer nets) fits = (refl, (nets_plain nets fits, tt))
 option_plain (AvoidLocalUdpPorts ports) fits = (refl, (ports_plain ports fits, tt))
 option_plain (PositiveTtl b) fits = (refl, bounds_plain b fits)
 option_plain (NegativeTtl b) fits = (refl, bounds_plain b fits)
+option_plain (CaseRandomization on) fits = (refl, (switch_plain on, tt))
 option_plain (EdnsPayloadLen bytes) fits = (refl, (small 65535 bytes fits (lit< tt), tt))
 option_plain (FirstDelays delays) fits = (refl, (delays_plain delays fits, tt))
 

@@ -1,6 +1,6 @@
 -- Each line of a record is read exactly where it is spelled so.
 use Rattle.std.proofs.Common.{◌≡◌, ℕ, ◌<◌, ◌≤◌, Bool, true, false, not, eqb, List, [], ◌∷◌, ◌++◌, length, Some, refl, sym, ap, subst, ◌∙◌, arith, lit<, inl, inr}
-use Rattle.std.specs.Prelude.{codes, decimal}
+use Rattle.std.specs.Prelude.{decimal}
 use Rattle.std.specs.List.{AllByRecursion}
 use Rattle.std.proofs.lemmas.Bool.{eqb-true, ne_eqb}
 use Rattle.std.proofs.Math.Bool.{Bool-set}
@@ -22,17 +22,17 @@ use Rattle.recursor_text.specs.Hex.{bytes_of}
 use Rattle.recursor_text.specs.Names.{full_name}
 use Rattle.recursor_text.specs.Numbers.{◌>>=◌, ipv4_of}
 use Rattle.recursor_text.specs.Pieces.{pieces}
-use Rattle.recursor_text.specs.RecordLines.{class_in, record_head, soa_parts, soa_fields, soa_from, soa_of, data_of, record_from, record_of_data, records_of, record_of}
+use Rattle.recursor_text.specs.RecordLines.{record_head, soa_parts, soa_fields, soa_from, soa_of, data_of, record_from, record_of_data, records_of, record_of}
 use Rattle.recursor_text.specs.Texts.{type_text, class_text, hex_text, data_words, record_words}
-use Rattle.recursor_text.specs.Spelling.{record_text, IsFullName, IsRecordType, IsData, IsRecord}
+use Rattle.recursor_text.specs.Spelling.{record_text, IsFullName, IsClass, IsRecordType, IsData, IsRecord}
 use Rattle.recursor_text.proofs.AddressLaws.{ipv6_field}
 use Rattle.recursor_text.proofs.Binds.{bind_some, some_is, chosen}
-use Rattle.recursor_text.proofs.CodeLaws.{type_plain}
-use Rattle.recursor_text.proofs.FieldLaws.{IsSeq, one, pair_law, skip_law, whole_takes, whole_again, IsWithin, ipv4_field}
+use Rattle.recursor_text.proofs.CodeLaws.{class_field, type_plain, class_plain}
+use Rattle.recursor_text.proofs.FieldLaws.{IsSeq, one, pair_law, whole_takes, whole_again, IsWithin, ipv4_field}
 use Rattle.recursor_text.proofs.HexLaws.{IsByte, bytes_field, bytes_plain}
 use Rattle.recursor_text.proofs.NumberLaws.{is_word_byte, ipv4_plain}
 use Rattle.recursor_text.proofs.PlainLaws.{AllPlain, pieces_take}
-use Rattle.recursor_text.proofs.WordLaws.{class_in_text, record_type_field, full_law, wide_law, low, class_plain, ipv6_plain, named_plain, small, words_again}
+use Rattle.recursor_text.proofs.WordLaws.{record_type_field, full_law, wide_law, low, ipv6_plain, named_plain, small, words_again}
 
 -- ---- the law of each kind of data
 
@@ -140,17 +140,17 @@ data_plain (RRSIG covered rest) fits = absurd fits
 -- ---- record lines
 
 abbrev head_parts : Type 0
-head_parts = DomainName × (ℕ × RecordType)
+head_parts = DomainName × (ℕ × (DnsClass × RecordType))
 
 abbrev head_text : head_parts → List (List ℕ)
-head_text x = name_text x.0 ∷ decimal x.1.0 ∷ codes "IN" ∷ type_text x.1.1 ∷ []
+head_text x = name_text x.0 ∷ decimal x.1.0 ∷ class_text x.1.1.0 ∷ type_text x.1.1.1 ∷ []
 
 abbrev pub HeadFits : head_parts → Type 0
-HeadFits x = IsFullName x.0 × (IsWide x.1.0 × IsRecordType x.1.1)
+HeadFits x = IsFullName x.0 × (IsWide x.1.0 × (IsClass x.1.1.0 × IsRecordType x.1.1.1))
 
 pub record_head_law : IsSeq record_head head_text HeadFits
 unfolding record_head
-record_head_law = pair_law _ _ _ _ _ _ full_law (pair_law _ _ _ _ _ _ wide_law (skip_law _ _ _ _ (one _ _ _ record_type_field)))
+record_head_law = pair_law _ _ _ _ _ _ full_law (pair_law _ _ _ _ _ _ wide_law (pair_law _ _ _ _ _ _ (one _ _ _ class_field) (one _ _ _ record_type_field)))
 
 abbrev made : DomainName → ℕ → DnsClass → (t : RecordType) → (x : RData) → is_typed t x ≡ true → Record
 made n life c t x typed = record { name = n; ttl = life; dns_class = c; record_type = t; rdata = x; typed = typed }
@@ -159,35 +159,32 @@ made n life c t x typed = record { name = n; ttl = life; dns_class = c; record_t
 one_proof : (b : Bool) (p q : b ≡ true) → p ≡ q
 one_proof b p q = Bool-set b true p q
 
-from_typed : (n : DomainName) (life : ℕ) (t : RecordType) (x : RData) (b : Bool) (e : is_typed t x ≡ b) (typed : is_typed t x ≡ true) → record_from n life t x b e ≡ Some (made n life class_in t x typed)
-from_typed n life t x true e typed = ap (λ (p : is_typed t x ≡ true). Some (made n life class_in t x p)) (one_proof (is_typed t x) e typed)
-from_typed n life t x false e typed = absurd (let both : true ≡ false = sym typed ∙ e in cc)
+from_typed : (n : DomainName) (life : ℕ) (c : DnsClass) (t : RecordType) (x : RData) (b : Bool) (e : is_typed t x ≡ b) (typed : is_typed t x ≡ true) → record_from n life c t x b e ≡ Some (made n life c t x typed)
+from_typed n life c t x true e typed = ap (λ (p : is_typed t x ≡ true). Some (made n life c t x p)) (one_proof (is_typed t x) e typed)
+from_typed n life c t x false e typed = absurd (let both : true ≡ false = sym typed ∙ e in cc)
 
 -- data of a type makes a record
-pub record_made : (h : head_parts) (x : RData) (typed : is_typed h.1.1 x ≡ true) → record_of_data h x ≡ Some (made h.0 h.1.0 class_in h.1.1 x typed)
-record_made h x typed = from_typed h.0 h.1.0 h.1.1 x (is_typed h.1.1 x) refl typed
+pub record_made : (h : head_parts) (x : RData) (typed : is_typed h.1.1.1 x ≡ true) → record_of_data h x ≡ Some (made h.0 h.1.0 h.1.1.0 h.1.1.1 x typed)
+record_made h x typed = from_typed h.0 h.1.0 h.1.1.0 h.1.1.1 x (is_typed h.1.1.1 x) refl typed
 
 abbrev Spells : List (List ℕ) → Record → Type 0
 Spells ws r = (ws ≡ record_words r) × IsRecord r
 
-in_class : (n : List ℕ) (d : List ℕ) (rest : List (List ℕ)) → n ∷ d ∷ codes "IN" ∷ rest ≡ n ∷ d ∷ class_text class_in ∷ rest
-in_class n d rest = ap (λ (c : List ℕ). n ∷ d ∷ c ∷ rest) (sym class_in_text)
-
-record_spelled : (ws after : List (List ℕ)) (h : head_parts) (x : RData) (r : Record) → HeadFits h → ws ≡ head_text h ++ after → Tells h.1.1 after x → record_of_data h x ≡ Some r → Spells ws r
+record_spelled : (ws after : List (List ℕ)) (h : head_parts) (x : RData) (r : Record) → HeadFits h → ws ≡ head_text h ++ after → Tells h.1.1.1 after x → record_of_data h x ≡ Some r → Spells ws r
 record_spelled ws after h x r fits split told e =
-    subst (Spells ws) (some_is (made h.0 h.1.0 class_in h.1.1 x told.typed) r (sym (record_made h x told.typed) ∙ e)) (
-      split ∙ ap (λ (ds : List (List ℕ)). head_text h ++ ds) told.words ∙ in_class _ _ _,
-      record { name = fits.0; life = fits.1.0.1; class = refl; type = fits.1.1; told = told.fits },
+    subst (Spells ws) (some_is (made h.0 h.1.0 h.1.1.0 h.1.1.1 x told.typed) r (sym (record_made h x told.typed) ∙ e)) (
+      split ∙ ap (λ (ds : List (List ℕ)). head_text h ++ ds) told.words,
+      record { name = fits.0; life = fits.1.0.1; class = fits.1.1.0; type = fits.1.1.1; told = told.fits },
     )
 
 pub record_takes : (line : List ℕ) (r : Record) → record_of line ≡ Some r → (line ≡ record_text r) × IsRecord r
 unfolding records_of
 record_takes line r e =
     let ws = pieces 32 line in
-    let h = bind_some (record_head ws) (λ h. data_of h.0.1.1 h.1 >>= record_of_data h.0) r e in
+    let h = bind_some (record_head ws) (λ h. data_of h.0.1.1.1 h.1 >>= record_of_data h.0) r e in
     let t = record_head_law.takes ws h.0.0 h.0.1 h.1 in
-    let d = bind_some (data_of h.0.0.1.1 h.0.1) (record_of_data h.0.0) r h.2 in
-    let s = record_spelled ws h.0.1 h.0.0 d.0 r t.1 t.0 (data_takes h.0.0.1.1 h.0.1 d.0 t.1.1.1.1 d.1) d.2 in
+    let d = bind_some (data_of h.0.0.1.1.1 h.0.1) (record_of_data h.0.0) r h.2 in
+    let s = record_spelled ws h.0.1 h.0.0 d.0 r t.1 t.0 (data_takes h.0.0.1.1.1 h.0.1 d.0 t.1.1.1.1.1 d.1) d.2 in
     (pieces_take 32 line (record_words r) s.0, s.1)
 
 pub record_plain : (r : Record) → IsRecord r → AllPlain is_word_byte (record_words r)
@@ -197,15 +194,13 @@ record_plain r fits =
 abbrev Again : Record → Type 0
 Again r = records_of (record_words r) ≡ Some r
 
-made_again : (h : head_parts) (x : RData) (typed : is_typed h.1.1 x ≡ true) → HeadFits h → IsData x → Again (made h.0 h.1.0 class_in h.1.1 x typed)
+made_again : (h : head_parts) (x : RData) (typed : is_typed h.1.1.1 x ≡ true) → HeadFits h → IsData x → Again (made h.0 h.1.0 h.1.1.0 h.1.1.1 x typed)
 unfolding records_of
-made_again h x typed fits told =
-    rw class_in_text (rw (record_head_law.again h (data_words x) fits, data_again h.1.1 x typed told) (record_made h x typed))
+made_again h x typed fits told = rw (record_head_law.again h (data_words x) fits, data_again h.1.1.1 x typed told) (record_made h x typed)
 
 record_words_again : (r : Record) → IsRecord r → Again r
 record_words_again r fits =
-    subst (λ (c : DnsClass). Again (made r.name r.ttl c r.record_type r.rdata r.typed)) (sym fits.class)
-    (made_again (r.name, (r.ttl, r.record_type)) r.rdata r.typed (fits.name, (low 4294967295 r.ttl fits.life, fits.type)) fits.told)
+    made_again (r.name, (r.ttl, (r.dns_class, r.record_type))) r.rdata r.typed (fits.name, (low 4294967295 r.ttl fits.life, (fits.class, fits.type))) fits.told
 
 some_words : (r : Record) → 0 < length (record_words r)
 some_words r = omega arith
@@ -214,5 +209,5 @@ pub record_again : (r : Record) → IsRecord r → record_of (record_text r) ≡
 record_again r fits = ap records_of (words_again (record_words r) (some_words r) (record_plain r fits)) ∙ record_words_again r fits
 
 -- data that is read after a head is of its type
-pub read_typed : (ws after : List (List ℕ)) (h : head_parts) (x : RData) → record_head ws ≡ Some (h, after) → data_of h.1.1 after ≡ Some x → is_typed h.1.1 x ≡ true
-read_typed ws after h x e f = let t = record_head_law.takes ws h after e in let s = data_takes h.1.1 after x t.1.1.1.1 f in s.typed
+pub read_typed : (ws after : List (List ℕ)) (h : head_parts) (x : RData) → record_head ws ≡ Some (h, after) → data_of h.1.1.1 after ≡ Some x → is_typed h.1.1.1 x ≡ true
+read_typed ws after h x e f = let t = record_head_law.takes ws h after e in let s = data_takes h.1.1.1 after x t.1.1.1.1.1 f in s.typed

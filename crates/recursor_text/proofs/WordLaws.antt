@@ -1,7 +1,7 @@
 -- Words that stand for values: each is read exactly where it is spelled so, in bytes that no line
 -- is cut at.
-use Rattle.std.proofs.Common.{◌≡◌, ℕ, suc, ◌^◌, ◌<◌, ◌≤◌, Bool, true, false, List, [], ◌∷◌, length, Some, refl, sym, ap, subst, arith, lit<, inl, inr}
-use Rattle.std.specs.Prelude.{codes, decimal}
+use Rattle.std.proofs.Common.{◌≡◌, ℕ, suc, ◌^◌, ◌<◌, ◌≤◌, Bool, true, false, List, [], ◌∷◌, length, Some, refl, sym, subst, arith, lit<, inl, inr}
+use Rattle.std.specs.Prelude.{decimal}
 use Rattle.std.specs.declared.net.ip_addr.IpAddr.{IpAddr}
 use Rattle.std.specs.declared.net.ip_addr.IpAddr.TheVariants.{V4, V6}
 use Rattle.std.specs.declared.net.ipv6_addr.Ipv6Addr.{Ipv6Addr}
@@ -12,8 +12,6 @@ use Rattle.std.proofs.lemmas.Bool.{lt-ltb}
 use Rattle.std.proofs.NetLemmas.Alphabet.{IsHexOrColon, All-hex_groups_text}
 use Rattle.dns_core.specs.Name.{DomainName}
 use Rattle.dns_core.specs.NameText.{text_of as name_text}
-use Rattle.dns_core.specs.declared.codes.DnsClass.{DnsClass}
-use Rattle.dns_core.specs.declared.codes.ResponseCode.{ResponseCode}
 use Rattle.dns_core.specs.declared.connection.Protocol.{Protocol}
 use Rattle.dns_core.specs.declared.connection.Protocol.TheVariants.{Udp, Tcp}
 use Rattle.dns_core.specs.declared.net_error.IoKind.TheVariants.{Closed, Refused, Other}
@@ -23,10 +21,10 @@ use Rattle.recursor_text.specs.Pieces.{pieces}
 use Rattle.recursor_text.specs.Codes.{type_of, is_record_type, is_asked_type}
 use Rattle.recursor_text.specs.Fields.{field, kept, in_table}
 use Rattle.recursor_text.specs.Names.{full_name}
-use Rattle.recursor_text.specs.RecordLines.{class_in, wide_field}
-use Rattle.recursor_text.specs.Lines.{no_error, no_such_name, protocols, failures, response_codes, flags, dnssec_words}
-use Rattle.recursor_text.specs.Texts.{ip_text, type_text, class_text, response_code_text, protocol_text, error_word, flags_text, class_names, code_names}
-use Rattle.recursor_text.specs.Spelling.{dnssec_text, spelled, IsName, IsFullName, IsAddress, IsType, IsRecordType, IsCode, IsTransport, IsFailure}
+use Rattle.recursor_text.specs.RecordLines.{wide_field}
+use Rattle.recursor_text.specs.Lines.{protocols, failures, flags, dnssec_words}
+use Rattle.recursor_text.specs.Texts.{ip_text, type_text, protocol_text, error_word, flags_text}
+use Rattle.recursor_text.specs.Spelling.{dnssec_text, spelled, IsName, IsFullName, IsAddress, IsType, IsRecordType, IsTransport, IsFailure}
 use Rattle.recursor_text.proofs.PlainLaws.{AllBytes, AllPlain, pieces_again}
 use Rattle.recursor_text.proofs.NumberLaws.{is_word_byte, decimal_plain, ipv4_plain}
 use Rattle.recursor_text.proofs.NameLaws.{name_plain}
@@ -34,18 +32,6 @@ use Rattle.recursor_text.proofs.FieldLaws.{IsField, IsSeq, one, kept_field, IsWi
 use Rattle.recursor_text.proofs.CodeLaws.{type_field}
 
 -- ---- each word is read as its value
-
-pub class_in_text : class_text class_in ≡ codes "IN"
-unfolding class_text class_names
-class_in_text = refl
-
-no_error_text : response_code_text no_error ≡ codes "NOERROR"
-unfolding response_code_text code_names
-no_error_text = refl
-
-no_such_name_text : response_code_text no_such_name ≡ codes "NXDOMAIN"
-unfolding response_code_text code_names
-no_such_name_text = refl
 
 -- what holds of both transports
 by_transport : (P : Protocol → Type 0) → P Udp → P Tcp → (p : Protocol) → IsTransport p → P p
@@ -56,23 +42,23 @@ pub protocol_field : IsField (in_table protocols) protocol_text IsTransport
 protocol_field = table_field _ _ protocols ((refl, inl refl), ((refl, inr refl), tt)) (by_transport (λ (q : Protocol). in_table protocols (protocol_text q) ≡ Some q) refl refl)
 
 -- what holds of each error that is told
-by_failure : (P : NetError → Type 0) → P (Io Other) → P (Io Closed) → P (Io Refused) → P Timeout → P NoConnections → (e : NetError) → IsFailure e → P e
-by_failure P a b c d e (Io Other) is = a
-by_failure P a b c d e (Io Closed) is = b
-by_failure P a b c d e (Io Refused) is = c
-by_failure P a b c d e Timeout is = d
-by_failure P a b c d e NoConnections is = e
-by_failure P a b c d e Busy is = absurd is
-by_failure P a b c d e Truncated is = absurd is
-by_failure P a b c d e QueryCaseMismatch is = absurd is
-by_failure P a b c d e (ForeignClassRecord name dns_class record_type) is = absurd is
-by_failure P a b c d e (Dns error) is = absurd is
-by_failure P a b c d e (Msg text) is = absurd is
-by_failure P a b c d e NoMemory is = absurd is
+by_failure : (P : NetError → Type 0) → P Busy → P (Io Other) → P (Io Closed) → P (Io Refused) → P Timeout → P NoConnections → P QueryCaseMismatch → (e : NetError) → IsFailure e → P e
+by_failure P a b c d e f g Busy is = a
+by_failure P a b c d e f g (Io Other) is = b
+by_failure P a b c d e f g (Io Closed) is = c
+by_failure P a b c d e f g (Io Refused) is = d
+by_failure P a b c d e f g Timeout is = e
+by_failure P a b c d e f g NoConnections is = f
+by_failure P a b c d e f g QueryCaseMismatch is = g
+by_failure P a b c d e f g Truncated is = absurd is
+by_failure P a b c d e f g (ForeignClassRecord name dns_class record_type) is = absurd is
+by_failure P a b c d e f g (Dns error) is = absurd is
+by_failure P a b c d e f g (Msg text) is = absurd is
+by_failure P a b c d e f g NoMemory is = absurd is
 
 pub failure_is_field : IsField (in_table failures) error_word IsFailure
-failure_is_field = table_field _ _ failures ((refl, tt), ((refl, tt), ((refl, tt), ((refl, tt), ((refl, tt), tt)))))
-    (by_failure (λ (e : NetError). in_table failures (error_word e) ≡ Some e) refl refl refl refl refl)
+failure_is_field = table_field _ _ failures ((refl, tt), ((refl, tt), ((refl, tt), ((refl, tt), ((refl, tt), ((refl, tt), ((refl, tt), tt)))))))
+    (by_failure (λ (e : NetError). in_table failures (error_word e) ≡ Some e) refl refl refl refl refl refl refl)
 
 pub record_type_field : IsField (kept is_record_type type_of) type_text IsRecordType
 record_type_field = kept_field type_of type_text _ type_field is_record_type
@@ -80,26 +66,14 @@ record_type_field = kept_field type_of type_text _ type_field is_record_type
 pub asked_type_field : IsField (kept is_asked_type type_of) type_text IsType
 asked_type_field = kept_field type_of type_text _ type_field is_asked_type
 
-coded_response : (t : ResponseCode) (n : ℕ) → t.code ≡ n → record { code = n } ≡ t
-coded_response t n e = ap (λ (k : ℕ). let u : ResponseCode = record { code = k } in u) (sym e)
-
--- what holds of both codes
-by_code : (P : ResponseCode → Type 0) → P no_error → P no_such_name → (c : ResponseCode) → IsCode c → P c
-by_code P a b c (inl is) = subst P (coded_response c 0 is) a
-by_code P a b c (inr is) = subst P (coded_response c 3 is) b
-
-pub code_field : IsField (in_table response_codes) response_code_text IsCode
-code_field = table_field _ _ response_codes ((sym no_error_text, inl refl), ((sym no_such_name_text, inr refl), tt))
-    (by_code (λ (u : ResponseCode). in_table response_codes (response_code_text u) ≡ Some u) (rw no_error_text refl) (rw no_such_name_text refl))
-
-pub flags_field : IsField (in_table flags) (λ f. flags_text f.0 f.1) (λ f. f.1 ≡ false)
-flags_field = table_field _ _ flags ((refl, refl), ((refl, refl), tt)) again
+pub flags_field : IsField (in_table flags) (λ f. flags_text f.0 f.1) (λ f. Unit {0})
+flags_field = table_field _ _ flags ((refl, tt), ((refl, tt), ((refl, tt), ((refl, tt), tt)))) again
   where
-    again : (f : Bool × Bool) → f.1 ≡ false → in_table flags (flags_text f.0 f.1) ≡ Some f
+    again : (f : Bool × Bool) → Unit {0} → in_table flags (flags_text f.0 f.1) ≡ Some f
     again (false, false) is = refl
     again (true, false) is = refl
-    again (false, true) is = absurd cc
-    again (true, true) is = absurd cc
+    again (false, true) is = refl
+    again (true, true) is = refl
 
 pub dnssec_field : IsField (in_table dnssec_words) dnssec_text (λ b. b ≡ false)
 dnssec_field = table_field _ _ dnssec_words ((refl, refl), tt) again
@@ -121,17 +95,11 @@ low most n le = (omega arith, le)
 
 -- ---- plain bytes
 
-pub class_plain : (c : DnsClass) → c ≡ class_in → AllBytes is_word_byte (class_text c)
-class_plain c is = subst (λ (d : DnsClass). AllBytes is_word_byte (class_text d)) (sym is) (rw class_in_text refl)
-
-pub response_plain : (c : ResponseCode) → IsCode c → AllBytes is_word_byte (response_code_text c)
-response_plain = by_code (λ (u : ResponseCode). AllBytes is_word_byte (response_code_text u)) (rw no_error_text refl) (rw no_such_name_text refl)
-
 pub protocol_plain : (p : Protocol) → IsTransport p → AllBytes is_word_byte (protocol_text p)
 protocol_plain = by_transport (λ (q : Protocol). AllBytes is_word_byte (protocol_text q)) refl refl
 
 pub failure_plain : (e : NetError) → IsFailure e → AllBytes is_word_byte (error_word e)
-failure_plain = by_failure (λ (e : NetError). AllBytes is_word_byte (error_word e)) refl refl refl refl refl
+failure_plain = by_failure (λ (e : NetError). AllBytes is_word_byte (error_word e)) refl refl refl refl refl refl refl
 
 pub flags_plain : (a t : Bool) → AllBytes is_word_byte (flags_text a t)
 flags_plain false false = refl

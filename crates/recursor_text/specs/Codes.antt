@@ -1,10 +1,12 @@
--- The types that words name, and those that lines may have.
+-- The types, classes and response codes that words name, and those that lines may have.
 use Rattle.std.specs.Prelude.{ℕ, Bool, not, ◌&&◌, ◌||◌, ◌==◌, nat_lt, List, [], ◌∷◌, length, take, drop, Option, Some, None, is_some, if◌then◌else◌, codes}
 use Rattle.std.specs.Str.{bytes_eq}
 use Rattle.dns_core.specs.Codes.{is_dnssec_type}
 use Rattle.dns_core.specs.declared.codes.RecordType.{RecordType}
+use Rattle.dns_core.specs.declared.codes.DnsClass.{DnsClass}
+use Rattle.dns_core.specs.declared.codes.ResponseCode.{ResponseCode}
 use Rattle.recursor_text.specs.Numbers.{◌>>=◌, number_of}
-use Rattle.recursor_text.specs.Texts.{name_in, type_names}
+use Rattle.recursor_text.specs.Texts.{name_in, type_names, class_names, code_names}
 
 -- the number that a table names so
 abbrev pub code_in : List (ℕ × List ℕ) → List ℕ → Option ℕ
@@ -27,6 +29,18 @@ code_of names other w = first_of (code_in names w) (number_behind other w >>= λ
 -- a type, by its name or as TYPE and its number
 unfoldable pub type_of : List ℕ → Option RecordType
 type_of w = code_of type_names (codes "TYPE") w >>= λ n. Some (record { code = n })
+
+-- a class, by its name or as CLASS and its number
+unfoldable pub class_of : List ℕ → Option DnsClass
+class_of w = code_of class_names (codes "CLASS") w >>= λ n. Some (record { code = n })
+
+-- a response code, by its name or as RCODE and its number
+unfoldable pub response_code_of : List ℕ → Option ResponseCode
+response_code_of w = code_of code_names (codes "RCODE") w >>= λ n. Some (record { code = n })
+
+-- the class that every question has
+abbrev pub class_in : DnsClass
+class_in = record { code = 1 }
 
 -- a type of records: no alias, and none of DNSSEC
 abbrev pub is_record_type : RecordType → Bool

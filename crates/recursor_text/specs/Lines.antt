@@ -11,7 +11,7 @@ use Rattle.dns_core.specs.declared.connection.Protocol.TheVariants.{Udp, Tcp}
 use Rattle.dns_core.specs.declared.message.Message.{Message}
 use Rattle.dns_core.specs.declared.net_error.IoKind.TheVariants.{Closed, Refused, Other}
 use Rattle.dns_core.specs.declared.net_error.NetError.{NetError}
-use Rattle.dns_core.specs.declared.net_error.NetError.TheVariants.{Io, Timeout, NoConnections}
+use Rattle.dns_core.specs.declared.net_error.NetError.TheVariants.{Busy, Io, Timeout, NoConnections, QueryCaseMismatch}
 use Rattle.dns_core.specs.declared.request.Question.{Question}
 use Rattle.dns_core.specs.declared.request.Turn.{Turn}
 use Rattle.recursor_world.specs.declared.script.ScriptLine.TheVariants.{Connect, Refuse, Reply}
@@ -20,22 +20,16 @@ use Rattle.recursor_text.specs.declared.reading.lines.Form.TheVariants as form
 use Rattle.recursor_text.specs.declared.reading.rules.Counts.{Counts}
 use Rattle.recursor_text.specs.declared.reading.rules.MessageHead.{MessageHead}
 use Rattle.recursor_text.specs.Addresses.{ip_of}
-use Rattle.recursor_text.specs.Codes.{type_of, is_asked_type}
+use Rattle.recursor_text.specs.Codes.{type_of, response_code_of, class_in, is_asked_type}
 use Rattle.recursor_text.specs.Fields.{Fields, field, kept, in_table, both, skip, whole, nothing}
 use Rattle.recursor_text.specs.Names.{full_name, short_name}
 use Rattle.recursor_text.specs.Numbers.{◌>>=◌, number_within}
 use Rattle.recursor_text.specs.OptionForm.{option_line_of}
 use Rattle.recursor_text.specs.Pieces.{pieces}
-use Rattle.recursor_text.specs.RecordLines.{class_in, wide_field}
+use Rattle.recursor_text.specs.RecordLines.{wide_field}
 use Rattle.recursor_text.specs.Spelling.{most_delay}
 
 -- ---- words that stand for values
-
-abbrev pub no_error : ResponseCode
-no_error = record { code = 0 }
-
-abbrev pub no_such_name : ResponseCode
-no_such_name = record { code = 3 }
 
 -- the transports that lines of a script are for
 abbrev pub protocols : List (List ℕ × Protocol)
@@ -44,16 +38,12 @@ protocols = (codes "udp", Udp) ∷ (codes "tcp", Tcp) ∷ []
 -- the errors that lines of a script tell
 abbrev pub failures : List (List ℕ × NetError)
 failures =
-    (codes "io", Io Other) ∷ (codes "closed", Io Closed) ∷ (codes "refused", Io Refused) ∷ (codes "timeout", Timeout)
-    ∷ (codes "noconnections", NoConnections) ∷ []
-
--- the codes that messages have
-abbrev pub response_codes : List (List ℕ × ResponseCode)
-response_codes = (codes "NOERROR", no_error) ∷ (codes "NXDOMAIN", no_such_name) ∷ []
+    (codes "busy", Busy) ∷ (codes "io", Io Other) ∷ (codes "closed", Io Closed) ∷ (codes "refused", Io Refused)
+    ∷ (codes "timeout", Timeout) ∷ (codes "noconnections", NoConnections) ∷ (codes "mismatch", QueryCaseMismatch) ∷ []
 
 -- the flags AA and TC that messages have
 abbrev pub flags : List (List ℕ × (Bool × Bool))
-flags = (codes "none", (false, false)) ∷ (codes "aa", (true, false)) ∷ []
+flags = (codes "none", (false, false)) ∷ (codes "aa", (true, false)) ∷ (codes "tc", (false, true)) ∷ (codes "aa+tc", (true, true)) ∷ []
 
 -- the types that rules and questions have
 abbrev pub type_field : Fields RecordType
@@ -93,7 +83,7 @@ abbrev pub head_from : head_parts → MessageHead
 head_from x = record { response_code = x.0; authoritative = x.1.0.0; truncation = x.1.0.1; owed = x.1.1 }
 
 abbrev pub head_parts_fields : Fields head_parts
-head_parts_fields = both (field (in_table response_codes)) (both (field (in_table flags)) counts_fields)
+head_parts_fields = both (field response_code_of) (both (field (in_table flags)) counts_fields)
 
 -- a message, after its first word
 abbrev pub message_fields : Fields MessageHead

@@ -1,11 +1,11 @@
 -- What an option line says that is read, after its first word.
-use Rattle.std.specs.Prelude.{ℕ, List, [], ◌∷◌, Option, Some, None, if◌then◌else◌, codes}
+use Rattle.std.specs.Prelude.{ℕ, Bool, true, false, List, [], ◌∷◌, Option, Some, None, if◌then◌else◌, codes}
 use Rattle.std.specs.Str.{bytes_eq}
 use Rattle.resolver_settings.specs.Net.{Network}
 use Rattle.recursor_text.specs.declared.reading.option_form.Bounds.{Bounds}
 use Rattle.recursor_text.specs.declared.reading.option_form.OptionLine.{OptionLine}
-use Rattle.recursor_text.specs.declared.reading.option_form.OptionLine.TheVariants.{ResponseCacheSize, AllowServer, DenyServer, AvoidLocalUdpPorts, PositiveTtl, NegativeTtl, EdnsPayloadLen, FirstDelays}
-use Rattle.recursor_text.specs.Fields.{Fields, field, whole}
+use Rattle.recursor_text.specs.declared.reading.option_form.OptionLine.TheVariants.{ResponseCacheSize, AllowAnswers, DenyAnswers, AllowServer, DenyServer, AvoidLocalUdpPorts, PositiveTtl, NegativeTtl, CaseRandomization, EdnsPayloadLen, FirstDelays}
+use Rattle.recursor_text.specs.Fields.{Fields, field, in_table, whole}
 use Rattle.recursor_text.specs.Networks.{nets_of}
 use Rattle.recursor_text.specs.NumberLists.{ports_of, delays_of}
 use Rattle.recursor_text.specs.Numbers.{◌>>=◌, number_within}
@@ -20,6 +20,13 @@ size_field = field (number_within 0 4194304)
 abbrev pub ports_field : Fields (List ℕ)
 ports_field = field ports_of
 
+-- whether something is on
+abbrev pub switches : List (List ℕ × Bool)
+switches = (codes "0", false) ∷ (codes "1", true) ∷ []
+
+abbrev pub switch_field : Fields Bool
+switch_field = field (in_table switches)
+
 -- a number of bytes
 abbrev pub payload_field : Fields ℕ
 payload_field = field (number_within 0 65535)
@@ -33,6 +40,12 @@ bounds_fields ws = wide_field ws >>= λ x. field (number_within x.0 4294967295) 
 
 unfoldable pub response_cache_size_of : List (List ℕ) → Option OptionLine
 response_cache_size_of = whole size_field ResponseCacheSize
+
+unfoldable pub allow_answers_of : List (List ℕ) → Option OptionLine
+allow_answers_of = whole nets_field AllowAnswers
+
+unfoldable pub deny_answers_of : List (List ℕ) → Option OptionLine
+deny_answers_of = whole nets_field DenyAnswers
 
 unfoldable pub allow_server_of : List (List ℕ) → Option OptionLine
 allow_server_of = whole nets_field AllowServer
@@ -49,6 +62,9 @@ positive_ttl_of = whole bounds_fields PositiveTtl
 unfoldable pub negative_ttl_of : List (List ℕ) → Option OptionLine
 negative_ttl_of = whole bounds_fields NegativeTtl
 
+unfoldable pub case_randomization_of : List (List ℕ) → Option OptionLine
+case_randomization_of = whole switch_field CaseRandomization
+
 unfoldable pub edns_payload_len_of : List (List ℕ) → Option OptionLine
 edns_payload_len_of = whole payload_field EdnsPayloadLen
 
@@ -60,11 +76,14 @@ unfoldable pub option_line_of : List (List ℕ) → Option OptionLine
 option_line_of [] = None
 option_line_of (w ∷ ws) =
     if bytes_eq w (codes "response_cache_size") then response_cache_size_of ws
+    else if bytes_eq w (codes "allow_answers") then allow_answers_of ws
+    else if bytes_eq w (codes "deny_answers") then deny_answers_of ws
     else if bytes_eq w (codes "allow_server") then allow_server_of ws
     else if bytes_eq w (codes "deny_server") then deny_server_of ws
     else if bytes_eq w (codes "avoid_local_udp_ports") then avoid_local_udp_ports_of ws
     else if bytes_eq w (codes "positive_ttl") then positive_ttl_of ws
     else if bytes_eq w (codes "negative_ttl") then negative_ttl_of ws
+    else if bytes_eq w (codes "case_randomization") then case_randomization_of ws
     else if bytes_eq w (codes "edns_payload_len") then edns_payload_len_of ws
     else if bytes_eq w (codes "first_delays") then first_delays_of ws
     else None

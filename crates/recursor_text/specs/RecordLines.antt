@@ -1,5 +1,5 @@
 -- What each line of a record says.
-use Rattle.std.specs.Prelude.{◌≡◌, ℕ, List, ◌==◌, Bool, true, false, Option, Some, None, if◌then◌else◌, codes, refl}
+use Rattle.std.specs.Prelude.{◌≡◌, ℕ, List, ◌==◌, Bool, true, false, Option, Some, None, if◌then◌else◌, refl}
 use Rattle.dns_core.specs.Name.{DomainName}
 use Rattle.dns_core.specs.Record.{is_typed}
 use Rattle.dns_core.specs.declared.codes.RecordType.{RecordType}
@@ -9,23 +9,20 @@ use Rattle.dns_core.specs.declared.record.RData.TheVariants.{A, AAAA, NS, SOA, O
 use Rattle.dns_core.specs.declared.record.Record.{Record}
 use Rattle.dns_core.specs.declared.record.Soa.{Soa}
 use Rattle.recursor_text.specs.Addresses.{ipv6_of}
-use Rattle.recursor_text.specs.Codes.{type_of, is_record_type}
-use Rattle.recursor_text.specs.Fields.{Fields, field, kept, both, skip, whole}
+use Rattle.recursor_text.specs.Codes.{type_of, class_of, is_record_type}
+use Rattle.recursor_text.specs.Fields.{Fields, field, kept, both, whole}
 use Rattle.recursor_text.specs.Hex.{bytes_of}
 use Rattle.recursor_text.specs.Names.{full_name}
 use Rattle.recursor_text.specs.Numbers.{◌>>=◌, number_within, ipv4_of}
 use Rattle.recursor_text.specs.Pieces.{pieces}
-
-abbrev pub class_in : DnsClass
-class_in = record { code = 1 }
 
 -- a number of 32 bits
 abbrev pub wide_field : Fields ℕ
 wide_field = field (number_within 0 4294967295)
 
 -- what stands before the data
-unfoldable pub record_head : Fields (DomainName × (ℕ × RecordType))
-record_head = both (field full_name) (both wide_field (skip (codes "IN") (field (kept is_record_type type_of))))
+unfoldable pub record_head : Fields (DomainName × (ℕ × (DnsClass × RecordType)))
+record_head = both (field full_name) (both wide_field (both (field class_of) (field (kept is_record_type type_of))))
 
 abbrev pub soa_parts : Type 0
 soa_parts = DomainName × (DomainName × (ℕ × (ℕ × (ℕ × (ℕ × ℕ)))))
@@ -49,15 +46,15 @@ data_of t ws =
     else whole (field bytes_of) Opaque ws
 
 -- a record, where the test whether its type is that of its data came out so
-abbrev pub record_from : DomainName → ℕ → (t : RecordType) → (x : RData) → (b : Bool) → is_typed t x ≡ b → Option Record
-record_from n life t x true typed = Some (record { name = n; ttl = life; dns_class = class_in; record_type = t; rdata = x; typed = typed })
-record_from n life t x false typed = None
+abbrev pub record_from : DomainName → ℕ → DnsClass → (t : RecordType) → (x : RData) → (b : Bool) → is_typed t x ≡ b → Option Record
+record_from n life c t x true typed = Some (record { name = n; ttl = life; dns_class = c; record_type = t; rdata = x; typed = typed })
+record_from n life c t x false typed = None
 
-abbrev pub record_of_data : DomainName × (ℕ × RecordType) → RData → Option Record
-record_of_data h x = record_from h.0 h.1.0 h.1.1 x (is_typed h.1.1 x) refl
+abbrev pub record_of_data : DomainName × (ℕ × (DnsClass × RecordType)) → RData → Option Record
+record_of_data h x = record_from h.0 h.1.0 h.1.1.0 h.1.1.1 x (is_typed h.1.1.1 x) refl
 
 unfoldable pub records_of : List (List ℕ) → Option Record
-records_of ws = record_head ws >>= λ h. data_of h.0.1.1 h.1 >>= record_of_data h.0
+records_of ws = record_head ws >>= λ h. data_of h.0.1.1.1 h.1 >>= record_of_data h.0
 
 abbrev pub record_of : List ℕ → Option Record
 record_of line = records_of (pieces 32 line)

@@ -8,12 +8,13 @@ use Rattle.dns_core.specs.Name.{DomainName}
 use Rattle.dns_core.specs.NameText.{name_of}
 use Rattle.dns_core.specs.NameText.{text_of as name_text}
 use Rattle.dns_core.specs.declared.codes.RecordType.{RecordType}
+use Rattle.dns_core.specs.declared.codes.DnsClass.{DnsClass}
 use Rattle.dns_core.specs.declared.codes.ResponseCode.{ResponseCode}
 use Rattle.dns_core.specs.declared.connection.Protocol.{Protocol}
 use Rattle.dns_core.specs.declared.connection.Protocol.TheVariants.{Udp, Tcp}
 use Rattle.dns_core.specs.declared.message.Message.{Message}
 use Rattle.dns_core.specs.declared.net_error.NetError.{NetError}
-use Rattle.dns_core.specs.declared.net_error.NetError.TheVariants.{Io, Timeout, NoConnections}
+use Rattle.dns_core.specs.declared.net_error.NetError.TheVariants.{Busy, Io, Timeout, NoConnections, QueryCaseMismatch}
 use Rattle.dns_core.specs.declared.record.RData.{RData}
 use Rattle.dns_core.specs.declared.record.RData.TheVariants.{A, AAAA, NS, CNAME, SOA, RRSIG, Opaque}
 use Rattle.dns_core.specs.declared.record.Record.{Record}
@@ -28,12 +29,12 @@ use Rattle.recursor_world.specs.declared.script.ScriptLine.{ScriptLine}
 use Rattle.recursor_world.specs.declared.script.ScriptLine.TheVariants.{Connect, Refuse, Reply}
 use Rattle.recursor_text.specs.declared.reading.option_form.Bounds.{Bounds}
 use Rattle.recursor_text.specs.declared.reading.option_form.OptionLine.{OptionLine}
-use Rattle.recursor_text.specs.declared.reading.option_form.OptionLine.TheVariants.{ResponseCacheSize, AllowServer, DenyServer, AvoidLocalUdpPorts, PositiveTtl, NegativeTtl, EdnsPayloadLen, FirstDelays}
+use Rattle.recursor_text.specs.declared.reading.option_form.OptionLine.TheVariants.{ResponseCacheSize, AllowAnswers, DenyAnswers, AllowServer, DenyServer, AvoidLocalUdpPorts, PositiveTtl, NegativeTtl, CaseRandomization, EdnsPayloadLen, FirstDelays}
 use Rattle.recursor_text.specs.declared.scenario.Scenario.{Scenario}
 use Rattle.recursor_text.specs.declared.scenario.Upstream.{Upstream}
 use Rattle.recursor_text.specs.declared.scenario.Upstream.TheVariants.{Script as FromScript}
-use Rattle.recursor_text.specs.Codes.{is_record_type, is_asked_type}
-use Rattle.recursor_text.specs.RecordLines.{class_in}
+use Rattle.recursor_text.specs.Codes.{class_in, is_record_type, is_asked_type}
+use Rattle.recursor_text.specs.Errors.{flag_text}
 use Rattle.recursor_text.specs.Texts.{ip_text, type_text, response_code_text, protocol_text, error_word, flags_text, record_words}
 
 -- ---- the words of each line
@@ -69,11 +70,14 @@ bounds_words b = decimal b.least ∷ decimal b.most ∷ []
 -- the name of an option, and its value
 abbrev pub named_words : OptionLine → List (List ℕ)
 named_words (ResponseCacheSize size) = codes "response_cache_size" ∷ decimal size ∷ []
+named_words (AllowAnswers nets) = codes "allow_answers" ∷ nets_text nets ∷ []
+named_words (DenyAnswers nets) = codes "deny_answers" ∷ nets_text nets ∷ []
 named_words (AllowServer nets) = codes "allow_server" ∷ nets_text nets ∷ []
 named_words (DenyServer nets) = codes "deny_server" ∷ nets_text nets ∷ []
 named_words (AvoidLocalUdpPorts ports) = codes "avoid_local_udp_ports" ∷ numbers_text ports ∷ []
 named_words (PositiveTtl b) = codes "positive_ttl" ∷ bounds_words b
 named_words (NegativeTtl b) = codes "negative_ttl" ∷ bounds_words b
+named_words (CaseRandomization on) = codes "case_randomization" ∷ flag_text on ∷ []
 named_words (EdnsPayloadLen bytes) = codes "edns_payload_len" ∷ decimal bytes ∷ []
 named_words (FirstDelays delays) = codes "first_delays" ∷ numbers_text delays ∷ []
 
@@ -225,16 +229,20 @@ IsData (Opaque bytes) = AllByRecursion (λ b. b < 256) bytes
 IsData (CNAME target) = ⊥
 IsData (RRSIG covered rest) = ⊥
 
+-- a class has 16 bits
+abbrev pub IsClass : DnsClass → Type 0
+IsClass c = c.code ≤ 65535
+
 pub record IsRecord (r : Record) : Type 0 where
   pub name : IsFullName r.name
   pub life : r.ttl ≤ 4294967295
-  pub class : r.dns_class ≡ class_in
+  pub class : IsClass r.dns_class
   pub type : IsRecordType r.record_type
   pub told : IsData r.rdata
 
--- the name exists, or does not
+-- a response code has 16 bits
 abbrev pub IsCode : ResponseCode → Type 0
-IsCode c = (c.code ≡ 0) ⊎ (c.code ≡ 3)
+IsCode c = c.code ≤ 65535
 
 -- UDP or TCP
 abbrev pub IsTransport : Protocol → Type 0
@@ -244,11 +252,14 @@ IsTransport p = (p ≡ Udp) ⊎ (p ≡ Tcp)
 abbrev pub most_delay : ℕ
 most_delay = 1000000
 
--- an error that a connection or a question comes to: a fault of transport, a timeout, or that there is no connection
+-- an error that a connection or a question comes to: a fault of transport, a timeout, that there is no connection or that it is busy,
+-- or that the name came back in another case
 abbrev pub IsFailure : NetError → Type 0
+IsFailure Busy = Unit {0}
 IsFailure (Io kind) = Unit {0}
 IsFailure Timeout = Unit {0}
 IsFailure NoConnections = Unit {0}
+IsFailure QueryCaseMismatch = Unit {0}
 IsFailure _ = ⊥
 
 -- a rule that tells a message
@@ -260,7 +271,6 @@ pub record IsRule (ip : IpAddr) (protocol : Protocol) (name : DomainName) (type 
   pub soon : delay ≤ most_delay
   pub query : m.query ≡ record { name = name; query_type = type; query_class = class_in }
   pub fine : IsCode m.response_code
-  pub full : m.truncation ≡ false
   pub few_answers : length m.answers ≤ 65535
   pub few_authorities : length m.authorities ≤ 65535
   pub few_additionals : length m.additionals ≤ 65535
@@ -336,22 +346,28 @@ pub record IsBounds (b : Bounds) : Type 0 where
 
 abbrev pub IsOption : OptionLine → Type 0
 IsOption (ResponseCacheSize size) = size ≤ 4194304
+IsOption (AllowAnswers nets) = AllByRecursion IsNet nets
+IsOption (DenyAnswers nets) = AllByRecursion IsNet nets
 IsOption (AllowServer nets) = AllByRecursion IsNet nets
 IsOption (DenyServer nets) = AllByRecursion IsNet nets
 IsOption (AvoidLocalUdpPorts ports) = ArePorts 0 ports
 IsOption (PositiveTtl b) = IsBounds b
 IsOption (NegativeTtl b) = IsBounds b
+IsOption (CaseRandomization on) = Unit {0}
 IsOption (EdnsPayloadLen bytes) = bytes ≤ 65535
 IsOption (FirstDelays delays) = AreFirstDelays delays
 
 -- the place of an option in the order of all options of the format, from 1
 abbrev pub option_rank : OptionLine → ℕ
 option_rank (ResponseCacheSize size) = 2
+option_rank (AllowAnswers nets) = 5
+option_rank (DenyAnswers nets) = 6
 option_rank (AllowServer nets) = 7
 option_rank (DenyServer nets) = 8
 option_rank (AvoidLocalUdpPorts ports) = 9
 option_rank (PositiveTtl b) = 10
 option_rank (NegativeTtl b) = 11
+option_rank (CaseRandomization on) = 12
 option_rank (EdnsPayloadLen bytes) = 14
 option_rank (FirstDelays delays) = 16
 
@@ -369,6 +385,8 @@ last_rank low (o ∷ os) = last_rank (option_rank o) os
 abbrev pub standard_options : RecursorOptions
 standard_options = record {
   response_cache_size = 1048576;
+  allow_answers = [];
+  deny_answers = [];
   allow_server = [];
   deny_server = special_nets;
   avoid_local_udp_ports = [];
@@ -389,11 +407,14 @@ with_negative policy b = record { general = record policy.general { negative_min
 -- what a line says takes the place of what was, whole
 abbrev pub changed : RecursorOptions → OptionLine → RecursorOptions
 changed options (ResponseCacheSize size) = record options { response_cache_size = size }
+changed options (AllowAnswers nets) = record options { allow_answers = nets }
+changed options (DenyAnswers nets) = record options { deny_answers = nets }
 changed options (AllowServer nets) = record options { allow_server = nets }
 changed options (DenyServer nets) = record options { deny_server = nets }
 changed options (AvoidLocalUdpPorts ports) = record options { avoid_local_udp_ports = ports }
 changed options (PositiveTtl b) = record options { cache_policy = with_positive options.cache_policy b }
 changed options (NegativeTtl b) = record options { cache_policy = with_negative options.cache_policy b }
+changed options (CaseRandomization on) = record options { case_randomization = on }
 changed options (EdnsPayloadLen bytes) = record options { edns_payload_len = bytes }
 changed options (FirstDelays delays) = record options { first_delays = delays }
 

@@ -1,6 +1,6 @@
 -- Lines that the format has and that are not read yet. A root, a turn and the end are read wherever
 -- the format has them.
-use Rattle.std.specs.Prelude.{ℕ, Bool, true, false, not, ◌&&◌, ◌||◌, ◌==◌, nat_le, nat_lt, List, [], ◌∷◌, length, Option, Some, None, is_some, if◌then◌else◌, codes}
+use Rattle.std.specs.Prelude.{ℕ, Bool, true, false, ◌&&◌, nat_lt, List, [], ◌∷◌, length, Option, None, is_some, if◌then◌else◌, codes}
 use Rattle.std.specs.Str.{bytes_eq}
 use Rattle.recursor_text.specs.declared.reading.draft.Draft.{Draft}
 use Rattle.recursor_text.specs.declared.reading.draft.Stage.{Stage}
@@ -9,12 +9,12 @@ use Rattle.recursor_text.specs.declared.reading.draft.Place.{Place}
 use Rattle.recursor_text.specs.declared.reading.draft.Refusal.{Refusal}
 use Rattle.recursor_text.specs.declared.reading.draft.Refusal.TheVariants.{Bad, NotBuilt}
 use Rattle.recursor_text.specs.Addresses.{ip_of, ipv6_of}
-use Rattle.recursor_text.specs.Codes.{number_behind, type_of}
+use Rattle.recursor_text.specs.Codes.{type_of, class_of}
 use Rattle.recursor_text.specs.Fields.{checked, field, both, skip, whole, nothing}
 use Rattle.recursor_text.specs.Hex.{bytes_of}
-use Rattle.recursor_text.specs.Lines.{delay_field}
+use Rattle.recursor_text.specs.Lines.{delay_field, connected_fields, answered_fields}
 use Rattle.recursor_text.specs.Names.{full_name, relaxed_name}
-use Rattle.recursor_text.specs.Numbers.{◌>>=◌, number_within, ipv4_of}
+use Rattle.recursor_text.specs.Numbers.{◌>>=◌, ipv4_of}
 use Rattle.recursor_text.specs.OptionLines.{Line, option_line}
 use Rattle.recursor_text.specs.Pieces.{pieces}
 use Rattle.recursor_text.specs.RecordLines.{wide_field}
@@ -30,30 +30,8 @@ is_among (t ∷ ts) w = if bytes_eq w t then true else is_among ts w
 unfoldable pub is_protocol : List ℕ → Bool
 is_protocol w = is_among (codes "udp" ∷ codes "tcp" ∷ codes "tls" ∷ codes "https" ∷ codes "quic" ∷ codes "h3" ∷ []) w
 
-unfoldable pub is_error_word : List ℕ → Bool
-is_error_word w = is_among (codes "busy" ∷ codes "io" ∷ codes "closed" ∷ codes "refused" ∷ codes "timeout" ∷ codes "noconnections" ∷ codes "mismatch" ∷ []) w
-
-unfoldable pub is_flags : List ℕ → Bool
-is_flags w = is_among (codes "none" ∷ codes "aa" ∷ codes "tc" ∷ codes "aa+tc" ∷ []) w
-
 unfoldable pub is_dnssec : List ℕ → Bool
 is_dnssec w = is_among (codes "plain" ∷ codes "dnssec" ∷ []) w
-
--- a number behind a word, and none of these, which have names
-abbrev pub is_numbered : List ℕ → (ℕ → Bool) → List ℕ → Bool
-is_numbered other named w = elim (number_behind other w) [ Some n ↦ not (named n) | None ↦ false ]
-
-abbrev pub is_named_class : ℕ → Bool
-is_named_class n = n == 1 || n == 3 || n == 4
-
-unfoldable pub is_class : List ℕ → Bool
-is_class w = is_among (codes "IN" ∷ codes "CH" ∷ codes "HS" ∷ []) w || is_numbered (codes "CLASS") is_named_class w
-
-abbrev pub is_named_code : ℕ → Bool
-is_named_code n = nat_le n 5
-
-unfoldable pub is_code : List ℕ → Bool
-is_code w = is_among (codes "NOERROR" ∷ codes "FORMERR" ∷ codes "SERVFAIL" ∷ codes "NXDOMAIN" ∷ codes "NOTIMP" ∷ codes "REFUSED" ∷ []) w || is_numbered (codes "RCODE") is_named_code w
 
 -- ---- lines, each after its first word
 
@@ -63,25 +41,11 @@ told_line = whole (skip (codes "world") nothing) (λ x. tt)
 unfoldable pub refuse_line : Line
 refuse_line = whole (both (field ip_of) (checked is_protocol)) (λ x. tt)
 
-unfoldable pub error_line : Line
-error_line = whole (checked is_error_word) (λ x. tt)
-
-unfoldable pub message_line : Line
-message_line = whole (both (checked is_code) (both (checked is_flags) (both (field (number_within 0 65535)) (both (field (number_within 0 65535)) (field (number_within 0 65535)))))) (λ x. tt)
-
-unfoldable pub ok_line : Line
-ok_line = whole nothing (λ x. tt)
-
--- what a connection or an ask comes to: the line that the next word names
-abbrev pub outcome_line : List ℕ → Line → Line
-outcome_line key l [] = None
-outcome_line key l (w ∷ ws) = if bytes_eq w key then l ws else if bytes_eq w (codes "error") then error_line ws else None
-
 unfoldable pub connect_line : Line
-connect_line ws = both (field ip_of) (both (checked is_protocol) delay_field) ws >>= λ x. outcome_line (codes "ok") ok_line x.1
+connect_line = whole (both (field ip_of) (both (checked is_protocol) (both delay_field connected_fields))) (λ x. tt)
 
 unfoldable pub reply_line : Line
-reply_line ws = both (field ip_of) (both (checked is_protocol) (both (field full_name) (both (field type_of) delay_field))) ws >>= λ x. outcome_line (codes "message") message_line x.1
+reply_line = whole (both (field ip_of) (both (checked is_protocol) (both (field full_name) (both (field type_of) (both delay_field answered_fields))))) (λ x. tt)
 
 unfoldable pub question_line : Line
 question_line = whole (both (field relaxed_name) (both (field type_of) (checked is_dnssec))) (λ x. tt)
@@ -120,7 +84,7 @@ data_line (w ∷ ws) =
     else None
 
 unfoldable pub record_line : Line
-record_line ws = both (field full_name) (both wide_field (checked is_class)) ws >>= λ x. data_line x.1
+record_line ws = both (field full_name) (both wide_field (field class_of)) ws >>= λ x. data_line x.1
 
 -- ---- where a line can stand
 

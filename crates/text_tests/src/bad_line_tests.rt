@@ -80,18 +80,17 @@ fn what_comes_too_soon_or_too_late_is_bad(rt: HostRuntime) -> Result<(), Fail> {
 
 const NOT_BUILT: &str = "\
 3 option recursion_limit 255
-3 option allow_answers 11.0.0.3/32,10.0.0.0/8
 3 option encryption on 300 300 10
-3 option case_randomization 1
 3 option qname_minimization relaxed
 4 told world
-5 reply 11.0.0.1 udp com. TYPE99 0 message RCODE6 aa+tc 0 0 0
-6 com. 172800 CH NS a.nic.com.
-5 reply 11.0.0.1 udp com. NS 0 message SERVFAIL none 0 0 0
+5 reply 11.0.0.1 h3 com. TYPE99 0 message RCODE6 aa+tc 0 0 0
+5 reply 11.0.0.1 udp com. ANY 0 message SERVFAIL none 0 0 0
+5 reply 11.0.0.1 quic com. NS 0 message RCODE65535 none 0 1 1
 5 reply 11.0.0.1 udp com. CNAME 0 message NOERROR none 0 0 0
 5 reply 11.0.0.1 udp com. DNSKEY 0 message NOERROR none 0 0 0
 6 com. 172800 IN CNAME a.nic.com.
-6 com. 172800 IN DS 00ff
+6 com. 172800 CLASS0 CNAME a.nic.com.
+6 com. 172800 HS DS 00ff
 6 com. 172800 IN RRSIG A 00ff
 13 question example.com. MX dnssec
 13 question example.com. ANY plain
@@ -106,10 +105,9 @@ fn lines_that_are_not_built_are_told_so(rt: HostRuntime) -> Result<(), Fail> {
 }
 
 const NOT_BUILT_IPV6: &str = "\
-3 option deny_answers ::/0,10.0.0.0/8,2001:db8::/128
 5 connect 2001:db8:0:1:1:1:1:1 h3 0 ok
 5 refuse 2001:db8::1:0:0:1 quic
-5 reply ::1 udp com. NS 0 error busy
+5 reply ::1 tls com. NS 0 error busy
 ";
 
 #[test]
@@ -117,14 +115,37 @@ fn lines_with_ipv6_addresses_are_not_built(rt: HostRuntime) -> Result<(), Fail> 
     each_fails(rt.alloc(), NOT_BUILT_IPV6, Cause::NotBuilt)
 }
 
-/// Types by another word than their own, digits that are not in pairs or not in lower case, and
-/// data of another type.
+/// Types, classes, response codes and flags by another word than their own, digits that are not in pairs or
+/// not in lower case, and data of another type.
 const OTHER_DATA: &str = "\
 6 com. 172800 IN TYPE1 00
 6 com. 172800 IN TYPE01 00
 6 com. 172800 IN TYPE65536 00
 6 com. 172800 IN TYPE 00
 6 com. 172800 IN aaaa ::1
+6 com. 172800 CLASS1 TXT 00
+6 com. 172800 CLASS4 TXT 00
+6 com. 172800 CLASS05 TXT 00
+6 com. 172800 CLASS65536 TXT 00
+6 com. 172800 CLASS TXT 00
+6 com. 172800 ch TXT 00
+6 com. 172800 NONE TXT 00
+6 com. 172800 NOERROR TXT 00
+6 com. 172800 TXT 00
+5 reply 11.0.0.1 udp com. NS 0 message RCODE0 none 0 1 1
+5 reply 11.0.0.1 udp com. NS 0 message RCODE5 none 0 1 1
+5 reply 11.0.0.1 udp com. NS 0 message RCODE06 none 0 1 1
+5 reply 11.0.0.1 udp com. NS 0 message RCODE65536 none 0 1 1
+5 reply 11.0.0.1 udp com. NS 0 message RCODE none 0 1 1
+5 reply 11.0.0.1 udp com. NS 0 message servfail none 0 1 1
+5 reply 11.0.0.1 udp com. NS 0 message YXDOMAIN none 0 1 1
+5 reply 11.0.0.1 udp com. NS 0 message 2 none 0 1 1
+5 reply 11.0.0.1 udp com. NS 0 message none 0 1 1
+5 reply 11.0.0.1 udp com. NS 0 message NOERROR tc+aa 0 1 1
+5 reply 11.0.0.1 udp com. NS 0 message NOERROR aa,tc 0 1 1
+5 reply 11.0.0.1 udp com. NS 0 message NOERROR TC 0 1 1
+5 reply 11.0.0.1 udp com. NS 0 message NOERROR none+tc 0 1 1
+5 reply 11.0.0.1 h3 com. NS 0 message NOERROR tc+aa 0 1 1
 6 com. 172800 IN TXT 0
 6 com. 172800 IN TXT 0G
 6 com. 172800 IN TXT 0A
@@ -165,6 +186,9 @@ const OTHER_NETWORKS: &str = "\
 option deny_server 10.0.0.0/33
 option allow_server 10.0.0.0/33
 option deny_answers 10.0.0.0/33
+option allow_answers 10.0.0.0
+option allow_answers - -
+option deny_answers
 option deny_server ::/129
 option deny_server ::/064
 option deny_server 10.0.0.0
@@ -199,6 +223,10 @@ option deny_server -; option ns_cache_size 5
 option allow_server -; option ns_cache_size 5
 option allow_server -; option response_cache_size 5
 option positive_ttl 1 2; option deny_server -
+option allow_server -; option deny_answers -
+option deny_answers -; option allow_answers -
+option deny_answers -; option deny_answers -
+option deny_answers -; option recursion_limit 5
 option negative_ttl 1 2; option positive_ttl 1 2
 option negative_ttl 1 2; option negative_ttl 1 2
 option allow_server -; option qname_minimization on
@@ -211,6 +239,7 @@ patience 1; option ns_cache_size 5
 const IN_ORDER_AND_NOT_BUILT: &str = "\
 option ns_cache_size 5
 option deny_server -; option qname_minimization strict
+option deny_answers -; option encryption off
 ";
 
 const OUT_OF_PLACE: &str = "\

@@ -74,7 +74,14 @@ fn reads_a_payload(rt: HostRuntime) -> Result<(), Fail> {
     Ok(())
 }
 
-const OTHER_PAYLOADS: &str = "\
+const OTHER_NUMBERS: &str = "\
+option case_randomization 2
+option case_randomization 01
+option case_randomization on
+option case_randomization -
+option case_randomization 0 0
+option case_randomization\x20
+option case_randomization
 option edns_payload_len 65536
 option edns_payload_len 0512
 option edns_payload_len -1
@@ -86,8 +93,8 @@ option edns_payload_len
 ";
 
 #[test]
-fn other_payloads_are_bad(rt: HostRuntime) -> Result<(), Fail> {
-    each_option_fails(rt.alloc(), OTHER_PAYLOADS, Cause::Line)
+fn other_numbers_are_bad(rt: HostRuntime) -> Result<(), Fail> {
+    each_option_fails(rt.alloc(), OTHER_NUMBERS, Cause::Line)
 }
 
 #[test]
@@ -121,7 +128,7 @@ fn other_first_delays_are_bad(rt: HostRuntime) -> Result<(), Fail> {
 }
 
 const IN_ORDER: &str =
-    "option deny_server -; option avoid_local_udp_ports 53; option positive_ttl 1 2; option negative_ttl 1 2; option edns_payload_len 512; option first_delays 7";
+    "option deny_server -; option avoid_local_udp_ports 53; option positive_ttl 1 2; option negative_ttl 1 2; option case_randomization 1; option edns_payload_len 512; option first_delays 7";
 
 #[test]
 fn lines_in_their_order_are_read_together(rt: HostRuntime) -> Result<(), Fail> {
@@ -135,6 +142,9 @@ option positive_ttl 1 2; option avoid_local_udp_ports 53
 option edns_payload_len 512; option edns_payload_len 512
 option edns_payload_len 512; option negative_ttl 1 2
 option edns_payload_len 512; option encryption off
+option case_randomization 1; option negative_ttl 1 2
+option edns_payload_len 512; option case_randomization 1
+option case_randomization 1; option case_randomization 0
 option first_delays 7; option first_delays 7
 option first_delays 7; option edns_payload_len 512
 option first_delays 7; option qname_minimization strict
@@ -149,6 +159,7 @@ fn lines_out_of_order_are_bad(rt: HostRuntime) -> Result<(), Fail> {
 /// Options that are not built keep their places beside these.
 const NOT_BUILT_BEHIND: &str = "\
 option avoid_local_udp_ports 53; option encryption off
+option case_randomization 1; option encryption off
 option edns_payload_len 512; option qname_minimization strict
 ";
 

@@ -87,8 +87,14 @@ fn first_told(scenario: &Scenario) -> Option<&Message> {
     }
 }
 
-/// A record line in the first rule is read, and has this type and this data.
-fn holds(alloc: Global, words: &str, record_type: RecordType, rdata: RData) -> Result<(), Fail> {
+/// A record line in the first rule is read, and has this class, this type and this data.
+fn holds_of(
+    alloc: Global,
+    words: &str,
+    class: u16,
+    record_type: RecordType,
+    rdata: RData,
+) -> Result<(), Fail> {
     let scenario = read(alloc, 6, words)?;
     let Some(message) = first_told(&scenario) else {
         return Err(Fail::new(format_args!("no message")));
@@ -96,10 +102,18 @@ fn holds(alloc: Global, words: &str, record_type: RecordType, rdata: RData) -> R
     let Some(record) = message.authorities.items().first() else {
         return Err(Fail::new(format_args!("no record")));
     };
-    if record.record_type == record_type && record.rdata == rdata {
+    if record.dns_class.code == class
+        && record.record_type == record_type
+        && record.rdata == rdata
+    {
         return Ok(());
     }
     Err(Fail::new(format_args!("{record:?}")))
+}
+
+/// The same in class IN.
+fn holds(alloc: Global, words: &str, record_type: RecordType, rdata: RData) -> Result<(), Fail> {
+    holds_of(alloc, words, 1, record_type, rdata)
 }
 
 fn opaque(alloc: Global, bytes: &[u8]) -> Result<RData, Fail> {
@@ -167,19 +181,84 @@ fn reads_data_as_bytes(rt: HostRuntime) -> Result<(), Fail> {
     Ok(())
 }
 
+/// Every class by its own word (RFC 1035 section 3.2.4), with data of both forms.
 #[test]
-fn reads_other_types_and_codes(rt: HostRuntime) -> Result<(), Fail> {
+fn reads_classes(rt: HostRuntime) -> Result<(), Fail> {
     let alloc = rt.alloc();
-    let scenario = read(
-        alloc,
-        5,
-        "reply 11.0.0.1 udp com. AAAA 0 message NXDOMAIN aa 0 1 1",
-    )?;
+    for (word, class) in [
+        ("CH", 3),
+        ("HS", 4),
+        ("CLASS0", 0),
+        ("CLASS2", 2),
+        ("CLASS65535", 65_535),
+    ] {
+        let words = format!(in alloc; "com. 1 {word} TXT 00")?;
+        let data = opaque(alloc, b"\x00")?;
+        holds_of(alloc, &words, class, RecordType::TXT, data)?;
+        let words = format!(in alloc; "com. 1 {word} A 11.0.0.2")?;
+        let data = RData::A(Ipv4Addr::new(11, 0, 0, 2));
+        holds_of(alloc, &words, class, RecordType::A, data)?;
+    }
+    Ok(())
+}
+
+/// A rule tells a message with the code that this word names, for a question of another type.
+fn told_code(alloc: Global, word: &str, code: u16) -> Result<(), Fail> {
+    let line = format!(in alloc; "reply 11.0.0.1 udp com. AAAA 0 message {word} aa 0 1 1")?;
+    let scenario = read(alloc, 5, &line)?;
     let Some(message) = first_told(&scenario) else {
         return Err(Fail::new(format_args!("no message")));
     };
-    assert_eq!(rt; message.response_code, ResponseCode::NXDomain);
-    assert_eq!(rt; message.query.query_type, RecordType::AAAA);
+    if message.response_code == (ResponseCode { code })
+        && message.query.query_type == RecordType::AAAA
+    {
+        return Ok(());
+    }
+    Err(Fail::new(format_args!("{message:?}")))
+}
+
+/// A rule tells a message with these flags, AA and TC.
+fn told_flags(alloc: Global, word: &str, aa: bool, tc: bool) -> Result<(), Fail> {
+    let line = format!(in alloc; "reply 11.0.0.1 udp com. NS 0 message NOERROR {word} 0 1 1")?;
+    let scenario = read(alloc, 5, &line)?;
+    let Some(message) = first_told(&scenario) else {
+        return Err(Fail::new(format_args!("no message")));
+    };
+    if message.authoritative == aa && message.truncation == tc {
+        return Ok(());
+    }
+    Err(Fail::new(format_args!("{message:?}")))
+}
+
+#[test]
+fn reads_flags(rt: HostRuntime) -> Result<(), Fail> {
+    let alloc = rt.alloc();
+    for (word, aa, tc) in [
+        ("none", false, false),
+        ("aa", true, false),
+        ("tc", false, true),
+        ("aa+tc", true, true),
+    ] {
+        told_flags(alloc, word, aa, tc)?;
+    }
+    Ok(())
+}
+
+#[test]
+fn reads_other_types_and_codes(rt: HostRuntime) -> Result<(), Fail> {
+    let alloc = rt.alloc();
+    for (word, code) in [
+        ("NOERROR", 0),
+        ("FORMERR", 1),
+        ("SERVFAIL", 2),
+        ("NXDOMAIN", 3),
+        ("NOTIMP", 4),
+        ("REFUSED", 5),
+        ("RCODE6", 6),
+        ("RCODE65535", 65_535),
+    ] {
+        told_code(alloc, word, code)?;
+    }
     read(
         alloc,
         5,
@@ -207,6 +286,9 @@ fn standard_options_have_no_line(rt: HostRuntime) -> Result<(), Fail> {
     assert_eq!(rt; options.allow_server.len(), 0);
     assert_eq!(rt; options.deny_server.len(), 22);
     assert_eq!(rt; options.deny_server.items()[3], net("10.0.0.0", 8)?);
+    assert_eq!(rt; options.allow_answers.len(), 0);
+    assert_eq!(rt; options.deny_answers.len(), 0);
+    assert!(rt; !options.case_randomization);
     Ok(())
 }
 
@@ -245,6 +327,26 @@ fn both_lists_are_read_and_may_be_empty(rt: HostRuntime) -> Result<(), Fail> {
         options.deny_server.items(),
         [net("fe80::", 64)?].as_slice()
     );
+    Ok(())
+}
+
+const ANSWERS: &str =
+    "option allow_answers 2001:db8::1/128,10.0.0.0/8; option deny_answers ::/0; option deny_server -; option case_randomization 1";
+
+#[test]
+fn reads_which_answers_may_stand(rt: HostRuntime) -> Result<(), Fail> {
+    let alloc = rt.alloc();
+    let options = optioned(alloc, ANSWERS)?.options;
+    assert_eq!(rt;
+        options.allow_answers.items(),
+        [net("2001:db8::1", 128)?, net("10.0.0.0", 8)?].as_slice()
+    );
+    assert_eq!(rt; options.deny_answers.items(), [net("::", 0)?].as_slice());
+    assert_eq!(rt; options.allow_server.len(), 0);
+    assert_eq!(rt; options.deny_server.len(), 0);
+    assert!(rt; options.case_randomization);
+    let options = optioned(alloc, "option case_randomization 0")?.options;
+    assert!(rt; !options.case_randomization);
     Ok(())
 }
 

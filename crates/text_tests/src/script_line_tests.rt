@@ -84,6 +84,8 @@ fn reads_errors_of_connections(rt: HostRuntime) -> Result<(), Fail> {
     }
     connection_fails(alloc, "timeout", NetError::Timeout)?;
     connection_fails(alloc, "noconnections", NetError::NoConnections)?;
+    connection_fails(alloc, "busy", NetError::Busy)?;
+    connection_fails(alloc, "mismatch", NetError::QueryCaseMismatch)?;
     Ok(())
 }
 
@@ -111,6 +113,8 @@ fn reads_rules_that_tell_errors(rt: HostRuntime) -> Result<(), Fail> {
     }
     question_fails(alloc, "timeout", NetError::Timeout)?;
     question_fails(alloc, "noconnections", NetError::NoConnections)?;
+    question_fails(alloc, "busy", NetError::Busy)?;
+    question_fails(alloc, "mismatch", NetError::QueryCaseMismatch)?;
     Ok(())
 }
 
@@ -288,13 +292,11 @@ const NOT_BUILT: &str = "\
 5 connect 11.0.0.1 tls 0 ok
 5 connect 11.0.0.1 h3 0 error busy
 5 connect 11.0.0.1 https 1000000 error io
-5 connect 11.0.0.1 udp 0 error busy
-5 connect 11.0.0.1 tcp 7 error mismatch
+5 connect 11.0.0.1 tls 7 error mismatch
 5 refuse 11.0.0.1 tls
 5 refuse 11.0.0.1 quic
 5 reply 11.0.0.1 h3 com. NS 0 error io
-5 reply 11.0.0.1 udp com. NS 5 error busy
-5 reply 11.0.0.1 udp com. NS 5 error mismatch
+5 reply 11.0.0.1 quic com. NS 5 error busy
 5 reply 11.0.0.1 udp com. ANY 0 error io
 5 reply 11.0.0.1 quic com. NS 0 message NOERROR none 0 1 1
 ";
@@ -306,7 +308,7 @@ const BAD_OF_OTHER_TRANSPORTS: &str = "\
 ";
 
 #[test]
-fn other_transports_and_errors_are_not_built(rt: HostRuntime) -> Result<(), Fail> {
+fn other_transports_are_not_built(rt: HostRuntime) -> Result<(), Fail> {
     let alloc = rt.alloc();
     each_fails(alloc, NOT_BUILT, Cause::NotBuilt)?;
     each_fails(alloc, BAD_OF_OTHER_TRANSPORTS, Cause::Line)?;

@@ -39,7 +39,7 @@ pub fn type_name(record_type: RecordType) -> Option<&'static str>
 }
 
 #[tactic(auto, unfolding(crate::specs::Texts::class_names))]
-fn class_name(class: DnsClass) -> Option<&'static str>
+pub fn class_name(class: DnsClass) -> Option<&'static str>
     ensures { option_copied result ≡ name_in class_names class.code }
 {
     match class.code {
@@ -51,7 +51,7 @@ fn class_name(class: DnsClass) -> Option<&'static str>
 }
 
 #[tactic(auto, unfolding(crate::specs::Texts::code_names))]
-fn response_code_name(code: ResponseCode) -> Option<&'static str>
+pub fn response_code_name(code: ResponseCode) -> Option<&'static str>
     ensures { option_copied result ≡ name_in code_names code.code }
 {
     match code.code {

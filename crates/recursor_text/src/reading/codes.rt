@@ -1,11 +1,11 @@
-//! Types of records, each by its one word.
+//! Types, classes and response codes, each by its one word.
 ghost use Rattle.std.specs.Prelude.{◌≡◌, drop};
-ghost use Rattle.recursor_text.specs.Texts.{type_names};
-ghost use Rattle.recursor_text.specs.Codes.{code_in, number_behind, type_of, is_record_type, is_asked_type};
+ghost use Rattle.recursor_text.specs.Texts.{type_names, class_names, code_names};
+ghost use Rattle.recursor_text.specs.Codes.{code_in, number_behind, type_of, class_of, response_code_of, is_record_type, is_asked_type};
 
 use super::numbers::number;
-use crate::printing::codes::type_name;
-use dns_core::RecordType;
+use crate::printing::codes::{class_name, response_code_name, type_name};
+use dns_core::{DnsClass, RecordType, ResponseCode};
 
 /// The number of a type that has a name.
 #[tactic(auto, unfolding(crate::specs::Texts::type_names))]
@@ -101,7 +101,7 @@ fn last_type(word: &[u8]) -> Option<u16>
 }
 
 /// The number behind a word.
-pub fn number_behind(word: &[u8], other: &[u8]) -> Option<u16>
+fn number_behind(word: &[u8], other: &[u8]) -> Option<u16>
     ensures { result ≡ number_behind other.now word.now }
 {
     if other.len() < word.len() && &word[..other.len()] == other {
@@ -122,6 +122,81 @@ pub fn record_type(word: &[u8]) -> Option<RecordType>
     let code = number_behind(word, b"TYPE")?;
     let numbered = RecordType { code };
     if type_name(numbered).is_some() {
+        return None;
+    }
+    Some(numbered)
+}
+
+/// The number of a class that has a name.
+#[tactic(auto, unfolding(crate::specs::Texts::class_names))]
+fn named_class(word: &[u8]) -> Option<u16>
+    ensures { result ≡ code_in class_names word.now }
+{
+    if word == b"IN".as_slice() {
+        return Some(1);
+    }
+    if word == b"CH".as_slice() {
+        return Some(3);
+    }
+    if word == b"HS".as_slice() {
+        return Some(4);
+    }
+    None
+}
+
+/// The class that a word names.
+#[tactic(auto, unfolding(crate::specs::Codes::class_of))]
+pub fn dns_class(word: &[u8]) -> Option<DnsClass>
+    ensures { result ≡ class_of word.now }
+{
+    if let Some(code) = named_class(word) {
+        return Some(DnsClass { code });
+    }
+    let code = number_behind(word, b"CLASS")?;
+    let numbered = DnsClass { code };
+    if class_name(numbered).is_some() {
+        return None;
+    }
+    Some(numbered)
+}
+
+/// The number of a response code that has a name.
+#[tactic(auto, unfolding(crate::specs::Texts::code_names))]
+fn named_response_code(word: &[u8]) -> Option<u16>
+    ensures { result ≡ code_in code_names word.now }
+{
+    if word == b"NOERROR".as_slice() {
+        return Some(0);
+    }
+    if word == b"FORMERR".as_slice() {
+        return Some(1);
+    }
+    if word == b"SERVFAIL".as_slice() {
+        return Some(2);
+    }
+    if word == b"NXDOMAIN".as_slice() {
+        return Some(3);
+    }
+    if word == b"NOTIMP".as_slice() {
+        return Some(4);
+    }
+    if word == b"REFUSED".as_slice() {
+        return Some(5);
+    }
+    None
+}
+
+/// The response code that a word names.
+#[tactic(auto, unfolding(crate::specs::Codes::response_code_of))]
+pub fn response_code(word: &[u8]) -> Option<ResponseCode>
+    ensures { result ≡ response_code_of word.now }
+{
+    if let Some(code) = named_response_code(word) {
+        return Some(ResponseCode { code });
+    }
+    let code = number_behind(word, b"RCODE")?;
+    let numbered = ResponseCode { code };
+    if response_code_name(numbered).is_some() {
         return None;
     }
     Some(numbered)

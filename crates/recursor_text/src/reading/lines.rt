@@ -1,15 +1,14 @@
 //! The lines of a scenario that are no record lines, each read on its own.
 ghost use Rattle.std.specs.Prelude.{◌≡◌};
 ghost use Rattle.recursor_text.specs.Fields.{Gives, GivesFields, field, in_table};
-ghost use Rattle.recursor_text.specs.Lines.{protocols, failures, response_codes, flags, type_field, dnssec_words, counts_fields, message_fields, delay_field, connected_fields, answered_fields, bare_message, head_of, root_of, option_of, patience_of, told_of, connect_of, refuse_of, reply_of, question_of, turn_of, end_line_of, form_of};
+ghost use Rattle.recursor_text.specs.Lines.{protocols, failures, flags, type_field, dnssec_words, counts_fields, message_fields, delay_field, connected_fields, answered_fields, bare_message, head_of, root_of, option_of, patience_of, told_of, connect_of, refuse_of, reply_of, question_of, turn_of, end_line_of, form_of};
 
 use super::codes::is_asked_type;
 use super::option_form::{OptionLine, option_line};
 use super::rules::{Counts, MessageHead, OpenRule};
 use super::words::{LineError, Words, pass};
 use dns_core::{
-    DnsClass, IoKind, Message, Name, NetError, Protocol, Query, Question, RecordType, Records,
-    ResponseCode, Turn,
+    DnsClass, IoKind, Message, Name, NetError, Protocol, Query, Question, RecordType, Records, Turn,
 };
 use recursor_world::ScriptLine;
 use std::alloc::Global;
@@ -56,6 +55,9 @@ fn failure(words: &mut Words) -> Result<NetError, LineError>
     let Some(word) = words.next() else {
         return Err(LineError::Refused);
     };
+    if word == b"busy".as_slice() {
+        return Ok(NetError::Busy);
+    }
     if word == b"io".as_slice() {
         return Ok(NetError::Io(IoKind::Other));
     }
@@ -71,20 +73,8 @@ fn failure(words: &mut Words) -> Result<NetError, LineError>
     if word == b"noconnections".as_slice() {
         return Ok(NetError::NoConnections);
     }
-    Err(LineError::Refused)
-}
-
-fn response_code(words: &mut Words) -> Result<ResponseCode, LineError>
-    ensures { GivesFields result words.new (field (in_table response_codes) words.old) }
-{
-    let Some(word) = words.next() else {
-        return Err(LineError::Refused);
-    };
-    if word == b"NOERROR".as_slice() {
-        return Ok(ResponseCode::NoError);
-    }
-    if word == b"NXDOMAIN".as_slice() {
-        return Ok(ResponseCode::NXDomain);
+    if word == b"mismatch".as_slice() {
+        return Ok(NetError::QueryCaseMismatch);
     }
     Err(LineError::Refused)
 }
@@ -101,6 +91,12 @@ fn flags(words: &mut Words) -> Result<(bool, bool), LineError>
     }
     if word == b"aa".as_slice() {
         return Ok((true, false));
+    }
+    if word == b"tc".as_slice() {
+        return Ok((false, true));
+    }
+    if word == b"aa+tc".as_slice() {
+        return Ok((true, true));
     }
     Err(LineError::Refused)
 }
@@ -189,7 +185,7 @@ fn counts(words: &mut Words) -> Result<Counts, LineError>
 fn message_head(words: &mut Words) -> Result<MessageHead, LineError>
     ensures { GivesFields result words.new (message_fields words.old) }
 {
-    let response_code = response_code(words)?;
+    let response_code = words.response_code()?;
     let (authoritative, truncation) = flags(words)?;
     let owed = counts(words)?;
     Ok(MessageHead {
@@ -209,7 +205,7 @@ pub fn delay(words: &mut Words) -> Result<u32, LineError>
 }
 
 /// What a connection comes to.
-fn connected(words: &mut Words) -> Result<Result<(), NetError>, LineError>
+pub fn connected(words: &mut Words) -> Result<Result<(), NetError>, LineError>
     ensures { GivesFields result words.new (connected_fields words.old) }
 {
     let Some(word) = words.next() else {
@@ -226,7 +222,7 @@ fn connected(words: &mut Words) -> Result<Result<(), NetError>, LineError>
 }
 
 /// What a question comes to.
-fn answered(words: &mut Words) -> Result<Result<MessageHead, NetError>, LineError>
+pub fn answered(words: &mut Words) -> Result<Result<MessageHead, NetError>, LineError>
     ensures { GivesFields result words.new (answered_fields words.old) }
 {
     let Some(word) = words.next() else {

@@ -1,7 +1,7 @@
 //! Option lines that are read, and the options that they say.
 ghost use Rattle.std.specs.Prelude.{◌≡◌, IfOk};
-ghost use Rattle.recursor_text.specs.Fields.{Gives, GivesFields};
-ghost use Rattle.recursor_text.specs.OptionForm.{bounds_fields, response_cache_size_of, allow_server_of, deny_server_of, avoid_local_udp_ports_of, positive_ttl_of, negative_ttl_of, edns_payload_len_of, first_delays_of, option_line_of};
+ghost use Rattle.recursor_text.specs.Fields.{Gives, GivesFields, field, in_table};
+ghost use Rattle.recursor_text.specs.OptionForm.{switches, bounds_fields, response_cache_size_of, allow_answers_of, deny_answers_of, allow_server_of, deny_server_of, avoid_local_udp_ports_of, positive_ttl_of, negative_ttl_of, case_randomization_of, edns_payload_len_of, first_delays_of, option_line_of};
 ghost use Rattle.recursor_text.specs.Spelling.{option_rank, last_rank, with_positive, with_negative, changed, options_with};
 
 use super::words::{LineError, Words};
@@ -21,11 +21,14 @@ pub struct Bounds {
 #[derive(Drop, Debug)]
 pub enum OptionLine {
     ResponseCacheSize(u64),
+    AllowAnswers(Nets),
+    DenyAnswers(Nets),
     AllowServer(Nets),
     DenyServer(Nets),
     AvoidLocalUdpPorts(Ports),
     PositiveTtl(Bounds),
     NegativeTtl(Bounds),
+    CaseRandomization(bool),
     EdnsPayloadLen(u16),
     FirstDelays(Delays),
 }
@@ -37,11 +40,14 @@ impl OptionLine {
     {
         match self {
             OptionLine::ResponseCacheSize(_) => 2,
+            OptionLine::AllowAnswers(_) => 5,
+            OptionLine::DenyAnswers(_) => 6,
             OptionLine::AllowServer(_) => 7,
             OptionLine::DenyServer(_) => 8,
             OptionLine::AvoidLocalUdpPorts(_) => 9,
             OptionLine::PositiveTtl(_) => 10,
             OptionLine::NegativeTtl(_) => 11,
+            OptionLine::CaseRandomization(_) => 12,
             OptionLine::EdnsPayloadLen(_) => 14,
             OptionLine::FirstDelays(_) => 16,
         }
@@ -52,6 +58,8 @@ impl OptionLine {
     {
         match self {
             OptionLine::ResponseCacheSize(size) => options.response_cache_size = size,
+            OptionLine::AllowAnswers(nets) => options.allow_answers = nets,
+            OptionLine::DenyAnswers(nets) => options.deny_answers = nets,
             OptionLine::AllowServer(nets) => options.allow_server = nets,
             OptionLine::DenyServer(nets) => options.deny_server = nets,
             OptionLine::AvoidLocalUdpPorts(ports) => options.avoid_local_udp_ports = ports,
@@ -61,6 +69,7 @@ impl OptionLine {
             OptionLine::NegativeTtl(bounds) => {
                 options.cache_policy = with_negative(alloc, &options.cache_policy, bounds);
             }
+            OptionLine::CaseRandomization(on) => options.case_randomization = on,
             OptionLine::EdnsPayloadLen(bytes) => options.edns_payload_len = bytes,
             OptionLine::FirstDelays(delays) => options.first_delays = delays,
         }
@@ -121,6 +130,22 @@ fn ttl_bounds(words: &mut Words) -> Result<Bounds, LineError>
     Ok(Bounds { least, most })
 }
 
+/// Whether something is on, as 0 or 1.
+fn switch(words: &mut Words) -> Result<bool, LineError>
+    ensures { GivesFields result words.new (field (in_table switches) words.old) }
+{
+    let Some(word) = words.next() else {
+        return Err(LineError::Refused);
+    };
+    if word == b"0".as_slice() {
+        return Ok(false);
+    }
+    if word == b"1".as_slice() {
+        return Ok(true);
+    }
+    Err(LineError::Refused)
+}
+
 #[tactic(auto, unfolding(crate::specs::OptionForm::response_cache_size_of))]
 fn response_cache_size_line(words: &mut Words) -> Result<OptionLine, LineError>
     ensures { Gives result (response_cache_size_of words.old) }
@@ -128,6 +153,24 @@ fn response_cache_size_line(words: &mut Words) -> Result<OptionLine, LineError>
     let size = words.number(0, 4_194_304)?;
     words.end()?;
     Ok(OptionLine::ResponseCacheSize(size))
+}
+
+#[tactic(auto, unfolding(crate::specs::OptionForm::allow_answers_of))]
+fn allow_answers_line(alloc: Global, words: &mut Words) -> Result<OptionLine, LineError>
+    ensures { Gives result (allow_answers_of words.old) }
+{
+    let nets = words.nets(alloc)?;
+    words.end()?;
+    Ok(OptionLine::AllowAnswers(nets))
+}
+
+#[tactic(auto, unfolding(crate::specs::OptionForm::deny_answers_of))]
+fn deny_answers_line(alloc: Global, words: &mut Words) -> Result<OptionLine, LineError>
+    ensures { Gives result (deny_answers_of words.old) }
+{
+    let nets = words.nets(alloc)?;
+    words.end()?;
+    Ok(OptionLine::DenyAnswers(nets))
 }
 
 #[tactic(auto, unfolding(crate::specs::OptionForm::allow_server_of))]
@@ -175,6 +218,15 @@ fn negative_ttl_line(words: &mut Words) -> Result<OptionLine, LineError>
     Ok(OptionLine::NegativeTtl(bounds))
 }
 
+#[tactic(auto, unfolding(crate::specs::OptionForm::case_randomization_of))]
+fn case_randomization_line(words: &mut Words) -> Result<OptionLine, LineError>
+    ensures { Gives result (case_randomization_of words.old) }
+{
+    let on = switch(words)?;
+    words.end()?;
+    Ok(OptionLine::CaseRandomization(on))
+}
+
 #[tactic(auto, unfolding(crate::specs::OptionForm::edns_payload_len_of))]
 fn edns_payload_len_line(words: &mut Words) -> Result<OptionLine, LineError>
     ensures { Gives result (edns_payload_len_of words.old) }
@@ -204,6 +256,12 @@ pub fn option_line(alloc: Global, words: &mut Words) -> Result<OptionLine, LineE
     if word == b"response_cache_size".as_slice() {
         return response_cache_size_line(words);
     }
+    if word == b"allow_answers".as_slice() {
+        return allow_answers_line(alloc, words);
+    }
+    if word == b"deny_answers".as_slice() {
+        return deny_answers_line(alloc, words);
+    }
     if word == b"allow_server".as_slice() {
         return allow_server_line(alloc, words);
     }
@@ -218,6 +276,9 @@ pub fn option_line(alloc: Global, words: &mut Words) -> Result<OptionLine, LineE
     }
     if word == b"negative_ttl".as_slice() {
         return negative_ttl_line(words);
+    }
+    if word == b"case_randomization".as_slice() {
+        return case_randomization_line(words);
     }
     if word == b"edns_payload_len".as_slice() {
         return edns_payload_len_line(words);

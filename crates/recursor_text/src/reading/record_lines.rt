@@ -31,14 +31,17 @@ fn wide(words: &mut Words) -> Result<u32, LineError>
 }
 
 #[tactic(auto, unfolding(crate::specs::RecordLines::record_head))]
-fn record_head(alloc: Global, words: &mut Words) -> Result<(Name, (u32, RecordType)), LineError>
+fn record_head(
+    alloc: Global,
+    words: &mut Words,
+) -> Result<(Name, (u32, (DnsClass, RecordType))), LineError>
     ensures { GivesFields result words.new (record_head words.old) }
 {
     let name = words.full_name(alloc)?;
     let ttl = wide(words)?;
-    words.literal(b"IN")?;
+    let dns_class = words.dns_class()?;
     let record_type = record_type(words)?;
-    Ok((name, (ttl, record_type)))
+    Ok((name, (ttl, (dns_class, record_type))))
 }
 
 // ---- the data of each type
@@ -112,15 +115,21 @@ fn data(alloc: Global, words: &mut Words, record_type: RecordType) -> Result<RDa
     }
 }
 
-/// A record of class IN, the type of which is that of its data.
-fn record_from(name: Name, ttl: u32, record_type: RecordType, rdata: RData) -> Record
+/// A record, the type of which is that of its data.
+fn record_from(
+    name: Name,
+    ttl: u32,
+    dns_class: DnsClass,
+    record_type: RecordType,
+    rdata: RData,
+) -> Record
     requires { IsTrue (is_typed record_type rdata) }
-    ensures { Some result ≡ record_of_data (name, (ttl, record_type)) rdata }
+    ensures { Some result ≡ record_of_data (name, (ttl, (dns_class, record_type))) rdata }
 {
     Record {
         name,
         ttl,
-        dns_class: DnsClass::IN,
+        dns_class,
         record_type,
         rdata,
     }
@@ -132,8 +141,8 @@ pub fn record_line(alloc: Global, line: &[u8]) -> Result<Record, LineError>
     ensures { Gives result (record_of line.now) }
 {
     let mut words = Words::new(line);
-    let (name, (ttl, record_type)) = record_head(alloc, &mut words)?;
+    let (name, (ttl, (dns_class, record_type))) = record_head(alloc, &mut words)?;
     let rdata = data(alloc, &mut words, record_type)?;
-    let record = record_from(name, ttl, record_type, rdata);
+    let record = record_from(name, ttl, dns_class, record_type, rdata);
     Ok(record)
 }

@@ -1,11 +1,11 @@
 //! Lines that are not taken: which of them the format has, though they are not read yet.
-ghost use Rattle.std.specs.Prelude.{◌≡◌, Option, codes, IfOk};
+ghost use Rattle.std.specs.Prelude.{◌≡◌, Option, IfOk};
 ghost use Rattle.recursor_text.specs.Fields.{Gives, GivesFields, checked};
-ghost use Rattle.recursor_text.specs.Unbuilt.{is_protocol, is_error_word, is_flags, is_dnssec, is_named_class, is_class, is_named_code, is_code, told_line, refuse_line, error_line, message_line, ok_line, connect_line, reply_line, question_line, ipv4_data, ipv6_data, name_data, soa_data, signature_data, bytes_data, data_line, outcome_line, stands, record_line, is_at_options, is_at_told, is_at_rules, is_at_questions, rule_line, late_line, other_line, line_at, refusal_at};
+ghost use Rattle.recursor_text.specs.Unbuilt.{is_protocol, is_dnssec, told_line, refuse_line, connect_line, reply_line, question_line, ipv4_data, ipv6_data, name_data, soa_data, signature_data, bytes_data, data_line, stands, record_line, is_at_options, is_at_told, is_at_rules, is_at_questions, rule_line, late_line, other_line, line_at, refusal_at};
 
-use super::codes::{number_behind, record_type};
+use super::codes::record_type;
 use super::draft::{Place, Refusal, Stage};
-use super::lines::delay;
+use super::lines::{answered, connected, delay};
 use super::option_lines::option_line;
 use super::words::{LineError, Words, pass};
 use dns_core::NoMemory;
@@ -25,66 +25,11 @@ fn is_protocol(word: &[u8]) -> bool
         || word == b"h3".as_slice()
 }
 
-#[tactic(auto, unfolding(crate::specs::Unbuilt::is_error_word))]
-fn is_error_word(word: &[u8]) -> bool
-    ensures { result ≡ is_error_word word.now }
-{
-    word == b"busy".as_slice()
-        || word == b"io".as_slice()
-        || word == b"closed".as_slice()
-        || word == b"refused".as_slice()
-        || word == b"timeout".as_slice()
-        || word == b"noconnections".as_slice()
-        || word == b"mismatch".as_slice()
-}
-
-#[tactic(auto, unfolding(crate::specs::Unbuilt::is_flags))]
-fn is_flags(word: &[u8]) -> bool
-    ensures { result ≡ is_flags word.now }
-{
-    word == b"none".as_slice()
-        || word == b"aa".as_slice()
-        || word == b"tc".as_slice()
-        || word == b"aa+tc".as_slice()
-}
-
 #[tactic(auto, unfolding(crate::specs::Unbuilt::is_dnssec))]
 fn is_dnssec(word: &[u8]) -> bool
     ensures { result ≡ is_dnssec word.now }
 {
     word == b"plain".as_slice() || word == b"dnssec".as_slice()
-}
-
-#[tactic(auto, unfolding(crate::specs::Unbuilt::is_class))]
-fn is_class(word: &[u8]) -> bool
-    ensures { result ≡ is_class word.now }
-{
-    if word == b"IN".as_slice() || word == b"CH".as_slice() || word == b"HS".as_slice() {
-        return true;
-    }
-    match number_behind(word, b"CLASS") {
-        Some(n) => !(n == 1 || n == 3 || n == 4),
-        None => false,
-    }
-}
-
-#[tactic(auto, unfolding(crate::specs::Unbuilt::is_code))]
-fn is_code(word: &[u8]) -> bool
-    ensures { result ≡ is_code word.now }
-{
-    if word == b"NOERROR".as_slice()
-        || word == b"FORMERR".as_slice()
-        || word == b"SERVFAIL".as_slice()
-        || word == b"NXDOMAIN".as_slice()
-        || word == b"NOTIMP".as_slice()
-        || word == b"REFUSED".as_slice()
-    {
-        return true;
-    }
-    match number_behind(word, b"RCODE") {
-        Some(n) => n > 5,
-        None => false,
-    }
 }
 
 // ---- fields
@@ -98,24 +43,6 @@ fn protocol(words: &mut Words) -> Result<(), LineError>
     pass(is_protocol(word))
 }
 
-fn error_word(words: &mut Words) -> Result<(), LineError>
-    ensures { GivesFields result words.new (checked is_error_word words.old) }
-{
-    let Some(word) = words.next() else {
-        return Err(LineError::Refused);
-    };
-    pass(is_error_word(word))
-}
-
-fn flags(words: &mut Words) -> Result<(), LineError>
-    ensures { GivesFields result words.new (checked is_flags words.old) }
-{
-    let Some(word) = words.next() else {
-        return Err(LineError::Refused);
-    };
-    pass(is_flags(word))
-}
-
 fn dnssec(words: &mut Words) -> Result<(), LineError>
     ensures { GivesFields result words.new (checked is_dnssec words.old) }
 {
@@ -123,24 +50,6 @@ fn dnssec(words: &mut Words) -> Result<(), LineError>
         return Err(LineError::Refused);
     };
     pass(is_dnssec(word))
-}
-
-fn class(words: &mut Words) -> Result<(), LineError>
-    ensures { GivesFields result words.new (checked is_class words.old) }
-{
-    let Some(word) = words.next() else {
-        return Err(LineError::Refused);
-    };
-    pass(is_class(word))
-}
-
-fn response_code(words: &mut Words) -> Result<(), LineError>
-    ensures { GivesFields result words.new (checked is_code words.old) }
-{
-    let Some(word) = words.next() else {
-        return Err(LineError::Refused);
-    };
-    pass(is_code(word))
 }
 
 // ---- lines, each after its first word
@@ -164,68 +73,6 @@ fn refuse_line(alloc: Global, words: &mut Words) -> Result<(), LineError>
     Ok(())
 }
 
-#[tactic(auto, unfolding(crate::specs::Unbuilt::error_line))]
-fn error_line(words: &mut Words) -> Result<(), LineError>
-    ensures { Gives result (error_line words.old) }
-{
-    error_word(words)?;
-    words.end()?;
-    Ok(())
-}
-
-#[tactic(auto, unfolding(crate::specs::Unbuilt::message_line))]
-fn message_line(words: &mut Words) -> Result<(), LineError>
-    ensures { Gives result (message_line words.old) }
-{
-    response_code(words)?;
-    flags(words)?;
-    words.number(0, 65_535)?;
-    words.number(0, 65_535)?;
-    words.number(0, 65_535)?;
-    words.end()?;
-    Ok(())
-}
-
-#[tactic(auto, unfolding(crate::specs::Unbuilt::ok_line))]
-fn ok_line(words: &mut Words) -> Result<(), LineError>
-    ensures { Gives result (ok_line words.old) }
-{
-    words.end()?;
-    Ok(())
-}
-
-/// What a connection comes to.
-fn connected(words: &mut Words) -> Result<(), LineError>
-    ensures { Gives result (outcome_line (codes "ok") ok_line words.old) }
-{
-    let Some(word) = words.next() else {
-        return Err(LineError::Refused);
-    };
-    if word == b"ok".as_slice() {
-        return ok_line(words);
-    }
-    if word == b"error".as_slice() {
-        return error_line(words);
-    }
-    Err(LineError::Refused)
-}
-
-/// What an ask comes to.
-fn told(words: &mut Words) -> Result<(), LineError>
-    ensures { Gives result (outcome_line (codes "message") message_line words.old) }
-{
-    let Some(word) = words.next() else {
-        return Err(LineError::Refused);
-    };
-    if word == b"message".as_slice() {
-        return message_line(words);
-    }
-    if word == b"error".as_slice() {
-        return error_line(words);
-    }
-    Err(LineError::Refused)
-}
-
 #[tactic(auto, unfolding(crate::specs::Unbuilt::connect_line))]
 fn connect_line(alloc: Global, words: &mut Words) -> Result<(), LineError>
     ensures { Gives result (connect_line words.old) }
@@ -233,7 +80,9 @@ fn connect_line(alloc: Global, words: &mut Words) -> Result<(), LineError>
     words.ip(alloc)?;
     protocol(words)?;
     delay(words)?;
-    connected(words)
+    let _outcome = connected(words)?;
+    words.end()?;
+    Ok(())
 }
 
 #[tactic(auto, unfolding(crate::specs::Unbuilt::reply_line))]
@@ -245,7 +94,9 @@ fn reply_line(alloc: Global, words: &mut Words) -> Result<(), LineError>
     let _name = words.full_name(alloc)?;
     words.record_type()?;
     delay(words)?;
-    told(words)
+    let _outcome = answered(words)?;
+    words.end()?;
+    Ok(())
 }
 
 #[tactic(auto, unfolding(crate::specs::Unbuilt::question_line))]
@@ -359,7 +210,7 @@ fn record_line(alloc: Global, words: &mut Words) -> Result<(), LineError>
 {
     let _name = words.full_name(alloc)?;
     words.number(0, 4_294_967_295)?;
-    class(words)?;
+    words.dns_class()?;
     data_line(alloc, words)
 }
 

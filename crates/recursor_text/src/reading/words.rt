@@ -1,7 +1,7 @@
 //! The words of a line, taken one by one.
 ghost use Rattle.std.specs.Prelude.{◌≡◌, ◌≤◌, ◌∷◌, [], Some, None, MatchOption, IfOk, if◌then◌else◌};
 ghost use Rattle.recursor_text.specs.Addresses.{ipv6_of, ip_of};
-ghost use Rattle.recursor_text.specs.Codes.{type_of};
+ghost use Rattle.recursor_text.specs.Codes.{type_of, class_of, response_code_of};
 ghost use Rattle.recursor_text.specs.Fields.{GivesFields, Ends, Gives, field, literal};
 ghost use Rattle.recursor_text.specs.Hex.{bytes_of};
 ghost use Rattle.recursor_text.specs.Names.{relaxed_name, full_name, short_name};
@@ -11,13 +11,15 @@ ghost use Rattle.recursor_text.specs.Numbers.{number_within, ipv4_of};
 ghost use Rattle.recursor_text.specs.Pieces.{pieces};
 
 use super::addresses::{ip, ipv6};
-use super::codes::record_type;
+use super::codes::{dns_class, record_type, response_code};
 use super::hex::bytes;
 use super::networks::nets;
 use super::number_lists::{delays, ports};
 use super::numbers::{ipv4, number};
 use super::pieces::cut;
-use dns_core::{Bytes, Delays, Name, NameError, NoMemory, Ports, RecordType};
+use dns_core::{
+    Bytes, Delays, DnsClass, Name, NameError, NoMemory, Ports, RecordType, ResponseCode,
+};
 use resolver_settings::Nets;
 use std::alloc::Global;
 use std::marker::Model;
@@ -224,6 +226,32 @@ impl<'a> Words<'a> {
             return Err(LineError::Refused);
         };
         match record_type(word) {
+            Some(found) => Ok(found),
+            None => Err(LineError::Refused),
+        }
+    }
+
+    /// A class, by its name or its number.
+    pub fn dns_class(&mut self) -> Result<DnsClass, LineError>
+        ensures { GivesFields result self.new (field class_of self.old) }
+    {
+        let Some(word) = self.next() else {
+            return Err(LineError::Refused);
+        };
+        match dns_class(word) {
+            Some(found) => Ok(found),
+            None => Err(LineError::Refused),
+        }
+    }
+
+    /// A response code, by its name or its number.
+    pub fn response_code(&mut self) -> Result<ResponseCode, LineError>
+        ensures { GivesFields result self.new (field response_code_of self.old) }
+    {
+        let Some(word) = self.next() else {
+            return Err(LineError::Refused);
+        };
+        match response_code(word) {
             Some(found) => Ok(found),
             None => Err(LineError::Refused),
         }
