@@ -54,7 +54,7 @@ fn pool(alloc: Global, shared: &mut PoolShared) -> Result<NameServerPool, NoMemo
 }
 
 /// A lookup for `a.` that begins at the moment 0.
-fn course(alloc: Global) -> Result<Course, NameError> {
+fn begun(alloc: Global) -> Result<Course, NameError> {
     let context = PoolContext::new(ResolverOpts::standard(alloc));
     let mut shared = PoolShared::new(alloc, context);
     let pool = pool(alloc, &mut shared)?;
@@ -175,7 +175,7 @@ impl Course {
 #[test]
 fn a_busy_server_is_asked_again_after_a_sleep(rt: HostRuntime) -> Result<(), Fail> {
     let alloc = rt.alloc();
-    let mut course = course(alloc)?;
+    let mut course = begun(alloc)?;
     course.goes(alloc, Seen::Opens(1, Protocol::Udp), What::Connected, 5)?;
     course.goes(alloc, Seen::Asks(2, Protocol::Udp), What::Busy, 6)?;
     course.goes(alloc, Seen::Sleeps(3, 20_006), What::Slept, 20_006)?;
@@ -194,7 +194,7 @@ fn a_busy_server_is_asked_again_after_a_sleep(rt: HostRuntime) -> Result<(), Fai
 #[test]
 fn after_a_cut_message_the_server_is_asked_over_tcp(rt: HostRuntime) -> Result<(), Fail> {
     let alloc = rt.alloc();
-    let mut course = course(alloc)?;
+    let mut course = begun(alloc)?;
     course.goes(alloc, Seen::Opens(1, Protocol::Udp), What::Connected, 5)?;
     course.goes(alloc, Seen::Asks(2, Protocol::Udp), What::Cut, 6)?;
     course.goes(alloc, Seen::Opens(3, Protocol::Tcp), What::Connected, 7)?;
@@ -209,7 +209,7 @@ fn the_order_of_a_lookup_that_was_left_is_withdrawn_once(rt: HostRuntime) -> Res
     let Course {
         mut shared,
         mut lookup,
-    } = course(alloc)?;
+    } = begun(alloc)?;
     let step = lookup.next(alloc, &mut shared, tick(5))?;
     assert_eq!(rt; seen_of(step), Seen::Opens(1, Protocol::Udp));
     assert_eq!(rt; shared.take_withdrawn(), None);
