@@ -38,4 +38,5 @@ mod PoolNext
 mod PoolPut
 pub mod Working
 pub mod Taking
+pub mod Resting
 mod NewServers

@@ -16,7 +16,7 @@ use Rattle.server_pool.specs.Candidates.{candidates}
 use Rattle.server_pool.specs.OpenLookup.{polls_at, after_polls, nap_after, AreLive, LookupStands, LookupGives, OwnLeft, StaysOpen, left_of}
 use Rattle.server_pool.specs.Ordering.{IsOrdered, next_turn}
 use Rattle.server_pool.specs.Orders.{opens, HasSameOrders, HasSameOrdersBut, TakesBy}
-use Rattle.server_pool.specs.Rounds.{HeardEnd, RoundsStand, IsSameLookup, IsOpenAt, StandsBy, StandsStill, HasEnded, TakesInTime, TakesBusy}
+use Rattle.server_pool.specs.Rounds.{HeardEnd, RoundsStand, IsSameLookup, IsOpenAt, StandsBy, StandsStill, HasEnded, HasTaken, TakesInTime, TakesBusy}
 use Rattle.server_pool.specs.Running.{Runs, AreReached, IsOpenTo, IsNapping, RunsOn, RunsTaken, RunsSlept}
 use Rattle.server_pool.specs.Shared.{Shared, under, lookup_at, lookup_of, turn_at}
 use Rattle.server_pool.specs.SharedStands.{IsOpenOrder}
@@ -77,6 +77,8 @@ pub record IsFedBy (number : ℕ) (outcome : Outcome) (tick : Tick) (table : Lis
       → RoundsStand pool heard old.rounds → OnOk result (StandsBy s outcome pool heard new.rounds)
   pub halts : (pool : List Candidate) (heard : List HeardEnd) (place : ℕ) (s : Sending) → old.nap ≡ None → IsOpenAt number place s old.rounds → s.send.server < length table
       → RoundsStand pool heard old.rounds → OnErr result (StandsStill pool heard (HasEnded s outcome) new.rounds)
+  pub settles : (place : ℕ) (s : Sending) → old.nap ≡ None → IsOpenAt number place s old.rounds → s.send.server < length table
+      → OnOk result (HasTaken tick.now place s outcome table old.rounds later new.rounds)
   pub own : (s : Sending) → old.nap ≡ None → old.rounds.phase ≡ phase.Asking → s.send.server < length table → opens number old.rounds.sends.items ≡ s ∷ [] → TakesBy number s outcome result new.rounds.sends.items
   pub awake : old.nap ≡ None → new.nap ≡ None
   pub sleeps : (nap : Nap) → old.nap ≡ Some nap → nap.order ≡ number → (new.nap ≡ nap_after nap outcome) × ((pool : List Candidate) (heard : List HeardEnd) → LookupStands pool heard old → LookupStands pool heard new)

@@ -1,7 +1,8 @@
 -- How a lookup stands between its steps.
-use Rattle.std.specs.Prelude.{◌≡◌, ℕ, ◌+◌, ◌-◌, ◌*◌, ◌≤◌, ◌<◌, Bool, true, false, if◌then◌else◌, min, max, filter, take, drop, ◌==◌, ◌&&◌, ◌||◌, not, IsTrue, List, [], ◌∷◌, ◌++◌, map, length, slice_get, Err, ◌⊎◌, Option, Some, None}
+use Rattle.std.specs.Prelude.{◌≡◌, ℕ, ◌+◌, ◌-◌, ◌*◌, ◌^◌, ◌≤◌, ◌<◌, Bool, true, false, if◌then◌else◌, min, max, filter, take, drop, ◌==◌, ◌&&◌, ◌||◌, not, IsTrue, List, [], ◌∷◌, ◌++◌, map, length, slice_get, Err, ◌⊎◌, Option, Some, None}
 use Rattle.std.specs.List.{position, filter_map, remove}
 use Rattle.dns_core.specs.declared.request.DnsRequest.{DnsRequest}
+use Rattle.dns_core.specs.declared.net_error.NetError.{NetError}
 use Rattle.dns_core.specs.declared.net_error.NetError.TheVariants.{Timeout}
 use Rattle.resolution.specs.Lookups.{Answered, End, PoolRun}
 use Rattle.server_pool.specs.declared.candidate.Candidate.{Candidate}
@@ -145,10 +146,21 @@ pub record TakesBusy (old new : Rounds) : Type 0 where
   pub waiting : allowed new.agenda ≡ drop (max old.together 1) (allowed (woken old.agenda))
   pub sleeps : new.agenda.sleeps ≡ old.agenda.sleeps + 1
 
+-- a sleep that begins at this moment ends so much later, and at the deadline at the latest
+abbrev pub wakes_at : Rounds → ℕ → ℕ
+wakes_at r now = min (now + sleep_time r.agenda.sleeps) (r.start + r.timeout)
+
+-- With sends under way it asks. With none it sleeps from this moment on, if it may, and else the error that was kept is its answer at this moment.
+pub record RestsFrom (now : ℕ) (kept : NetError) (r : Rounds) : Type 0 where
+  pub asks : 0 < length r.sends.items → r.phase ≡ Asking
+  pub sleeps : length r.sends.items ≡ 0 → may_sleep r.agenda ≡ true → r.phase ≡ Asleep (min (wakes_at r now) (2 ^ 64 - 1))
+  pub spent : length r.sends.items ≡ 0 → may_sleep r.agenda ≡ false → r.phase ≡ Decided (Err kept) now
+
 -- it takes its servers, or the deadline is reached
 pub record TakesInTime (now : ℕ) (old new : Rounds) (Taken : Type 0) : Type 0 where
   pub in_time : now < old.start + old.timeout → Taken
   pub round : now < old.start + old.timeout → IsNewRound now new
+  pub pauses : now < old.start + old.timeout → RestsFrom now old.agenda.kept new
   pub late : old.start + old.timeout ≤ now → new.phase ≡ Decided (Err Timeout) now
   pub still : old.start + old.timeout ≤ now → new.sends.items ≡ old.sends.items
   pub same : IsSameLookup old new
@@ -207,10 +219,6 @@ steps_left r = 2 * work r + due r.phase (length r.sends.items)
 -- where the deadline is reached at this moment, there is an end, or there was no time
 abbrev pub MayBeLate : List (End Candidate) → Rounds → ℕ → Type 0
 MayBeLate ends r now = r.start + r.timeout ≤ now → IsTrue (not (length ends == 0) || r.timeout == 0)
-
--- a sleep that begins at this moment ends so much later, and at the deadline at the latest
-abbrev pub wakes_at : Rounds → ℕ → ℕ
-wakes_at r now = min (now + sleep_time r.agenda.sleeps) (r.start + r.timeout)
 
 -- the lookup asks, and the order of the number is the open one of the send at the place
 pub record IsOpenAt (number place : ℕ) (s : Sending) (r : Rounds) : Type 0 where

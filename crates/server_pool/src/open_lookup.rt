@@ -12,7 +12,7 @@ ghost use Rattle.server_pool.specs.declared.open_lookup.Nap.{Nap as Slumber};
 ghost use Rattle.server_pool.specs.Running.{answer_of, Runs, AreReached, IsOpenTo, IsNapping, RunsOn, RunsTaken, RunsSlept};
 ghost use Rattle.server_pool.specs.Shared.{configs};
 ghost use Rattle.server_pool.specs.Orders.{opens, HasSameOrders, HasSameOrdersBut, TakesBy};
-ghost use Rattle.server_pool.specs.Rounds.{HeardEnd, RoundsStand, IsSameLookup, IsOpenAt, StandsBy, StandsStill, HasEnded, DecidesAt, TakesInTime, TakesBusy};
+ghost use Rattle.server_pool.specs.Rounds.{HeardEnd, RoundsStand, IsSameLookup, IsOpenAt, StandsBy, StandsStill, HasEnded, HasTaken, DecidesAt, TakesInTime, TakesBusy};
 
 use crate::answer_filter::filtered;
 use crate::next_step::RoundStep;
@@ -350,6 +350,8 @@ impl OpenLookup {
             → RoundsStand pool heard self.old.rounds → OnOk result (StandsBy s outcome pool heard self.new.rounds) }
         ensures halts { (pool : List Candidate) (heard : List HeardEnd) (place : ℕ) (s : Sending) → self.old.nap ≡ None → IsOpenAt number place s self.old.rounds → s.send.server < length table.old
             → RoundsStand pool heard self.old.rounds → OnErr result (StandsStill pool heard (HasEnded s outcome) self.new.rounds) }
+        ensures settles { (place : ℕ) (s : Sending) → self.old.nap ≡ None → IsOpenAt number place s self.old.rounds → s.send.server < length table.old
+            → OnOk result (HasTaken tick.now place s outcome table.old self.old.rounds table.new self.new.rounds) }
         ensures own { (s : Sending) → self.old.nap ≡ None → self.old.rounds.phase ≡ Phase.Asking → s.send.server < length table.old → opens number self.old.rounds.sends.items ≡ s ∷ []
             → TakesBy number s outcome result self.new.rounds.sends.items }
         ensures rounds { self.old.nap ≡ None → self.new.nap ≡ None }

@@ -12,7 +12,7 @@ ghost use Rattle.server_pool.specs.Ordering.{side_by_side};
 ghost use Rattle.server_pool.specs.Orders.{opens, HasSameOrders, HasSameOrdersBut, TakesBy};
 ghost use Rattle.server_pool.specs.Running.{Runs};
 ghost use Rattle.server_pool.specs.Shared.{configs};
-ghost use Rattle.server_pool.specs.Rounds.{Goes, PhaseStands, RoundsStand, HeardEnd, listed, ended_by_of, IsDecidedAt, DecidesAt, IsSameRound, IsNewRound, SettlesAt, HasTaken, IsSameLookup, MayBeLate, IsFed, IsOpenAt, IsStillAt, IsEndOf, HasEnded, StandsAtEnd, StandsBy, StandsStill, wakes_at, work, steps_left, first_send, Takes, TakesRound, TakesBusy, heard_table};
+ghost use Rattle.server_pool.specs.Rounds.{Goes, PhaseStands, RoundsStand, HeardEnd, listed, ended_by_of, IsDecidedAt, DecidesAt, IsSameRound, IsNewRound, SettlesAt, HasTaken, IsSameLookup, MayBeLate, IsFed, IsOpenAt, IsStillAt, IsEndOf, HasEnded, StandsAtEnd, StandsBy, StandsStill, wakes_at, RestsFrom, work, steps_left, first_send, Takes, TakesRound, TakesBusy, heard_table};
 
 use crate::agenda::Agenda;
 use crate::cancelling::ends_by_message;
@@ -150,6 +150,7 @@ impl Rounds {
         ensures same { IsSameLookup self.old self.new }
         ensures round { IsSameRound self.old self.new }
         ensures takes { IfOk result (λ sent. Takes 1 self.old self.new) }
+        ensures kept { self.new.agenda.kept ≡ self.old.agenda.kept }
         ensures work { work self.new ≤ work self.old }
         ensures phase { self.new.phase ≡ self.old.phase }
         ensures more { length self.old.sends.items ≤ length self.new.sends.items }
@@ -176,6 +177,7 @@ impl Rounds {
         ensures same { IsSameLookup self.old self.new }
         ensures round { IsSameRound self.old self.new }
         ensures takes { OnOk result (Takes (self.old.together - 1) self.old self.new) }
+        ensures kept { self.new.agenda.kept ≡ self.old.agenda.kept }
         ensures work { work self.new ≤ work self.old }
         ensures phase { self.new.phase ≡ self.old.phase }
         ensures more { length self.old.sends.items ≤ length self.new.sends.items }
@@ -195,6 +197,7 @@ impl Rounds {
         ensures same { IsSameLookup self.old self.new }
         ensures round { IsSameRound self.old self.new }
         ensures takes { OnOk result (TakesRound self.old self.new) }
+        ensures kept { self.new.agenda.kept ≡ self.old.agenda.kept }
         ensures work { work self.new ≤ work self.old }
         ensures phase { self.new.phase ≡ self.old.phase }
         ensures none { OnOk result (length self.new.sends.items ≡ 0 → self.new.agenda.waiting ≡ []) }
@@ -274,6 +277,7 @@ impl Rounds {
         ensures ends { self.new.ends.items ≡ self.old.ends.items }
         ensures decides { DecidesAt now self.old.phase self.new.phase }
         ensures takes { now < self.old.start + self.old.timeout → OnOk result (TakesRound self.old self.new) }
+        ensures pauses { now < self.old.start + self.old.timeout → OnOk result (RestsFrom now self.old.agenda.kept self.new) }
         ensures work { work self.new ≤ work self.old }
         ensures phase { OnErr result (self.new.phase ≡ self.old.phase) }
         ensures late { self.old.start + self.old.timeout ≤ now → OnOk result (self.new.phase ≡ Phase.Decided (Err NetError.Timeout) now) }
@@ -342,6 +346,7 @@ impl Rounds {
         ensures ends { self.new.ends.items ≡ self.old.ends.items }
         ensures decides { DecidesAt now self.old.phase self.new.phase }
         ensures takes { now < self.old.start + self.old.timeout → OnOk result (TakesBusy self.old self.new) }
+        ensures pauses { now < self.old.start + self.old.timeout → OnOk result (RestsFrom now self.old.agenda.kept self.new) }
         ensures work { work self.new < work self.old }
         ensures late { self.old.start + self.old.timeout ≤ now → OnOk result (self.new.phase ≡ Phase.Decided (Err NetError.Timeout) now) }
         ensures still { self.old.start + self.old.timeout ≤ now → self.new.sends.items ≡ self.old.sends.items }
@@ -503,6 +508,7 @@ impl Rounds {
         ensures ends { self.new.ends.items ≡ self.old.ends.items }
         ensures decides { DecidesAt now self.old.phase self.new.phase }
         ensures begins { self.old.phase ≡ Phase.Asking → length self.old.sends.items ≡ 0 → now < self.old.start + self.old.timeout → OnOk result (TakesRound self.old self.new) }
+        ensures pauses { self.old.phase ≡ Phase.Asking → length self.old.sends.items ≡ 0 → now < self.old.start + self.old.timeout → OnOk result (RestsFrom now self.old.agenda.kept self.new) }
         ensures late { self.old.phase ≡ Phase.Asking → length self.old.sends.items ≡ 0 → self.old.start + self.old.timeout ≤ now → OnOk result (self.new.phase ≡ Phase.Decided (Err NetError.Timeout) now) }
         ensures still { self.old.phase ≡ Phase.Asking → length self.old.sends.items ≡ 0 → self.old.start + self.old.timeout ≤ now → self.new.sends.items ≡ self.old.sends.items }
         ensures rests { (self.old.phase ≡ Phase.Asking → length self.old.sends.items ≡ 0 → ⊥) → self.new ≡ self.old }

@@ -15,6 +15,7 @@ returns-in-Some-clause-there c = λ l here.
         after = c.put.ensures.after;
         feeds = c.put.ensures.feeds;
         halts = c.put.ensures.halts;
+        settles = c.put.ensures.settles;
         own = c.put.ensures.own;
         awake = c.put.ensures.rounds;
         sleeps = c.put.ensures.sleeps;

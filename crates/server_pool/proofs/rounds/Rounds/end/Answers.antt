@@ -54,6 +54,7 @@ returns-in_ok-go_on-in-Some-clause-settles c = λ s there.
         due = λ asks none. record {
           in_time = λ soon. c.in_ok-go_on-in-Some.ensures.begins asks none soon;
           round = λ soon. c.go_on.ensures.round asks none soon;
+          pauses = λ soon. c.in_ok-go_on-in-Some.ensures.pauses asks none soon;
           late = λ over. c.in_ok-go_on-in-Some.ensures.late asks none over;
           still = λ over. c.go_on.ensures.still asks none over;
           same = c.go_on.ensures.same;

@@ -23,6 +23,7 @@ others-preserved c =
       work = omega (arith, c.send_one.ensures.work, c.others.invariant.work);
       round = same_round c.others.invariant.round c.send_one.ensures.round;
       phase = c.send_one.ensures.phase ∙ c.others.invariant.phase;
+      kept = c.send_one.ensures.kept ∙ c.others.invariant.kept;
       orders = orders_then old.sends.items mid.sends.items new.sends.items c.others.invariant.orders c.send_one.ensures.orders;
       more = omega (arith, c.send_one.ensures.more, c.others.invariant.more);
     }

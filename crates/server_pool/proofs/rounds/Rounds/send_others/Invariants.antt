@@ -11,6 +11,7 @@ invariant-others l = record {
   same : IsSameLookup l.initial.self l.self;
   round : IsSameRound l.initial.self l.self;
   phase : l.self.phase ≡ l.initial.self.phase;
+  kept : l.self.agenda.kept ≡ l.initial.self.agenda.kept;
   reached : l._other ≤ max l.initial.self.together 1;
   takes : Takes (l._other - 1) l.initial.self l.self;
   work : work l.self ≤ work l.initial.self;

@@ -1,4 +1,7 @@
-use Rattle.std.proofs.Common.{length, arith}
+use Rattle.std.proofs.Common.{length, ap, subst, arith, OnOk}
+use Rattle.dns_core.specs.declared.net_error.NetError.{NetError}
+use Rattle.server_pool.specs.Agenda.{Plan}
+use Rattle.server_pool.specs.Rounds.{RestsFrom}
 use Rattle.server_pool.proofs.Sendings.{no_sends, without_sends}
 use Rattle.server_pool.proofs.Beginning.{not_first, stands_anyway}
 use Rattle.server_pool.proofs.Working.{woken_work}
@@ -20,3 +23,7 @@ returns-clause-work c =
     let less = woken_work r.agenda c.wake.new.self (length r.sends.items) c.wake.ensures.plan c.requires.empty c.requires.sends c.requires.few in
     let after = c.begin.ensures.work in
     omega (arith, less, after)
+
+pub returns-clause-pauses : goal.returns-clause-pauses
+returns-clause-pauses c = λ soon.
+    subst (λ (kept : NetError). OnOk c.begin.result (RestsFrom c.args.now kept c.begin.new.self)) (ap (λ (p : Plan). p.kept) c.wake.ensures.plan) (c.begin.ensures.pauses soon)
