@@ -13,7 +13,7 @@ use Rattle.server_pool.specs.Candidates.{candidates}
 use Rattle.server_pool.specs.Lookups.{Begins}
 use Rattle.server_pool.specs.Ordering.{IsByDelay, IsOrdered, next_turn, from_place, place_of_turn, side_by_side}
 use Rattle.server_pool.specs.PoolSteps.{HasBegun}
-use Rattle.server_pool.specs.Rounds.{RoundsStand}
+use Rattle.server_pool.specs.Rounds.{RoundsStand, BeginsWith}
 use Rattle.server_pool.specs.Running.{Runs}
 use Rattle.server_pool.specs.Shared.{Shared, configs, under, lookup_at, turn_at}
 use Rattle.server_pool.specs.SharedStands.{SharedStands}
@@ -22,11 +22,17 @@ use Rattle.server_pool.specs.declared.rounds.Rounds.{Rounds}
 
 -- the first round of a lookup at the servers that were asked in their order
 pub first_stands : (options : ResolverOpts) (table : List Server) (now turn : ℕ) (given asked : List ℕ) (pool : List Candidate) (result : Result Rounds NoMemory) → IfOk result (λ r. RoundsStand pool [] r)
-    → IfOk result (λ r. Runs pool [] now (record { rounds = r; nap = None; answer = None })) → IsOrdered options table now turn given asked → pool ≡ candidates table asked
-    → IfOk result (λ r. (x : List ℕ) × IsOrdered options table now turn given x × RoundsStand (candidates table x) [] r × Runs (candidates table x) [] now (record { rounds = r; nap = None; answer = None }))
-first_stands options table now turn given asked pool (Ok r) stands runs ordered is =
-    (asked, ordered, subst (λ (p : List Candidate). RoundsStand p [] r) is stands, subst (λ (p : List Candidate). Runs p [] now (record { rounds = r; nap = None; answer = None })) is runs)
-first_stands options table now turn given asked pool (Err e) stands runs ordered is = tt
+    → IfOk result (λ r. Runs pool [] now (record { rounds = r; nap = None; answer = None })) → IfOk result (BeginsWith (side_by_side options) pool) → IsOrdered options table now turn given asked → pool ≡ candidates table asked
+    → IfOk result (λ r. (x : List ℕ) × IsOrdered options table now turn given x × RoundsStand (candidates table x) [] r × Runs (candidates table x) [] now (record { rounds = r; nap = None; answer = None })
+    × BeginsWith (side_by_side options) (candidates table x) r)
+first_stands options table now turn given asked pool (Ok r) stands runs begins ordered is = (
+  asked,
+  ordered,
+  subst (λ (p : List Candidate). RoundsStand p [] r) is stands,
+  subst (λ (p : List Candidate). Runs p [] now (record { rounds = r; nap = None; answer = None })) is runs,
+  subst (λ (p : List Candidate). BeginsWith (side_by_side options) p r) is begins,
+)
+first_stands options table now turn given asked pool (Err e) stands runs begins ordered is = tt
 
 -- in any order there are the same servers
 pub ordered_same : (options : ResolverOpts) (table : List Server) (now turn : ℕ) (given asked : List ℕ) → IsOrdered options table now turn given asked → IsPermutation given asked
@@ -50,6 +56,7 @@ pub record FirstRound (pool : ℕ) (servers : List ℕ) (wanted : DnsRequest) (n
   pub ordered : IsOrdered old.context.options old.table now (turn_at old pool) servers asked
   pub stands : RoundsStand (candidates old.table asked) [] rounds
   pub runs : Runs (candidates old.table asked) [] now (record { rounds = rounds; nap = None; answer = None })
+  pub begins_with : BeginsWith (side_by_side old.context.options) (candidates old.table asked) rounds
   pub request : rounds.request ≡ wanted
   pub time : (rounds.start ≡ now) × (rounds.timeout ≡ old.context.options.timeout)
   pub turned : turn ≡ next_turn old.context.options (turn_at old pool) (length servers)
@@ -69,6 +76,7 @@ module _ (pool : ℕ) (servers : List ℕ) (wanted : DnsRequest) (now turn numbe
     at = ap (λ (n : ℕ). lookup_at new n) is ∙ there;
     stands = f.stands;
     runs = f.runs;
+    begins = f.begins_with;
     request = f.request;
     time = f.time;
     others = λ n apart. others n (λ e. apart (e ∙ sym is));

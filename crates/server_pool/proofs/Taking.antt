@@ -127,3 +127,13 @@ takes_first pool many old new t none plan together =
     ∙ ap (λ (p : Plan). map (first_send old.request p.off) (take (max old.together 1) (allowed p))) plan
     ∙ ap (λ (l : List Candidate). map (first_send old.request false) (take (max old.together 1) l)) (all_allowed pool)
     ∙ ap (λ (n : ℕ). map (first_send old.request false) (take n pool)) count
+
+-- the others wait
+pub waits_first : (pool : List Candidate) (many : ℕ) (old new : Rounds) → Takes (max old.together 1) old new
+    → old.agenda ≡ record { waiting = pool; busy = []; off = false; kept = NoConnections; sleeps = 0 } → old.together ≡ max many 1 → allowed new.agenda ≡ drop (max many 1) pool
+waits_first pool many old new t plan together =
+    let count : max old.together 1 ≡ max many 1 = omega arith in
+    t.waiting
+    ∙ ap (λ (p : Plan). drop (max old.together 1) (allowed p)) plan
+    ∙ ap (λ (l : List Candidate). drop (max old.together 1) l) (all_allowed pool)
+    ∙ ap (λ (n : ℕ). drop n pool) count

@@ -14,9 +14,9 @@ use Rattle.server_core.specs.declared.order.Tick.{Tick}
 use Rattle.server_pool.specs.AnswerFilter.{denied_by}
 use Rattle.server_pool.specs.Candidates.{candidates}
 use Rattle.server_pool.specs.OpenLookup.{polls_at, after_polls, nap_after, AreLive, LookupStands, LookupGives, OwnLeft, StaysOpen, left_of}
-use Rattle.server_pool.specs.Ordering.{IsOrdered, next_turn}
+use Rattle.server_pool.specs.Ordering.{IsOrdered, next_turn, side_by_side}
 use Rattle.server_pool.specs.Orders.{opens, HasSameOrders, HasSameOrdersBut, TakesBy}
-use Rattle.server_pool.specs.Rounds.{HeardEnd, RoundsStand, IsSameLookup, IsOpenAt, StandsBy, StandsStill, HasEnded, HasTaken, TakesInTime, TakesBusy}
+use Rattle.server_pool.specs.Rounds.{HeardEnd, RoundsStand, BeginsWith, IsSameLookup, IsOpenAt, StandsBy, StandsStill, HasEnded, HasTaken, TakesInTime, TakesBusy}
 use Rattle.server_pool.specs.Running.{Runs, AreReached, IsOpenTo, IsNapping, RunsOn, RunsTaken, RunsSlept}
 use Rattle.server_pool.specs.Shared.{Shared, under, lookup_at, lookup_of, turn_at}
 use Rattle.server_pool.specs.SharedStands.{IsOpenOrder}
@@ -110,6 +110,7 @@ pub record HasBegun (pool : ℕ) (servers : List ℕ) (wanted : DnsRequest) (now
   pub at : lookup_at new number ≡ Some (record { rounds = rounds; nap = None; answer = None })
   pub stands : RoundsStand (candidates old.table asked) [] rounds
   pub runs : Runs (candidates old.table asked) [] now (record { rounds = rounds; nap = None; answer = None })
+  pub begins : BeginsWith (side_by_side old.context.options) (candidates old.table asked) rounds
   pub request : rounds.request ≡ wanted
   pub time : (rounds.start ≡ now) × (rounds.timeout ≡ old.context.options.timeout)
   pub others : HasSameLookupsBut number old new

@@ -140,6 +140,12 @@ TakesRound old new = Takes (max old.together 1) old new
 abbrev pub woken : Plan → Plan
 woken p = record p { waiting = p.busy; busy = []; sleeps = p.sleeps + 1 }
 
+-- In time, the first so many of these are asked, in their order, each by a send that has not begun, and the others wait.
+pub record BeginsWith (most : ℕ) (pool : List Candidate) (r : Rounds) : Type 0 where
+  pub together : r.together ≡ most
+  pub sends : 0 < r.timeout → r.sends.items ≡ map (first_send r.request false) (take most pool)
+  pub waiting : 0 < r.timeout → allowed r.agenda ≡ drop most pool
+
 -- The busy ones that may be asked are asked, as many as are asked side by side.
 pub record TakesBusy (old new : Rounds) : Type 0 where
   pub sends : new.sends.items ≡ map (fresh_send old) (take (max old.together 1) (allowed (woken old.agenda)))

@@ -3,9 +3,9 @@ ghost use Rattle.std.specs.Prelude.{◌≡◌, ◌≢◌, ◌+◌, ◌++◌, ◌
 ghost use Rattle.resolution.specs.Lookups.{Answered};
 ghost use Rattle.server_pool.specs.Candidates.{candidates};
 ghost use Rattle.server_pool.specs.Orders.{opens};
-ghost use Rattle.server_pool.specs.Ordering.{IsOrdered, next_turn};
+ghost use Rattle.server_pool.specs.Ordering.{IsOrdered, next_turn, side_by_side};
 ghost use Rattle.server_pool.specs.OpenLookup.{after_polls, LookupStands};
-ghost use Rattle.server_pool.specs.Rounds.{HeardEnd, RoundsStand};
+ghost use Rattle.server_pool.specs.Rounds.{HeardEnd, RoundsStand, BeginsWith};
 ghost use Rattle.server_pool.specs.Shared.{lookup_at, lookup_of, turn_at, SameBut};
 ghost use Rattle.server_pool.specs.Lookups.{Begins, Gives, HasTaken, HasSlept, told_of};
 ghost use Rattle.server_pool.specs.Running.{Runs, AreReached, IsOpenTo, IsNapping, answer_of};
@@ -158,7 +158,8 @@ impl PoolShared {
         tick: Tick,
     ) -> Result<Rounds, NoMemory>
         ensures stands { IfOk result (λ r. (asked : List ℕ) × IsOrdered self.now.context.options self.now.table tick.now turn.old servers.now asked × RoundsStand (candidates self.now.table asked) [] r
-            × Runs (candidates self.now.table asked) [] tick.now (record { rounds = r; nap = None; answer = None })) }
+            × Runs (candidates self.now.table asked) [] tick.now (record { rounds = r; nap = None; answer = None })
+            × BeginsWith (side_by_side self.now.context.options) (candidates self.now.table asked) r) }
         ensures request { IfOk result (λ r. r.request ≡ request) }
         ensures time { IfOk result (λ r. (r.start ≡ tick.now) × (r.timeout ≡ self.now.context.options.timeout)) }
         ensures turn { OnOk result (turn.new ≡ next_turn self.now.context.options turn.old (length servers.now)) }

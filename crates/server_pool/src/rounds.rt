@@ -12,7 +12,7 @@ ghost use Rattle.server_pool.specs.Ordering.{side_by_side};
 ghost use Rattle.server_pool.specs.Orders.{opens, HasSameOrders, HasSameOrdersBut, TakesBy};
 ghost use Rattle.server_pool.specs.Running.{Runs};
 ghost use Rattle.server_pool.specs.Shared.{configs};
-ghost use Rattle.server_pool.specs.Rounds.{Goes, PhaseStands, RoundsStand, HeardEnd, listed, ended_by_of, IsDecidedAt, DecidesAt, IsSameRound, IsNewRound, SettlesAt, HasTaken, IsSameLookup, MayBeLate, IsFed, IsOpenAt, IsStillAt, IsEndOf, HasEnded, StandsAtEnd, StandsBy, StandsStill, wakes_at, RestsFrom, work, steps_left, first_send, Takes, TakesRound, TakesBusy, heard_table};
+ghost use Rattle.server_pool.specs.Rounds.{Goes, PhaseStands, RoundsStand, HeardEnd, listed, ended_by_of, IsDecidedAt, DecidesAt, IsSameRound, IsNewRound, SettlesAt, HasTaken, IsSameLookup, MayBeLate, IsFed, IsOpenAt, IsStillAt, IsEndOf, HasEnded, StandsAtEnd, StandsBy, StandsStill, wakes_at, RestsFrom, BeginsWith, work, steps_left, first_send, Takes, TakesRound, TakesBusy, heard_table};
 
 use crate::agenda::Agenda;
 use crate::cancelling::ends_by_message;
@@ -318,6 +318,7 @@ impl Rounds {
         ensures orders { IfOk result (λ r. (n : ℕ) → opens n r.sends.items ≡ []) }
         ensures still { options.now.timeout ≡ 0 → IfOk result (λ r. r.sends.items ≡ []) }
         ensures runs { IfOk result (λ r. Runs pool.now [] now (record { rounds = r; nap = None; answer = None })) }
+        ensures begins { IfOk result (BeginsWith (side_by_side options.now) pool.now) }
     {
         let mut rounds = Rounds {
             request,

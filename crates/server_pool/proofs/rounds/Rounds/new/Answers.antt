@@ -1,8 +1,10 @@
-use Rattle.std.proofs.Common.{◌≡◌, ◌∙◌, ℕ, ◌+◌, ◌≤◌, ◌<◌, [], arith, eq-eqb}
+use Rattle.std.proofs.Common.{◌≡◌, ◌∙◌, ℕ, ◌+◌, ◌≤◌, ◌<◌, false, [], map, take, List, ap, sym, subst, arith, eq-eqb}
 use Rattle.server_pool.proofs.Sendings.{same_sends}
-use Rattle.server_pool.proofs.Taking.{takes_first}
+use Rattle.server_pool.proofs.Taking.{takes_first, waits_first}
 use Rattle.server_pool.specs.Ordering.{side_by_side}
+use Rattle.dns_core.specs.declared.request.DnsRequest.{DnsRequest}
 use Rattle.server_pool.specs.declared.rounds.Phase.TheVariants.{Asking}
+use Rattle.server_pool.specs.Rounds.{first_send}
 use Rattle.server_pool.proofs.RunsTaken.{runs_new, decides_moment, asks_not}
 use Rattle.server_pool.proofs.rounds.Rounds.new.Goals as goal
 
@@ -40,3 +42,15 @@ returns-clause-runs c =
     let still = returns-clause-still c in
     runs_new c.args.pool.now c.args.request c.args.options.now.timeout (side_by_side c.args.options.now) c.args.now c.begin.new.self st
     (decides_moment c.args.now Asking c.begin.new.self.phase asks_not c.begin.ensures.decides) c.begin.ensures.same.request takes still
+
+pub returns-clause-begins : goal.returns-clause-begins
+returns-clause-begins c =
+    let most = side_by_side c.args.options.now in
+    let same = c.begin.ensures.same in
+    let has : 0 < c.begin.new.self.timeout → 0 < c.args.options.now.timeout = λ h. subst (λ (n : ℕ). 0 < n) same.timeout h in
+    record {
+      together = same.together ∙ c.side_by_side.ensures;
+      sends = λ h. returns-clause-takes c (has h) ∙ ap (λ (q : DnsRequest). map (first_send q false) (take most c.args.pool.now)) (sym same.request);
+      waiting = λ h. waits_first c.args.pool.now c.args.options.now.num_concurrent_reqs _ c.begin.new.self (c.in_ok-begin.ensures.takes (in_time c.args.now c.args.options.now.timeout (has h)))
+          c.in_ok-new.ensures.plan c.side_by_side.ensures;
+    }
