@@ -45,7 +45,8 @@ use Rattle.server_pool.specs.Shared.{lookup_at}
 use Rattle.server_pool.specs.declared.open_lookup.OpenLookup.{OpenLookup}
 use Rattle.server_pool.specs.declared.candidate.Candidate.{Candidate}
 use Rattle.server_pool.proofs.Turning.{but_none}
-use Rattle.server_pool.proofs.ByAddress.{IsTrustedBeyondUdp, at_address, run_by_address}
+use Rattle.server_pool.specs.ByAddress.{at_address}
+use Rattle.server_pool.proofs.ByAddress.{IsTrustedBeyondUdp, run_by_address}
 use Rattle.recursor_core.specs.Causes.{is_lookup_error}
 use Rattle.recursor_core.specs.Replies.{Terms, given_of}
 use Rattle.recursor_core.specs.Tried.{Began, is_response, told_of, AreHeard, Tried, IsTimed, Concluded}

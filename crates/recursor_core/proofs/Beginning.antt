@@ -22,8 +22,8 @@ use Rattle.server_pool.specs.Lookups.{Begins}
 use Rattle.server_pool.specs.Running.{Runs, AreReached}
 use Rattle.server_pool.specs.Shared.{configs}
 use Rattle.server_pool.specs.declared.candidate.Candidate.{Candidate}
-use Rattle.server_pool.proofs.Beside.Beside.{no_more}
-use Rattle.server_pool.proofs.ByAddress.{at_address}
+use Rattle.server_pool.specs.ByAddress.Beside.{no_more}
+use Rattle.server_pool.specs.ByAddress.{at_address}
 use Rattle.recursor_core.specs.Replies.{Terms}
 use Rattle.recursor_core.specs.Tried.{Tried}
 use Rattle.recursor_core.specs.Pools.{config_at, server_at, IsAt, IsMet, ServersHold, SoughtHolds}

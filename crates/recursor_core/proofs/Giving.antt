@@ -21,7 +21,8 @@ use Rattle.server_pool.specs.Running.{IsGiven, IsSentTo as IsOrderedTo}
 use Rattle.resolution.specs.Lookups.{Answered}
 use Rattle.server_pool.specs.Shared.{Shared, lookup_of, SameBut}
 use Rattle.server_pool.specs.declared.open_lookup.OpenLookup.{OpenLookup}
-use Rattle.server_pool.proofs.ByAddress.{at_address, address_from_pool}
+use Rattle.server_pool.specs.ByAddress.{at_address}
+use Rattle.server_pool.proofs.ByAddress.{address_from_pool}
 use Rattle.recursor_core.specs.Replies.{Terms, given_of}
 use Rattle.std.proofs.lemmas.Bool.{cases_eq}
 use Rattle.recursor_core.specs.Pools.{PoolsHold, HasNoted, noted, either, sought_at, server_at, IsAt, IsSentTo, GivenHolds, SoughtHolds, aim_of}

@@ -30,7 +30,8 @@ use Rattle.server_pool.specs.Shared.{SameBut}
 use Rattle.server_pool.specs.declared.candidate.Candidate.{Candidate}
 use Rattle.server_pool.specs.declared.open_lookup.OpenLookup.{OpenLookup}
 use Rattle.server_pool.proofs.Beside.{beside_push}
-use Rattle.server_pool.proofs.ByAddress.{IsSameEnd, SameEnds, at_address, address_from_pool}
+use Rattle.server_pool.specs.ByAddress.{IsSameEnd, SameEnds, at_address}
+use Rattle.server_pool.proofs.ByAddress.{address_from_pool}
 use Rattle.recursor_core.specs.Replies.{Terms}
 use Rattle.recursor_core.specs.Tried.{Tried, Began, BeganBy}
 use Rattle.std.proofs.lemmas.Bool.{cases_eq}

@@ -27,13 +27,13 @@ use Rattle.server_core.specs.declared.order.Order.TheVariants as order
 use Rattle.server_core.specs.declared.order.Outcome.{Outcome}
 use Rattle.server_core.specs.declared.order.Outcome.TheVariants.{Pending, Connected, Told, Failed, GaveUp, Slept}
 use Rattle.server_pool.specs.Agenda.{class_of_sent}
+use Rattle.server_pool.specs.ByAddress.{SameEnds, at_address}
 use Rattle.server_pool.specs.Fits.{GoesToServer}
 use Rattle.server_pool.specs.Rounds.{HeardEnd, ends_of, entries_of}
 use Rattle.server_pool.specs.Running.{request_of, start_of, timeout_of, ends_at, Runs, IsOpenTo, IsNapping}
 use Rattle.server_pool.specs.Shared.{lookup_at, lookup_of, SameBut}
 use Rattle.server_pool.specs.declared.candidate.Candidate.{Candidate}
 use Rattle.server_pool.specs.declared.open_lookup.OpenLookup.{OpenLookup}
-use Rattle.server_pool.proofs.ByAddress.{SameEnds, at_address}
 use Rattle.recursor_core.specs.Replies.{Terms, given_of}
 use Rattle.recursor_core.specs.Tried.{Tried}
 use Rattle.recursor_core.specs.declared.pools.Aim.{Aim}

@@ -23,23 +23,12 @@ use Rattle.resolution.proofs.Caseless.{class_of_message-same, classified-same}
 use Rattle.server_core.specs.Sending.{result_of}
 use Rattle.server_pool.specs.Agenda.{rules_of, class_of_sent, end_at}
 use Rattle.server_pool.specs.declared.candidate.Candidate.{Candidate}
-use Rattle.server_pool.proofs.Beside.{Beside, BesideOption, beside_parted, beside_length, beside_map, beside_last, beside_any, beside_all, beside_filter, beside_find, beside_after, beside_but, beside_image, beside_and}
+use Rattle.server_pool.specs.ByAddress.{Beside, IsSameEnd, SameEnds, at_address}
+use Rattle.server_pool.proofs.Beside.{BesideOption, beside_parted, beside_length, beside_map, beside_last, beside_any, beside_all, beside_filter, beside_find, beside_after, beside_but, beside_image, beside_and}
 use Rattle.server_pool.proofs.Narrowed.{or_follows, last_passing, IsNarrower, length_narrowed, last_narrowed, any_follows, all_follow}
 use Rattle.server_pool.proofs.Standing.{or_right}
 use Rattle.server_pool.proofs.Plans.{same_self, same_is}
 use Rattle.server_pool.proofs.Beside.BesideOption.{neither, both}
-
--- ---- ends beside ends
-
-module _ {S T : Type 0} (f : S → T) (class class' : Answered → Class) where
-  -- at the image of the server, with an outcome of the same class
-  pub record IsSameEnd (e : End S) (e' : End T) : Type 0 where
-    pub server : e'.server ≡ f e.server
-    pub outcome : class e.outcome ≡ class' e'.outcome
-
-  -- each end is the one beside it
-  abbrev pub SameEnds : List (End S) → List (End T) → Type 0
-  SameEnds ends ends' = Beside IsSameEnd ends ends'
 
 -- ---- what holds of all
 
@@ -390,10 +379,6 @@ module _ {S T : Type 0} (rules : Rules S) (rules' : Rules T) (class class' : Ans
 pub record IsTrustedBeyondUdp (c : Candidate) : Type 0 where
   pub beyond_udp : c.beyond_udp ≡ true
   pub trusted : c.trusted ≡ true
-
--- the address of a candidate
-abbrev pub at_address : (ℕ → IpAddr) → Candidate → IpAddr
-at_address ip_of c = ip_of c.server
 
 module _ (timeout : ℕ) (ip_of : ℕ → IpAddr) (pool : List Candidate) where
   -- a candidate of the pool

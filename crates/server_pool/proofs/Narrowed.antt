@@ -1,8 +1,8 @@
 -- What passes a test, and what passes a narrower one.
 use Rattle.std.proofs.Common.{◌≡◌, ◌∙◌, ℕ, suc, ◌≤◌, ◌&&◌, ◌||◌, Bool, true, false, cond, List, [], ◌∷◌, filter, length, refl, ap, sym, arith, Option, Some}
 use Rattle.std.specs.List.{list_any, list_all, last_or, AllByRecursion}
-use Rattle.server_pool.proofs.Beside.{Beside}
-use Rattle.server_pool.proofs.Beside.Beside.{no_more, one_more}
+use Rattle.server_pool.specs.ByAddress.{Beside}
+use Rattle.server_pool.specs.ByAddress.Beside.{no_more, one_more}
 
 -- one of two, where the first is the same and the second follows
 pub or_follows : (a b c d : Bool) → a ≡ c → (b ≡ true → d ≡ true) → (a || b) ≡ true → (c || d) ≡ true

@@ -14,6 +14,7 @@ pub mod Stands
 pub mod NextStep
 pub mod OpenLookup
 pub mod Candidates
+pub mod ByAddress
 pub mod Running
 pub mod Pool
 pub mod Shared
