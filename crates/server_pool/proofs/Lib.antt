@@ -36,6 +36,7 @@ mod OpenAt
 mod PoolBegin
 mod PoolNext
 mod PoolPut
+pub mod Few
 pub mod Working
 pub mod Taking
 pub mod Resting

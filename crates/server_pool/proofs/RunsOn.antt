@@ -1,5 +1,5 @@
 -- What a step of an open lookup gives, where its servers are reached, and how the lookup runs on.
-use Rattle.std.proofs.Common.{◌≡◌, ◌∙◌, ℕ, zero, suc, ◌+◌, ◌≤◌, ◌==◌, ◌&&◌, nat_lt, not, arith, Bool, true, false, List, [], ◌∷◌, length, eq-eqb, refl, ap, sym, subst, cond, slice_get, Option, Some, None, option_map, Result, Ok, Err, IfOk, IfSome, inl, inr}
+use Rattle.std.proofs.Common.{◌≡◌, ◌∙◌, ℕ, zero, suc, ◌+◌, ◌*◌, ◌≤◌, ◌==◌, ◌&&◌, nat_lt, not, arith, Bool, true, false, List, [], ◌∷◌, length, eq-eqb, refl, ap, sym, subst, cond, slice_get, Option, Some, None, option_map, Result, Ok, Err, IfOk, IfSome, inl, inr}
 use Rattle.std.specs.Prelude.{◌≢◌, All, Contains}
 use Rattle.std.specs.List.{AllByRecursion, remove, position, position_or_len, filter}
 use Rattle.std.proofs.lemmas.Bool.{lt-ltb}
@@ -18,7 +18,7 @@ use Rattle.server_pool.specs.Agenda.{rules_of, class_of_sent}
 use Rattle.server_pool.specs.NextStep.{HasOrdered, StepsBy, HasCome, HasGiven}
 use Rattle.server_pool.specs.OpenLookup.{IsAsleep, StandsTelling, left_of}
 use Rattle.server_pool.specs.Orders.{opens}
-use Rattle.server_pool.specs.Rounds.{HeardEnd, ends_of, entries_of, RoundsStand, StandsIn, IsAnswered, IsDecidedAt, DecidesAt, IsSameLookup, IsOpenAt}
+use Rattle.server_pool.specs.Rounds.{HeardEnd, ends_of, entries_of, RoundsStand, sends_made, StandsIn, IsAnswered, IsDecidedAt, DecidesAt, IsSameLookup, IsOpenAt}
 use Rattle.server_pool.specs.Running.{answer_in, answer_of, ends_at, request_of, IsDone, GoesTo, Runs, IsFor, AreReached, address_at, IsSentTo, IsGiven, TellsLeft, RunsOn}
 use Rattle.server_pool.specs.Shared.{configs}
 use Rattle.server_pool.specs.declared.candidate.Candidate.{Candidate}
@@ -218,7 +218,8 @@ pub same_back : (a b : Rounds) → IsSameLookup a b → IsSameLookup b a
 same_back a b h = record { request = sym h.request; together = sym h.together; timeout = sym h.timeout; start = sym h.start }
 
 -- a lookup of the same request was answered so
-pub answered_as : (pool : List Candidate) (ends : List (End Candidate)) (a b : Rounds) (answer : Answered) (at : ℕ) → IsSameLookup a b → IsAnswered pool ends a answer at → IsAnswered pool ends b answer at
+pub answered_as : (pool : List Candidate) (ends : List (End Candidate)) (a b : Rounds) (answer : Answered) (at : ℕ) → IsSameLookup a b
+    → PoolRun (rules_of a.timeout) (class_of_sent a.request.query) pool ends answer a.start at → PoolRun (rules_of b.timeout) (class_of_sent b.request.query) pool ends answer b.start at
 answered_as pool ends a b answer at same h =
     let t = subst (λ (x : ℕ). PoolRun (rules_of x) (class_of_sent a.request.query) pool ends answer a.start at) (sym same.timeout) h in
     let q = subst (λ (x : DnsRequest). PoolRun (rules_of b.timeout) (class_of_sent x.query) pool ends answer a.start at) (sym same.request) t in
@@ -246,8 +247,8 @@ module _ (pool : List Candidate) (known : List HeardEnd) (now : ℕ) (old : Open
           (done_there (IsDone pool known now old) (answer_of old) answer (answer_untold old answer at untold (sym e ∙ decided)) answered)
       by_moment (inr d) =
           let moment : at ≡ now = subst (IsDecidedAt now) decided d in
-          let run : IsAnswered pool (ends_of known) mid answer at = subst (λ (x : Phase). StandsIn pool (ends_of known) mid x) decided st.phase in
-          record { at = at; early = omega (arith, moment); run = answered_as pool (ends_of known) mid new.rounds answer at (same_still mid old.rounds new.rounds (same_back old.rounds mid along) same) run }
+          let by : IsAnswered pool (ends_of known) mid answer at = subst (λ (x : Phase). StandsIn pool (ends_of known) mid x) decided st.phase in
+          record { at = at; early = omega (arith, moment); run = answered_as pool (ends_of known) mid new.rounds answer at (same_still mid old.rounds new.rounds (same_back old.rounds mid along) same) by.run }
 
 -- ---- how it runs
 
@@ -273,9 +274,9 @@ runs_untold pool known now l untold nap st by_entries from_pool going done = rec
 -- it has told it
 pub runs_told : (pool : List Candidate) (known : List HeardEnd) (now : ℕ) (l : OpenLookup) (answer : Answered) → l.answer ≡ Some answer → l.nap ≡ None → l.rounds.phase ≡ phase.Told → ends_at l ≡ entries_of known
     → All (λ (h : HeardEnd). h.by ≢ None) known → All (λ (h : HeardEnd). Contains pool h.end.server) known → All (GoesTo (request_of l)) l.rounds.sends.items
-    → IsDone pool known now l answer → Runs pool known now l
-runs_told pool known now l answer told awake over entries by_entries from_pool going done = record {
-  stands = subst (λ (a : Option Answered). StandsTelling pool known l a) (sym told) ((done.at, done.run), awake, over);
+    → IsDone pool known now l answer → sends_made (ends_of known) l.rounds ≤ 5 * length pool + 1 → Runs pool known now l
+runs_told pool known now l answer told awake over entries by_entries from_pool going done few = record {
+  stands = subst (λ (a : Option Answered). StandsTelling pool known l a) (sym told) ((done.at, record { run = done.run; few = few }), awake, over);
   entries = entries;
   by_entries = by_entries;
   from_pool = from_pool;
@@ -370,10 +371,13 @@ module _ (number now : ℕ) (denied : IpAddr → Bool) (pool : List Candidate) (
         let c = came h.before h.mid h.come in
         let is = h.gives.3 in
         let going : All (GoesTo (request_of old)) new.rounds.sends.items = subst (λ (r : Rounds). All (GoesTo (request_of old)) r.sends.items) (sym is) c.along.going in
+        let st = stands_now h.before h.mid h.come h.mid h.come.stands in
+        let by : IsAnswered pool (ends_of known) h.mid answer h.gives.0 = subst (λ (x : Phase). StandsIn pool (ends_of known) h.mid x) h.gives.2 st.phase in
+        let few : sends_made (ends_of known) new.rounds ≤ 5 * length pool + 1 = subst (λ (r : Rounds). sends_made (ends_of known) r ≤ 5 * length pool + 1) (sym is) by.few in
         record {
           same = same;
-          stands = runs_told pool known now new answer kept awake (ap (λ (r : Rounds). r.phase) is) (ap (λ (r : Rounds). r.ends.items) is ∙ (stands_now h.before h.mid h.come h.mid h.come.stands).entries) runs.by_entries runs.from_pool
-              (all_now h.before h.mid h.come new.rounds.sends.items going) (done_now h.before h.mid h.come answer h.gives.0 h.gives.2);
+          stands = runs_told pool known now new answer kept awake (ap (λ (r : Rounds). r.phase) is) (ap (λ (r : Rounds). r.ends.items) is ∙ st.entries) runs.by_entries runs.from_pool
+              (all_now h.before h.mid h.come new.rounds.sends.items going) (done_now h.before h.mid h.come answer h.gives.0 h.gives.2) few;
           gives = record { answer = answer; is = ap (λ (x : Option Answered). answer_in x new.rounds.phase) kept; left = left };
         }
 

@@ -176,7 +176,8 @@ on_goes now old new request g is all = by_phase old.phase refl
 done_moment : (pool : List Candidate) (known : List HeardEnd) (now : ℕ) (l : OpenLookup) → RoundsStand pool known l.rounds → IsDecidedAt now l.rounds.phase → (answer : Answered) (at : ℕ) → l.rounds.phase ≡ phase.Decided answer at → IsDone pool known now l answer
 done_moment pool known now l st d answer at decided =
     let moment : at ≡ now = subst (IsDecidedAt now) decided d in
-    record { at = at; early = omega (arith, moment); run = subst (λ (x : Phase). StandsIn pool (ends_of known) l.rounds x) decided st.phase }
+    let by = subst (λ (x : Phase). StandsIn pool (ends_of known) l.rounds x) decided st.phase in
+    record { at = at; early = omega (arith, moment); run = by.run }
 
 -- it was not decided before
 pub decides_moment : (now : ℕ) (old new : Phase) → ((answer : Answered) (at : ℕ) → old ≡ phase.Decided answer at → ⊥) → DecidesAt now old new → IsDecidedAt now new

@@ -1,6 +1,7 @@
 -- How a lookup stands between its steps.
 use Rattle.std.specs.Prelude.{◌≡◌, ℕ, ◌+◌, ◌-◌, ◌*◌, ◌^◌, ◌≤◌, ◌<◌, Bool, true, false, if◌then◌else◌, min, max, filter, take, drop, ◌==◌, ◌&&◌, ◌||◌, not, IsTrue, List, [], ◌∷◌, ◌++◌, map, length, slice_get, Err, ◌⊎◌, Option, Some, None}
 use Rattle.std.specs.List.{position, filter_map, remove}
+use Rattle.dns_core.specs.declared.message.Query.{Query}
 use Rattle.dns_core.specs.declared.request.DnsRequest.{DnsRequest}
 use Rattle.dns_core.specs.declared.net_error.NetError.{NetError}
 use Rattle.dns_core.specs.declared.net_error.NetError.TheVariants.{Timeout}
@@ -29,9 +30,18 @@ under_way sends = map (λ s. s.candidate) sends
 abbrev pub Goes : List Candidate → List (End Candidate) → Rounds → Type 0
 Goes pool ends r = PlanStands r.request.query r.timeout pool ends (under_way r.sends.items) r.agenda
 
+-- so many sends were made: those that ended, and those that did not
+abbrev pub sends_made : List (End Candidate) → Rounds → ℕ
+sends_made ends r = length ends + length r.sends.items
+
+-- A lookup of the question was decided by these ends; the sends that it made are at most five for each place of its pool, and one more.
+pub record IsDecidedBy (timeout : ℕ) (q : Query) (pool : List Candidate) (ends : List (End Candidate)) (under : ℕ) (answer : Answered) (start at : ℕ) : Type 0 where
+  pub run : PoolRun (rules_of timeout) (class_of_sent q) pool ends answer start at
+  pub few : length ends + under ≤ 5 * length pool + 1
+
 -- the step of a moment decided it by these ends
 abbrev pub IsAnswered : List Candidate → List (End Candidate) → Rounds → Answered → ℕ → Type 0
-IsAnswered pool ends r answer at = PoolRun (rules_of r.timeout) (class_of_sent r.request.query) pool ends answer r.start at
+IsAnswered pool ends r answer at = IsDecidedBy r.timeout r.request.query pool ends (length r.sends.items) answer r.start at
 
 -- Sends are under way, or a round after the first is to begin; or the lookup sleeps before it asks the busy ones again; or it is decided. Once it has told that, it stands no more.
 abbrev pub StandsIn : List Candidate → List (End Candidate) → Rounds → Phase → Type 0

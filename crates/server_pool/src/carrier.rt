@@ -57,6 +57,15 @@ impl Standing {
     }
 }
 
+/// Puts a value in the place of the one that stands under a key, if one does.
+fn put_under<S: Drop>(slots: &mut BTreeMap<OrderKey, S>, key: OrderKey, value: S)
+    ensures { (k : Key) → slot_at slots.new k ≡ (if is_some (slot_at slots.old key) && same_key key k then Some value else slot_at slots.old k) }
+{
+    if let Some(place) = slots.get_mut(&key) {
+        *place = value;
+    }
+}
+
 impl<P: ConnectionProvider> Carrier<P> {
     /// Carries orders over a provider whose log is empty.
     pub fn new(alloc: Global, provider: P, options: ConnectOptions) -> Carrier<P>
@@ -121,10 +130,7 @@ impl<P: ConnectionProvider> Carrier<P> {
         ensures same { (self.new.provider ≡ self.old.provider) × (self.new.entries ≡ self.old.entries) }
         ensures slots { (k : Key) → slot_at self.new.slots k ≡ (if same_key key k then Some slot else slot_at self.old.slots k) }
     {
-        match self.slots.get_mut(&key) {
-            Some(place) => *place = slot,
-            None => {}
-        }
+        put_under(&mut self.slots, key, slot);
     }
 
     /// Takes what is under way, and leaves its room.

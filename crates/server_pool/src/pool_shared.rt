@@ -1,11 +1,11 @@
 //! What the pools of a resolver share.
-ghost use Rattle.std.specs.Prelude.{◌≡◌, ◌≢◌, ◌+◌, ◌++◌, ◌<◌, ℕ, Bool, ◌∷◌, [], List, length, IfOk, IfSome, IfNone, Contains, OnOk, OnErr, Ok, Err, Some, None, IsTrue, ◌↔◌, option_map, ◌⊎◌};
+ghost use Rattle.std.specs.Prelude.{◌≡◌, ◌≢◌, ◌+◌, ◌*◌, ◌≤◌, ◌++◌, ◌<◌, ℕ, Bool, ◌∷◌, [], List, length, IfOk, IfSome, IfNone, Contains, OnOk, OnErr, Ok, Err, Some, None, IsTrue, ◌↔◌, option_map, ◌⊎◌};
 ghost use Rattle.resolution.specs.Lookups.{Answered};
 ghost use Rattle.server_pool.specs.Candidates.{candidates};
 ghost use Rattle.server_pool.specs.Orders.{opens};
 ghost use Rattle.server_pool.specs.Ordering.{IsOrdered, next_turn, side_by_side};
 ghost use Rattle.server_pool.specs.OpenLookup.{after_polls, LookupStands};
-ghost use Rattle.server_pool.specs.Rounds.{HeardEnd, RoundsStand, BeginsWith};
+ghost use Rattle.server_pool.specs.Rounds.{HeardEnd, ends_of, sends_made, RoundsStand, BeginsWith};
 ghost use Rattle.server_pool.specs.Shared.{lookup_at, lookup_of, turn_at, SameBut};
 ghost use Rattle.server_pool.specs.Lookups.{Begins, Gives, HasTaken, HasSlept, told_of};
 ghost use Rattle.server_pool.specs.Running.{Runs, AreReached, IsOpenTo, IsNapping, answer_of};
@@ -276,6 +276,7 @@ impl PoolShared {
         ensures sleeps { (l : Seen) (pool : List Candidate) (heard : List HeardEnd) (n : ℕ) → lookup_of self.old number ≡ Some n → lookup_at self.old n ≡ Some l
             → AreReached self.old.table pool → Runs pool heard tick.now l → IsNapping number l → IfOk result (λ did. HasSlept pool heard tick l number outcome did n self.new) }
         ensures rest { (n : ℕ) → lookup_of self.old number ≡ Some n → SameBut n self.old self.new }
+        ensures few { (l : Seen) (pool : List Candidate) (heard : List HeardEnd) (n : ℕ) → lookup_at self.new n ≡ Some l → LookupStands pool heard l → sends_made (ends_of heard) l.rounds ≤ 5 * length pool + 1 }
         ensures ended { (lookup polls : ℕ) → IsOpenOrder number lookup polls self.old → ((polls : ℕ) → IsOpenOrder number lookup polls self.new → ⊥) → lookup_of self.new number ≡ None }
         ensures others { (lookup polls : ℕ) → IsOpenOrder number lookup polls self.old → HasSameLookupsBut lookup self.old self.new }
         ensures orders { HasSameOrdersAtBut number self.old self.new }
@@ -367,6 +368,13 @@ impl PoolShared {
             }
         }
         Ok(open)
+    }
+
+    /// Whether the lookup of a number is there.
+    pub(crate) fn has(&self, lookup: u64) -> bool
+        ensures { IsTrue result ↔ lookup_at self.now lookup ≢ None }
+    {
+        self.lookups.contains_key(&lookup)
     }
 
     /// What is left of the answer of a lookup, where it is decided.

@@ -98,6 +98,27 @@ fn make_room(ends: &mut Vec<u64>, ended: &mut Vec<u32>) -> Result<(), NoMemory>
     Ok(())
 }
 
+/// Takes out the send at a place, to a server, which ended by an entry, if one says so. Room was made.
+fn remove_ended(
+    sends: &mut Vec<Sending>,
+    ends: &mut Vec<u64>,
+    ended: &mut Vec<u32>,
+    place: usize,
+    ended_by: Option<u64>,
+    server: u32,
+)
+    requires place { place < length sends.old.items }
+    requires one { vec_len ends.old < vec_capacity ends.old }
+    requires other { vec_len ended.old < vec_capacity ended.old }
+    ensures sends { sends.new.items ≡ remove sends.old.items place }
+    ensures ends { ends.new.items ≡ ends.old.items ++ listed ended_by }
+    ensures ended { ended.new.items ≡ ended.old.items ++ server ∷ [] }
+{
+    sends.remove(place);
+    keep(ends, ended_by);
+    ended.push_reserved(server);
+}
+
 /// By which entry a send ended that stands so after the outcome that the entry says, if it did.
 fn ended_by_of(stage: &Stage, entry: u64) -> Option<u64>
     ensures { result ≡ ended_by_of stage.now entry }
@@ -410,15 +431,25 @@ impl Rounds {
         let server = ended.send.server;
         match self.agenda.hear(candidate, outcome, &self.request.query) {
             Hearing::GoesOn => {
-                self.sends.remove(place);
-                keep(&mut self.ends, ended_by);
-                self.ended.push_reserved(server);
+                remove_ended(
+                    &mut self.sends,
+                    &mut self.ends,
+                    &mut self.ended,
+                    place,
+                    ended_by,
+                    server,
+                );
                 Ok(())
             }
             Hearing::Answers(answer) => {
-                self.sends.remove(place);
-                keep(&mut self.ends, ended_by);
-                self.ended.push_reserved(server);
+                remove_ended(
+                    &mut self.sends,
+                    &mut self.ends,
+                    &mut self.ended,
+                    place,
+                    ended_by,
+                    server,
+                );
                 self.phase = Phase::Decided { answer, at: now };
                 Ok(())
             }

@@ -12,6 +12,7 @@ use Rattle.server_pool.specs.Shared.{Shared, under, lookup_at, lookup_of, SameBu
 use Rattle.server_pool.specs.SharedStands.{IsOpenOrder}
 use Rattle.server_pool.specs.declared.candidate.Candidate.{Candidate}
 use Rattle.server_pool.specs.declared.open_lookup.OpenLookup.{OpenLookup}
+use Rattle.server_pool.proofs.Few.{few_stands}
 use Rattle.server_pool.proofs.PoolPut.{takes_late, takes_there, takes_after, takes_ended, takes_others, takes_stands, takes_sent, takes_slept, takes_rest}
 use Rattle.server_pool.proofs.pool_shared.PoolShared.put.Goals as goal
 
@@ -169,3 +170,6 @@ returns-clause-rest c =
     let drop_open : (k : ℕ) (l : OpenLookup) (p : ℕ) → at ≡ Some k → under k new.lookups ≡ Some l → polls_at number l ≡ Some p → new.orders ≡ old.orders =
     λ k l p e here h. ap (λ (m : BTreeMap ℕ ℕ). m.entries) (c.drop_closed.ensures.open k l p e here h) in
     subst (λ (o : Shared). (n : ℕ) → lookup_of o number ≡ Some n → SameBut n o new) c.self.view_is (λ n order. takes_rest number old new at some none c.args.outcome c.args.tick c.feed_open-after.result feed_late c.feed_open-after.ensures.there c.feed_open-after.ensures.others c.feed_open-after.ensures.count drop_late drop_open c.drop_closed.ensures.closed c.drop_closed.ensures.others refl refl refl c.feed_open-after.ensures.reached c.self.invariant.1 n order)
+
+pub returns-clause-few : goal.returns-clause-few
+returns-clause-few c = λ l pool heard n there stands. few_stands pool heard l stands

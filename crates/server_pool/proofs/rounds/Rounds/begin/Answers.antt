@@ -2,6 +2,7 @@ use Rattle.std.proofs.Common.{◌∙◌, ◌+◌, ◌≤◌, sym}
 use Rattle.std.proofs.lemmas.Bool.{leb-true}
 use Rattle.server_pool.specs.Agenda.{rules_of, class_of_sent}
 use Rattle.server_pool.specs.Rounds.{under_way}
+use Rattle.server_pool.proofs.Few.{few_made}
 use Rattle.server_pool.proofs.Plans.{same_self}
 use Rattle.server_pool.proofs.Finishing.{pool_late}
 use Rattle.server_pool.proofs.Resting.{rests_from}
@@ -12,7 +13,10 @@ returns-then-is_late-clause-stands c = λ pool ends st may.
     let r = c.args.self.now in
     let a = r.agenda in
     let reached : r.start + r.timeout ≤ c.args.now = leb-true (r.start + r.timeout) c.args.now (sym c.is_late.ensures ∙ c.if-is_late.true) in
-    pool_late (rules_of r.timeout) (class_of_sent r.request.query) same_self pool ends (under_way r.sends.items) a.waiting a.busy a.off a.kept a.sleeps r.start c.args.now reached (may reached) st
+    record {
+      run = pool_late (rules_of r.timeout) (class_of_sent r.request.query) same_self pool ends (under_way r.sends.items) a.waiting a.busy a.off a.kept a.sleeps r.start c.args.now reached (may reached) st;
+      few = few_made r.request.query r.timeout pool ends r.sends.items a st;
+    }
 
 pub returns-clause-pauses : goal.returns-clause-pauses
 returns-clause-pauses c = λ soon.

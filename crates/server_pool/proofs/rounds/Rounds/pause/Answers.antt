@@ -1,5 +1,6 @@
 use Rattle.std.proofs.Common.{◌∙◌, sym}
 use Rattle.server_pool.specs.Rounds.{under_way}
+use Rattle.server_pool.proofs.Few.{few_made}
 use Rattle.server_pool.proofs.Sendings.{no_sends, slept_after}
 use Rattle.server_pool.proofs.rounds.Rounds.pause.Goals as goal
 
@@ -13,4 +14,4 @@ pub returns-else-may_sleep-clause-stands : goal.returns-else-may_sleep-clause-st
 returns-else-may_sleep-clause-stands c = λ pool ends st.
     let r = c.args.self.now in
     let none = no_sends r.request.query r.timeout pool ends r.sends.items r.agenda c.requires.sends st in
-    c.give_up-error.ensures.spent r.request.query r.timeout r.start c.args.now pool ends none
+    record { run = c.give_up-error.ensures.spent r.request.query r.timeout r.start c.args.now pool ends none; few = few_made r.request.query r.timeout pool ends r.sends.items r.agenda st }
