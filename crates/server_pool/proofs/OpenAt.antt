@@ -1,7 +1,9 @@
 -- Which orders are open at which lookups, and which were withdrawn.
 use Rattle.std.proofs.Common.{◌≡◌, ◌∙◌, ℕ, ◌==◌, ◌++◌, ◌∷◌, [], ◌⊎◌, Bool, true, false, List, arith, refl, ap, sym, subst, eqb-true, eq-eqb, Some, IsTrue, inl, inr}
 use Rattle.std.specs.Prelude.{not, ◌↔◌}
-use Rattle.std.specs.List.{Contains}
+use Rattle.std.specs.List.{Contains, AllByRecursion}
+use Rattle.std.specs.List.Sorted.{IsStrictlySortedBy}
+use Rattle.std.specs.declared.cmp.Ordering.TheVariants.{Less}
 use Rattle.std.specs.BTreeMap.{is_at}
 use Rattle.std.specs.Map.{keys_of}
 use Rattle.std.specs.Ordering.{nat_cmp}
@@ -62,3 +64,31 @@ no_more P all some m those never n = (λ h. let y = (those n).0 h in (Contains-a
     back : P n → (Contains all n ⊎ (m ≡ n)) → Contains some n
     back p (inl x) = (those n).1 (x, p)
     back p (inr e) = absurd (never (subst P (sym e) p))
+
+-- a list is what is left of another, in its order
+pub data IsLeftOf : List ℕ → List ℕ → Type 0 where
+  nothing : IsLeftOf [] []
+  stays : {x : ℕ} {xs ys : List ℕ} → IsLeftOf xs ys → IsLeftOf (x ∷ xs) (x ∷ ys)
+  goes : {y : ℕ} {xs ys : List ℕ} → IsLeftOf xs ys → IsLeftOf xs (y ∷ ys)
+
+pub last_stays : {xs ys : List ℕ} (m : ℕ) → IsLeftOf xs ys → IsLeftOf (xs ++ m ∷ []) (ys ++ m ∷ [])
+last_stays m nothing = stays nothing
+last_stays m (stays h) = stays (last_stays m h)
+last_stays m (goes h) = goes (last_stays m h)
+
+pub last_goes : {xs ys : List ℕ} (m : ℕ) → IsLeftOf xs ys → IsLeftOf xs (ys ++ m ∷ [])
+last_goes m nothing = goes nothing
+last_goes m (stays h) = stays (last_goes m h)
+last_goes m (goes h) = goes (last_goes m h)
+
+left_all : (P : ℕ → Type 0) {xs ys : List ℕ} → IsLeftOf xs ys → AllByRecursion P ys → AllByRecursion P xs
+left_all P nothing a = tt
+left_all P (stays h) a = (a.0, left_all P h a.1)
+left_all P (goes h) a = left_all P h a.1
+
+-- what is left of rising numbers rises
+pub left_rises : {xs ys : List ℕ} → IsLeftOf xs ys → IsStrictlySortedBy nat_cmp ys → IsStrictlySortedBy nat_cmp xs
+unfolding IsStrictlySortedBy
+left_rises nothing s = tt
+left_rises (stays {x = x} h) s = (left_all (λ y. nat_cmp x y ≡ Less) h s.0, left_rises h s.1)
+left_rises (goes h) s = left_rises h s.1

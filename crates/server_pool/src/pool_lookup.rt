@@ -1,5 +1,6 @@
 //! One caller's interest in a lookup at a pool.
 ghost use Rattle.std.specs.Prelude.{◌≡◌, ◌≢◌, ◌+◌, ◌*◌, ◌≤◌, ℕ, length, ◌↔◌, List, [], Contains, IfOk, OnErr, Err, Some, None, option_map, ◌⊎◌};
+ghost use Rattle.std.specs.List.Sorted.{IsStrictlyIncreasing};
 ghost use Rattle.resolution.specs.Lookups.{Answered};
 ghost use Rattle.server_pool.specs.Shared.{lookup_at, SameBut};
 ghost use Rattle.server_pool.specs.SharedStands.{IsOpenOrder};
@@ -159,7 +160,8 @@ impl PoolLookup {
 
     /// The numbers of its open orders, rising.
     pub fn open_orders(&self, alloc: Global, shared: &PoolShared) -> Result<Numbers, NoMemory>
-        ensures { IfOk result (λ ns. (n : ℕ) → Contains ns n ↔ ((polls : ℕ) × IsOpenOrder n self.now.number polls shared.now)) }
+        ensures those { IfOk result (λ ns. (n : ℕ) → Contains ns n ↔ ((polls : ℕ) × IsOpenOrder n self.now.number polls shared.now)) }
+        ensures rising { IfOk result IsStrictlyIncreasing }
     {
         shared.open_orders(alloc, self.number)
     }

@@ -1,5 +1,6 @@
 //! What the pools of a resolver share.
 ghost use Rattle.std.specs.Prelude.{◌≡◌, ◌≢◌, ◌+◌, ◌*◌, ◌≤◌, ◌++◌, ◌<◌, ℕ, Bool, ◌∷◌, [], List, length, IfOk, IfSome, IfNone, Contains, OnOk, OnErr, Ok, Err, Some, None, IsTrue, ◌↔◌, option_map, ◌⊎◌};
+ghost use Rattle.std.specs.List.Sorted.{IsStrictlyIncreasing};
 ghost use Rattle.resolution.specs.Lookups.{Answered};
 ghost use Rattle.server_pool.specs.Candidates.{candidates};
 ghost use Rattle.server_pool.specs.Orders.{opens};
@@ -359,7 +360,8 @@ impl PoolShared {
 
     /// The numbers of the open orders of a lookup, rising.
     pub(crate) fn open_orders(&self, alloc: Global, lookup: u64) -> Result<Numbers, NoMemory>
-        ensures { IfOk result (λ ns. (n : ℕ) → Contains ns n ↔ ((polls : ℕ) × IsOpenOrder n lookup polls self.now)) }
+        ensures those { IfOk result (λ ns. (n : ℕ) → Contains ns n ↔ ((polls : ℕ) × IsOpenOrder n lookup polls self.now)) }
+        ensures rising { IfOk result IsStrictlyIncreasing }
     {
         let mut open = Numbers::empty(alloc);
         'orders: for number in self.orders.keys() {
