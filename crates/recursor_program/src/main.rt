@@ -1,21 +1,8 @@
-//! The program `resolve`: a scenario in, a transcript out.
+//! The program: its command line, standard input and standard output, handed to `recursor_command`.
 #![tactic(auto)]
 
-#[cfg(test)]
-mod bad_input_tests;
-#[cfg(test)]
-mod cost_tests;
-#[cfg(test)]
-mod fault_tests;
-mod faults;
-mod program;
-mod status;
-#[cfg(test)]
-mod tests;
-
 use dns_core::{NoMemory, StdSink, StdSource, Text};
-use program::run;
-use status::Status;
+use recursor_command::{Status, run};
 use std::alloc::Global;
 use std::env;
 use std::process::ExitCode;

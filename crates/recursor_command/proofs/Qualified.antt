@@ -1,0 +1,55 @@
+-- The script of a scenario has fully qualified names alone.
+use Rattle.std.proofs.Common.{◌≡◌, Bool, true, List, [], ◌∷◌, Some, None, Ok, Err, refl, ap, ◌∙◌}
+use Rattle.std.specs.Prelude.{IsTrue, ◌&&◌, not}
+use Rattle.std.specs.List.{list_all, AllByRecursion}
+use Rattle.dns_core.specs.Record.{is_qualified_data}
+use Rattle.dns_core.specs.Message.{is_qualified_record}
+use Rattle.dns_core.specs.NetError.{is_qualified_error, is_no_records}
+use Rattle.dns_core.specs.declared.record.Record.{Record}
+use Rattle.dns_core.specs.declared.record.RData.{RData}
+use Rattle.dns_core.specs.declared.record.RData.TheVariants.{A, AAAA, NS, CNAME, SOA, RRSIG, Opaque}
+use Rattle.recursor_world.specs.declared.script.ScriptLine.{ScriptLine}
+use Rattle.recursor_world.specs.declared.script.ScriptLine.TheVariants.{Connect, Refuse, Reply}
+use Rattle.recursor_world.specs.Script.{is_qualified_line, is_qualified_script}
+use Rattle.recursor_text.specs.declared.scenario.Upstream.{Upstream}
+use Rattle.recursor_text.specs.declared.scenario.Upstream.TheVariants.{Script as FromScript}
+use Rattle.recursor_text.specs.Spelling.{IsData, IsRecord, IsScriptLine, rules_of}
+use Rattle.recursor_command.specs.Command.{script_of}
+use Rattle.recursor_command.proofs.Failures.{failure_qualified, failure_no_records}
+
+both : (a b : Bool) → a ≡ true → b ≡ true → (a && b) ≡ true
+both a b p q = ap (λ x. x && b) p ∙ q
+
+data_qualified : (d : RData) → IsData d → is_qualified_data d ≡ true
+data_qualified (A ip) h = refl
+data_qualified (AAAA ip) h = refl
+data_qualified (NS target) h = h.1
+data_qualified (CNAME target) h = absurd h
+data_qualified (SOA soa) h = both soa.mname.fqdn soa.rname.fqdn h.mname.1 h.rname.1
+data_qualified (RRSIG covered rest) h = absurd h
+data_qualified (Opaque bytes) h = refl
+
+record_qualified : (r : Record) → IsRecord r → is_qualified_record r ≡ true
+record_qualified r h = both r.name.fqdn (is_qualified_data r.rdata) h.name.1 (data_qualified r.rdata h.told)
+
+records_qualified : (rs : List Record) → AllByRecursion IsRecord rs → list_all is_qualified_record rs ≡ true
+records_qualified [] h = refl
+records_qualified (r ∷ rs) h = both (is_qualified_record r) (list_all is_qualified_record rs) (record_qualified r h.0) (records_qualified rs h.1)
+
+line_qualified : (line : ScriptLine) → IsScriptLine line → is_qualified_line line ≡ true
+line_qualified (Reply ip protocol name type delay (Ok m)) h =
+    both name.fqdn _ h.named.1
+    (both _ (list_all is_qualified_record m.additionals)
+    (both (list_all is_qualified_record m.answers) (list_all is_qualified_record m.authorities) (records_qualified m.answers h.answers) (records_qualified m.authorities h.authorities))
+    (records_qualified m.additionals h.additionals))
+line_qualified (Reply ip protocol name type delay (Err e)) h = both name.fqdn (is_qualified_error e) h.named.1 (failure_qualified e h.failure)
+line_qualified (Connect ip protocol delay None) h = refl
+line_qualified (Connect ip protocol delay (Some e)) h = both (is_qualified_error e) (not (is_no_records e)) (failure_qualified e h.failure) (failure_no_records e h.failure)
+line_qualified (Refuse ip protocol) h = refl
+
+lines_qualified : (lines : List ScriptLine) → AllByRecursion IsScriptLine lines → list_all is_qualified_line lines ≡ true
+lines_qualified [] h = refl
+lines_qualified (line ∷ lines) h = both (is_qualified_line line) (list_all is_qualified_line lines) (line_qualified line h.0) (lines_qualified lines h.1)
+
+pub script_qualified : (u : Upstream) → AllByRecursion IsScriptLine (rules_of u) → IsTrue (is_qualified_script (script_of u))
+script_qualified (FromScript script) h = lines_qualified script.lines h

@@ -1,0 +1,211 @@
+//! The command over any source and sink.
+ghost use Rattle.std.specs.Prelude.{min, ◌≡◌, ◌≢◌, false, IfOk, IfErr, IfSome, IsTrue};
+ghost use Rattle.std.specs.Io.KnownBytes.{IsAtEnd, Appends};
+ghost use Rattle.dns_core.specs.Faults.{Rose};
+ghost use Rattle.recursor_world.specs.Script.{Gives, is_qualified_script};
+ghost use Rattle.recursor_world.specs.Upstream.{told_by};
+ghost use Rattle.recursor_text.specs.Transcript.{transcript_text};
+ghost use Rattle.recursor_command.specs.Faults.{fault_text};
+ghost use Rattle.recursor_command.specs.Command.{are_words, script_of, fault_of, IsNewOver, Ran, HasRun, HasOutput, IsFaultOf, Tells, HasWritten, HasRefused, IsTextFor, IsTextOf, WrotePart, ToldMemory, IsRefusal};
+
+use crate::faults::{Fault, say};
+use crate::status::Status;
+use dns_core::{Ips, Items, Log, NoMemory, ReadError, Sink, Source, Text, TryClone, read_all};
+use recursor_core::{Recursor, RecursorOptions, drive};
+use recursor_text::{
+    Cause, Scenario, ScenarioError, Transcript, Upstream, has_transcript_words, print_transcript,
+    read_scenario,
+};
+use recursor_world::{Script, ScriptUpstream};
+use std::alloc::Global;
+
+/// One byte more than a scenario may have, so that one that is too long shows.
+const MOST: usize = 16_777_217;
+
+/// Whether the words are those of the command.
+fn are_words(words: &[Text]) -> bool
+    ensures { result ≡ are_words words.now }
+{
+    match words {
+        [word] => word.items().as_bytes() == b"resolve".as_slice(),
+        _ => false,
+    }
+}
+
+/// A recursor over a script.
+fn recursor_over(
+    alloc: Global,
+    roots: &Ips,
+    options: RecursorOptions,
+    script: Script,
+) -> Result<Recursor<ScriptUpstream>, NoMemory>
+    requires { IsTrue (is_qualified_script script) }
+    ensures { IfOk result (IsNewOver roots.now options script) }
+{
+    let upstream = ScriptUpstream::new(alloc, script)?;
+    match Recursor::with_options(alloc, roots.items(), options, upstream) {
+        Ok(recursor) => Ok(recursor),
+        Err(_) => Err(NoMemory),
+    }
+}
+
+/// The whole log of an upstream.
+fn log_of(alloc: Global, mut upstream: ScriptUpstream) -> Result<Log, NoMemory>
+    ensures gives { IfOk result (λ log. Gives upstream.script log) }
+    ensures told { IfOk result (λ log. log ≡ told_by upstream) }
+{
+    upstream.gather()?;
+    upstream.log().try_clone(alloc)
+}
+
+/// The script of an upstream, of which there is no other kind yet.
+fn script_from(upstream: Upstream) -> Script
+    ensures { result ≡ script_of upstream }
+{
+    match upstream {
+        Upstream::Script(script) => script,
+    }
+}
+
+/// A patience, which a new recursor does not lower: it has 32 bits.
+fn first_patience(patience: u32) -> u32
+    ensures same { result ≡ patience }
+    ensures first { min 4294967295 patience ≡ patience }
+{
+    patience
+}
+
+/// Answers the questions of a scenario over its script.
+fn ran(alloc: Global, scenario: Scenario) -> Result<Transcript, NoMemory>
+    requires { IsTrue (is_qualified_script (script_of scenario.upstream)) }
+    ensures { IfOk result (Ran scenario) }
+{
+    let Scenario {
+        roots,
+        options,
+        patience,
+        upstream,
+        questions,
+        turns,
+    } = scenario;
+    let script = script_from(upstream);
+    let mut recursor = recursor_over(alloc, &roots, options, script)?;
+    let replies = drive(
+        alloc,
+        &mut recursor,
+        questions.items(),
+        turns.items(),
+        first_patience(patience),
+    )?;
+    let log = log_of(alloc, recursor.into_provider())?;
+    Ok(Transcript {
+        log,
+        replies: Items::new(replies),
+    })
+}
+
+/// The text of a transcript.
+fn printed(alloc: Global, transcript: &Transcript) -> Result<Vec<u8>, NoMemory>
+    ensures { IfOk result (λ text. text.items ≡ transcript_text transcript.now) }
+{
+    if !has_transcript_words(transcript) {
+        return Err(NoMemory);
+    }
+    let mut text = Vec::new(alloc);
+    print_transcript(alloc, transcript, &mut text)?;
+    Ok(text)
+}
+
+/// The transcript of a scenario, as text.
+fn resolved(alloc: Global, scenario: Scenario) -> Result<Vec<u8>, NoMemory>
+    requires { IsTrue (is_qualified_script (script_of scenario.upstream)) }
+    ensures { IfOk result (λ text. HasRun scenario text.items) }
+{
+    let transcript = ran(alloc, scenario)?;
+    printed(alloc, &transcript)
+}
+
+fn fault_of(error: ScenarioError) -> Fault
+    ensures { result ≡ fault_of error }
+{
+    match error.cause {
+        Cause::Line | Cause::Cut | Cause::Long => Fault::Line(error.line),
+        Cause::NotBuilt => Fault::NotBuilt(error.line),
+        Cause::NoMemory => Fault::Memory,
+    }
+}
+
+/// What is written for the bytes of a scenario, or the fault that ends the run.
+fn output(alloc: Global, bytes: &[u8]) -> Result<Vec<u8>, Fault>
+    ensures ok { IfOk result (λ text. HasOutput bytes.now text.items) }
+    ensures err { IfErr result (IsFaultOf bytes.now) }
+{
+    match read_scenario(alloc, bytes) {
+        Ok(scenario) => match resolved(alloc, scenario) {
+            Ok(text) => Ok(text),
+            Err(_) => Err(Fault::Memory),
+        },
+        Err(error) => Err(fault_of(error)),
+    }
+}
+
+/// Writes the text of a fault, and answers its status.
+fn tell<K: Sink>(alloc: Global, sink: &mut K, fault: Fault) -> Status
+    ensures { Tells fault result (K.written sink.old) (K.written sink.new) (K.faults sink.old) (K.faults sink.new) }
+{
+    match fault.text(alloc) {
+        Ok(text) => say(sink, text.as_slice(), fault.status()),
+        Err(_) => Status::NoMemory,
+    }
+}
+
+/// Writes the output for the bytes, or the fault.
+fn finish<K: Sink>(alloc: Global, sink: &mut K, bytes: &[u8]) -> Status
+    ensures done { result ≡ Status.Done → HasWritten bytes.now (K.written sink.old) (K.written sink.new) }
+    ensures scenario { result ≡ Status.BadScenario → HasRefused bytes.now (K.written sink.old) (K.written sink.new) }
+    ensures write { result ≡ Status.WriteFault → WrotePart (IsTextFor bytes.now) (K.faults sink.old) (K.faults sink.new) (K.written sink.old) (K.written sink.new) }
+    ensures memory { result ≡ Status.NoMemory → ToldMemory (K.written sink.old) (K.written sink.new) }
+    ensures read { result ≢ Status.ReadFault }
+    ensures words { result ≢ Status.BadWords }
+{
+    match output(alloc, bytes) {
+        Ok(text) => say(sink, text.as_slice(), Status::Done),
+        Err(fault) => tell(alloc, sink, fault),
+    }
+}
+
+/// Runs the command: reads a scenario from the source to its end, answers its questions over its
+/// script, and writes the transcript; or writes the text of what is wrong.
+pub fn run<S: Source, K: Sink>(
+    alloc: Global,
+    words: &[Text],
+    source: &mut S,
+    sink: &mut K,
+) -> Status
+    // The transcript of what the source held, read to its end, was written.
+    ensures done { result ≡ Status.Done → IfSome (S.left source.old) (λ bytes. HasWritten bytes (K.written sink.old) (K.written sink.new)) }
+    ensures to_end { result ≡ Status.Done → IsAtEnd (S.left source.new) }
+
+    // What the source held is no scenario of the forms that are built, and its fault was written.
+    ensures scenario { result ≡ Status.BadScenario → IfSome (S.left source.old) (λ bytes. HasRefused bytes (K.written sink.old) (K.written sink.new)) }
+
+    // The words are none of the command's, which was written; and nothing was read.
+    ensures words { result ≡ Status.BadWords → (are_words words.now ≡ false) × Appends (K.written sink.old) (K.written sink.new) (fault_text Fault.Words) }
+    ensures refused { are_words words.now ≡ false → IsRefusal result × (source.new ≡ source.old) }
+
+    // The source failed, which was written; the sink failed, and a front of what was to be written was.
+    ensures read { result ≡ Status.ReadFault → Rose (S.faults source.old) (S.faults source.new) × Appends (K.written sink.old) (K.written sink.new) (fault_text Fault.Read) }
+    ensures write { result ≡ Status.WriteFault → WrotePart (IsTextOf (are_words words.now) (S.left source.old) (S.faults source.old) (S.faults source.new)) (K.faults sink.old) (K.faults sink.new) (K.written sink.old) (K.written sink.new) }
+
+    // Memory is wanting, which was written, or nothing.
+    ensures memory { result ≡ Status.NoMemory → ToldMemory (K.written sink.old) (K.written sink.new) }
+{
+    if !are_words(words) {
+        return tell(alloc, sink, Fault::Words);
+    }
+    match read_all(alloc, source, MOST) {
+        Ok(bytes) => finish(alloc, sink, bytes.as_slice()),
+        Err(ReadError::Failed) => tell(alloc, sink, Fault::Read),
+        Err(ReadError::NoMemory) => tell(alloc, sink, Fault::Memory),
+    }
+}

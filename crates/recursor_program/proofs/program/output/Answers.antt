@@ -1,5 +1,0 @@
-use Rattle.recursor_program.proofs.Qualified.{script_qualified}
-use Rattle.recursor_program.proofs.program.output.Goals as goal
-
-pub resolved-requires : goal.resolved-requires
-resolved-requires c = script_qualified c.in-Ok.scenario.upstream c.in-Ok.ensures.found.fits.rules
