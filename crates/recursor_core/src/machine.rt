@@ -54,6 +54,18 @@ pub struct RecursorCore {
     greatest: u64,
 }
 
+/// An empty cache as the options say.
+fn cache_of(alloc: Global, options: &RecursorOptions) -> Result<ResponseCache, NoMemory>
+    requires { has_reversed options.now.cache_policy ≡ false }
+    ensures { IfOk result (λ cache. cache ≡ record { size = options.now.response_cache_size; config = options.now.cache_policy; entries = [] }) }
+{
+    let policy = options.cache_policy.try_clone(alloc)?;
+    let Ok(cache) = ResponseCache::new(alloc, options.response_cache_size, policy) else {
+        unreachable!()
+    };
+    Ok(cache)
+}
+
 impl RecursorCore {
     /// A machine that begins at these roots, with an empty cache; refused where there is no root, or a
     /// minimum TTL is above its maximum.
@@ -87,12 +99,9 @@ impl RecursorCore {
         requires { has_reversed options.cache_policy ≡ false }
         ensures { IfOk result (IsNewCore roots.now options) }
     {
+        let cache = cache_of(alloc, &options)?;
         let setting = Setting::new(alloc, roots, &options)?;
         let pools = Pools::new(alloc, &options)?;
-        let policy = options.cache_policy.try_clone(alloc)?;
-        let Ok(cache) = ResponseCache::new(alloc, options.response_cache_size, policy) else {
-            unreachable!()
-        };
         Ok(RecursorCore {
             setting,
             options,

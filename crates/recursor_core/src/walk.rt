@@ -213,8 +213,8 @@ impl Walk {
         let name = walked_name(alloc, &question.query)?;
         let stage = stage_after(name.labels().len(), 0);
         let query = query_at(alloc, &name, &question.query, stage)?;
-        let lookup = Lookup::new(alloc, query);
         let servers = roots.try_clone(alloc)?;
+        let lookup = Lookup::new(alloc, query);
         Ok(Walk {
             name,
             zone: Name::root(alloc),
