@@ -1,5 +1,5 @@
 -- What a lookup that was answered came to, as the log shows it.
-use Rattle.std.proofs.Common.{◌≡◌, ◌≢◌, ℕ, zero, suc, ◌+◌, ◌≤◌, ◌<◌, Bool, true, false, not, ◌&&◌, ◌||◌, cond, List, [], ◌∷◌, ◌++◌, map, find, length, All, Contains, Option, Some, None, IfSome, IsSomeAnd, Result, Ok, Err, inl, inr, refl, sym, ap, subst, ◌∙◌, arith}
+use Rattle.std.proofs.Common.{◌≡◌, ℕ, suc, ◌≤◌, ◌<◌, Bool, true, false, not, ◌||◌, cond, List, [], ◌∷◌, ◌++◌, map, find, length, Contains, Option, Some, None, IfSome, IsSomeAnd, Result, Ok, Err, inl, refl, sym, ap, subst, ◌∙◌, arith}
 use Rattle.std.specs.Prelude.{IsTrue, nat_le, option_map, ◌==◌, if◌then◌else◌}
 use Rattle.std.specs.List.{list_any, list_all, last_or, before_first, after_first, filter_map, AllByRecursion}
 use Rattle.std.specs.List.Sorted.{IsPermutation}
@@ -19,7 +19,6 @@ use Rattle.dns_core.specs.declared.net_error.NetError.{NetError}
 use Rattle.dns_core.specs.declared.net_error.NetError.TheVariants as net
 use Rattle.dns_core.specs.declared.net_error.DnsError.{DnsError}
 use Rattle.dns_core.specs.declared.net_error.DnsError.TheVariants as dns
-use Rattle.dns_core.specs.declared.log.ToldOutcome.{ToldOutcome}
 use Rattle.resolver_settings.specs.Access.{Access, denies}
 use Rattle.dns_core.specs.Classifying.{no_records}
 use Rattle.resolution.specs.Class.{class_of, class_of_error, has_no_data_for, is_foreign}
@@ -27,7 +26,7 @@ use Rattle.resolution.specs.Records.{records}
 use Rattle.resolution.specs.Verdict.{is_all_denied, without_denied}
 use Rattle.resolution.specs.Given.{Given}
 use Rattle.resolution.specs.Serving.{Heard}
-use Rattle.resolution.specs.Lookups.{Answered, class_of_answer, End, Rules, is_turn, is_retryable, answer_of, negative_of, is_timed_out, least_bad, class_of_end, turns, the_turn, has_turned, but_turn, retries, none_is_final, all_were_tried, what_is_left, IsDecided, IsSpent, IsLate, PoolRun}
+use Rattle.resolution.specs.Lookups.{Answered, class_of_answer, End, Rules, is_retryable, answer_of, negative_of, is_timed_out, least_bad, class_of_end, turns, the_turn, but_turn, retries, none_is_final, all_were_tried, what_is_left, IsDecided, PoolRun}
 use Rattle.resolution.specs.Lookups.PoolRun.{decided, spent, late}
 use Rattle.resolution.specs.Ending.{by_address, EndSends}
 use Rattle.resolution.specs.Ending.EndSends.{no_send, and_send}
@@ -39,7 +38,7 @@ use Rattle.server_pool.specs.AnswerFilter.{denied_by, foreign_class, nothing_lef
 use Rattle.server_pool.specs.Rounds.{HeardEnd, ends_of, entries_of}
 use Rattle.server_pool.specs.OpenLookup.{left_of}
 use Rattle.server_pool.specs.Lookups.{told_of as lookup_told}
-use Rattle.server_pool.specs.Running.{request_of, start_of, timeout_of, ends_at, IsDone, Runs}
+use Rattle.server_pool.specs.Running.{request_of, start_of, ends_at, IsDone, Runs}
 use Rattle.server_pool.specs.Running.{answer_of as lookup_answer}
 use Rattle.server_pool.specs.Shared.{lookup_at}
 use Rattle.server_pool.specs.declared.open_lookup.OpenLookup.{OpenLookup}
@@ -49,7 +48,7 @@ use Rattle.server_pool.specs.ByAddress.{at_address}
 use Rattle.server_pool.proofs.ByAddress.{IsTrustedBeyondUdp, run_by_address}
 use Rattle.recursor_core.specs.Causes.{is_lookup_error}
 use Rattle.recursor_core.specs.Replies.{Terms, given_of}
-use Rattle.recursor_core.specs.Tried.{Began, is_response, told_of, AreHeard, Tried, IsTimed, Concluded}
+use Rattle.recursor_core.specs.Tried.{Began, is_response, told_of, AreHeard, Concluded}
 use Rattle.recursor_core.specs.Lookup.{last_of, failed_by, answered_by}
 use Rattle.recursor_core.specs.Pools.{IsAt, SoughtHolds, PoolsHold, Seeks}
 use Rattle.recursor_core.specs.SameTold.{nothing_left_for}

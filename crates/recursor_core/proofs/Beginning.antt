@@ -1,5 +1,5 @@
 -- What holds of a lookup that begins at the servers of a zone.
-use Rattle.std.proofs.Common.{◌≡◌, ℕ, ◌+◌, ◌≤◌, ◌<◌, Bool, true, false, cond, List, [], ◌∷◌, map, filter, length, All, Option, Some, None, IfSome, refl, sym, ap, subst, ◌∙◌, arith}
+use Rattle.std.proofs.Common.{◌≡◌, ℕ, ◌+◌, ◌<◌, Bool, true, false, cond, List, [], ◌∷◌, map, filter, length, All, Option, Some, None, refl, sym, ap, subst, ◌∙◌, arith}
 use Rattle.std.specs.Prelude.{IsTrue, slice_get, option_map}
 use Rattle.std.specs.List.{AllZip, list_any, AllByRecursion}
 use Rattle.std.specs.List.Sorted.{IsPermutation}
@@ -9,7 +9,6 @@ use Rattle.std.proofs.lemmas.List.Sorted.{IsPermutation-map, All-permutation}
 use Rattle.std.specs.declared.net.ip_addr.IpAddr.{IpAddr}
 use Rattle.dns_core.specs.Name.{DomainName}
 use Rattle.dns_core.specs.Log.{Log}
-use Rattle.dns_core.specs.declared.message.Query.{Query}
 use Rattle.dns_core.specs.declared.request.DnsRequest.{DnsRequest}
 use Rattle.resolver_settings.specs.NameServer.{NameServer, over_udp, over_tcp}
 use Rattle.resolution.specs.Names.{is_above, walk}
@@ -17,19 +16,16 @@ use Rattle.resolution.specs.Ending.EndSends.{no_send}
 use Rattle.server_core.specs.Servers.{Server}
 use Rattle.server_core.specs.Policy.{allows_config}
 use Rattle.server_core.specs.declared.policy.ConnectionPolicy.{ConnectionPolicy}
-use Rattle.server_pool.specs.Candidates.{is_reached, is_trusted, candidate_of, candidates}
+use Rattle.server_pool.specs.Candidates.{is_reached, candidate_of, candidates}
 use Rattle.server_pool.specs.Lookups.{Begins}
 use Rattle.server_pool.specs.Running.{Runs, AreReached}
-use Rattle.server_pool.specs.Shared.{configs}
 use Rattle.server_pool.specs.declared.candidate.Candidate.{Candidate}
 use Rattle.server_pool.specs.ByAddress.Beside.{no_more}
 use Rattle.server_pool.specs.ByAddress.{at_address}
 use Rattle.recursor_core.specs.Replies.{Terms}
-use Rattle.recursor_core.specs.Tried.{Tried}
 use Rattle.recursor_core.specs.Pools.{config_at, server_at, IsAt, IsMet, ServersHold, SoughtHolds}
 use Rattle.recursor_core.specs.Derived.{ArePool}
 use Rattle.recursor_core.specs.declared.pools.Pools.{Pools}
-use Rattle.recursor_core.specs.declared.pools.Sought.{Sought}
 use Rattle.recursor_core.proofs.Pooling.{config-same}
 
 -- ---- servers that were met

@@ -1,20 +1,16 @@
 -- The pools after a lookup has begun.
-use Rattle.std.proofs.Common.{◌≡◌, ◌≢◌, ℕ, ◌+◌, List, [], ◌++◌, Option, Some, None, Result, Ok, Err, IfOk, OnErr, refl, sym, ap, subst, ◌∙◌}
-use Rattle.std.specs.Prelude.{IsTrue}
+use Rattle.std.proofs.Common.{◌≡◌, ℕ, List, [], Some, None, Result, Ok, Err, IfOk, OnErr, sym, ap, subst, ◌∙◌}
 use Rattle.std.specs.List.{AllZip}
 use Rattle.std.proofs.lemmas.List.{append-nil}
-use Rattle.std.proofs.lemmas.Bool.{cases_eq}
 use Rattle.std.proofs.lemmas.Option.{same_Some, none-some}
 use Rattle.std.specs.declared.net.ip_addr.IpAddr.{IpAddr}
 use Rattle.dns_core.specs.Log.{Log}
 use Rattle.dns_core.specs.declared.errors.NoMemory.{NoMemory}
-use Rattle.server_core.specs.Context.{Context}
 use Rattle.server_core.specs.Servers.{Server}
-use Rattle.server_pool.specs.Shared.{Shared, lookup_at, configs, SameBut}
-use Rattle.server_pool.specs.declared.open_lookup.OpenLookup.{OpenLookup}
+use Rattle.server_pool.specs.Shared.{Shared, lookup_at, SameBut}
 use Rattle.server_pool.specs.declared.pool_lookup.PoolLookup.{PoolLookup}
 use Rattle.recursor_core.specs.Replies.{Terms}
-use Rattle.recursor_core.specs.Pools.{PoolsHold, SoughtHolds, ServersHold, IsGrown, IsMet, HasKept, HasLeft, sought_at, config_at, server_at}
+use Rattle.recursor_core.specs.Pools.{PoolsHold, SoughtHolds, IsGrown, IsMet, HasKept, HasLeft, sought_at, config_at, server_at}
 use Rattle.recursor_core.specs.declared.pools.Pools.{Pools}
 use Rattle.recursor_core.specs.declared.pools.Sought.{Sought}
 use Rattle.recursor_core.proofs.Pooling.{carried-same, sought-carried, pools-grown, servers-with}

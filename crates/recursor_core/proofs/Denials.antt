@@ -15,14 +15,12 @@ use Rattle.dns_core.specs.Classifying.{no_records}
 use Rattle.dns_core.specs.declared.message.Query.{Query}
 use Rattle.dns_core.specs.declared.message.Message.{Message}
 use Rattle.dns_core.specs.declared.record.Record.{Record}
-use Rattle.dns_core.specs.declared.log.ToldOutcome.TheVariants as told
 use Rattle.dns_core.specs.declared.errors.NoMemory.{NoMemory}
 use Rattle.dns_core.specs.declared.request.Question.{Question}
 use Rattle.dns_core.specs.declared.net_error.NoRecords.{NoRecords}
 use Rattle.dns_core.specs.declared.net_error.ForwardNsData.{ForwardNsData}
 use Rattle.dns_core.specs.declared.net_error.DnsError.{DnsError}
 use Rattle.dns_core.specs.declared.net_error.NetError.{NetError}
-use Rattle.dns_core.specs.declared.net_error.NetError.TheVariants as net
 use Rattle.dns_core.specs.declared.net_error.DnsError.TheVariants as dns
 use Rattle.resolution.specs.Names.{candidates, walk, question}
 use Rattle.resolution.specs.Records.{records, only}
@@ -34,8 +32,7 @@ use Rattle.resolution.specs.Verdict.{verdict, verdict_of_told, verdict_of_class,
 use Rattle.resolution.specs.Serving.{is_delegation, glue, allowed}
 use Rattle.resolution.specs.Answering.{Base}
 use Rattle.resolution.specs.Answering.Answers.{direct}
-use Rattle.resolution.specs.Lookups.{answer_of}
-use Rattle.resolution.specs.Ending.{Finished, is_timeout}
+use Rattle.resolution.specs.Ending.{Finished}
 use Rattle.resolution.specs.declared.class.Class.{Class}
 use Rattle.resolution.specs.declared.class.Class.TheVariants.{Error, Code, Truncated, Negative as NoData, Foreign, Positive}
 use Rattle.resolution.specs.declared.verdict.Verdict.TheVariants.{Pos, Neg, Made}

@@ -1,5 +1,5 @@
 -- A reply to a question that began later is one to a question that began earlier, where as much is known of moments.
-use Rattle.std.proofs.Common.{◌≤◌, ◌+◌, ◌*◌, ℕ, Bool, List, [], ◌∷◌, Option, Some, None, arith, inl, inr, ⊎_elim, IsSomeAnd, Result, Ok, Err}
+use Rattle.std.proofs.Common.{◌≤◌, ◌+◌, ◌*◌, ℕ, Bool, List, Option, Some, None, arith, inl, inr, ⊎_elim, IsSomeAnd, Result, Ok, Err}
 use Rattle.std.specs.List.{last_or}
 use Rattle.std.specs.declared.net.ip_addr.IpAddr.{IpAddr}
 use Rattle.dns_core.specs.Name.{DomainName}

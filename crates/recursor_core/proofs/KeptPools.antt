@@ -1,5 +1,5 @@
 -- What was derived of the lookups is derived from a longer log, and later.
-use Rattle.std.proofs.Common.{◌≡◌, ◌≤◌, ◌+◌, ℕ, Bool, true, false, List, [], ◌∷◌, IsTrue, Option, Some, None, IfSome, Ok, Err, arith}
+use Rattle.std.proofs.Common.{◌≤◌, ◌+◌, ℕ, Bool, true, false, List, [], ◌∷◌, IsTrue, Option, Some, None, IfSome, Err, arith}
 use Rattle.std.specs.Prelude.{nat_le}
 use Rattle.std.specs.List.{list_all}
 use Rattle.std.proofs.lemmas.Bool.{leb-true, le-leb, and_parts}
@@ -8,9 +8,9 @@ use Rattle.std.specs.declared.net.ip_addr.IpAddr.{IpAddr}
 use Rattle.dns_core.specs.Name.{DomainName}
 use Rattle.dns_core.specs.Log.{Log, Extends}
 use Rattle.dns_core.specs.declared.message.Query.{Query}
-use Rattle.resolution.specs.Lookups.{Answered, End, class_of_answer}
+use Rattle.resolution.specs.Lookups.{Answered, End}
 use Rattle.resolution.specs.Serving.{Serves}
-use Rattle.resolution.specs.Ending.{Listed, EndSends, Finished}
+use Rattle.resolution.specs.Ending.{Listed, EndSends}
 use Rattle.resolution.proofs.Keeping.{Logged-extend, Serves-extend, Serves-later, Heard-extend}
 use Rattle.resolution.proofs.FailuresKept.{EndSends-extend, Listed-extend, Finished-extend}
 use Rattle.resolution.proofs.Caseless.{both}

@@ -1,5 +1,5 @@
 -- Servers that are met come behind those that were there.
-use Rattle.std.proofs.Common.{◌≡◌, ℕ, ◌+◌, ◌<◌, Bool, true, false, cond, List, [], ◌∷◌, ◌++◌, length, take, Option, Some, refl, sym, ap, subst, ◌∙◌, append_assoc}
+use Rattle.std.proofs.Common.{◌≡◌, ℕ, ◌+◌, ◌<◌, Bool, true, false, cond, List, [], ◌∷◌, ◌++◌, length, take, Some, refl, sym, ap, subst, ◌∙◌, append_assoc}
 use Rattle.std.specs.Prelude.{slice_index_or}
 use Rattle.std.specs.List.{AllZip}
 use Rattle.std.specs.BTreeMap as tree
@@ -12,7 +12,6 @@ use Rattle.std.specs.declared.net.ip_addr.IpAddr.TheVariants.{V4, V6}
 use Rattle.std.specs.contracts.net.ip_addr.IpAddrOrd.TheImpl as address
 use Rattle.std.proofs.lemmas.List.{append-nil, take_more}
 use Rattle.std.proofs.lemmas.Option.{same_Some}
-use Rattle.resolver_settings.specs.NameServer.{NameServer}
 use Rattle.server_core.specs.Context.{Context}
 use Rattle.server_core.specs.Servers.{Server}
 use Rattle.recursor_core.specs.Replies.{Terms}

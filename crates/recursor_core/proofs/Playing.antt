@@ -15,7 +15,7 @@ use Rattle.recursor_core.specs.Tried.{machine_timer}
 use Rattle.server_pool.specs.Carrying.{TellsThat, Grown}
 use Rattle.recursor_core.specs.Derived.{terms_of}
 use Rattle.recursor_core.specs.Machine.{Begun, begun_at}
-use Rattle.recursor_core.specs.Standing.{Moves, ReplyTold, AnsweredAt, first_moment, last_moment, begin_moment, run_moments, run_timer, PlayHolds, PlaysHold, RepliesHold}
+use Rattle.recursor_core.specs.Standing.{Moves, ReplyTold, first_moment, last_moment, begin_moment, run_moments, run_timer, PlayHolds, PlaysHold, RepliesHold}
 use Rattle.recursor_core.specs.Turns.{Begins, BeginsIf, BeginsAt, IsRefused, ReplyOf}
 use Rattle.server_core.specs.declared.order.Order.{Order}
 use Rattle.recursor_core.specs.declared.setting.Setting.{Setting}

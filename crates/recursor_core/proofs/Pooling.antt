@@ -1,6 +1,6 @@
 -- What holds of the lookups after a step of one of them.
-use Rattle.std.proofs.Common.{◌≡◌, ◌≢◌, ℕ, zero, suc, Bool, true, false, List, [], ◌∷◌, ◌++◌, map, length, All, Option, Some, None, IfSome, refl, sym, ap, subst, ◌∙◌, ⊎_elim}
-use Rattle.std.specs.Prelude.{slice_get, option_map}
+use Rattle.std.proofs.Common.{◌≡◌, ◌≢◌, ℕ, zero, suc, Bool, true, false, List, [], ◌∷◌, ◌++◌, Option, Some, None, IfSome, sym, ap, subst, ◌∙◌, ⊎_elim}
+use Rattle.std.specs.Prelude.{slice_get}
 use Rattle.std.proofs.lemmas.Bool.{cases_eq}
 use Rattle.std.proofs.lemmas.Option.{slice_get-map, none-some}
 use Rattle.std.proofs.lemmas.List.Elements.{All-weaker}
@@ -10,11 +10,11 @@ use Rattle.dns_core.specs.Log.{Log}
 use Rattle.resolver_settings.specs.NameServer.{NameServer}
 use Rattle.server_core.specs.Context.{Context}
 use Rattle.server_core.specs.Servers.{Server}
-use Rattle.server_pool.specs.Shared.{Shared, lookup_at, lookup_of, configs, SameBut, SameServers}
+use Rattle.server_pool.specs.Shared.{Shared, lookup_at, lookup_of, configs, SameBut}
 use Rattle.server_pool.specs.declared.candidate.Candidate.{Candidate}
 use Rattle.server_pool.specs.declared.open_lookup.OpenLookup.{OpenLookup}
 use Rattle.recursor_core.specs.Replies.{Terms}
-use Rattle.recursor_core.specs.Pools.{config_at, number_of, sought_at, server_at, IsAt, IsSentTo, GivenHolds, ServersHold, SoughtHolds, PoolsHold, IsGrown, SamePools, HasForgotten, HasNoted, HasKept, HasLeft}
+use Rattle.recursor_core.specs.Pools.{config_at, number_of, sought_at, server_at, IsAt, IsSentTo, GivenHolds, ServersHold, SoughtHolds, PoolsHold, IsGrown, SamePools, HasForgotten, HasKept, HasLeft}
 use Rattle.recursor_core.specs.declared.pools.Aim.{Aim}
 use Rattle.recursor_core.specs.declared.pools.Aim.TheVariants as aim
 use Rattle.recursor_core.specs.declared.pools.Given.{Given}

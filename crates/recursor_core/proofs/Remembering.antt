@@ -1,15 +1,13 @@
 -- What the machine writes into its cache is derived from the log, and stays so.
-use Rattle.std.proofs.Common.{◌≡◌, ℕ, ◌+◌, ◌*◌, ◌≤◌, ⊎_elim, Option, Some, None, Result, Ok, Err, Contains, refl, sym, ap, ◌∙◌, arith}
+use Rattle.std.proofs.Common.{◌≡◌, ℕ, ◌+◌, ◌*◌, ◌≤◌, ⊎_elim, Option, Some, None, Result, Err, Contains, refl, sym, ap, ◌∙◌, arith}
 use Rattle.std.specs.Prelude.{◌==◌, option_and_then}
 use Rattle.std.proofs.lemmas.Option.{same_Some}
 use Rattle.std.proofs.lemmas.List.Elements.{All-contains, All-weaker, All-contains_itself}
 use Rattle.dns_core.specs.Name.{DomainName}
 use Rattle.dns_core.specs.Log.{Log, Extends}
-use Rattle.dns_core.specs.Classifying.{classify_of}
 use Rattle.dns_core.specs.declared.message.Query.{Query}
 use Rattle.dns_core.specs.declared.message.Message.{Message}
 use Rattle.dns_core.specs.declared.net_error.NetError.{NetError}
-use Rattle.dns_core.specs.declared.log.ToldOutcome.TheVariants as outcome
 use Rattle.resolver_cache.specs.Cached.{Cached}
 use Rattle.resolver_cache.specs.Cache.{upserted}
 use Rattle.resolver_cache.specs.Life.{life_of}
@@ -17,7 +15,6 @@ use Rattle.resolver_cache.specs.Laws.{IsJustWritten}
 use Rattle.resolver_cache.specs.declared.entry.Entry.{Entry}
 use Rattle.resolver_cache.proofs.OneWritten.{one_written, upserted-config}
 use Rattle.resolution.specs.Class.{class_of_classified}
-use Rattle.resolution.specs.declared.class.Class.{Class}
 use Rattle.resolution.specs.Given.{allows_all}
 use Rattle.resolution.specs.Verdict.{verdict_of_told}
 use Rattle.resolution.specs.Life.{life_in_seconds}
@@ -35,7 +32,7 @@ use Rattle.recursor_core.specs.Derived.{IsTold}
 use Rattle.recursor_core.specs.SameTold.{IsShown}
 use Rattle.recursor_core.specs.Remembered.{EntryHolds, CacheHolds, Telling, response_in, written, remembered}
 use Rattle.recursor_core.specs.Replies.{Terms, given_of}
-use Rattle.recursor_core.proofs.Denials.{Counts, counts-of}
+use Rattle.recursor_core.proofs.Denials.{counts-of}
 
 -- ---- longer logs, and less patience
 

@@ -8,7 +8,6 @@ use Rattle.resolution.specs.Lookups.{Answered}
 use Rattle.server_core.specs.declared.order.After.{After}
 use Rattle.server_core.specs.declared.order.After.TheVariants as after
 use Rattle.recursor_core.specs.declared.lookup.OpenOrder.{OpenOrder}
-use Rattle.recursor_core.specs.declared.lookup.Under.{Under}
 use Rattle.recursor_core.specs.declared.lookup.Ask.{Ask}
 use Rattle.recursor_core.specs.declared.lookup.Ask.TheVariants as ask
 use Rattle.recursor_core.specs.declared.lookup.Want.{Want}

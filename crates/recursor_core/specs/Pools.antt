@@ -1,5 +1,5 @@
 -- The servers that were met, and the lookups that are under way at pools of them.
-use Rattle.std.specs.Prelude.{◌≡◌, ◌≢◌, ◌⊎◌, ℕ, ◌+◌, ◌≤◌, ◌<◌, ◌++◌, max, nat_lt, unwrap_or, if◌then◌else◌, Bool, true, false, not, ◌==◌, IsTrue, List, [], ◌∷◌, length, map, slice_get, option_map, All, Contains, IfSome, Option, Some, None, Ok, Err}
+use Rattle.std.specs.Prelude.{◌≡◌, ◌≢◌, ◌⊎◌, ℕ, ◌+◌, ◌≤◌, ◌<◌, ◌++◌, nat_lt, unwrap_or, if◌then◌else◌, Bool, true, false, not, ◌==◌, IsTrue, List, [], ◌∷◌, length, map, slice_get, option_map, All, Contains, IfSome, Option, Some, None}
 use Rattle.std.specs.BTreeMap as tree
 use Rattle.std.specs.Ordering.{nat_cmp}
 use Rattle.std.specs.List.Sorted.{IsPermutation}

@@ -157,6 +157,26 @@ impl Under {
         }
     }
 
+    /// Takes the outcome of its open order, and takes note of what that did.
+    fn put(
+        &mut self,
+        alloc: Global,
+        pools: &mut Pools,
+        outcome: Outcome,
+        tick: Tick,
+    ) -> Result<After, NoMemory>
+        ensures same { (self.new.lookup ≡ self.old.lookup) × (self.new.left ≡ self.old.left) }
+        ensures noted { IfOk result (HasNoted tick.patience self.old.order self.new.order) }
+        ensures err { OnErr result (self.new ≡ self.old) }
+        ensures holds { (terms : Terms) (greatest moment : ℕ) (log longer : Log)
+            → terms.patience ≤ tick.patience → IsNext greatest (entry_of outcome) → moment ≤ tick.now
+            → PoolsHold terms greatest moment log pools.old → Extends log longer → Fits longer tick.now outcome
+            → PoolsHold terms (max greatest (entry_of outcome)) tick.now longer pools.new }
+    {
+        let did = pools.put(alloc, &self.lookup, outcome, tick)?;
+        Ok(self.note(did, tick.patience))
+    }
+
     /// Its next order, with its number; none where the lookup has its answer.
     fn next(
         &mut self,
@@ -351,8 +371,8 @@ impl Lookup {
         let Ask::Under(under) = &mut self.ask else {
             return Ok(After::Late);
         };
-        let did = pools.put(alloc, &under.lookup, outcome, tick)?;
-        match under.note(did, tick.patience) {
+        let did = under.put(alloc, pools, outcome, tick)?;
+        match did {
             After::Ended => {
                 let _settled = self.settle(alloc, pools, zone, begun)?;
                 Ok(After::Ended)

@@ -1,9 +1,8 @@
-use Rattle.std.proofs.Common.{◌<◌, ◌≤◌, length, refl, sym, ap, arith}
+use Rattle.std.proofs.Common.{◌<◌, ◌≤◌, length, refl, ap, arith}
 use Rattle.std.proofs.lemmas.List.Elements.{All-set}
 use Rattle.std.proofs.lemmas.Result.{on_ok_weaker}
 use Rattle.recursor_core.specs.Derived.{terms_of, ResolutionHolds}
 use Rattle.recursor_core.specs.Resolving.{rank}
-use Rattle.recursor_core.specs.declared.resolving.Resolution.{Resolution}
 use Rattle.recursor_core.proofs.Ranks.{rank_falls, sum_falls, sum_keeps, need_within}
 use Rattle.recursor_core.proofs.Cores.{held-at, begun-set, either-way}
 use Rattle.recursor_core.proofs.machine.RecursorCore.begin_lookup.Goals as goal

@@ -1,4 +1,4 @@
-use Rattle.std.proofs.Common.{◌<◌, ◌≤◌, length, refl, arith}
+use Rattle.std.proofs.Common.{◌<◌, length, refl, arith}
 use Rattle.std.proofs.lemmas.List.Elements.{All-set}
 use Rattle.recursor_core.specs.Derived.{terms_of, ResolutionHolds}
 use Rattle.recursor_core.proofs.Ranks.{sum_keeps, ended_least}

@@ -1,4 +1,3 @@
-use Rattle.std.proofs.Common.{◌≡◌}
 use Rattle.server_core.specs.Order.{entry_of}
 use Rattle.recursor_core.specs.Pools.{IsNext}
 use Rattle.recursor_core.proofs.Kept.{Derived-extends}

@@ -1,4 +1,4 @@
-use Rattle.std.proofs.Common.{◌∙◌, sym, ap}
+use Rattle.std.proofs.Common.{◌∙◌, sym}
 use Rattle.recursor_core.specs.Pools.{Seeks}
 use Rattle.recursor_core.proofs.Answering.{answer-holds}
 use Rattle.recursor_core.proofs.pools.Pools.answer.Goals as goal

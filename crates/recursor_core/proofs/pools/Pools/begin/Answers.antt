@@ -1,4 +1,4 @@
-use Rattle.std.proofs.Common.{◌≡◌, ◌+◌, ℕ, None, refl, sym, ap, subst}
+use Rattle.std.proofs.Common.{None, refl, sym, subst}
 use Rattle.std.specs.List.{AllZip}
 use Rattle.server_pool.specs.Lookups.{Begins}
 use Rattle.recursor_core.specs.Pools.{PoolsHold, SoughtHolds, IsMet}

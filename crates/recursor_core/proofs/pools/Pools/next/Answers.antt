@@ -1,7 +1,5 @@
 use Rattle.std.proofs.Common.{refl, sym, ◌∙◌, Some, None}
-use Rattle.recursor_core.specs.Pools.{SoughtHolds, HasNoted, HasForgotten, noted, aim_of}
-use Rattle.recursor_core.specs.declared.pools.Sought.{Sought}
-use Rattle.server_pool.specs.Lookups.{HasOrdered, HasAnswered}
+use Rattle.recursor_core.specs.Pools.{HasNoted, noted, aim_of}
 use Rattle.recursor_core.proofs.Beginning.{are-reached}
 use Rattle.recursor_core.proofs.Giving.{pools-ordered, pools-done, pools-go}
 use Rattle.recursor_core.proofs.Outcomes.{pools-lost}
