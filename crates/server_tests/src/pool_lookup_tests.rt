@@ -1,16 +1,13 @@
-//! Lookups at a pool of one server that is reached over UDP and TCP.
+//! Lookups at pools of servers that are reached over UDP and TCP.
 
+use crate::message_samples::message;
 use crate::send_samples::query;
-use crate::server_samples::address;
-use dns_core::{
-    Delays, DnsClass, DnsRequestOptions, Message, Name, NameError, NetError, NoMemory, Protocol,
-    RData, Record, RecordType, Records, ResponseCode,
-};
+use crate::server_samples::{address, unopened};
+use dns_core::{Delays, DnsRequest, DnsRequestOptions, NameError, NetError, NoMemory, Protocol};
 use resolver_settings::{NameServerConfig, ResolverOpts};
 use server_core::{After, Order, Outcome, PoolContext, Sent, Tick};
 use server_pool::{NameServerPool, PoolLookup, PoolShared, PoolStep};
 use std::alloc::Global;
-use std::net::Ipv4Addr;
 use std::process::Abort;
 use std::test::Fail;
 
@@ -45,7 +42,11 @@ fn tick(now: u64) -> Tick {
     Tick { now, patience: 3 }
 }
 
-/// A pool of that server.
+fn empty(alloc: Global) -> PoolShared {
+    PoolShared::new(alloc, PoolContext::new(ResolverOpts::standard(alloc)))
+}
+
+/// A pool of one more server.
 fn pool(alloc: Global, shared: &mut PoolShared) -> Result<NameServerPool, NoMemory> {
     let mut configs = Vec::new(alloc);
     configs.push(NameServerConfig::udp_and_tcp(alloc, address())?)?;
@@ -53,13 +54,31 @@ fn pool(alloc: Global, shared: &mut PoolShared) -> Result<NameServerPool, NoMemo
     NameServerPool::from_config(alloc, configs, &delays, shared)
 }
 
-/// A lookup for `a.` that begins at the moment 0.
+/// A pool of two more servers, the second of which it names first.
+fn pair(alloc: Global, shared: &mut PoolShared) -> Result<NameServerPool, NoMemory> {
+    let second = shared.add(unopened(alloc)?)?;
+    let first = shared.add(unopened(alloc)?)?;
+    NameServerPool::from_nameservers(vec![in alloc; first, second]?, shared)
+}
+
+/// A lookup for `a.` at a pool of one server, which begins at the moment 0.
 fn begun(alloc: Global) -> Result<Course, NameError> {
-    let context = PoolContext::new(ResolverOpts::standard(alloc));
-    let mut shared = PoolShared::new(alloc, context);
+    let mut shared = empty(alloc);
     let pool = pool(alloc, &mut shared)?;
     let options = DnsRequestOptions::standard();
     let lookup = pool.lookup(alloc, &mut shared, query(alloc)?, options, tick(0))?;
+    Ok(Course { shared, lookup })
+}
+
+/// The same request at a pool of the servers 1 and 0, in this order.
+fn begun_at_two(alloc: Global) -> Result<Course, NameError> {
+    let mut shared = empty(alloc);
+    let pool = pair(alloc, &mut shared)?;
+    let request = DnsRequest {
+        query: query(alloc)?,
+        options: DnsRequestOptions::standard(),
+    };
+    let lookup = pool.send(alloc, &mut shared, request, tick(0))?;
     Ok(Course { shared, lookup })
 }
 
@@ -70,30 +89,6 @@ fn sent() -> Sent {
         moment: 0,
         query: None,
     }
-}
-
-fn answer(alloc: Global) -> Result<Records, NameError> {
-    let mut answers = Records::empty(alloc);
-    answers.push(Record {
-        name: Name::parse(alloc, "a.")?,
-        ttl: 300,
-        dns_class: DnsClass::IN,
-        record_type: RecordType::A,
-        rdata: RData::A(Ipv4Addr::new(192, 0, 2, 7)),
-    })?;
-    Ok(answers)
-}
-
-fn message(alloc: Global, truncation: bool) -> Result<Message, NameError> {
-    Ok(Message {
-        query: query(alloc)?,
-        response_code: ResponseCode::NoError,
-        authoritative: true,
-        truncation,
-        answers: answer(alloc)?,
-        authorities: Records::empty(alloc),
-        additionals: Records::empty(alloc),
-    })
 }
 
 fn told(alloc: Global, entry: u64, truncation: bool) -> Result<Outcome, NameError> {
@@ -158,6 +153,34 @@ impl Course {
         Ok(after)
     }
 
+    /// What it answers so far.
+    fn answer(&self, alloc: Global) -> Result<Option<Seen>, NoMemory> {
+        match self.lookup.answer(alloc, &self.shared)? {
+            Some(answer) => Ok(Some(seen_of(PoolStep::Done(answer)))),
+            None => Ok(None),
+        }
+    }
+
+    /// Whether its servers have these numbers.
+    fn names(&self, alloc: Global, numbers: &[u64]) -> Result<bool, NoMemory> {
+        let servers = self.lookup.servers(alloc, &self.shared)?;
+        Ok(servers.items() == numbers)
+    }
+
+    /// Whether its open orders have these numbers.
+    fn has_open(&self, alloc: Global, numbers: &[u64]) -> Result<bool, NoMemory> {
+        let open = self.lookup.open_orders(alloc, &self.shared)?;
+        Ok(open.items() == numbers)
+    }
+
+    /// The lookup asked of a `PoolShared` that has none.
+    fn elsewhere(self, alloc: Global) -> Course {
+        Course {
+            shared: empty(alloc),
+            lookup: self.lookup,
+        }
+    }
+
     /// The order of a number is given, and this comes of it.
     fn goes(&mut self, alloc: Global, seen: Seen, what: What, now: u64) -> Result<(), Fail> {
         let found = self.next(alloc, now)?;
@@ -216,5 +239,49 @@ fn the_order_of_a_lookup_that_was_left_is_withdrawn_once(rt: HostRuntime) -> Res
     lookup.leave(&mut shared);
     assert_eq!(rt; shared.take_withdrawn(), Some(1));
     assert_eq!(rt; shared.take_withdrawn(), None);
+    Ok(())
+}
+
+#[test]
+fn a_lookup_names_the_servers_of_its_pool_in_their_order(rt: HostRuntime) -> Result<(), Fail> {
+    let alloc = rt.alloc();
+    let course = begun_at_two(alloc)?;
+    assert!(rt; course.names(alloc, &[1, 0])?);
+    Ok(())
+}
+
+#[test]
+fn open_orders_are_those_that_were_given_and_have_not_ended(rt: HostRuntime) -> Result<(), Fail> {
+    let alloc = rt.alloc();
+    let mut course = begun_at_two(alloc)?;
+    assert_eq!(rt; course.next(alloc, 5)?, Seen::Opens(1, Protocol::Udp));
+    assert_eq!(rt; course.next(alloc, 5)?, Seen::Opens(2, Protocol::Udp));
+    assert!(rt; course.has_open(alloc, &[1, 2])?);
+    course.put(alloc, 1, What::Connected, 6)?;
+    assert!(rt; course.has_open(alloc, &[2])?);
+    Ok(())
+}
+
+#[test]
+fn a_lookup_answers_from_its_end_on(rt: HostRuntime) -> Result<(), Fail> {
+    let alloc = rt.alloc();
+    let mut course = begun(alloc)?;
+    course.goes(alloc, Seen::Opens(1, Protocol::Udp), What::Connected, 5)?;
+    assert_eq!(rt; course.answer(alloc)?, None);
+    course.goes(alloc, Seen::Asks(2, Protocol::Udp), What::Answer, 6)?;
+    assert_eq!(rt; course.next(alloc, 7)?, Seen::Answers);
+    assert_eq!(rt; course.answer(alloc)?, Some(Seen::Answers));
+    Ok(())
+}
+
+#[test]
+fn elsewhere_a_lookup_has_no_servers_and_no_orders(rt: HostRuntime) -> Result<(), Fail> {
+    let alloc = rt.alloc();
+    let mut course = begun_at_two(alloc)?;
+    course.next(alloc, 5)?;
+    let other = course.elsewhere(alloc);
+    assert!(rt; other.names(alloc, &[])?);
+    assert!(rt; other.has_open(alloc, &[])?);
+    assert_eq!(rt; other.answer(alloc)?, None);
     Ok(())
 }
