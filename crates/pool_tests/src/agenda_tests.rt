@@ -1,7 +1,6 @@
 //! What a lookup has still to ask, end by end.
 
-use crate::message_samples::{denial, message};
-use crate::send_samples::query;
+use crate::message_samples::{denial, message, query};
 use dns_core::{IoKind, Message, NameError, NetError};
 use server_pool::{Agenda, Candidate, Hearing};
 use std::alloc::Global;

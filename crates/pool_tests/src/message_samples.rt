@@ -1,12 +1,19 @@
-//! Messages and errors that tests are made of.
+//! Questions, messages and errors that tests are made of.
 
-use crate::send_samples::query;
 use dns_core::{
-    DnsClass, DnsError, Message, Name, NameError, NetError, NoRecords, RData, Record, RecordType,
-    Records, ResponseCode,
+    DnsClass, DnsError, Message, Name, NameError, NetError, NoRecords, Query, RData, Record,
+    RecordType, Records, ResponseCode,
 };
 use std::alloc::Global;
 use std::net::Ipv4Addr;
+
+pub fn query(alloc: Global) -> Result<Query, NameError> {
+    Ok(Query {
+        name: Name::parse(alloc, "a.")?,
+        query_type: RecordType::A,
+        query_class: DnsClass::IN,
+    })
+}
 
 /// The address of `a.`.
 pub fn answer(alloc: Global) -> Result<Records, NameError> {

@@ -1,7 +1,6 @@
 //! Lookups at pools of servers that are reached over UDP and TCP.
 
-use crate::message_samples::message;
-use crate::send_samples::query;
+use crate::message_samples::{message, query};
 use crate::server_samples::{address, unopened};
 use dns_core::{Delays, DnsRequest, DnsRequestOptions, NameError, NetError, NoMemory, Protocol};
 use resolver_settings::{NameServerConfig, ResolverOpts};
