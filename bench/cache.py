@@ -2,7 +2,7 @@
 
     python3 bench/cache.py PROGRAM
 
-PROGRAM is crates/command_tests/out/command_tests_tests, as `rt test` in that crate builds it. Of each world one
+PROGRAM is crates/cost_tests/out/cost_tests_tests, as `rt test` in that crate builds it. Of each world one
 test drives a question once, one 2,000 times, each in a run of its own and after the first from the cache, and one 2,000
 times with a cache of size 0, so that it is walked for each time. Each time is the least of 40 runs of one test, less
 that of the first test: the start of the process and reading the scenario are not in it. In the small world each of the

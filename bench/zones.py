@@ -2,7 +2,7 @@
 
     python3 bench/zones.py PROGRAM
 
-PROGRAM is crates/command_tests/out/command_tests_tests, as `rt test` in that crate builds it. Of each way one test
+PROGRAM is crates/cost_tests/out/cost_tests_tests, as `rt test` in that crate builds it. Of each way one test
 drives a question once, and one 2,000 times, each in a run of its own and with a cache of size 0, so that it goes down all
 zones each time. Each zone, the root included, has one server; the question is for the name of the last. Each time is that
 of the processor, the least of 20 runs of one test, less that of the test with one question: the start of the process and

@@ -1,13 +1,11 @@
-//! Tests of whole runs: transcripts and statuses over a source and a sink in memory, bad inputs, faults,
-//! and what a question costs.
+//! Tests of whole runs: transcripts and statuses over a source and a sink in memory, bad inputs and
+//! faults.
 //!
 //! They stand here and not in `recursor_command`, since a crate with tests is proved once more with them.
 #![tactic(auto)]
 
 #[cfg(test)]
 mod bad_input_tests;
-#[cfg(test)]
-mod cost_tests;
 #[cfg(test)]
 mod fault_tests;
 #[cfg(test)]

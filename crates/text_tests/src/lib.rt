@@ -1,5 +1,4 @@
-//! Tests of scenarios and transcripts as text: which texts are read and as what, where reading fails,
-//! and what is printed.
+//! Tests of scenarios as text: which texts are read and as what, and where reading fails.
 //!
 //! They stand here and not in `recursor_text`, since a crate with tests is proved once more with them.
 #![tactic(auto)]
@@ -8,8 +7,6 @@
 mod bad_line_tests;
 #[cfg(test)]
 mod option_tests;
-#[cfg(test)]
-mod printing_tests;
 #[cfg(test)]
 mod scenario_tests;
 #[cfg(test)]
