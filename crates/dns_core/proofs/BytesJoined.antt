@@ -1,9 +1,9 @@
 -- Known bytes that are taken or added, one part after another.
-use Rattle.std.proofs.Common.{◌≡◌, ℕ, ◌-◌, length, take, drop, List, ◌++◌, Some, None, sym, ap, ◌∙◌, append_assoc}
+use Rattle.std.proofs.Common.{◌≡◌, ℕ, ◌+◌, ◌-◌, ◌≤◌, arith, length, length-append, length-take, take, drop, List, ◌++◌, Some, None, sym, ap, ◌∙◌, append_assoc}
 use Rattle.std.specs.declared.option.Option.{Option}
 use Rattle.std.specs.Io.KnownBytes.{Consumes, Appends}
 use Rattle.std.proofs.lemmas.List.{take-append-drop, take_rest}
-use Rattle.dns_core.specs.WholeStreams.{TakesPart}
+use Rattle.dns_core.specs.WholeStreams.{TakesPart, TakesAtMost}
 
 pub consumes_then : (a b c : Option (List ℕ)) (x y : List ℕ) → Consumes a b x → Consumes b c y → Consumes a c (x ++ y)
 consumes_then None b c x y p q = tt
@@ -13,6 +13,9 @@ consumes_then (Some u) (Some v) (Some w) x y p q = p ∙ ap (λ (r : List ℕ). 
 
 pub takes_then : (a b c : Option (List ℕ)) (x y : List ℕ) → Consumes a b x → Consumes b c y → TakesPart a c
 takes_then a b c x y p q = (x ++ y, consumes_then a b c x y p q)
+
+pub at_most_then : (a b c : Option (List ℕ)) (x z : List ℕ) (n most : ℕ) → Consumes a b x → Consumes b c (take n z) → length x + n ≤ most → TakesAtMost most a c
+at_most_then a b c x z n most p q few = (x ++ take n z, consumes_then a b c x (take n z) p q, omega (arith, length-append x (take n z), length-take n z, few))
 
 pub appends_then : (a b c : Option (List ℕ)) (x y : List ℕ) → Appends a b x → Appends b c y → Appends a c (x ++ y)
 appends_then None b c x y p q = tt

@@ -1,6 +1,8 @@
 pub mod Classifying
+pub mod CodeTexts
 pub mod Codes
 pub mod Connection
+pub mod ErrorTexts
 pub mod Faults
 pub mod Letters
 pub mod Log

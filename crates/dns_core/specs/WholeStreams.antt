@@ -13,6 +13,14 @@ pub record HeldAll (old new : Option (List ℕ)) (bytes : List ℕ) (most : ℕ)
 abbrev pub TakesPart : Option (List ℕ) → Option (List ℕ) → Type 0
 TakesPart old new = (bytes : List ℕ) × Consumes old new bytes
 
+-- at most so many bytes were taken
+abbrev pub TakesAtMost : ℕ → Option (List ℕ) → Option (List ℕ) → Type 0
+TakesAtMost most old new = (bytes : List ℕ) × Consumes old new bytes × (length bytes ≤ most)
+
+-- fewer bytes were taken
+abbrev pub TakesFewer : ℕ → Option (List ℕ) → Option (List ℕ) → Type 0
+TakesFewer most old new = (bytes : List ℕ) × Consumes old new bytes × (length bytes < most)
+
 -- a front of the text was appended
 abbrev pub AppendsPart : Option (List ℕ) → Option (List ℕ) → List ℕ → Type 0
 AppendsPart old new text = (part : List ℕ) × (rest : List ℕ) × (text ≡ part ++ rest) × Appends old new part

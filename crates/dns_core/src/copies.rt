@@ -4,7 +4,9 @@ ghost use Rattle.std.specs.Prelude.{◌≡◌, IfOk};
 use crate::connection::{ConnectOptions, ConnectionConfig, ProtocolConfig};
 use crate::errors::NoMemory;
 use crate::items::{Items, Text};
+use crate::label::{Label, Letter};
 use crate::log::{LogEntry, ToldOutcome};
+use crate::memory_streams::{MemorySink, MemorySource};
 use crate::message::{Message, Query};
 use crate::name::Name;
 use crate::net_error::{DnsError, ForwardNsData, NetError, NoRecords};
@@ -20,6 +22,12 @@ pub trait TryClone: Drop {
 }
 
 impl TryClone for u8 {
+    fn try_clone(&self, _alloc: Global) -> Result<Self, NoMemory> {
+        Ok(*self)
+    }
+}
+
+impl TryClone for Letter {
     fn try_clone(&self, _alloc: Global) -> Result<Self, NoMemory> {
         Ok(*self)
     }
@@ -55,7 +63,8 @@ impl<T: TryClone> TryClone for Option<T> {
     }
 }
 
-fn copies<T: TryClone>(alloc: Global, items: &[T]) -> Result<Vec<T>, NoMemory>
+/// The copies of some values, in their order.
+pub fn try_clone_all<T: TryClone>(alloc: Global, items: &[T]) -> Result<Vec<T>, NoMemory>
     ensures { IfOk result (λ copy. copy.items ≡ items.now) }
 {
     let mut all = Vec::with_capacity(alloc, items.len())?;
@@ -67,7 +76,7 @@ fn copies<T: TryClone>(alloc: Global, items: &[T]) -> Result<Vec<T>, NoMemory>
 
 impl<T: TryClone> TryClone for Items<T> {
     fn try_clone(&self, alloc: Global) -> Result<Self, NoMemory> {
-        let items = copies(alloc, self.items())?;
+        let items = try_clone_all(alloc, self.items())?;
         Ok(Items::new(items))
     }
 }
@@ -363,5 +372,24 @@ impl TryClone for Question {
             query,
             dnssec_ok: self.dnssec_ok,
         })
+    }
+}
+
+impl TryClone for Label {
+    fn try_clone(&self, alloc: Global) -> Result<Self, NoMemory> {
+        let letters = try_clone_all(alloc, self.letters())?;
+        Ok(Label::new(letters))
+    }
+}
+
+impl TryClone for MemorySource {
+    fn try_clone(&self, alloc: Global) -> Result<Self, NoMemory> {
+        self.copied(alloc)
+    }
+}
+
+impl TryClone for MemorySink {
+    fn try_clone(&self, alloc: Global) -> Result<Self, NoMemory> {
+        self.copied(alloc)
     }
 }

@@ -5,9 +5,11 @@
 #![tactic(auto)]
 
 mod classifying;
+mod code_text;
 mod codes;
 mod connection;
 mod copies;
+mod error_text;
 mod errors;
 mod items;
 mod label;
@@ -24,12 +26,13 @@ mod request;
 mod std_streams;
 mod streams;
 mod stripping;
+mod threads;
 mod whole_streams;
 
 pub use classifying::classify;
 pub use codes::{DnsClass, RecordType, ResponseCode};
 pub use connection::{ConnectOptions, ConnectionConfig, Protocol, ProtocolConfig};
-pub use copies::TryClone;
+pub use copies::{TryClone, try_clone_all};
 pub use errors::{Failed, NoMemory};
 pub use items::{Bytes, Delays, Ips, Items, Names, Numbers, Ports, Text};
 pub use label::{Label, Letter};
@@ -48,4 +51,5 @@ pub use request::{DnsRequest, DnsRequestOptions, Question, Turn};
 pub use std_streams::{StdSink, StdSource};
 pub use streams::{Sink, Source};
 pub use stripping::strip;
+pub use threads::{lists_cross_threads, streams_cross_threads, values_cross_threads};
 pub use whole_streams::{ReadError, read_all, write_all};

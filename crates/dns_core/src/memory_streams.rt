@@ -5,7 +5,8 @@ ghost use Rattle.std.specs.Io.KnownBytes.{ReadConsumes, WriteAppends};
 ghost use Rattle.dns_core.specs.Faults.{HasCause};
 ghost use Rattle.dns_core.specs.MemoryStreams.{contains_number, next_call};
 
-use crate::errors::Failed;
+use crate::copies::{TryClone, try_clone_all};
+use crate::errors::{Failed, NoMemory};
 use crate::items::{Bytes, Numbers};
 use crate::streams::{Sink, Source};
 use std::alloc::Global;
@@ -44,6 +45,20 @@ impl MemorySource {
             calls: 0,
             faults: 0,
         }
+    }
+
+    pub(crate) fn copied(&self, alloc: Global) -> Result<Self, NoMemory>
+        ensures { IfOk result (λ copy. copy ≡ self.now) }
+    {
+        let bytes = self.bytes.try_clone(alloc)?;
+        let failing = self.failing.try_clone(alloc)?;
+        Ok(MemorySource {
+            bytes,
+            at: self.at,
+            failing,
+            calls: self.calls,
+            faults: self.faults,
+        })
     }
 }
 
@@ -124,6 +139,19 @@ impl MemorySink {
         ensures { result.now ≡ self.now.written }
     {
         self.bytes.as_slice()
+    }
+
+    pub(crate) fn copied(&self, alloc: Global) -> Result<Self, NoMemory>
+        ensures { IfOk result (λ copy. copy ≡ self.now) }
+    {
+        let bytes = try_clone_all(alloc, self.bytes.as_slice())?;
+        let failing = self.failing.try_clone(alloc)?;
+        Ok(MemorySink {
+            bytes,
+            failing,
+            calls: self.calls,
+            faults: self.faults,
+        })
     }
 
     fn take(&mut self, piece: &[u8]) -> bool

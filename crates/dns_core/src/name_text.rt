@@ -7,6 +7,8 @@ use crate::errors::NoMemory;
 use crate::label::{Label, Letter};
 use crate::name::Name;
 use std::alloc::Global;
+use std::error::Error;
+use std::fmt;
 
 /// Why a text is no name.
 #[derive(Clone, Copy, Debug, PartialEq, Eq)]
@@ -17,6 +19,25 @@ pub enum NameError {
     LongName,
     NoMemory,
 }
+
+impl fmt::Display for NameError {
+    ghost use Rattle.std.specs.Prelude.{Some};
+    ghost use Rattle.dns_core.specs.ErrorTexts.{name_error_text};
+
+    ghost output = { λ e. Some (name_error_text e) };
+
+    fn fmt<W: fmt::Write>(&self, f: &mut fmt::Formatter<W>) -> fmt::Result {
+        match self {
+            NameError::EmptyLabel => f.write_str("a label is empty"),
+            NameError::BadByte => f.write_str("a label has a byte that is not allowed"),
+            NameError::LongLabel => f.write_str("a label has more than 63 bytes"),
+            NameError::LongName => f.write_str("the name has more than 255 bytes in wire form"),
+            NameError::NoMemory => f.write_str("out of memory"),
+        }
+    }
+}
+
+impl Error for NameError {}
 
 impl From<NoMemory> for NameError {
     ghost use Rattle.dns_core.specs.declared.name_text.NameError.TheVariants.{NoMemory as no_memory};
@@ -190,7 +211,7 @@ fn push_text(out: &mut Vec<u8>, labels: &[Label], fqdn: bool) -> Result<(), NoMe
 
 impl Name {
     /// Appends its text. After an error nothing is appended.
-    pub fn write_text(&self, out: &mut Vec<u8>) -> Result<(), NoMemory>
+    pub fn write_text(&self, _alloc: Global, out: &mut Vec<u8>) -> Result<(), NoMemory>
         ensures ok { OnOk result (out.new.items ≡ out.old.items ++ text_of self.now) }
         ensures err { OnErr result (out.new.items ≡ out.old.items) }
     {

@@ -123,6 +123,6 @@ pub fn put_ip(alloc: Global, ip: IpAddr, out: &mut Vec<u8>) -> Result<(), NoMemo
 pub fn put_name(name: &Name, out: &mut Vec<u8>) -> Result<(), NoMemory>
     ensures { Appends result out.old.items out.new.items (text_of name.now) }
 {
-    name.write_text(out)?;
+    name.write_text(*out.allocator(), out)?;
     Ok(())
 }
