@@ -83,7 +83,7 @@ pub struct Pools {
 fn resolver_options(alloc: Global, options: &RecursorOptions) -> Result<ResolverOpts, NoMemory>
     ensures { IfOk result (λ resolver. resolver.timeout ≡ 5000000) }
 {
-    let mut resolver = ResolverOpts::standard(alloc);
+    let mut resolver = ResolverOpts::standard(alloc)?;
     resolver.ndots = 0;
     resolver.edns0 = true;
     resolver.edns_payload_len = options.edns_payload_len;

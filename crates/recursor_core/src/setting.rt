@@ -25,8 +25,8 @@ fn server_filter(alloc: Global, options: &RecursorOptions) -> Result<AccessContr
     ensures { IfOk result (λ filter. filter ≡ server_filter_of options.now) }
 {
     let builder = AccessControlSetBuilder::new(alloc, "server");
-    let builder = builder.allow(options.allow_server.items())?;
-    let builder = builder.deny(options.deny_server.items())?;
+    let builder = builder.allow(alloc, options.allow_server.items())?;
+    let builder = builder.deny(alloc, options.deny_server.items())?;
     Ok(builder.build())
 }
 
@@ -35,8 +35,8 @@ pub fn answer_filter(alloc: Global, options: &RecursorOptions) -> Result<AccessC
     ensures { IfOk result (λ filter. filter ≡ answer_filter_of options.now) }
 {
     let builder = AccessControlSetBuilder::new(alloc, "answers");
-    let builder = builder.allow(options.allow_answers.items())?;
-    let builder = builder.deny(options.deny_answers.items())?;
+    let builder = builder.allow(alloc, options.allow_answers.items())?;
+    let builder = builder.deny(alloc, options.deny_answers.items())?;
     Ok(builder.build())
 }
 

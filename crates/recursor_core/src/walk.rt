@@ -237,7 +237,7 @@ impl Walk {
         };
         let query = self.lookup.query.try_clone(alloc)?;
         let clamp = query.query_type == RecordType::NS;
-        cache.upsert_told(query, response, *entry, *at, clamp)
+        cache.upsert_told(alloc, query, response, *entry, *at, clamp)
     }
 
     /// Goes by what the cache has for the present lookup; where it has nothing that serves, the servers

@@ -11,7 +11,7 @@ use crate::entry::{CachedResponse, Entry, current_for};
 use crate::life::{life_of, moment_after};
 use crate::lowering::{lowered, seconds_between};
 use crate::placing::put;
-use dns_core::{Message, NetError, NoMemory, Query};
+use dns_core::{Message, NetError, NoMemory, Query, TryClone, try_clone_all};
 use resolver_settings::TtlConfig;
 use std::alloc::Global;
 use std::marker::Model;
@@ -111,6 +111,7 @@ impl ResponseCache {
     /// Writes a response, for as long as it says.
     pub fn insert(
         &mut self,
+        alloc: Global,
         query: Query,
         response: Result<Message, NetError>,
         now: u64,
@@ -118,13 +119,14 @@ impl ResponseCache {
         ensures ok { OnOk result (self.new ≡ upserted self.old query response 0 now false) }
         ensures err { OnErr result (self.new ≡ self.old) }
     {
-        self.upsert_clamped_ttl(query, response, now, false)
+        self.upsert_clamped_ttl(alloc, query, response, now, false)
     }
 
     /// Writes a response. With `clamp` a repeated answer does not move the expiry of a current one
     /// to a later moment.
     pub fn upsert_clamped_ttl(
         &mut self,
+        alloc: Global,
         query: Query,
         response: Result<Message, NetError>,
         now: u64,
@@ -133,12 +135,13 @@ impl ResponseCache {
         ensures ok { OnOk result (self.new ≡ upserted self.old query response 0 now clamp) }
         ensures err { OnErr result (self.new ≡ self.old) }
     {
-        self.upsert_told(query, response, 0, now, clamp)
+        self.upsert_told(alloc, query, response, 0, now, clamp)
     }
 
     /// The same for a response that the log entry of this number told.
     pub fn upsert_told(
         &mut self,
+        _alloc: Global,
         query: Query,
         response: Result<Message, NetError>,
         source: u64,
@@ -174,5 +177,17 @@ impl ResponseCache {
         ensures { result ≡ list_any (is_for query.now) self.now.entries }
     {
         self.entries.iter().any(|e| e.is_for(query))
+    }
+}
+
+impl TryClone for ResponseCache {
+    fn try_clone(&self, alloc: Global) -> Result<Self, NoMemory> {
+        let config = self.config.try_clone(alloc)?;
+        let entries = try_clone_all(alloc, &self.entries)?;
+        Ok(ResponseCache {
+            size: self.size,
+            config,
+            entries,
+        })
     }
 }

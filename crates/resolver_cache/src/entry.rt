@@ -1,10 +1,11 @@
 //! What is kept under a question.
-ghost use Rattle.std.specs.Prelude.{◌≡◌, find};
+ghost use Rattle.std.specs.Prelude.{◌≡◌, find, IfOk};
 ghost use Rattle.std.specs.Option.{option_copied};
 ghost use Rattle.dns_core.specs.Name.{same_names};
 ghost use Rattle.resolver_cache.specs.Entry.{is_for, is_current, current_for};
 
-use dns_core::{Message, Name, NetError, Query};
+use dns_core::{Message, Name, NetError, NoMemory, Query, TryClone};
+use std::alloc::Global;
 
 /// A response under its question, when it was written, the last moment at which it is current, and
 /// the number of the log entry that told it, 0 where none is known. Moments are in microseconds.
@@ -65,5 +66,42 @@ pub(crate) fn current_for<'e>(entries: &'e [Entry], query: &Query, now: u64) -> 
         Some(found)
     } else {
         None
+    }
+}
+
+/// A copy of a response.
+fn same_response(
+    alloc: Global,
+    response: &Result<Message, NetError>,
+) -> Result<Result<Message, NetError>, NoMemory>
+    ensures { IfOk result (λ copy. copy ≡ response.now) }
+{
+    match response {
+        Ok(message) => Ok(Ok(message.try_clone(alloc)?)),
+        Err(error) => Ok(Err(error.try_clone(alloc)?)),
+    }
+}
+
+impl TryClone for Entry {
+    fn try_clone(&self, alloc: Global) -> Result<Self, NoMemory> {
+        let query = self.query.try_clone(alloc)?;
+        let response = same_response(alloc, &self.response)?;
+        Ok(Entry {
+            query,
+            response,
+            written: self.written,
+            expiry: self.expiry,
+            source: self.source,
+        })
+    }
+}
+
+impl TryClone for CachedResponse {
+    fn try_clone(&self, alloc: Global) -> Result<Self, NoMemory> {
+        let response = same_response(alloc, &self.response)?;
+        Ok(CachedResponse {
+            response,
+            source: self.source,
+        })
     }
 }

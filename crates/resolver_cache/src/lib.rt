@@ -13,6 +13,7 @@ mod life;
 mod lowering;
 mod placing;
 mod reading;
+mod threads;
 
 pub use bounds::ReversedTtl;
 pub use cache::ResponseCache;
@@ -20,3 +21,4 @@ pub use entry::{CachedResponse, Entry};
 pub use laws::{a_write_adds_one_response_alone, what_is_read_is_current};
 pub use lowering::seconds_between;
 pub use reading::read_message;
+pub use threads::caches_cross_threads;

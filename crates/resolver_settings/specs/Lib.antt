@@ -7,6 +7,7 @@ pub mod SearchDomains
 pub mod Config
 pub mod NameServer
 pub mod Opportunistic
+pub mod Options
 pub mod Ttl
 pub mod ConfError
 pub mod TextLines

@@ -8,3 +8,7 @@ use Rattle.resolver_settings.specs.declared.opportunistic.OpportunisticEncryptio
 abbrev pub config_of : OpportunisticEncryption → Option OpportunisticEncryptionConfig
 config_of Disabled = None
 config_of (Enabled config) = Some config
+
+-- three days, one day (RFC 9539 section 4.3), in microseconds, and ten servers
+abbrev pub standard : OpportunisticEncryptionConfig
+standard = record { persistence_period = 259200000000; damping_period = 86400000000; max_concurrent_probes = 10 }

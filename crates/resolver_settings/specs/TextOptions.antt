@@ -1,12 +1,12 @@
 -- The options that the lines of a text set.
-use Rattle.std.specs.Prelude.{ℕ, ◌*◌, ◌&&◌, ◌||◌, nat_le, true, false, List, [], take, drop, length, Option, Some, None, option_map, codes, decimal, if◌then◌else◌}
+use Rattle.std.specs.Prelude.{ℕ, ◌*◌, ◌&&◌, ◌||◌, nat_le, List, take, drop, length, Option, Some, None, option_map, codes, decimal, if◌then◌else◌}
 use Rattle.std.specs.List.{filter_map, flat_map, last_or, list_any}
 use Rattle.std.specs.Option.{unwrap_or}
 use Rattle.std.specs.Str.{bytes_eq}
 use Rattle.std.specs.Str.Parse.{digits_value}
 use Rattle.resolver_settings.specs.Directives.{option_words}
+use Rattle.resolver_settings.specs.Options.{standard_options}
 use Rattle.resolver_settings.specs.declared.options.ResolverOpts.{ResolverOpts}
-use Rattle.resolver_settings.specs.declared.options.ServerOrderingStrategy.TheVariants.{QueryStatistics}
 
 -- the number of 16 bits whose decimal digits the word is
 abbrev pub number_of : List ℕ → Option ℕ
@@ -28,10 +28,6 @@ changed_by words options = record options {
   attempts = unwrap_or (last_number (codes "attempts:") words) options.attempts;
   edns0 = options.edns0 || list_any (λ word. bytes_eq word (codes "edns0")) words;
 }
-
--- those of a resolver whose text sets none
-abbrev pub standard_options : ResolverOpts
-standard_options = record { ndots = 1; timeout = 5000000; attempts = 2; edns0 = false; edns_payload_len = 1232; num_concurrent_reqs = 2; server_ordering_strategy = QueryStatistics; recursion_desired = true; preserve_intermediates = true; try_tcp_on_error = false; case_randomization = false; max_active_requests = 32; os_port_selection = false; avoid_local_udp_ports = []; enable_per_name_server_metrics = false }
 
 -- the options that the lines of a text set
 abbrev pub options_of : List (List (List ℕ)) → ResolverOpts

@@ -3,7 +3,7 @@ ghost use Rattle.std.specs.Prelude.{◌≡◌, ◌++◌, ◌↔◌, [], IfOk, Is
 ghost use Rattle.resolver_settings.specs.Access.{Access, denies, is_in_any};
 
 use crate::net::IpNet;
-use dns_core::{Items, NoMemory};
+use dns_core::{Items, NoMemory, TryClone, try_clone_all};
 use std::alloc::Global;
 use std::marker::Model;
 use std::net::IpAddr;
@@ -52,7 +52,7 @@ impl AccessControlSetBuilder {
     }
 
     /// Allows these networks too. It fails for want of memory alone.
-    pub fn allow(mut self, nets: &[IpNet]) -> Result<Self, NoMemory>
+    pub fn allow(mut self, _alloc: Global, nets: &[IpNet]) -> Result<Self, NoMemory>
         ensures { IfOk result (λ a. a ≡ record self { allow = self.allow ++ nets.now }) }
     {
         self.allow.extend_from_slice(nets)?;
@@ -60,7 +60,7 @@ impl AccessControlSetBuilder {
     }
 
     /// Denies these networks too. It fails for want of memory alone.
-    pub fn deny(mut self, nets: &[IpNet]) -> Result<Self, NoMemory>
+    pub fn deny(mut self, _alloc: Global, nets: &[IpNet]) -> Result<Self, NoMemory>
         ensures { IfOk result (λ a. a ≡ record self { deny = self.deny ++ nets.now }) }
     {
         self.deny.extend_from_slice(nets)?;
@@ -107,5 +107,29 @@ impl AccessControlSet {
         ensures { IsTrue result ↔ (self.now.deny ≡ []) }
     {
         self.deny.is_empty()
+    }
+}
+
+impl TryClone for AccessControlSetBuilder {
+    fn try_clone(&self, alloc: Global) -> Result<Self, NoMemory> {
+        let allow = try_clone_all(alloc, &self.allow)?;
+        let deny = try_clone_all(alloc, &self.deny)?;
+        Ok(AccessControlSetBuilder {
+            name: self.name,
+            allow,
+            deny,
+        })
+    }
+}
+
+impl TryClone for AccessControlSet {
+    fn try_clone(&self, alloc: Global) -> Result<Self, NoMemory> {
+        let allow = try_clone_all(alloc, &self.allow)?;
+        let deny = try_clone_all(alloc, &self.deny)?;
+        Ok(AccessControlSet {
+            name: self.name,
+            allow,
+            deny,
+        })
     }
 }

@@ -2,7 +2,8 @@
 
 use dns_core::NoMemory;
 use std::alloc::AllocError;
-use std::fmt::{Display, Error, Formatter, Write};
+use std::error::Error;
+use std::fmt;
 
 /// Why a resolver's text gives no configuration.
 #[derive(Clone, Copy, Debug, PartialEq, Eq)]
@@ -44,16 +45,23 @@ impl From<AllocError> for ConfError {
     }
 }
 
-impl Display for ConfError {
-    fn fmt<W: Write>(&self, f: &mut Formatter<W>) -> Result<(), Error> {
+impl fmt::Display for ConfError {
+    ghost use Rattle.std.specs.Prelude.{Some};
+    ghost use Rattle.resolver_settings.specs.ConfError.{conf_error_text};
+
+    ghost output = { λ e. Some (conf_error_text e) };
+
+    fn fmt<W: fmt::Write>(&self, f: &mut fmt::Formatter<W>) -> fmt::Result {
         match self {
-            ConfError::NoNameServers => write!(f, "no line gives the address of a name server"),
+            ConfError::NoNameServers => f.write_str("no line gives the address of a name server"),
             ConfError::BadSearchName(number) => {
                 write!(f, "word {number} of the search list is no domain name")
             }
-            ConfError::ReadFault => write!(f, "the resolver text could not be read"),
-            ConfError::TooLong => write!(f, "the resolver text has more than 1048576 bytes"),
-            ConfError::NoMemory => write!(f, "out of memory"),
+            ConfError::ReadFault => f.write_str("the resolver text could not be read"),
+            ConfError::TooLong => f.write_str("the resolver text has more than 1048576 bytes"),
+            ConfError::NoMemory => f.write_str("out of memory"),
         }
     }
 }
+
+impl Error for ConfError {}

@@ -3,9 +3,8 @@ ghost use Rattle.std.specs.Prelude.{◌≡◌, ◌++◌, ◌∷◌, [], Some, On
 ghost use Rattle.std.specs.Option.{option_copied};
 ghost use Rattle.resolver_settings.specs.Config.{same_parts, same_parts_per, same_parts_equiv};
 
-use crate::copies::copies;
 use crate::name_server::NameServerConfig;
-use dns_core::{Name, Names, NoMemory, TryClone};
+use dns_core::{Name, Names, NoMemory, TryClone, try_clone_all};
 use std::alloc::Global;
 use std::marker::Model;
 
@@ -59,7 +58,7 @@ impl ResolverConfig {
     }
 
     /// Adds a domain at the end of those in which a name is looked for.
-    pub fn add_search(&mut self, name: Name) -> Result<(), NoMemory>
+    pub fn add_search(&mut self, _alloc: Global, name: Name) -> Result<(), NoMemory>
         ensures ok { OnOk result (self.new ≡ record self.old { search = self.old.search ++ name ∷ [] }) }
         ensures err { OnErr result (self.new ≡ self.old) }
     {
@@ -94,7 +93,7 @@ impl TryClone for ResolverConfig {
     fn try_clone(&self, alloc: Global) -> Result<Self, NoMemory> {
         let domain = self.domain.try_clone(alloc)?;
         let search = self.search.try_clone(alloc)?;
-        let name_servers = copies(alloc, &self.name_servers)?;
+        let name_servers = try_clone_all(alloc, &self.name_servers)?;
         Ok(ResolverConfig {
             domain,
             search,

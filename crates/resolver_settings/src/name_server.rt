@@ -3,11 +3,13 @@ ghost use Rattle.std.specs.Prelude.{◌≡◌, ◌∷◌, [], IfOk};
 ghost use Rattle.resolver_settings.specs.NameServer.{believed, over_udp, over_tcp, over_tls, over_quic, same_servers, same_servers_per, same_servers_equiv};
 
 use crate::address_text::text_of_address;
-use crate::copies::copies;
-use dns_core::{ConnectionConfig, NoMemory, ProtocolConfig, TryClone};
+use dns_core::{ConnectionConfig, Items, NoMemory, ProtocolConfig, TryClone};
 use std::alloc::Global;
 use std::marker::Model;
 use std::net::IpAddr;
+
+/// The ways to reach a server, in an order.
+pub type ConnectionConfigs = Items<ConnectionConfig>;
 
 /// A server, and how it is reached.
 #[derive(Drop, Debug)]
@@ -18,7 +20,7 @@ pub struct NameServerConfig {
     pub trust_negative_responses: bool,
 
     /// The ways to reach it, in the order in which they are tried.
-    pub connections: Vec<ConnectionConfig>,
+    pub connections: ConnectionConfigs,
 }
 
 impl Model for NameServerConfig {
@@ -26,7 +28,7 @@ impl Model for NameServerConfig {
 
     ghost Value = { NameServer };
 
-    ghost view = { λ a. record { ip = a.ip; trust_negative_responses = a.trust_negative_responses; connections = a.connections.items } };
+    ghost view = { λ a. record { ip = a.ip; trust_negative_responses = a.trust_negative_responses; connections = a.connections } };
 }
 
 fn connection(port: u16, protocol: ProtocolConfig) -> ConnectionConfig
@@ -72,7 +74,7 @@ impl NameServerConfig {
         NameServerConfig {
             ip,
             trust_negative_responses: true,
-            connections,
+            connections: Items::new(connections),
         }
     }
 
@@ -130,7 +132,7 @@ impl Eq for NameServerConfig {
 
 impl TryClone for NameServerConfig {
     fn try_clone(&self, alloc: Global) -> Result<Self, NoMemory> {
-        let connections = copies(alloc, &self.connections)?;
+        let connections = self.connections.try_clone(alloc)?;
         Ok(NameServerConfig {
             ip: self.ip,
             trust_negative_responses: self.trust_negative_responses,

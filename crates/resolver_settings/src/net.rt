@@ -3,12 +3,28 @@ ghost use Rattle.std.specs.Prelude.{◌≡◌, ◌≤◌, ◌<◌, ◌^◌, ◌�
 ghost use Rattle.std.specs.Net.Addr.{ipv4_bits, ipv6_bits};
 ghost use Rattle.resolver_settings.specs.Net.{Network, width_of, first_bits, contains, SharesPrefix, ipv4_net, ipv6_net};
 
+use dns_core::{NoMemory, TryClone};
+use std::alloc::Global;
+use std::error::Error;
+use std::fmt;
 use std::marker::Model;
 use std::net::{IpAddr, Ipv4Addr, Ipv6Addr};
 
 /// A prefix has more bits than an address of its family: more than 32 (IPv4) or 128 (IPv6).
 #[derive(Clone, Copy, Debug, PartialEq, Eq)]
 pub struct PrefixTooLong;
+
+impl fmt::Display for PrefixTooLong {
+    ghost use Rattle.std.specs.Prelude.{Some, codes};
+
+    ghost output = { λ _. Some (codes "the prefix is longer than an address") };
+
+    fn fmt<W: fmt::Write>(&self, f: &mut fmt::Formatter<W>) -> fmt::Result {
+        f.write_str("the prefix is longer than an address")
+    }
+}
+
+impl Error for PrefixTooLong {}
 
 /// The addresses that begin with the first `prefix` bits of an address. The bits behind them are
 /// kept as given, and count for nothing.
@@ -121,5 +137,11 @@ pub(crate) fn ipv6_net(segments: [u16; 8], prefix: u8) -> IpNet
     IpNet {
         addr: IpAddr::V6(Ipv6Addr::from_segments(segments)),
         prefix,
+    }
+}
+
+impl TryClone for IpNet {
+    fn try_clone(&self, _alloc: Global) -> Result<Self, NoMemory> {
+        Ok(*self)
     }
 }

@@ -1,7 +1,7 @@
 //! Encryption of queries to servers that were not known to speak it (RFC 9539).
 ghost use Rattle.std.specs.Prelude.{◌≡◌, is_some};
 ghost use Rattle.std.specs.Option.{option_map};
-ghost use Rattle.resolver_settings.specs.Opportunistic.{config_of};
+ghost use Rattle.resolver_settings.specs.Opportunistic.{config_of, standard};
 
 /// Whether servers are tried with encryption that no one said they speak.
 #[derive(Clone, Copy, Debug, PartialEq, Eq)]
@@ -10,6 +10,18 @@ pub enum OpportunisticEncryption {
     Enabled {
         config: OpportunisticEncryptionConfig,
     },
+}
+
+impl Default for OpportunisticEncryption {
+    ghost use Rattle.std.specs.Prelude.{◌≡◌};
+    ghost use Rattle.resolver_settings.specs.declared.opportunistic.OpportunisticEncryption.TheVariants.{Disabled};
+
+    ghost is_default = { λ e. e ≡ Disabled };
+
+    /// No server is tried with encryption.
+    fn default() -> Self {
+        OpportunisticEncryption::Disabled
+    }
 }
 
 impl OpportunisticEncryption {
@@ -46,10 +58,21 @@ pub struct OpportunisticEncryptionConfig {
     pub max_concurrent_probes: u8,
 }
 
+impl Default for OpportunisticEncryptionConfig {
+    ghost use Rattle.std.specs.Prelude.{◌≡◌};
+    ghost use Rattle.resolver_settings.specs.Opportunistic.{standard};
+
+    ghost is_default = { λ c. c ≡ standard };
+
+    fn default() -> Self {
+        OpportunisticEncryptionConfig::standard()
+    }
+}
+
 impl OpportunisticEncryptionConfig {
     /// Three days, one day (RFC 9539 section 4.3), and ten servers.
     pub fn standard() -> Self
-        ensures { result ≡ record { persistence_period = 259200000000; damping_period = 86400000000; max_concurrent_probes = 10 } }
+        ensures { result ≡ standard }
     {
         OpportunisticEncryptionConfig {
             persistence_period: 259_200_000_000,

@@ -1,6 +1,6 @@
 //! The options of a resolver.
-ghost use Rattle.std.specs.Prelude.{◌≡◌, [], true, false};
-ghost use Rattle.resolver_settings.specs.declared.options.ServerOrderingStrategy.TheVariants.{QueryStatistics};
+ghost use Rattle.std.specs.Prelude.{◌≡◌, IfOk};
+ghost use Rattle.resolver_settings.specs.Options.{standard_options};
 
 use dns_core::{NoMemory, Ports, TryClone};
 use std::alloc::Global;
@@ -16,6 +16,17 @@ pub enum ServerOrderingStrategy {
 
     /// Each in turn first.
     RoundRobin,
+}
+
+impl Default for ServerOrderingStrategy {
+    ghost use Rattle.std.specs.Prelude.{◌≡◌};
+    ghost use Rattle.resolver_settings.specs.declared.options.ServerOrderingStrategy.TheVariants.{QueryStatistics};
+
+    ghost is_default = { λ strategy. strategy ≡ QueryStatistics };
+
+    fn default() -> Self {
+        ServerOrderingStrategy::QueryStatistics
+    }
 }
 
 /// How a resolver asks.
@@ -68,10 +79,10 @@ pub struct ResolverOpts {
 impl ResolverOpts {
     /// Five seconds, two attempts, two requests at a time, 32 open, and no EDNS; if it is used, its
     /// payload is 1,232 bytes.
-    pub fn standard(alloc: Global) -> Self
-        ensures { result ≡ record { ndots = 1; timeout = 5000000; attempts = 2; edns0 = false; edns_payload_len = 1232; num_concurrent_reqs = 2; server_ordering_strategy = QueryStatistics; recursion_desired = true; preserve_intermediates = true; try_tcp_on_error = false; case_randomization = false; max_active_requests = 32; os_port_selection = false; avoid_local_udp_ports = []; enable_per_name_server_metrics = false } }
+    pub fn standard(alloc: Global) -> Result<Self, NoMemory>
+        ensures { IfOk result (λ options. options ≡ standard_options) }
     {
-        ResolverOpts {
+        Ok(ResolverOpts {
             ndots: 1,
             timeout: 5_000_000,
             attempts: 2,
@@ -87,7 +98,7 @@ impl ResolverOpts {
             os_port_selection: false,
             avoid_local_udp_ports: Ports::empty(alloc),
             enable_per_name_server_metrics: false,
-        }
+        })
     }
 }
 

@@ -50,5 +50,6 @@ fn with_servers(
     let search = search_names(alloc, last_list(text))?;
     let domain = domain_of(alloc, text, host)?;
     let config = ResolverConfig::from_parts(domain, search, servers);
-    Ok((config, options_of(alloc, text)))
+    let options = options_of(alloc, text)?;
+    Ok((config, options))
 }

@@ -1,5 +1,5 @@
 //! The options that the lines of a text set.
-ghost use Rattle.std.specs.Prelude.{◌≡◌, ◌*◌, ◌∷◌, [], option_map};
+ghost use Rattle.std.specs.Prelude.{◌≡◌, ◌*◌, ◌∷◌, [], option_map, IfOk};
 ghost use Rattle.std.specs.Option.{unwrap_or};
 ghost use Rattle.resolver_settings.specs.Directives.{option_words};
 ghost use Rattle.resolver_settings.specs.TextLines.{lines_of};
@@ -9,6 +9,7 @@ use crate::directives::option_words;
 use crate::number_text::number_in;
 use crate::options::ResolverOpts;
 use crate::text_lines::{Lines, Words};
+use dns_core::NoMemory;
 use std::alloc::Global;
 
 fn number_of(word: &[u8]) -> Option<u16>
@@ -62,13 +63,13 @@ fn change_all(options: &mut ResolverOpts, mut words: Words)
 }
 
 /// The options that a text sets; each other one is as standard.
-pub(crate) fn options_of(alloc: Global, text: &[u8]) -> ResolverOpts
-    ensures { result ≡ options_of (lines_of text.now) }
+pub(crate) fn options_of(alloc: Global, text: &[u8]) -> Result<ResolverOpts, NoMemory>
+    ensures { IfOk result (λ options. options ≡ options_of (lines_of text.now)) }
 {
-    let mut options = ResolverOpts::standard(alloc);
+    let mut options = ResolverOpts::standard(alloc)?;
     let mut lines = Lines::of(text);
     'lines: while let Some(line) = lines.next() {
         change_all(&mut options, option_words(&line));
     }
-    options
+    Ok(options)
 }

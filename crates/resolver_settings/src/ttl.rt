@@ -70,7 +70,12 @@ impl TtlConfig {
 
     /// With bounds for one type, in place of those that it had. Only a type that had none wants
     /// memory.
-    pub fn with_bounds(self, query_type: RecordType, bounds: TtlBounds) -> Result<Self, NoMemory>
+    pub fn with_bounds(
+        self,
+        _alloc: Global,
+        query_type: RecordType,
+        bounds: TtlBounds,
+    ) -> Result<Self, NoMemory>
         ensures table { IfOk result (λ config. config ≡ with_own self query_type bounds) }
         ensures own { IfOk result (λ config. bounds_of config query_type ≡ bounds) }
         ensures others { IfOk result (λ config. (t : RecordType) → same_type query_type t ≡ false → bounds_of config t ≡ bounds_of self t) }

@@ -188,7 +188,7 @@ impl NameServer {
     pub fn configs(&self) -> &[ConnectionConfig]
         ensures { result.now ≡ self.now.config.connections }
     {
-        self.config.connections.as_slice()
+        self.config.connections.items()
     }
 
     /// The protocols over which it is reached, in their order.

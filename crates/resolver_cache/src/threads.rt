@@ -1,0 +1,15 @@
+//! Each type of this crate that holds values may go to another thread, and be shared among threads.
+
+use crate::bounds::ReversedTtl;
+use crate::cache::ResponseCache;
+use crate::entry::{CachedResponse, Entry};
+
+fn crosses<T: Send + Sync>() {}
+
+/// The types of this crate cross threads.
+pub fn caches_cross_threads() {
+    crosses::<ResponseCache>();
+    crosses::<Entry>();
+    crosses::<CachedResponse>();
+    crosses::<ReversedTtl>();
+}
