@@ -13,7 +13,7 @@ use Rattle.resolution.specs.Names.{base}
 use Rattle.resolution.specs.Records.{address, records}
 use Rattle.resolution.specs.Serving.{address_under, target_below, targets, glue, allowed}
 use Rattle.resolution.proofs.Members.{Has, Has-from_Contains, Contains-from_Has, Has-filter, Has-passes, Has-filter_map, filter_map-Has, flat_map-Has, Has-append_cases}
-use Rattle.resolution.proofs.PlainServed.{any_Has, Has_any}
+use Rattle.resolution.proofs.Members.{any_Has, Has_any}
 use Rattle.recursor_walk.specs.Lending.{SameElements, lent, lent_by, lent_for}
 
 pub same-trans : (xs ys zs : List IpAddr) → SameElements xs ys → SameElements ys zs → SameElements xs zs

@@ -1,9 +1,8 @@
 -- What a message is for the question that it names.
-use Rattle.std.proofs.Common.{◌≡◌, Bool, true, false, cond, refl, Some, None, Option}
+use Rattle.std.proofs.Common.{◌≡◌, Bool, true, false, cond, refl, Some, None}
 use Rattle.std.specs.Prelude.{not, ◌||◌, ◌==◌, find, Ok, Err}
 use Rattle.dns_core.specs.Classifying.{classify_of, has_no_data, no_records}
 use Rattle.dns_core.specs.declared.message.Message.{Message}
-use Rattle.dns_core.specs.declared.record.Record.{Record}
 use Rattle.dns_core.specs.declared.net_error.DnsError.TheVariants as dns
 use Rattle.resolution.specs.Records.{records}
 use Rattle.resolution.specs.Class.{class_of_message, class_of_classified, is_foreign}

@@ -1,5 +1,5 @@
 -- No address serves that is no root and stands in no message that was told.
-use Rattle.std.proofs.Common.{◌≡◌, ℕ, ◌⊎◌, inl, inr, Bool, true, false, cond, List, [], ◌∷◌, ◌++◌, Option, Some, None, refl, sym, subst, ap}
+use Rattle.std.proofs.Common.{◌≡◌, ℕ, ◌⊎◌, inl, inr, Bool, true, false, cond, List, ◌++◌, Option, Some, None, refl, subst, ap}
 use Rattle.std.specs.Prelude.{Contains, filter, not, ◌||◌, ◌==◌}
 use Rattle.std.specs.List.{filter_map, list_any}
 use Rattle.std.specs.declared.net.ip_addr.IpAddr.{IpAddr}

@@ -10,10 +10,8 @@ pub mod Numbered
 pub mod FailuresKept
 pub mod TimingKept
 pub mod FailuresCaseless
-pub mod SectionTests
-pub mod PlainServed
 pub mod RootsTried
 pub mod KeptErrors
-pub mod PlainBased
 pub mod WalksCaseless
 pub mod SameDelegations
+pub mod Addresses

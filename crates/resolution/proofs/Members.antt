@@ -1,8 +1,8 @@
 -- Elements of filtered and joined lists.
 use Rattle.std.proofs.Common.{◌≡◌, zero, suc, ◌⊎◌, inl, inr, Bool, true, false, cond, List, [], ◌∷◌, ◌++◌, Option, Some, None, refl, arith, ◌∙◌, sym, ap}
-use Rattle.std.specs.Prelude.{Contains, All, filter}
+use Rattle.std.specs.Prelude.{◌||◌, Contains, All, filter}
 use Rattle.std.proofs.lemmas.List.Elements.{All-contains_itself}
-use Rattle.std.specs.List.{filter_map, flat_map, cons_option}
+use Rattle.std.specs.List.{list_any, filter_map, flat_map, cons_option}
 
 -- by cases on the list
 abbrev pub Has : {X : Type 0} → List X → X → Type 0
@@ -77,3 +77,26 @@ Has-passes p (x ∷ xs) y h = at_head (p x) refl h (Has-passes p xs y)
 
 pub All-from_Has : {X : Type 0} (P : X → Type 0) (xs : List X) → ((x : X) → Has xs x → P x) → All P xs
 All-from_Has P xs each = λ k d h. each _ (Has-from_Contains xs _ (All-contains_itself xs k d h))
+
+-- ---- tests and elements
+
+pub any_Has : {X : Type 0} (p : X → Bool) (xs : List X) (x : X) → Has xs x → p x ≡ true → list_any p xs ≡ true
+any_Has p [] x h e = elim h [ ]
+any_Has p (y ∷ xs) x (inl s) e = or_left (p y) (list_any p xs) (ap p s ∙ e)
+  where
+    or_left : (a b : Bool) → a ≡ true → (a || b) ≡ true
+    or_left true b h = refl
+    or_left false b h = cc
+any_Has p (y ∷ xs) x (inr h) e = or_right (p y) (list_any p xs) (any_Has p xs x h e)
+  where
+    or_right : (a b : Bool) → b ≡ true → (a || b) ≡ true
+    or_right true b h = refl
+    or_right false b h = h
+
+pub Has_any : {X : Type 0} (p : X → Bool) (xs : List X) → list_any p xs ≡ true → (x : X) × Has xs x × (p x ≡ true)
+Has_any p [] h = cc
+Has_any {X} p (x ∷ xs) h = at_head (p x) refl h (Has_any p xs)
+  where
+    at_head : (b : Bool) → p x ≡ b → (b || list_any p xs) ≡ true → (list_any p xs ≡ true → (y : X) × Has xs y × (p y ≡ true)) → (y : X) × Has (x ∷ xs) y × (p y ≡ true)
+    at_head true e k next = (x, inl refl, e)
+    at_head false e k next = let r : (y : X) × Has xs y × (p y ≡ true) = next k in (r.0, inr r.1, r.2)

@@ -1,10 +1,8 @@
 -- What is said of a zone is said of it in any case.
-use Rattle.std.proofs.Common.{◌≡◌, ℕ, zero, suc, ◌-◌, ◌<◌, Bool, true, false, ◌&&◌, List, [], ◌∷◌, length, drop, refl, ap, subst, ◌∙◌, sym, cond, Option, Some, None}
-use Rattle.std.specs.Prelude.{nat_le, not, ◌||◌, ◌==◌, filter, if◌then◌else◌, Contains}
+use Rattle.std.proofs.Common.{◌≡◌, ℕ, Bool, true, ◌&&◌, List, [], ◌∷◌, length, refl, ap, subst, ◌∙◌, sym, Option, Some, None}
+use Rattle.std.specs.Prelude.{nat_le, ◌==◌, filter, if◌then◌else◌, Contains}
 use Rattle.std.specs.List.{list_any, filter_map}
-use Rattle.std.specs.Bool.{beq}
 use Rattle.std.specs.declared.net.ip_addr.IpAddr.{IpAddr}
-use Rattle.std.specs.Cmp.{IsEquivalence, first_so, second_so}
 use Rattle.std.specs.Cmp.Lexicographic.{pointwise}
 use Rattle.dns_core.specs.Letters.{same_letter}
 use Rattle.dns_core.specs.Name.{DomainName, same_names, same_labels, is_suffix, last_labels}

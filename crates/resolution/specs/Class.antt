@@ -1,5 +1,5 @@
 -- What a response is for the question that it was told for.
-use Rattle.std.specs.Prelude.{Bool, true, false, ◌&&◌, ◌||◌, ◌==◌, not, List, length, find, if◌then◌else◌, Option, Some, None, Result, Ok, Err}
+use Rattle.std.specs.Prelude.{Bool, ◌&&◌, ◌||◌, ◌==◌, not, length, find, if◌then◌else◌, Option, Some, None, Result, Ok, Err}
 use Rattle.std.specs.List.{list_any}
 use Rattle.dns_core.specs.Classifying.{is_asked, no_records}
 use Rattle.dns_core.specs.declared.message.Query.{Query}

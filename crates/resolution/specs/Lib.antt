@@ -16,7 +16,4 @@ pub mod Ending
 pub mod Walking
 pub mod Failing
 pub mod Timing
-pub mod Plain
-pub mod PlainServing
 pub mod BaseScript
-pub mod PlainBase

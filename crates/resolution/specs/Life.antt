@@ -1,5 +1,5 @@
 -- How long a response counts (RFC 1034 section 3.6, RFC 2308 section 5).
-use Rattle.std.specs.Prelude.{◌≡◌, ℕ, ◌+◌, ◌*◌, ◌≤◌, ◌⊎◌, min, max, List, [], ◌∷◌, fold, Option, Some, None, IsSomeAnd}
+use Rattle.std.specs.Prelude.{ℕ, ◌+◌, ◌*◌, ◌≤◌, ◌⊎◌, min, max, List, [], ◌∷◌, fold, Option, Some, None, IsSomeAnd}
 use Rattle.dns_core.specs.declared.codes.RecordType.{RecordType}
 use Rattle.dns_core.specs.declared.message.Query.{Query}
 use Rattle.dns_core.specs.declared.record.Record.{Record}

@@ -1,5 +1,5 @@
 -- Where a walk goes, and where aliases lead (RFC 1034 section 5.3.3).
-use Rattle.std.specs.Prelude.{◌≡◌, ℕ, Bool, true, false, not, ◌&&◌, ◌==◌, List, [], ◌∷◌, filter, length, sum_by, Some}
+use Rattle.std.specs.Prelude.{◌≡◌, ℕ, Bool, false, not, ◌&&◌, ◌==◌, List, [], ◌∷◌, filter, length, sum_by, Some}
 use Rattle.std.specs.List.{AllByRecursion}
 use Rattle.dns_core.specs.Name.{DomainName, same_names}
 use Rattle.dns_core.specs.Log.{Log}

@@ -10,11 +10,7 @@ mod failing;
 mod following;
 mod growing;
 mod inventing;
-mod kept;
 mod orders;
-mod plain_base;
-mod plain_serving;
-mod setting;
 mod strangers;
 mod verdict;
 
@@ -33,8 +29,5 @@ pub use inventing::{
     no_address_is_invented, no_zone_is_served_unasked, nothing_counts_outside_a_zone,
 };
 pub use orders::{a_message_is_what_classify_says, above_is_an_order, same_is_an_order};
-pub use plain_base::base;
-pub use plain_serving::serves;
-pub use setting::Setting;
 pub use strangers::{a_stranger_serves_nothing, stray_glue_serves_nothing};
 pub use verdict::{Cause, Verdict};

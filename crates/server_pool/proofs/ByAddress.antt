@@ -17,7 +17,7 @@ use Rattle.resolution.specs.Lookups.PoolRun.{decided, spent, late}
 use Rattle.resolution.specs.declared.class.Class.{Class}
 use Rattle.resolution.specs.declared.class.Class.TheVariants.{Truncated}
 use Rattle.resolution.proofs.Members.{Has, Has-from_Contains, Contains-from_Has}
-use Rattle.resolution.proofs.PlainServed.{same_ip-true, same_ip-itself}
+use Rattle.resolution.proofs.Addresses.{same_ip-true, same_ip-itself}
 use Rattle.resolution.proofs.Classified.{class_of_message-itself}
 use Rattle.resolution.proofs.Caseless.{class_of_message-same, classified-same}
 use Rattle.server_core.specs.Sending.{result_of}

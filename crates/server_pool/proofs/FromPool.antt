@@ -5,7 +5,7 @@ use Rattle.std.specs.List.{list_any, AllByRecursion}
 use Rattle.dns_core.specs.declared.net_error.NetError.{NetError}
 use Rattle.resolution.specs.Lookups.{Answered, End, Rules}
 use Rattle.resolution.proofs.Members.{Has, Contains-from_Has}
-use Rattle.resolution.proofs.PlainServed.{any_Has, Has_any}
+use Rattle.resolution.proofs.Members.{any_Has, Has_any}
 use Rattle.resolution.specs.declared.class.Class.{Class}
 use Rattle.server_pool.specs.Agenda.{among, Stands, rules_of, class_of_sent, same_candidate}
 use Rattle.server_pool.specs.Rounds.{under_way, Goes}

@@ -1,5 +1,4 @@
 use Rattle.std.proofs.Common.{◌≡◌, true, false}
-use Rattle.dns_core.specs.declared.record.Record.{Record}
 use Rattle.resolution.specs.Records.{records}
 use Rattle.resolution.specs.Verdict.{in_zone, holds_denied}
 use Rattle.resolution.proofs.Members.{All-from_Has}

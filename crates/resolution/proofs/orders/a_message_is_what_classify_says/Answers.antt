@@ -1,4 +1,4 @@
-use Rattle.std.proofs.Common.{◌≡◌, true, sym, ◌∙◌, ap}
+use Rattle.std.proofs.Common.{sym, ◌∙◌}
 use Rattle.resolution.proofs.Classified.{class_of_message-itself}
 use Rattle.resolution.proofs.Caseless.{class_of_message-same, classified-same}
 use Rattle.resolution.proofs.orders.a_message_is_what_classify_says.Goals as goal

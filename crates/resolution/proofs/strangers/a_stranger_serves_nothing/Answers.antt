@@ -1,4 +1,4 @@
-use Rattle.std.proofs.Common.{◌≡◌, Bool, true, false, List, [], ◌∷◌, inl, inr, refl}
+use Rattle.std.proofs.Common.{Bool, false, List, [], ◌∷◌, inl, inr, refl}
 use Rattle.std.specs.Prelude.{nat_eq}
 use Rattle.std.specs.List.{filter_map, flat_map}
 use Rattle.std.specs.Cmp.Lexicographic.{pointwise}

@@ -1,7 +1,5 @@
-use Rattle.std.proofs.Common.{◌≡◌, ℕ, zero, suc, ◌⊎◌, inl, inr, Bool, true, false, ◌&&◌, List, [], ◌∷◌, Option, Some, None, refl, sym, ap, subst, ◌∙◌}
-use Rattle.std.specs.Prelude.{nat_eq, not, ◌||◌, ◌==◌, Contains, IsTrue}
-use Rattle.std.specs.List.{filter_map, list_all}
-use Rattle.std.specs.Cmp.{first_so}
+use Rattle.std.proofs.Common.{◌≡◌, ℕ, zero, suc, ◌⊎◌, inl, inr, Bool, true, false, List, [], ◌∷◌, Option, Some, None, refl, sym, ap, subst, ◌∙◌}
+use Rattle.std.specs.Prelude.{nat_eq, Contains}
 use Rattle.std.specs.Cmp.Lexicographic.{pointwise}
 use Rattle.std.specs.declared.net.ip_addr.IpAddr.{IpAddr}
 use Rattle.std.specs.declared.net.ip_addr.IpAddr.TheVariants.{V4, V6}
@@ -11,13 +9,12 @@ use Rattle.dns_core.specs.declared.message.Query.{Query}
 use Rattle.dns_core.specs.declared.message.Message.{Message}
 use Rattle.dns_core.specs.declared.record.Record.{Record}
 use Rattle.dns_core.specs.declared.connection.Protocol.{Protocol}
-use Rattle.dns_core.specs.declared.log.LogEntry.TheVariants.{Opened, Asked, Waited, Told, GaveUp}
+use Rattle.dns_core.specs.declared.log.LogEntry.TheVariants.{Asked, Told}
 use Rattle.dns_core.specs.declared.log.ToldOutcome.{ToldOutcome}
 use Rattle.dns_core.specs.declared.log.ToldOutcome.TheVariants as outcome
-use Rattle.resolution.specs.Names.{root, is_above, question, same_query}
+use Rattle.resolution.specs.Names.{is_above, question, same_query}
 use Rattle.resolution.specs.Records.{address, records}
-use Rattle.resolution.specs.Verdict.{verdict, in_zone}
-use Rattle.resolution.specs.Telling.{Tells, Logged}
+use Rattle.resolution.specs.Verdict.{verdict}
 use Rattle.resolution.specs.Serving.{Serves, Heard, IsAddressQuestion, targets, glue, addresses_under, address_under}
 use Rattle.resolution.specs.Serving.Serves.{of_root, of_glue, of_target, of_answer}
 use Rattle.resolution.specs.Serving.Delegates.{delegates}
@@ -29,7 +26,7 @@ use Rattle.resolution.proofs.Numbered.{none_passes}
 use Rattle.dns_core.specs.declared.codes.RecordType.{RecordType}
 use Rattle.resolution.proofs.Caseless.{types_same, names_same}
 use Rattle.resolution.proofs.ZoneCase.{above-same}
-use Rattle.resolution.proofs.Invented.{CountsOf, verdict-pos, Has-counted, in_zone-counted, of_address, served_was_asked}
+use Rattle.resolution.proofs.Invented.{verdict-pos, Has-counted, in_zone-counted, of_address, served_was_asked}
 use Rattle.resolution.proofs.strangers.stray_glue_serves_nothing.Goals as goal
 
 abbrev is_at : List ℕ → IpAddr → Bool

@@ -1,0 +1,3 @@
+pub mod SectionTests
+pub mod PlainServed
+pub mod PlainBased
