@@ -6,13 +6,13 @@ use Rattle.dns_core.specs.declared.net_error.DnsError.TheVariants.{NoRecordsFoun
 use Rattle.dns_core.specs.declared.net_error.ForwardNsData.{ForwardNsData}
 use Rattle.dns_core.specs.declared.net_error.NetError.{NetError}
 use Rattle.dns_core.specs.declared.net_error.NetError.TheVariants as net
-use Rattle.recursor_core.specs.declared.error.AuthorityData.{AuthorityData}
-use Rattle.recursor_core.specs.declared.error.MessageKind.{MessageKind}
-use Rattle.recursor_core.specs.declared.error.MessageKind.TheVariants.{NotQualified, NoRoots, ReversedTtl, FirstDelays}
-use Rattle.recursor_core.specs.declared.error.WalkCause.{WalkCause}
-use Rattle.recursor_core.specs.declared.error.WalkCause.TheVariants as cause
-use Rattle.recursor_core.specs.declared.error.RecursorError.{RecursorError}
-use Rattle.recursor_core.specs.declared.error.RecursorError.TheVariants.{MaxRecordLimitExceeded, Message, Msg, Negative, ForwardNS, Io, Net, Timeout, RecursionLimitExceeded, QueryBudgetExceeded, NoNameServer, NoMemory}
+use Rattle.recursor_types.specs.declared.error.AuthorityData.{AuthorityData}
+use Rattle.recursor_types.specs.declared.error.MessageKind.{MessageKind}
+use Rattle.recursor_types.specs.declared.error.MessageKind.TheVariants.{NotQualified, NoRoots, ReversedTtl, FirstDelays}
+use Rattle.recursor_types.specs.declared.error.WalkCause.{WalkCause}
+use Rattle.recursor_types.specs.declared.error.WalkCause.TheVariants as cause
+use Rattle.recursor_types.specs.declared.error.RecursorError.{RecursorError}
+use Rattle.recursor_types.specs.declared.error.RecursorError.TheVariants.{MaxRecordLimitExceeded, Message, Msg, Negative, ForwardNS, Io, Net, Timeout, RecursionLimitExceeded, QueryBudgetExceeded, NoNameServer, NoMemory}
 use Rattle.recursor_text.specs.Texts.{type_text, class_text, response_code_text, line_of, record_words, record_lines}
 
 -- a flag as a digit

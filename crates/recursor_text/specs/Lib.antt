@@ -21,3 +21,4 @@ pub mod Steps
 pub mod Texts
 pub mod Transcript
 pub mod Unbuilt
+pub mod FaultText

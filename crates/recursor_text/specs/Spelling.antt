@@ -24,7 +24,7 @@ use Rattle.dns_core.specs.declared.request.Turn.{Turn}
 use Rattle.resolver_settings.specs.Net.{Network, width_of}
 use Rattle.resolver_settings.specs.Recommended.{special_nets}
 use Rattle.resolver_settings.specs.Ttl.{TtlTable, one_day}
-use Rattle.recursor_core.specs.declared.options.RecursorOptions.{RecursorOptions}
+use Rattle.recursor_types.specs.declared.options.RecursorOptions.{RecursorOptions}
 use Rattle.recursor_world.specs.declared.script.ScriptLine.{ScriptLine}
 use Rattle.recursor_world.specs.declared.script.ScriptLine.TheVariants.{Connect, Refuse, Reply}
 use Rattle.recursor_text.specs.declared.reading.option_form.Bounds.{Bounds}

@@ -2,8 +2,8 @@
 use Rattle.std.specs.Prelude.{ℕ, Bool, true, ◌&&◌, List, [], ◌∷◌, ◌++◌, Result, Ok, Err, codes, decimal}
 use Rattle.std.specs.List.{list_all}
 use Rattle.dns_core.specs.declared.message.Message.{Message}
-use Rattle.recursor_core.specs.declared.error.RecursorError.{RecursorError}
-use Rattle.recursor_core.specs.declared.reply.Reply.{Reply}
+use Rattle.recursor_types.specs.declared.error.RecursorError.{RecursorError}
+use Rattle.recursor_types.specs.declared.reply.Reply.{Reply}
 use Rattle.recursor_text.specs.declared.transcript.Transcript.{Transcript}
 use Rattle.recursor_text.specs.Texts.{line_of, record_lines, message_words, message_records}
 use Rattle.recursor_text.specs.Errors.{error_words, error_tail, has_words}

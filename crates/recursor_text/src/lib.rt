@@ -4,9 +4,12 @@
 //! other at which line it fails. `print_transcript` appends exactly the text of a transcript.
 #![tactic(auto)]
 
+mod copies;
+mod fault_text;
 mod printing;
 mod reading;
 mod scenario;
+mod threads;
 mod transcript;
 
 pub use printing::{
@@ -14,4 +17,5 @@ pub use printing::{
     print_record, print_transcript,
 };
 pub use scenario::{Cause, Scenario, ScenarioError, Upstream, one_reading, read_scenario};
+pub use threads::texts_cross_threads;
 pub use transcript::Transcript;

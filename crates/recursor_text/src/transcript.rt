@@ -1,7 +1,7 @@
 //! Transcripts: what a run asked and was told, and what it replied.
 
 use dns_core::{Items, Log};
-use recursor_core::Reply;
+use recursor_types::Reply;
 
 /// The log of a run and the reply to each of its questions, in order.
 #[derive(Drop, Debug, PartialEq, Eq)]

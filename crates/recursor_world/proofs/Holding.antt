@@ -145,7 +145,7 @@ pub fits_told : (s : Script) (es : List LogEntry) (n moment : ℕ) (o : Option C
 fits_told s es n moment None told_now a due as_it = absurd due
 fits_told s es n moment (Some Never) told_now a due as_it = absurd due
 fits_told s es n moment (Some (After polls outcome)) told_now a due as_it =
-    (a (After polls outcome) refl).due ∙ ap (λ p. Some (After p outcome)) (omega (arith, due.0)) ∙ ap (λ x. Some (After (waits n es) x)) (sym as_it)
+    ((a (After polls outcome) refl).unended, (a (After polls outcome) refl).due ∙ ap (λ p. Some (After p outcome)) (omega (arith, due.0)) ∙ ap (λ x. Some (After (waits n es) x)) (sym as_it))
 
 pub due_is : (o : Option Course) (x y : ToldOutcome) → IsDue (λ z. Unit {0}) o → IsDueAs x o → IsDueAs y o → (o ≡ Some (After 0 y)) × (x ≡ y)
 due_is None x y due a b = absurd due

@@ -1,7 +1,10 @@
 -- What stays true of a log and of what is open when an entry is added.
-use Rattle.std.proofs.Common.{◌≡◌, ◌≢◌, ℕ, zero, suc, ◌+◌, ◌-◌, ◌<◌, ◌≤◌, Bool, true, false, cond, List, [], ◌∷◌, ◌++◌, length, take, Option, Some, None, slice_get, refl, ap, ◌∙◌, sym, subst, arith, nat_eq, count_by, IsTrue, ⊎_elim, add-one, sub-one, length-append, length-take}
-use Rattle.std.specs.Prelude.{IsSomeAnd, option_and_then, ◌==◌}
-use Rattle.std.proofs.lemmas.List.{take-append-le, take_all}
+use Rattle.std.proofs.Common.{◌≡◌, ◌≢◌, ℕ, zero, suc, ◌+◌, ◌-◌, ◌<◌, ◌≤◌, Bool, true, false, cond, List, [], ◌∷◌, ◌++◌, length, take, drop, Option, Some, None, slice_get, refl, ap, ◌∙◌, sym, subst, arith, nat_eq, count_by, IsTrue, ⊎_elim, add-one, sub-one, length-append, length-take}
+use Rattle.std.specs.Prelude.{IsSomeAnd, option_and_then, ◌==◌, ◌||◌}
+use Rattle.std.specs.List.{list_any}
+use Rattle.std.proofs.lemmas.List.{take-append-le, take_all, drop-append-le}
+use Rattle.std.proofs.lemmas.List.Folds.{list_any-append}
+use Rattle.std.proofs.Math.ListN.{drop_of_length-le}
 use Rattle.std.proofs.lemmas.Option.{option_and_then_some}
 use Rattle.std.proofs.lemmas.Grind.{common_steps}
 use Rattle.std.proofs.lemmas.Bool.Decides.{nat_tests, Decides-eqb}
@@ -9,7 +12,7 @@ use Rattle.dns_core.specs.Log.{numbered}
 use Rattle.dns_core.specs.declared.log.LogEntry.{LogEntry}
 use Rattle.dns_core.specs.declared.log.LogEntry.TheVariants.{Opened, Asked, Waited, Told, GaveUp}
 use Rattle.recursor_world.specs.Course.{lengthened, shortened, IsWaiting, is_qualified_course}
-use Rattle.recursor_world.specs.Script.{Gives, Fits, MayWait, course, course_after, waits, waits_of}
+use Rattle.recursor_world.specs.Script.{Gives, Fits, MayWait, course, course_after, waits, waits_of, ends, HasNoEnd}
 use Rattle.recursor_world.specs.Book.{IsKept, Awaits}
 use Rattle.recursor_world.specs.declared.course.Course.{Course}
 use Rattle.recursor_world.specs.declared.course.Course.TheVariants.{Never, After}
@@ -96,7 +99,7 @@ unwaited s before n (Asked ip protocol q moment refused) f h = refl
 unwaited s before n (Told of moment outcome) f h = refl
 unwaited s before n (GaveUp of moment) f h = refl
 unwaited s before n (Waited of) f h =
-    let some = course_of_some (course s before of) (MayWait (waits of before)) f in
+    let some = course_of_some (course s before of) (MayWait (waits of before)) f.1 in
     let low = course_within s before of some.0 some.1 in
     grind (arith, nat_tests)
 
@@ -123,9 +126,33 @@ begun_unwaited s es (Told of moment outcome) c n h = refl
 begun_unwaited s es (GaveUp of moment) c n h = refl
 begun_unwaited s es (Waited of) c n h = cc
 
-awaits_more : (s : Script) (es : List LogEntry) (e : LogEntry) (n : ℕ) (c : Course) → waits_of n e ≡ false → Awaits s es n c → Awaits s (es ++ e ∷ []) n c
+-- an entry that opened or asked ends none, and none has ended it
+begun_unended : (s : Script) (es : List LogEntry) (e : LogEntry) (c : Course) (n : ℕ) → course_after s es e ≡ Some c → ends n e ≡ false
+begun_unended s es (Opened ip protocol moment refused) c n h = refl
+begun_unended s es (Asked ip protocol q moment refused) c n h = refl
+begun_unended s es (Told of moment outcome) c n h = cc
+begun_unended s es (GaveUp of moment) c n h = cc
+begun_unended s es (Waited of) c n h = refl
+
+first_unended : (es : List LogEntry) (e : LogEntry) → HasNoEnd (suc (length es)) (es ++ e ∷ [])
+first_unended es e =
+    let past : length (es ++ e ∷ []) ≤ suc (length es) = omega (arith, length-append es (e ∷ [])) in
+    ap (list_any (ends (suc (length es)))) (drop_of_length-le (es ++ e ∷ []) past)
+
+unended_more : (n : ℕ) (es : List LogEntry) (e : LogEntry) → n ≤ length es → ends n e ≡ false → HasNoEnd n es → HasNoEnd n (es ++ e ∷ [])
+unended_more n es e b idle h =
+    ap (list_any (ends n)) (drop-append-le n es (e ∷ []) b) ∙ list_any-append (ends n) (drop n es) (e ∷ [])
+    ∙ ap (λ x. x || list_any (ends n) (e ∷ [])) h ∙ ap (λ x. x || false) idle
+
+-- the entry leaves the entry of this number as it is
+pub record Leaves (n : ℕ) (e : LogEntry) : Type 0 where
+  pub unwaited : waits_of n e ≡ false
+  pub unended : ends n e ≡ false
+
+awaits_more : (s : Script) (es : List LogEntry) (e : LogEntry) (n : ℕ) (c : Course) → Leaves n e → Awaits s es n c → Awaits s (es ++ e ∷ []) n c
 awaits_more s es e n c h a = record {
-  due = course_front s es (e ∷ []) n _ a.due ∙ ap (λ w. Some (lengthened w c)) (sym (waits_same n es e h));
+  unended = unended_more n es e (course_within s es n _ a.due) h.unended a.unended;
+  due = course_front s es (e ∷ []) n _ a.due ∙ ap (λ w. Some (lengthened w c)) (sym (waits_same n es e h.unwaited));
   qualified = a.qualified;
 }
 
@@ -144,12 +171,19 @@ kept_fewer s es old new k h e = record {
   awaited = λ n c is. on_number (nat_eq k n) (new n) None (old n) c (Awaits s es n c) (e n) is (λ here none. cc) (λ apart was. h.awaited n c was);
 }
 
--- an entry that waits for none
-pub kept_more : (s : Script) (es : List LogEntry) (e : LogEntry) (open_of : ℕ → Option Course) → IsKept s es open_of → Fits s es e → ((n : ℕ) → waits_of n e ≡ false) → IsKept s (es ++ e ∷ []) open_of
+-- an entry that leaves what is open
+pub kept_more : (s : Script) (es : List LogEntry) (e : LogEntry) (open_of : ℕ → Option Course) → IsKept s es open_of → Fits s es e → ((n : ℕ) (c : Course) → open_of n ≡ Some c → Leaves n e) → IsKept s (es ++ e ∷ []) open_of
 kept_more s es e open_of h f idle = record {
   gives = gives_more s es e h.gives f;
-  awaited = λ n c is. awaits_more s es e n c (idle n) (h.awaited n c is);
+  awaited = λ n c is. awaits_more s es e n c (idle n c is) (h.awaited n c is);
 }
+
+-- an entry that ends the entry of a number which is no more open
+pub kept_ended : (s : Script) (es : List LogEntry) (e : LogEntry) (old new : ℕ → Option Course) (k : ℕ) → IsKept s es old → ((n : ℕ) → new n ≡ cond (nat_eq k n) None (old n)) → Fits s es e
+    → ((n : ℕ) → (waits_of n e ≡ false) × (ends n e ≡ nat_eq k n)) → IsKept s (es ++ e ∷ []) new
+kept_ended s es e old new k h fewer f at =
+    kept_more s es e new (kept_fewer s es old new k h fewer) f (λ n c is.
+    on_number (nat_eq k n) (new n) None (old n) c (Leaves n e) (fewer n) is (λ here none. cc) (λ apart was. record { unwaited = (at n).0; unended = (at n).1 ∙ apart }))
 
 zero_more : (c : Course) → lengthened 0 c ≡ c
 zero_more Never = refl
@@ -165,10 +199,10 @@ kept_begun s es e old new c h f is qualified at = record {
       let number : suc (length es) ≡ n = sym (add-one (length es)) ∙ same_number (length es + 1) n here in
       let none : waits (suc (length es)) (es ++ e ∷ []) ≡ 0 = waits_same (suc (length es)) es e (begun_unwaited s es e c _ is) ∙ waits_none s es h.gives in
       let due : course s (es ++ e ∷ []) (suc (length es)) ≡ Some (lengthened (waits (suc (length es)) (es ++ e ∷ [])) c) = course_end s es e ∙ is ∙ ap Some (sym (zero_more c)) ∙ ap (λ w. Some (lengthened w c)) (sym none) in
-      let first : Awaits s (es ++ e ∷ []) (suc (length es)) c = record { due = due; qualified = qualified } in
+      let first : Awaits s (es ++ e ∷ []) (suc (length es)) c = record { unended = first_unended es e; due = due; qualified = qualified } in
       let equal : c ≡ d = cc in
       subst (λ (x : Course). Awaits s (es ++ e ∷ []) n x) equal (subst (λ (m : ℕ). Awaits s (es ++ e ∷ []) m c) number first))
-      (λ apart was. awaits_more s es e n d (begun_unwaited s es e c n is) (h.awaited n d was));
+      (λ apart was. awaits_more s es e n d (record { unwaited = begun_unwaited s es e c n is; unended = begun_unended s es e c n is }) (h.awaited n d was));
 }
 
 -- one poll less is left, and one more was waited
@@ -188,7 +222,7 @@ and_some : (o : Option Course) (c : Course) (P : Course → Type 0) → o ≡ So
 and_some o c P e p = subst (λ (x : Option Course). IsSomeAnd x P) (sym e) p
 
 pub fits_wait : (s : Script) (es : List LogEntry) (k : ℕ) (c : Course) → Awaits s es k c → IsWaiting c → Fits s es (Waited k)
-fits_wait s es k c a w = and_some (course s es k) (lengthened (waits k es) c) (MayWait (waits k es)) a.due (may_wait (waits k es) c w)
+fits_wait s es k c a w = (a.unended, and_some (course s es k) (lengthened (waits k es) c) (MayWait (waits k es)) a.due (may_wait (waits k es) c w))
 
 itself : (k : ℕ) → (k == k) ≡ true
 itself k = (Decides-eqb k k).1 refl
@@ -209,8 +243,9 @@ kept_waited s es k old new c h was w at =
           let one = ap one_if (itself k) in
           let more : waits k (es ++ Waited k ∷ []) ≡ waits k es + 1 = omega (arith, waits_more k es (Waited k), one) in
           let due : course s (es ++ Waited k ∷ []) k ≡ Some (lengthened (waits k (es ++ Waited k ∷ [])) (shortened c)) = course_front s es (Waited k ∷ []) k _ a.due ∙ ap Some (sym (moved (waits k es) c w)) ∙ ap (λ x. Some (lengthened x (shortened c))) (sym more) in
-          let next : Awaits s (es ++ Waited k ∷ []) k (shortened c) = record { due = due; qualified = qualified_still c a.qualified } in
+          let unended = unended_more k es (Waited k) (course_within s es k _ a.due) refl a.unended in
+          let next : Awaits s (es ++ Waited k ∷ []) k (shortened c) = record { unended = unended; due = due; qualified = qualified_still c a.qualified } in
           let equal : shortened c ≡ d = cc in
           subst (λ (x : Course). Awaits s (es ++ Waited k ∷ []) n x) equal (subst (λ (m : ℕ). Awaits s (es ++ Waited k ∷ []) m (shortened c)) number next))
-          (λ apart left. awaits_more s es (Waited k) n d apart (h.awaited n d left));
+          (λ apart left. awaits_more s es (Waited k) n d (record { unwaited = apart; unended = refl }) (h.awaited n d left));
     }

@@ -4,7 +4,7 @@ use Rattle.std.specs.HashMap.{get}
 use Rattle.dns_core.specs.declared.log.LogEntry.{LogEntry}
 use Rattle.dns_core.specs.declared.log.ToldOutcome.{ToldOutcome}
 use Rattle.recursor_world.specs.Course.{lengthened, is_qualified_course, IsWaiting}
-use Rattle.recursor_world.specs.Script.{Gives, is_qualified_script, course, waits, asks, replies}
+use Rattle.recursor_world.specs.Script.{Gives, is_qualified_script, course, waits, HasNoEnd, asks, replies}
 use Rattle.recursor_world.specs.Index.{IsIndexed, used_at}
 use Rattle.recursor_world.specs.declared.index.Asking.{Asking}
 use Rattle.recursor_world.specs.declared.index.Index.{Index}
@@ -25,8 +25,9 @@ told b = b.log ++ b.late
 abbrev pub open_at : Book → ℕ → Option Course
 open_at b n = get nat_eq b.open n
 
--- what is left of the course that the script says, after what was waited
+-- no entry ended it, and what is left of the course that the script says, after what was waited
 pub record Awaits (s : Script) (es : List LogEntry) (n : ℕ) (c : Course) : Type 0 where
+  pub unended : HasNoEnd n es
   pub due : course s es n ≡ Some (lengthened (waits n es) c)
   pub qualified : IsTrue (is_qualified_course c)
 

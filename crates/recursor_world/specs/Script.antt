@@ -1,5 +1,5 @@
 -- Which lines of a script are meant, and the logs that it gives.
-use Rattle.std.specs.Prelude.{◌≡◌, ℕ, ◌+◌, ◌-◌, ◌<◌, Bool, true, false, not, ◌&&◌, ◌==◌, List, Option, Some, None, Result, Ok, Err, length, take, min, filter, find, slice_get, unwrap_or, option_and_then, IsSomeAnd, count_by, if◌then◌else◌}
+use Rattle.std.specs.Prelude.{◌≡◌, ℕ, ◌+◌, ◌-◌, ◌<◌, Bool, true, false, not, ◌&&◌, ◌==◌, List, Option, Some, None, Result, Ok, Err, length, take, drop, min, filter, find, slice_get, unwrap_or, option_and_then, IsSomeAnd, count_by, if◌then◌else◌}
 use Rattle.std.specs.Option.{option_map}
 use Rattle.std.specs.List.{list_any, list_all}
 use Rattle.dns_core.specs.Log.{numbered}
@@ -111,18 +111,31 @@ waits_of n (GaveUp of moment) = false
 abbrev pub waits : ℕ → List LogEntry → ℕ
 waits n es = count_by (waits_of n) es
 
+-- an entry that ends the entry of this number: it tells it, or gives it up
+abbrev pub ends : ℕ → LogEntry → Bool
+ends n (Told of moment outcome) = of == n
+ends n (GaveUp of moment) = of == n
+ends n (Opened ip protocol moment refused) = false
+ends n (Asked ip protocol q moment refused) = false
+ends n (Waited of) = false
+
+-- no entry after the entry of this number ended it
+abbrev pub HasNoEnd : ℕ → List LogEntry → Type 0
+HasNoEnd n es = list_any (ends n) (drop n es) ≡ false
+
 -- it may wait once more
 abbrev pub MayWait : ℕ → Course → Type 0
 MayWait waited Never = Unit {0}
 MayWait waited (After polls outcome) = waited < polls
 
 -- The entry fits the script and the entries before it: a connection is refused exactly where a line refuses it, and a
--- question never; each waits as often as its line says, and is then told what its line says. A give-up is the caller's.
+-- question never; each waits as often as its line says, and is then told, once, what its line says; nothing is told of
+-- one that was given up. A give-up is the caller's.
 abbrev pub Fits : Script → List LogEntry → LogEntry → Type 0
 Fits s es (Opened ip protocol moment refused) = refused ≡ refusal s (record { ip = ip; protocol = protocol })
 Fits s es (Asked ip protocol q moment refused) = refused ≡ None
-Fits s es (Waited of) = IsSomeAnd (course s es of) (MayWait (waits of es))
-Fits s es (Told of moment outcome) = course s es of ≡ Some (After (waits of es) outcome)
+Fits s es (Waited of) = HasNoEnd of es × IsSomeAnd (course s es of) (MayWait (waits of es))
+Fits s es (Told of moment outcome) = HasNoEnd of es × (course s es of ≡ Some (After (waits of es) outcome))
 Fits s es (GaveUp of moment) = Unit {0}
 
 -- the script gives the log: each entry fits

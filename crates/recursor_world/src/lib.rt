@@ -6,6 +6,7 @@
 #![tactic(auto)]
 
 mod book;
+mod copies;
 mod course;
 mod index;
 mod late;
@@ -13,10 +14,12 @@ mod laws;
 mod provider;
 mod qualified;
 mod script;
+mod threads;
 mod upstream;
 
 pub use index::Endpoint;
 pub use laws::fronts_are_given;
 pub use provider::{ScriptExchange, ScriptOpening};
 pub use script::{Script, ScriptLine};
+pub use threads::scripts_cross_threads;
 pub use upstream::ScriptUpstream;

@@ -9,7 +9,7 @@ use super::records::{
 };
 use super::words::{put_bytes, put_count};
 use dns_core::{DnsError, ForwardNsData, NetError, NoMemory, Record};
-use recursor_core::{AuthorityData, MessageKind, RecursorError, WalkCause};
+use recursor_types::{AuthorityData, MessageKind, RecursorError, WalkCause};
 use std::alloc::Global;
 
 fn put_flag(flag: bool, out: &mut Vec<u8>) -> Result<(), NoMemory>

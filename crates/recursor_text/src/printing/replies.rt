@@ -11,7 +11,7 @@ use super::records::put_message;
 use super::words::{put_bytes, put_count};
 use crate::transcript::Transcript;
 use dns_core::{Message, NoMemory};
-use recursor_core::{RecursorError, Reply};
+use recursor_types::{RecursorError, Reply};
 use std::alloc::Global;
 
 fn put_reply_number(number: u64, out: &mut Vec<u8>) -> Result<(), NoMemory>

@@ -6,7 +6,7 @@ ghost use Rattle.recursor_text.specs.Spelling.{option_rank, last_rank, with_posi
 
 use super::words::{LineError, Words};
 use dns_core::{Delays, Items, NoMemory, Ports};
-use recursor_core::RecursorOptions;
+use recursor_types::RecursorOptions;
 use resolver_settings::{Nets, TtlBounds, TtlConfig};
 use std::alloc::Global;
 

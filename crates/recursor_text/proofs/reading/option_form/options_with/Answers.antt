@@ -1,5 +1,5 @@
 use Rattle.std.proofs.Common.{sym, ap, ◌∙◌}
-use Rattle.recursor_core.specs.declared.options.RecursorOptions.{RecursorOptions}
+use Rattle.recursor_types.specs.declared.options.RecursorOptions.{RecursorOptions}
 use Rattle.recursor_text.specs.Spelling.{standard_options, changed}
 use Rattle.recursor_text.proofs.OptionLaws.{changed_push}
 use Rattle.recursor_text.proofs.reading.option_form.options_with.Goals as goal

@@ -2,7 +2,7 @@ use Rattle.std.proofs.Common.{◌≡◌, ◌∷◌, ◌++◌, [], nat_eq, refl, 
 use Rattle.std.specs.HashMap.{get}
 use Rattle.dns_core.specs.declared.log.LogEntry.TheVariants.{GaveUp}
 use Rattle.recursor_world.specs.Book.{told, open_at}
-use Rattle.recursor_world.proofs.Keeping.{kept_fewer, kept_more}
+use Rattle.recursor_world.proofs.Keeping.{kept_ended}
 use Rattle.recursor_world.proofs.Holding.{hold, counts_more}
 use Rattle.recursor_world.proofs.book.Book.give_up.Goals as goal
 
@@ -12,6 +12,5 @@ returns-clause-holds c =
     let e = GaveUp c.args.number c.args.now in
     let same = c.forget.ensures.same in
     let late = c.note_late.ensures in
-    let fewer = kept_fewer b.script (told b) (open_at b) (open_at c.note_late.new.self) c.args.number c.requires.holds.keeps (λ n. ap (λ m. get nat_eq m n) late.opened ∙ c.forget.ensures.fewer n) in
     hold _ b.script (told b ++ e ∷ []) b.index (late.same.script ∙ ap (λ x. x.script) same) (late.same.index ∙ ap (λ x. x.index) same) (late.told ∙ ap (λ x. told x ++ e ∷ []) same)
-    (kept_more b.script (told b) e (open_at c.note_late.new.self) fewer tt (λ n. refl)) (counts_more b.script (told b) e b.index c.requires.holds.counts (λ a. refl)) c.requires.holds.knows
+    (kept_ended b.script (told b) e (open_at b) (open_at c.note_late.new.self) c.args.number c.requires.holds.keeps (λ n. ap (λ m. get nat_eq m n) late.opened ∙ c.forget.ensures.fewer n) tt (λ n. (refl, refl))) (counts_more b.script (told b) e b.index c.requires.holds.counts (λ a. refl)) c.requires.holds.knows

@@ -13,7 +13,7 @@ returns-clause-holds c =
     let b = c.args.self.now in
     let next = c.next_number.ensures in
     let e = Opened c.args.endpoint.ip c.args.endpoint.protocol c.args.now (Some (Io Refused)) in
-    let kept = kept_more b.script (told b) e (open_at b) c.requires.holds.keeps (sym c.requires.refused) (λ n. refl) in
+    let kept = kept_more b.script (told b) e (open_at b) c.requires.holds.keeps (sym c.requires.refused) (λ n d is. record { unwaited = refl; unended = refl }) in
     hold _ b.script (told b ++ e ∷ []) b.index next.same.script next.same.index
     (pushed (told b) c.next_number.new.self.log c.next_number.new.self.late c.push.new.self e next.told c.in_ok-next_number.ensures.late c.in_ok-push.ensures.ok)
     (rw next.open kept)

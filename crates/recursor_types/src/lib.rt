@@ -1,0 +1,14 @@
+//! What a recursor is handed and what it answers: its options, its errors with their parts, and the
+//! reply to a question. The recursor and the texts of scenarios and transcripts stand on it.
+#![tactic(auto)]
+
+mod copies;
+mod error;
+mod options;
+mod reply;
+mod threads;
+
+pub use error::{AuthorityData, MessageKind, RecursorError, WalkCause};
+pub use options::RecursorOptions;
+pub use reply::Reply;
+pub use threads::replies_cross_threads;

@@ -1,0 +1,18 @@
+//! Each type of this crate that holds values may go to another thread, and be shared among threads.
+
+use crate::index::Endpoint;
+use crate::provider::{ScriptExchange, ScriptOpening};
+use crate::script::{Script, ScriptLine};
+use crate::upstream::ScriptUpstream;
+
+fn crosses<T: Send + Sync>() {}
+
+/// Scripts cross threads, and so do upstreams with what they are asked.
+pub fn scripts_cross_threads() {
+    crosses::<ScriptLine>();
+    crosses::<Script>();
+    crosses::<Endpoint>();
+    crosses::<ScriptOpening>();
+    crosses::<ScriptExchange>();
+    crosses::<ScriptUpstream>();
+}
