@@ -2,9 +2,13 @@
 use Rattle.std.proofs.Common.{◌≡◌, true, refl}
 use Rattle.std.specs.Prelude.{not}
 use Rattle.dns_core.specs.NetError.{is_qualified_error, is_no_records}
+use Rattle.dns_core.specs.declared.message.Query.{Query}
 use Rattle.dns_core.specs.declared.net_error.IoKind.{IoKind}
+use Rattle.dns_core.specs.declared.net_error.IoKind.TheVariants.{Other, Closed, Refused}
 use Rattle.dns_core.specs.declared.net_error.NetError.{NetError}
 use Rattle.dns_core.specs.declared.net_error.NetError.TheVariants.{Busy, Io, Timeout, NoConnections, Truncated, QueryCaseMismatch, ForeignClassRecord, Dns, Msg, NoMemory}
+use Rattle.recursor_world.specs.Course.{error_about}
+use Rattle.recursor_text.specs.Texts.{has_error_word}
 use Rattle.recursor_text.specs.Spelling.{IsFailure}
 
 -- what holds of each error that a line tells
@@ -27,3 +31,16 @@ failure_qualified = by_failure (λ (e : NetError). is_qualified_error e ≡ true
 -- it is no negative response
 pub failure_no_records : (e : NetError) → IsFailure e → not (is_no_records e) ≡ true
 failure_no_records = by_failure (λ (e : NetError). not (is_no_records e) ≡ true) (λ kind. refl) refl refl refl refl
+
+-- it has a word
+io_word : (kind : IoKind) → has_error_word (Io kind) ≡ true
+io_word Other = refl
+io_word Closed = refl
+io_word Refused = refl
+
+pub failure_word : (e : NetError) → IsFailure e → has_error_word e ≡ true
+failure_word = by_failure (λ (e : NetError). has_error_word e ≡ true) io_word refl refl refl refl
+
+-- it is the same whatever was asked
+pub failure_stays : (q : Query) (e : NetError) → IsFailure e → error_about q e ≡ e
+failure_stays q = by_failure (λ (e : NetError). error_about q e ≡ e) (λ kind. refl) refl refl refl refl

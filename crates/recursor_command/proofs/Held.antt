@@ -1,5 +1,5 @@
 -- What was read is all that the source held, where it was read to its end.
-use Rattle.std.proofs.Common.{Bool, true, false, ◌≡◌, ◌≢◌, ℕ, ◌<◌, ◌≤◌, List, [], ◌++◌, length, Some, None, inl, inr, refl, sym, ap, subst, ◌∙◌, arith, length-append}
+use Rattle.std.proofs.Common.{Bool, true, false, ◌≡◌, ◌≢◌, ℕ, ◌<◌, ◌≤◌, List, [], ◌++◌, length, Some, None, Err, inl, inr, refl, sym, ap, subst, ◌∙◌, arith, length-append}
 use Rattle.std.specs.Prelude.{IfSome, ◌⊎◌}
 use Rattle.std.specs.declared.option.Option.{Option}
 use Rattle.std.specs.Io.KnownBytes.{Consumes, IsAtEnd}
@@ -8,11 +8,12 @@ use Rattle.recursor_text.specs.declared.scenario.Cause.{Cause}
 use Rattle.recursor_text.specs.declared.scenario.Cause.TheVariants as cause
 use Rattle.recursor_text.specs.declared.scenario.ScenarioError.{ScenarioError}
 use Rattle.recursor_text.specs.Faults.{HasFault}
-use Rattle.dns_core.specs.WholeStreams.{HeldAll}
+use Rattle.recursor_text.specs.Reading.{FailsBy, GivesScenario, scenario_in}
+use Rattle.dns_core.specs.WholeStreams.{HeldAll, TakesAtMost}
 use Rattle.recursor_command.specs.declared.faults.Fault.{Fault}
 use Rattle.recursor_command.specs.declared.faults.Fault.TheVariants.{Words, Line, NotBuilt, Read, Memory}
 use Rattle.recursor_command.specs.Faults.{fault_text}
-use Rattle.recursor_command.specs.Command.{fault_by, fault_of, IsFaultOf, HasOutput, HasWritten, HasRefused, IsTextFor, IsTextOf, WrotePart}
+use Rattle.recursor_command.specs.Command.{fault_by, fault_of, IsRefusedAs, IsFaultOf, HasOutput, HasWritten, HasRefused, IsTextFor, IsTextOf, WrotePart}
 use Rattle.dns_core.specs.Faults.{Rose}
 
 same_all : (all new bytes : List ℕ) → HeldAll (Some all) (Some new) bytes 16777217 → length bytes ≤ 16777216 → bytes ≡ all
@@ -27,19 +28,22 @@ fault_all all new bytes n cause.Cut h f = subst (λ (b : List ℕ). HasFault b n
 fault_all all new bytes n cause.Long h f = (omega (arith, ap length h.taken, length-append bytes new, f.0), f.1)
 fault_all all new bytes n cause.NoMemory h f = tt
 
+fits_by : (bytes : List ℕ) (n : ℕ) (why : Cause) → HasFault bytes n why → FailsBy (record { line = n; cause = why }) why (scenario_in bytes) → IsFaultOf bytes (fault_by why n)
+fits_by bytes n cause.Line h g = inl (h, g)
+fits_by bytes n cause.NotBuilt h g = (h, g)
+fits_by bytes n cause.Cut h g = inr (inl h)
+fits_by bytes n cause.Long h g = inr (inr h)
+fits_by bytes n cause.NoMemory h g = tt
+
 -- how a fault is told says what it is
-pub fault_fits : (bytes : List ℕ) (n : ℕ) (why : Cause) → HasFault bytes n why → IsFaultOf bytes (fault_by why n)
-fault_fits bytes n cause.Line h = inl h
-fault_fits bytes n cause.NotBuilt h = h
-fault_fits bytes n cause.Cut h = inr (inl h)
-fault_fits bytes n cause.Long h = inr (inr h)
-fault_fits bytes n cause.NoMemory h = tt
+pub fault_fits : (bytes : List ℕ) (e : ScenarioError) → HasFault bytes e.line e.cause → GivesScenario (Err e) (scenario_in bytes) → IsFaultOf bytes (fault_of e)
+fault_fits bytes e h g = fits_by bytes e.line e.cause h g
 
 told_all : (all new bytes : List ℕ) (fault : Fault) → HeldAll (Some all) (Some new) bytes 16777217 → IsFaultOf bytes fault → IsFaultOf all fault
 told_all all new bytes Words h f = f
 told_all all new bytes (Line n) h f =
-    elim f [ inl a ↦ inl (fault_all all new bytes n cause.Line h a) | inr b ↦ inr (elim b [ inl c ↦ inl (fault_all all new bytes n cause.Cut h c) | inr d ↦ inr (fault_all all new bytes n cause.Long h d) ]) ]
-told_all all new bytes (NotBuilt n) h f = fault_all all new bytes n cause.NotBuilt h f
+    elim f [ inl a ↦ inl (subst (λ (b : List ℕ). IsRefusedAs b n cause.Line) (same_all all new bytes h a.0.0) a) | inr b ↦ inr (elim b [ inl c ↦ inl (fault_all all new bytes n cause.Cut h c) | inr d ↦ inr (fault_all all new bytes n cause.Long h d) ]) ]
+told_all all new bytes (NotBuilt n) h f = subst (λ (b : List ℕ). IsRefusedAs b n cause.NotBuilt) (same_all all new bytes h f.0.0) f
 told_all all new bytes Read h f = f
 told_all all new bytes Memory h f = tt
 
@@ -81,3 +85,14 @@ text_of_run right held before now text is t = subst (λ (b : Bool). IsTextOf b h
 -- what is to be written for words that are none of the program's
 pub text_of_refusal : (right : Bool) (held : Option (List ℕ)) (before now : ℕ) → right ≡ false → IsTextOf right held before now (fault_text Words)
 text_of_refusal right held before now is = subst (λ (b : Bool). IsTextOf b held before now (fault_text Words)) (sym is) refl
+
+-- of what stays as it was nothing was taken
+none_taken : (left : Option (List ℕ)) → Consumes left left []
+none_taken None = tt
+none_taken (Some all) = refl
+
+no_length : (most : ℕ) → length {A = ℕ} [] ≤ most
+no_length most = omega arith
+
+pub nothing_taken : (most : ℕ) (old new : Option (List ℕ)) → new ≡ old → TakesAtMost most old new
+nothing_taken most old new same = subst (λ (x : Option (List ℕ)). TakesAtMost most old x) (sym same) ([], none_taken old, no_length most)

@@ -1,4 +1,9 @@
 pub mod Failures
 pub mod Held
+pub mod LogWords
 pub mod Qualified
+pub mod ReplyWords
+pub mod Runnable
 pub mod Runs
+pub mod Setup
+pub mod Words

@@ -1,18 +1,24 @@
 -- What the command writes for what it reads.
-use Rattle.std.specs.Prelude.{◌≡◌, ◌≢◌, ◌⊎◌, ℕ, Bool, true, false, List, [], ◌∷◌, length, codes, IfSome}
+use Rattle.std.specs.Prelude.{◌≡◌, ◌≢◌, ◌≤◌, ◌⊎◌, ℕ, max, Contains, Some, Bool, true, false, List, [], ◌∷◌, length, codes, IfSome}
 use Rattle.std.specs.declared.option.Option.{Option}
+use Rattle.std.specs.List.{AllByRecursion}
 use Rattle.std.specs.Io.KnownBytes.{Appends, Keeps}
 use Rattle.std.specs.Str.{bytes_eq}
 use Rattle.dns_core.specs.Faults.{Rose}
 use Rattle.recursor_world.specs.declared.script.Script.{Script}
 use Rattle.recursor_world.specs.Script.{Gives}
-use Rattle.recursor_world.specs.Upstream.{Upstream}
-use Rattle.dns_core.specs.Log.{log_of}
+use Rattle.recursor_world.specs.Upstream.{Upstream, told_by}
+use Rattle.dns_core.specs.Log.{Log, log_of}
+use Rattle.dns_core.specs.declared.log.LogEntry.{LogEntry}
+use Rattle.resolution.specs.Telling.{Logged, moment_of, MomentsRise}
+use Rattle.resolution.specs.Ending.{waits}
 use Rattle.resolution.specs.Asking.{AsksServers}
 use Rattle.recursor_core.specs.Replies.{Terms, given_of}
-use Rattle.recursor_core.specs.Setting.{server_filter_of, answer_filter_of}
-use Rattle.recursor_core.specs.Standing.{Standing, RepliesHold}
-use Rattle.recursor_core.specs.declared.options.RecursorOptions.{RecursorOptions}
+use Rattle.resolver_settings.specs.Ttl.{has_reversed}
+use Rattle.recursor_types.specs.Options.{has_bad_first_delays}
+use Rattle.recursor_types.specs.Options.{server_filter_of, answer_filter_of}
+use Rattle.recursor_core.specs.Standing.{Standing, RepliesHold, run_moments}
+use Rattle.recursor_types.specs.declared.options.RecursorOptions.{RecursorOptions}
 use Rattle.std.specs.declared.net.ip_addr.IpAddr.{IpAddr}
 use Rattle.recursor_text.specs.declared.scenario.Cause.{Cause}
 use Rattle.recursor_text.specs.declared.scenario.Cause.TheVariants as cause
@@ -21,7 +27,8 @@ use Rattle.recursor_text.specs.declared.scenario.ScenarioError.{ScenarioError}
 use Rattle.recursor_text.specs.declared.scenario.Upstream.{Upstream as Told}
 use Rattle.recursor_text.specs.declared.scenario.Upstream.TheVariants as upstream
 use Rattle.recursor_text.specs.declared.transcript.Transcript.{Transcript}
-use Rattle.recursor_text.specs.Spelling.{Reads}
+use Rattle.recursor_text.specs.Spelling.{Reads, IsScriptLine, rules_of}
+use Rattle.recursor_text.specs.Reading.{fails_at, scenario_in}
 use Rattle.recursor_text.specs.Faults.{HasFault}
 use Rattle.recursor_text.specs.Transcript.{transcript_text}
 use Rattle.dns_core.specs.WholeStreams.{AppendsPart}
@@ -40,23 +47,39 @@ are_words (w ∷ v ∷ ws) = false
 abbrev pub script_of : Told → Script
 script_of (upstream.Script s) = s
 
--- a new recursor over a script, with these options
+-- What a run needs of a scenario: there is a root, no least life is above its greatest, servers may start with the first delays,
+-- and its script has lines of the format.
+pub record IsRunnable (s : Scenario) : Type 0 where
+  pub rooted : s.roots ≢ []
+  pub ordered : has_reversed s.options.cache_policy ≡ false
+  pub delayed : has_bad_first_delays s.options.first_delays ≡ false
+  pub rules : AllByRecursion IsScriptLine (rules_of s.upstream)
+
+-- a new recursor over a script of which nothing was told, with these options
 abbrev pub IsNewOver : List IpAddr → RecursorOptions → Script → Standing Upstream → Type 0
 IsNewOver roots options script r = (r.provider.script ≡ script) × (r.roots ≡ roots) × (r.server_filter ≡ server_filter_of options) × (r.moment ≡ 0) × (r.lives ≡ options.cache_policy) × (r.patience ≡ 4294967295)
-    × (r.answer_filter ≡ answer_filter_of options)
+    × (r.answer_filter ≡ answer_filter_of options) × (told_by r.provider ≡ [])
 
 -- the roots of a scenario, the filters of other servers and of the addresses of answers and the bounds of lives that its options say, and its patience
 abbrev pub terms_of : Scenario → Terms
 terms_of s = record { roots = s.roots; server_filter = server_filter_of s.options; answer_filter = answer_filter_of s.options; lives = s.options.cache_policy; patience = s.patience }
 
+-- each entry is at one of these moments
+abbrev pub HappensAt : List ℕ → Log → Type 0
+HappensAt moments log = (i moment : ℕ) (e : LogEntry) → Logged log i e → moment_of e ≡ Some moment → Contains moments moment
+
 -- A run of a scenario: its log is one that the script gives, and each question has its reply, in order. Only servers were asked,
--- by what was told before, each a root or at an address that is not denied. A reply with a message is what counts of a response that a server of a zone at or above the name told since the question
+-- by what was told before, each a root or at an address that is not denied; at moments of its turns, which do not fall; and none was waited for more
+-- often than patience allows. A reply with a message is what counts of a response that a server of a zone at or above the name told since the question
 -- began, or within its life before that; the walk went down to this zone. Each error has its cause.
 pub record Ran (s : Scenario) (t : Transcript) : Type 0 where
   pub gives : Gives (script_of s.upstream) t.log
   pub answered : length t.replies ≡ length s.questions
   pub asks : AsksServers (given_of (terms_of s)) (log_of t.log)
   pub replies : RepliesHold (terms_of s) (log_of t.log) 0 s.turns s.questions t.replies
+  pub moments : HappensAt (run_moments 0 s.turns) (log_of t.log)
+  pub rises : MomentsRise (log_of t.log)
+  pub patient : (of : ℕ) → waits (log_of t.log) of (log_of t.log).next ≤ max 1 s.patience
 
 -- the text of a run of the scenario
 abbrev pub HasRun : Scenario → List ℕ → Type 0
@@ -77,11 +100,15 @@ fault_by cause.NoMemory n = Memory
 abbrev pub fault_of : ScenarioError → Fault
 fault_of e = fault_by e.cause e.line
 
+-- the line has the fault, and reading refuses it so: as one that the format does not have there, or as one that is not built
+abbrev pub IsRefusedAs : List ℕ → ℕ → Cause → Type 0
+IsRefusedAs bytes n why = HasFault bytes n why × (scenario_in bytes ≡ fails_at n why)
+
 -- the bytes are no scenario for this fault
 abbrev pub IsFaultOf : List ℕ → Fault → Type 0
 IsFaultOf bytes Words = ⊥
-IsFaultOf bytes (Line n) = HasFault bytes n cause.Line ⊎ (HasFault bytes n cause.Cut ⊎ HasFault bytes n cause.Long)
-IsFaultOf bytes (NotBuilt n) = HasFault bytes n cause.NotBuilt
+IsFaultOf bytes (Line n) = IsRefusedAs bytes n cause.Line ⊎ (HasFault bytes n cause.Cut ⊎ HasFault bytes n cause.Long)
+IsFaultOf bytes (NotBuilt n) = IsRefusedAs bytes n cause.NotBuilt
 IsFaultOf bytes Read = ⊥
 IsFaultOf bytes Memory = Unit {0}
 

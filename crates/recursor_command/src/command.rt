@@ -1,20 +1,22 @@
 //! The command over any source and sink.
-ghost use Rattle.std.specs.Prelude.{min, ◌≡◌, ◌≢◌, false, IfOk, IfErr, IfSome, IsTrue};
+ghost use Rattle.std.specs.Prelude.{min, ◌≡◌, ◌≢◌, false, [], IfOk, IfErr, IfSome, IsTrue};
 ghost use Rattle.std.specs.Io.KnownBytes.{IsAtEnd, Appends};
 ghost use Rattle.dns_core.specs.Faults.{Rose};
+ghost use Rattle.dns_core.specs.WholeStreams.{TakesAtMost};
 ghost use Rattle.recursor_world.specs.Script.{Gives, is_qualified_script};
 ghost use Rattle.recursor_world.specs.Upstream.{told_by};
-ghost use Rattle.recursor_text.specs.Transcript.{transcript_text};
+ghost use Rattle.resolver_settings.specs.Ttl.{has_reversed};
+ghost use Rattle.recursor_types.specs.Options.{has_bad_first_delays};
+ghost use Rattle.recursor_text.specs.Transcript.{has_transcript_words, transcript_text};
 ghost use Rattle.recursor_command.specs.Faults.{fault_text};
-ghost use Rattle.recursor_command.specs.Command.{are_words, script_of, fault_of, IsNewOver, Ran, HasRun, HasOutput, IsFaultOf, Tells, HasWritten, HasRefused, IsTextFor, IsTextOf, WrotePart, ToldMemory, IsRefusal};
+ghost use Rattle.recursor_command.specs.Command.{are_words, script_of, fault_of, IsNewOver, IsRunnable, Ran, HasRun, HasOutput, IsFaultOf, Tells, HasWritten, HasRefused, IsTextFor, IsTextOf, WrotePart, ToldMemory, IsRefusal};
 
 use crate::faults::{Fault, say};
 use crate::status::Status;
 use dns_core::{Ips, Items, Log, NoMemory, ReadError, Sink, Source, Text, TryClone, read_all};
-use recursor_core::{Recursor, RecursorOptions, drive};
+use recursor_core::{Recursor, RecursorError, RecursorOptions, drive};
 use recursor_text::{
-    Cause, Scenario, ScenarioError, Transcript, Upstream, has_transcript_words, print_transcript,
-    read_scenario,
+    Cause, Scenario, ScenarioError, Transcript, Upstream, print_transcript, read_scenario,
 };
 use recursor_world::{Script, ScriptUpstream};
 use std::alloc::Global;
@@ -32,6 +34,16 @@ fn are_words(words: &[Text]) -> bool
     }
 }
 
+/// Want of memory, the one refusal that is left where roots and options are right.
+fn only_memory(error: RecursorError) -> NoMemory
+    requires { error ≡ RecursorError.NoMemory }
+{
+    match error {
+        RecursorError::NoMemory => NoMemory,
+        _ => unreachable!(),
+    }
+}
+
 /// A recursor over a script.
 fn recursor_over(
     alloc: Global,
@@ -39,13 +51,16 @@ fn recursor_over(
     options: RecursorOptions,
     script: Script,
 ) -> Result<Recursor<ScriptUpstream>, NoMemory>
-    requires { IsTrue (is_qualified_script script) }
+    requires qualified { IsTrue (is_qualified_script script) }
+    requires rooted { roots.now ≢ [] }
+    requires ordered { has_reversed options.cache_policy ≡ false }
+    requires delayed { has_bad_first_delays options.first_delays ≡ false }
     ensures { IfOk result (IsNewOver roots.now options script) }
 {
     let upstream = ScriptUpstream::new(alloc, script)?;
     match Recursor::with_options(alloc, roots.items(), options, upstream) {
         Ok(recursor) => Ok(recursor),
-        Err(_) => Err(NoMemory),
+        Err(error) => Err(only_memory(error)),
     }
 }
 
@@ -77,7 +92,7 @@ fn first_patience(patience: u32) -> u32
 
 /// Answers the questions of a scenario over its script.
 fn ran(alloc: Global, scenario: Scenario) -> Result<Transcript, NoMemory>
-    requires { IsTrue (is_qualified_script (script_of scenario.upstream)) }
+    requires { IsRunnable scenario }
     ensures { IfOk result (Ran scenario) }
 {
     let Scenario {
@@ -106,11 +121,9 @@ fn ran(alloc: Global, scenario: Scenario) -> Result<Transcript, NoMemory>
 
 /// The text of a transcript.
 fn printed(alloc: Global, transcript: &Transcript) -> Result<Vec<u8>, NoMemory>
+    requires { IsTrue (has_transcript_words transcript.now) }
     ensures { IfOk result (λ text. text.items ≡ transcript_text transcript.now) }
 {
-    if !has_transcript_words(transcript) {
-        return Err(NoMemory);
-    }
     let mut text = Vec::new(alloc);
     print_transcript(alloc, transcript, &mut text)?;
     Ok(text)
@@ -118,7 +131,7 @@ fn printed(alloc: Global, transcript: &Transcript) -> Result<Vec<u8>, NoMemory>
 
 /// The transcript of a scenario, as text.
 fn resolved(alloc: Global, scenario: Scenario) -> Result<Vec<u8>, NoMemory>
-    requires { IsTrue (is_qualified_script (script_of scenario.upstream)) }
+    requires { IsRunnable scenario }
     ensures { IfOk result (λ text. HasRun scenario text.items) }
 {
     let transcript = ran(alloc, scenario)?;
@@ -185,6 +198,9 @@ pub fn run<S: Source, K: Sink>(
     // The transcript of what the source held, read to its end, was written.
     ensures done { result ≡ Status.Done → IfSome (S.left source.old) (λ bytes. HasWritten bytes (K.written sink.old) (K.written sink.new)) }
     ensures to_end { result ≡ Status.Done → IsAtEnd (S.left source.new) }
+
+    // No more bytes are taken than show that a scenario is too long.
+    ensures bound { TakesAtMost 16777217 (S.left source.old) (S.left source.new) }
 
     // What the source held is no scenario of the forms that are built, and its fault was written.
     ensures scenario { result ≡ Status.BadScenario → IfSome (S.left source.old) (λ bytes. HasRefused bytes (K.written sink.old) (K.written sink.new)) }

@@ -52,6 +52,7 @@ use Rattle.recursor_core.specs.Tried.{Began, is_response, told_of, AreHeard, Con
 use Rattle.recursor_core.specs.Lookup.{last_of, failed_by, answered_by}
 use Rattle.recursor_core.specs.Pools.{IsAt, SoughtHolds, PoolsHold, Seeks}
 use Rattle.recursor_core.specs.SameTold.{nothing_left_for}
+use Rattle.recursor_core.specs.Asked.{AskedAs}
 use Rattle.recursor_core.specs.Derived.{left_of_class, IsTold, AskHolds}
 use Rattle.recursor_core.specs.declared.pools.Pools.{Pools}
 use Rattle.recursor_core.specs.declared.pools.Sought.{Sought}
@@ -223,7 +224,7 @@ pub record LastEnd (terms : Terms) (log : Log) (zone : DomainName) (q : Query) (
   pub moment : ℕ
   pub at_entry : last_or None g ≡ Some entry
   pub at_moment : last_or None moments ≡ Some moment
-  pub heard : IsTrue (is_response (class_of_answer q e.outcome)) → Heard (given_of terms) log entry q (told_of e.outcome) moment zone
+  pub heard : IsTrue (is_response (class_of_answer q e.outcome)) → Heard (given_of terms) log entry q (told_of e.outcome) moment zone × AskedAs log entry q
 
 last-end : (terms : Terms) (log : Log) (zone : DomainName) (q : Query) {ips : List IpAddr} {g moments : List ℕ} {ends : List (End IpAddr)} (earlier : List (End IpAddr)) (e : End IpAddr)
     → EndSends (given_of terms) log q ips g ends moments → AreHeard terms log zone q g ends moments → ends ≡ earlier ++ e ∷ [] → LastEnd terms log zone q g moments e
@@ -236,7 +237,7 @@ last-end terms log zone q [] e (and_send {n = n} {moment = m} {e = f} s c no_sen
       moment = m;
       at_entry = refl;
       at_moment = refl;
-      heard = subst (λ (x : End IpAddr). IsTrue (is_response (class_of_answer q x.outcome)) → Heard (given_of terms) log n q (told_of x.outcome) m zone) same heard.0;
+      heard = subst (λ (x : End IpAddr). IsTrue (is_response (class_of_answer q x.outcome)) → Heard (given_of terms) log n q (told_of x.outcome) m zone × AskedAs log n q) same heard.0;
     }
 last-end terms log zone q [] e (and_send s c (and_send t d rest)) heard is = cc
 last-end terms log zone q (x ∷ earlier) e (and_send {n = n} {moment = m} {g = g} {moments = moments} {ends = ends} s c rest) heard is =
@@ -371,7 +372,8 @@ module _ (terms : Terms) (greatest moment : ℕ) (log : Log) (pools : Pools) (n 
         response = response;
         early = omega (arith, early, entry);
         heard = subst (λ (k : ℕ). Heard (given_of terms) log k s.query (told_of last.outcome) s.at s.zone) (sym entry)
-            (subst (λ (m : ℕ). Heard (given_of terms) log end.entry s.query (told_of last.outcome) m s.zone) at heard);
+            (subst (λ (m : ℕ). Heard (given_of terms) log end.entry s.query (told_of last.outcome) m s.zone) at heard.0);
+        asked = subst (λ (k : ℕ). AskedAs log k s.query) (sym entry) heard.1;
         late = omega (arith, since, late, at);
         is = class-told s.query last.outcome ∙ ap Some is;
         left = left;

@@ -24,7 +24,7 @@ use Rattle.recursor_core.specs.declared.machine.Step.{Step}
 use Rattle.recursor_core.specs.declared.machine.Step.TheVariants as step
 use Rattle.recursor_core.specs.declared.machine.Progress.{Progress}
 use Rattle.recursor_core.specs.declared.machine.Progress.TheVariants as progress
-use Rattle.recursor_core.specs.declared.reply.Reply.{Reply}
+use Rattle.recursor_types.specs.declared.reply.Reply.{Reply}
 use Rattle.recursor_core.specs.declared.resolving.Resolution.{Resolution}
 
 -- what holds of all holds of the one at a place that was read

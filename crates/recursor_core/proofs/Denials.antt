@@ -55,13 +55,15 @@ use Rattle.recursor_core.specs.Causes.IsDenied.{told as denial_told, made as den
 use Rattle.recursor_core.specs.Causes.IsReferred.{referred}
 use Rattle.recursor_core.specs.Counted.{Stands, Answers, IsCurrentVerdict, kept_of}
 use Rattle.recursor_core.specs.Remembered.{response_in}
-use Rattle.recursor_core.specs.SameTold.{SameIfAny, SameReferrals, SameNegative, SameVerdict, IsShown, IsMadeFor, IsNothingLeft, nothing_left_for}
+use Rattle.recursor_core.specs.Asked.{AskedAs}
+use Rattle.recursor_core.specs.SameTold.{SameIfAny, SameReferrals, SameNegative, SameVerdict, ShowsAsked, IsShown, IsMadeFor, IsNothingLeft, nothing_left_for}
 use Rattle.recursor_core.specs.Walk.{told_negative, made_negative, ends_walk}
 use Rattle.recursor_core.specs.Derived.{left_of_class, IsTold, WalkComes}
-use Rattle.recursor_core.specs.declared.error.RecursorError.{RecursorError}
-use Rattle.recursor_core.specs.declared.error.RecursorError.TheVariants.{Negative, ForwardNS}
-use Rattle.recursor_core.specs.declared.reply.Reply.{Reply}
+use Rattle.recursor_types.specs.declared.error.RecursorError.{RecursorError}
+use Rattle.recursor_types.specs.declared.error.RecursorError.TheVariants.{Negative, ForwardNS}
+use Rattle.recursor_types.specs.declared.reply.Reply.{Reply}
 use Rattle.recursor_core.specs.declared.walk.Walk.{Walk}
+use Rattle.recursor_core.proofs.Asked.{first-asked}
 use Rattle.recursor_core.proofs.Sends.{same_query-refl}
 use Rattle.recursor_core.proofs.Lowered.{negative_same, data_same}
 
@@ -73,6 +75,7 @@ pub record Counts (terms : Terms) (greatest t0 : ℕ) (log : Log) (zone : Domain
   pub whole : Verdict
   pub early : entry ≤ greatest
   pub heard : Heard (given_of terms) log entry q outcome at zone
+  pub asked : AskedAs log entry q
   pub late : t0 ≤ at
   pub counts : verdict (given_of terms) outcome q zone ≡ Some whole
   pub shown : IsShown q v whole
@@ -105,8 +108,7 @@ left-of-message : (denied : IpAddr → Bool) (q : Query) (m : Message) (zone : D
 left-of-message denied q m zone v true is counts =
     let kept = without_denied denied m in
     let made : verdict_of_message denied m zone ≡ Made Filter = ap (λ (b : Bool). if b then Made Filter else (if emptied kept (within zone kept) then Made Zone else Pos (within zone kept))) is in
-    let nothing : IsNothingLeft q (nothing_left_for q) = record { first = q; same = same_query-refl q; is = refl } in
-    (Made Filter, ap Some made, subst (λ (w : Verdict). IsShown q w (Made Filter)) (same_Some _ _ counts) nothing)
+    (Made Filter, ap Some made, subst (λ (w : Verdict). IsShown q w (Made Filter)) (same_Some _ _ counts) refl)
 left-of-message denied q m zone v false is counts =
     let kept = without_denied denied m in
     let same : verdict_of_message denied m zone ≡ v = left-counts denied m zone is ∙ told-counts kept zone v kept.truncation (find (is_foreign q) (records kept)) counts in
@@ -138,6 +140,7 @@ counts-of terms greatest t0 log zone q entry at class v h is =
       whole = shown.0;
       early = h.early;
       heard = h.heard;
+      asked = h.asked;
       late = h.late;
       counts = ap (λ (c : Option Class). verdict_of_told (access_denies terms.answer_filter) c zone) h.is ∙ shown.1;
       shown = shown.2;
@@ -163,11 +166,20 @@ shown-same q (Pos a) (Made Filter) h = absurd h
 shown-same q (Pos a) (Made Zone) h = absurd h
 shown-same q (Neg a) (Pos b) h = absurd h
 shown-same q (Neg a) (Neg b) h = subst (SameNegative a) h (negative_same a)
-shown-same q (Neg a) (Made Filter) h = h
+shown-same q (Neg a) (Made Filter) h = record { first = q; same = same_query-refl q; is = h }
 shown-same q (Neg a) (Made Zone) h = absurd h
 shown-same q (Made a) (Pos b) h = absurd h
 shown-same q (Made a) (Neg b) h = absurd h
 shown-same q (Made a) (Made b) h = h
+
+-- what is shown so for the question as it was asked shows that
+pub shown-asked : (log : Log) (i : ℕ) (q : Query) (v whole : Verdict) → AskedAs log i q → IsShown q v whole → ShowsAsked log i q v whole
+shown-asked log i q (Pos a) whole asked h = tt
+shown-asked log i q (Neg a) (Pos b) asked h = tt
+shown-asked log i q (Neg a) (Neg b) asked h = tt
+shown-asked log i q (Neg a) (Made Filter) asked h = subst (λ (n : NoRecords). AskedAs log i n.query) (sym h) asked
+shown-asked log i q (Neg a) (Made Zone) asked h = absurd h
+shown-asked log i q (Made a) whole asked h = asked
 
 -- what counts, of a server of the zone to which a walk went down, stands
 abbrev pub stands-of : (terms : Terms) (greatest t0 : ℕ) (log : Log) (zone : DomainName) (q : Query) (entry at : ℕ) (v : Verdict)
@@ -179,6 +191,7 @@ stands-of terms greatest t0 log zone q entry at v h walked = record {
   base = base-of terms greatest t0 log zone q entry at v h;
   walked = walked;
   same = shown-same q v h.whole h.shown;
+  asked = shown-asked log entry q v h.whole h.asked h.shown;
 }
 
 -- and it may be answered
@@ -335,14 +348,14 @@ has-failed terms moment t0 log zone asked q g e same ended walked = record {
 
 -- a negative that is answered at last: itself, or a referral
 negative-by : (terms : Terms) (moment t0 : ℕ) (log : Log) (q : Query) (entry : ℕ) (zone : DomainName) (n : NoRecords) (whole : Verdict)
-    → Base (given_of terms) log t0 q entry zone whole → Walked (given_of terms) log q zone → SameVerdict q (Neg n) whole
+    → Base (given_of terms) log t0 q entry zone whole → Walked (given_of terms) log q zone → SameVerdict q (Neg n) whole → ShowsAsked log entry q (Neg n) whole
     → ErrorHolds (given_of terms) (machine_timer moment log t0) log t0 q (entry ∷ []) (told_negative n)
-negative-by terms moment t0 log q entry zone n (Pos kept) base walked same = absurd same
-negative-by terms moment t0 log q entry zone n (Made Zone) base walked same = absurd same
-negative-by terms moment t0 log q entry zone n (Made Filter) base walked same =
+negative-by terms moment t0 log q entry zone n (Pos kept) base walked same asked = absurd same
+negative-by terms moment t0 log q entry zone n (Made Zone) base walked same asked = absurd same
+negative-by terms moment t0 log q entry zone n (Made Filter) base walked same asked =
     subst (λ (m : NoRecords). ErrorHolds (given_of terms) (machine_timer moment log t0) log t0 q (entry ∷ []) (told_negative m)) (sym same.is)
-    (denial_made {p = same.first} base walked same.same)
-negative-by terms moment t0 log q entry zone n (Neg before) base walked same = by n.ns before.ns refl same.ns
+    (denial_made {p = same.first} base walked same.same (first-asked log entry n same.first same.is asked))
+negative-by terms moment t0 log q entry zone n (Neg before) base walked same asked = by n.ns before.ns refl same.ns
   where
     by : (o p : Option (List ForwardNsData)) → before.ns ≡ p → SameIfAny SameReferrals o p
         → ErrorHolds (given_of terms) (machine_timer moment log t0) log t0 q (entry ∷ []) (elim o [ Some forward ↦ ForwardNS forward | None ↦ Negative (told_data n) ])
@@ -354,7 +367,7 @@ negative-by terms moment t0 log q entry zone n (Neg before) base walked same = b
 pub answers-negative : (terms : Terms) (greatest moment t0 : ℕ) (log : Log) (q : Query) (entry : ℕ) (n : NoRecords)
     → Stands terms greatest t0 log q entry (Neg n)
     → ErrorHolds (given_of terms) (machine_timer moment log t0) log t0 q (entry ∷ []) (told_negative n)
-answers-negative terms greatest moment t0 log q entry n h = negative-by terms moment t0 log q entry h.zone n h.whole h.base h.walked h.same
+answers-negative terms greatest moment t0 log q entry n h = negative-by terms moment t0 log q entry h.zone n h.whole h.base h.walked h.same h.asked
 
 -- a question is the same as itself, in any case
 made-for : (cause : Cause) (q : Query) → IsMadeFor cause q q
@@ -363,17 +376,17 @@ made-for Zone q = refl
 
 -- a negative that the recursor makes is answered at last
 made-by : (terms : Terms) (moment t0 : ℕ) (log : Log) (q : Query) (entry : ℕ) (zone : DomainName) (cause : Cause) (whole : Verdict)
-    → Base (given_of terms) log t0 q entry zone whole → Walked (given_of terms) log q zone → SameVerdict q (Made cause) whole
+    → Base (given_of terms) log t0 q entry zone whole → Walked (given_of terms) log q zone → SameVerdict q (Made cause) whole → AskedAs log entry q
     → ErrorHolds (given_of terms) (machine_timer moment log t0) log t0 q (entry ∷ []) (made_negative q cause)
-made-by terms moment t0 log q entry zone cause (Pos kept) base walked same = absurd same
-made-by terms moment t0 log q entry zone cause (Neg n) base walked same = absurd same
-made-by terms moment t0 log q entry zone cause (Made before) base walked same =
-    subst (λ (x : Cause). ErrorHolds (given_of terms) (machine_timer moment log t0) log t0 q (entry ∷ []) (made_negative q x)) (sym same) (denial_made base walked (made-for before q))
+made-by terms moment t0 log q entry zone cause (Pos kept) base walked same asked = absurd same
+made-by terms moment t0 log q entry zone cause (Neg n) base walked same asked = absurd same
+made-by terms moment t0 log q entry zone cause (Made before) base walked same asked =
+    subst (λ (x : Cause). ErrorHolds (given_of terms) (machine_timer moment log t0) log t0 q (entry ∷ []) (made_negative q x)) (sym same) (denial_made base walked (made-for before q) asked)
 
 pub answers-made : (terms : Terms) (greatest moment t0 : ℕ) (log : Log) (q : Query) (entry : ℕ) (cause : Cause)
     → Stands terms greatest t0 log q entry (Made cause)
     → ErrorHolds (given_of terms) (machine_timer moment log t0) log t0 q (entry ∷ []) (made_negative q cause)
-answers-made terms greatest moment t0 log q entry cause h = made-by terms moment t0 log q entry h.zone cause h.whole h.base h.walked h.same
+answers-made terms greatest moment t0 log q entry cause h = made-by terms moment t0 log q entry h.zone cause h.whole h.base h.walked h.same h.asked
 
 -- a negative that ends a walk names no servers
 ends-none : (n : NoRecords) → ends_walk n ≡ true → n.ns ≡ None
@@ -398,14 +411,14 @@ ends-verdict n before same e =
 -- a negative that ends a walk at a candidate
 way-negative-by : (terms : Terms) (moment t0 : ℕ) (log : Log) (q : Query) (entry : ℕ) (zone c : DomainName) (n : NoRecords) (whole : Verdict)
     → Contains (candidates (walk q)) c → Base (given_of terms) log t0 (question c 2) entry zone whole
-    → Walked (given_of terms) log (question c 2) zone → SameVerdict (question c 2) (Neg n) whole → ends_walk n ≡ true
+    → Walked (given_of terms) log (question c 2) zone → SameVerdict (question c 2) (Neg n) whole → ShowsAsked log entry (question c 2) (Neg n) whole → ends_walk n ≡ true
     → ErrorHolds (given_of terms) (machine_timer moment log t0) log t0 q (entry ∷ []) (told_negative n)
-way-negative-by terms moment t0 log q entry zone c n (Pos kept) has base walked same ends = absurd same
-way-negative-by terms moment t0 log q entry zone c n (Made Zone) has base walked same ends = absurd same
-way-negative-by terms moment t0 log q entry zone c n (Made Filter) has base walked same ends =
+way-negative-by terms moment t0 log q entry zone c n (Pos kept) has base walked same asked ends = absurd same
+way-negative-by terms moment t0 log q entry zone c n (Made Zone) has base walked same asked ends = absurd same
+way-negative-by terms moment t0 log q entry zone c n (Made Filter) has base walked same asked ends =
     subst (λ (m : NoRecords). ErrorHolds (given_of terms) (machine_timer moment log t0) log t0 q (entry ∷ []) (told_negative m)) (sym same.is)
-    (made_on_the_way {p = same.first} refl has base walked same.same)
-way-negative-by terms moment t0 log q entry zone c n (Neg before) has base walked same ends =
+    (made_on_the_way {p = same.first} refl has base walked same.same (first-asked log entry n same.first same.is asked))
+way-negative-by terms moment t0 log q entry zone c n (Neg before) has base walked same asked ends =
     let none = ends-none n ends in
     subst (ErrorHolds (given_of terms) (machine_timer moment log t0) log t0 q (entry ∷ [])) (sym (ap (λ (o : Option (List ForwardNsData)). negative-of n o) none))
     (told_on_the_way refl has base walked (ends-verdict n before same ends) (data_same n before same))
@@ -417,23 +430,23 @@ pub answers-on-the-way : (terms : Terms) (greatest moment t0 : ℕ) (log : Log) 
     → Contains (candidates (walk q)) c → Stands terms greatest t0 log (question c 2) entry (Neg n) → ends_walk n ≡ true
     → ErrorHolds (given_of terms) (machine_timer moment log t0) log t0 q (entry ∷ []) (told_negative n)
 answers-on-the-way terms greatest moment t0 log q entry c n has h ends =
-    way-negative-by terms moment t0 log q entry h.zone c n h.whole has h.base h.walked h.same ends
+    way-negative-by terms moment t0 log q entry h.zone c n h.whole has h.base h.walked h.same h.asked ends
 
 -- a negative that the recursor makes at a candidate
 way-made-by : (terms : Terms) (moment t0 : ℕ) (log : Log) (q : Query) (entry : ℕ) (zone c : DomainName) (cause : Cause) (whole : Verdict)
     → Contains (candidates (walk q)) c → Base (given_of terms) log t0 (question c 2) entry zone whole
-    → Walked (given_of terms) log (question c 2) zone → SameVerdict (question c 2) (Made cause) whole
+    → Walked (given_of terms) log (question c 2) zone → SameVerdict (question c 2) (Made cause) whole → AskedAs log entry (question c 2)
     → ErrorHolds (given_of terms) (machine_timer moment log t0) log t0 q (entry ∷ []) (made_negative (question c 2) cause)
-way-made-by terms moment t0 log q entry zone c cause (Pos kept) has base walked same = absurd same
-way-made-by terms moment t0 log q entry zone c cause (Neg n) has base walked same = absurd same
-way-made-by terms moment t0 log q entry zone c cause (Made before) has base walked same =
+way-made-by terms moment t0 log q entry zone c cause (Pos kept) has base walked same asked = absurd same
+way-made-by terms moment t0 log q entry zone c cause (Neg n) has base walked same asked = absurd same
+way-made-by terms moment t0 log q entry zone c cause (Made before) has base walked same asked =
     subst (λ (x : Cause). ErrorHolds (given_of terms) (machine_timer moment log t0) log t0 q (entry ∷ []) (made_negative (question c 2) x)) (sym same)
-    (made_on_the_way refl has base walked (made-for before (question c 2)))
+    (made_on_the_way refl has base walked (made-for before (question c 2)) asked)
 
 pub made-on-the-way : (terms : Terms) (greatest moment t0 : ℕ) (log : Log) (q : Query) (entry : ℕ) (c : DomainName) (cause : Cause)
     → Contains (candidates (walk q)) c → Stands terms greatest t0 log (question c 2) entry (Made cause)
     → ErrorHolds (given_of terms) (machine_timer moment log t0) log t0 q (entry ∷ []) (made_negative (question c 2) cause)
-made-on-the-way terms greatest moment t0 log q entry c cause has h = way-made-by terms moment t0 log q entry h.zone c cause h.whole has h.base h.walked h.same
+made-on-the-way terms greatest moment t0 log q entry c cause has h = way-made-by terms moment t0 log q entry h.zone c cause h.whole has h.base h.walked h.same h.asked
 
 -- ---- delegations without addresses
 

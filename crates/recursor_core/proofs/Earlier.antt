@@ -22,14 +22,14 @@ use Rattle.resolution.specs.declared.verdict.Verdict.{Verdict}
 use Rattle.recursor_core.specs.Causes.{IsDenied, IsReferred, HasFailed, HasNoServer, ErrorHolds}
 use Rattle.recursor_core.specs.Causes.IsDenied.{told as denial_told, made as denial_made, told_on_the_way, made_on_the_way}
 use Rattle.recursor_core.specs.Causes.IsReferred.{referred}
-use Rattle.recursor_core.specs.declared.error.AuthorityData.{AuthorityData}
-use Rattle.recursor_core.specs.declared.error.WalkCause.{WalkCause}
-use Rattle.recursor_core.specs.declared.error.WalkCause.TheVariants as why
-use Rattle.recursor_core.specs.declared.error.RecursorError.{RecursorError}
-use Rattle.recursor_core.specs.declared.error.RecursorError.TheVariants as error
+use Rattle.recursor_types.specs.declared.error.AuthorityData.{AuthorityData}
+use Rattle.recursor_types.specs.declared.error.WalkCause.{WalkCause}
+use Rattle.recursor_types.specs.declared.error.WalkCause.TheVariants as why
+use Rattle.recursor_types.specs.declared.error.RecursorError.{RecursorError}
+use Rattle.recursor_types.specs.declared.error.RecursorError.TheVariants as error
 use Rattle.recursor_core.specs.Replies.{Terms, given_of, IsToldAnswer, OutcomeHolds, ReplyHolds}
 use Rattle.recursor_core.specs.Tried.{machine_timer}
-use Rattle.recursor_core.specs.declared.reply.Reply.{Reply}
+use Rattle.recursor_types.specs.declared.reply.Reply.{Reply}
 
 -- a life that lasts until late lasts until early
 lives : (o : Option ℕ) (early late moment : ℕ) → early ≤ late → IsSomeAnd o (λ life. late ≤ moment + 1000000 * life)
@@ -99,9 +99,9 @@ module _ (given : Given) (log : Log) (early late : ℕ) (le : early ≤ late) (k
   -- a denial at late is one at early
   denied-earlier : (q : Query) (g : List ℕ) (d : AuthorityData) → IsDenied given log late q g d → IsDenied given log early q g d
   denied-earlier q _ _ (denial_told b w n s) = denial_told (Base-earlier b) w n s
-  denied-earlier q _ _ (denial_made b w m) = denial_made (Base-earlier b) w m
+  denied-earlier q _ _ (denial_made b w m a) = denial_made (Base-earlier b) w m a
   denied-earlier q _ _ (told_on_the_way s c b w e t) = told_on_the_way s c (Base-earlier b) w e t
-  denied-earlier q _ _ (made_on_the_way s c b w m) = made_on_the_way s c (Base-earlier b) w m
+  denied-earlier q _ _ (made_on_the_way s c b w m a) = made_on_the_way s c (Base-earlier b) w m a
 
   -- a referral at late is one at early
   referred-earlier : (q : Query) (g : List ℕ) (servers : List ForwardNsData) → IsReferred given log late q g servers → IsReferred given log early q g servers

@@ -11,6 +11,8 @@ use Rattle.dns_core.specs.declared.message.Message.{Message}
 use Rattle.dns_core.specs.declared.net_error.NetError.{NetError}
 use Rattle.dns_core.specs.declared.net_error.NetError.TheVariants as net
 use Rattle.dns_core.specs.declared.net_error.DnsError.TheVariants as dns
+use Rattle.dns_core.specs.declared.log.LogEntry.TheVariants as line
+use Rattle.dns_core.specs.declared.log.ToldOutcome.{ToldOutcome}
 use Rattle.dns_core.specs.declared.log.ToldOutcome.TheVariants as said
 use Rattle.resolution.specs.Names.{is_above, walk}
 use Rattle.resolution.specs.Class.{class_of_error}
@@ -30,10 +32,11 @@ use Rattle.server_core.specs.declared.server_send.Stage.{Stage}
 use Rattle.server_core.specs.declared.server_send.Stage.TheVariants as stage
 use Rattle.server_core.specs.declared.server_send.ServerSend.{ServerSend}
 use Rattle.server_pool.specs.Agenda.{class_of_sent}
-use Rattle.server_pool.specs.Fits.{OutcomeIs}
+use Rattle.server_pool.specs.Fits.{Closes, OutcomeIs}
 use Rattle.server_pool.specs.Running.{IsFor as IsAt_stage}
 use Rattle.server_pool.proofs.ByAddress.{told_class_itself}
 use Rattle.recursor_core.specs.Order.{IsFor}
+use Rattle.recursor_core.specs.Asked.{AskedAs}
 use Rattle.recursor_core.specs.Replies.{Terms, given_of}
 use Rattle.recursor_core.specs.Tried.{is_response, told_of}
 use Rattle.recursor_core.specs.Pools.{is_denial, IsSentOver, MayTake, sent_to}
@@ -44,7 +47,7 @@ pub record IsEndedBy (terms : Terms) (log : Log) (now entry : ℕ) (zone : Domai
   pub outcome : Answered
   pub class : class_of_sent q result ≡ class_of_answer q outcome
   pub ends : EndsSend (given_of terms) log q entry (record { server = ip; outcome = outcome }) now
-  pub heard : IsTrue (is_response (class_of_answer q outcome)) → Heard (given_of terms) log entry q (told_of outcome) now zone
+  pub heard : IsTrue (is_response (class_of_answer q outcome)) → Heard (given_of terms) log entry q (told_of outcome) now zone × AskedAs log entry q
 
 -- what was sent is for the question
 pub sent-for : (asks : Bool) (ip : IpAddr) (q : Query) (since : ℕ) (sent : Sent) → IsSentOver asks ip q since sent → IsFor sent.query q
@@ -100,6 +103,19 @@ open-ends (stage.Ended e) (stage.Ended r) result a o asks for is = absurd for
 open-ends stage.Over (stage.Ended r) result a o asks for is = absurd for
 
 module _ (terms : Terms) (log : Log) (now since : ℕ) (zone : DomainName) (q : Query) (ip : IpAddr) (serves : Serves (given_of terms) log (since + 1) ip zone) (above : IsTrue (is_above zone (walk q))) where
+  -- what was told of a question was told of it as it was asked
+  asked-as : (entry : ℕ) (sent : Sent) (outcome : ToldOutcome) → Closes log sent entry (line.Told sent.of now outcome) → sent.query ≡ Some q → AskedAs log entry q
+  asked-as entry sent outcome closes is = record {
+    ask = sent.of;
+    moment = now;
+    outcome = outcome;
+    ip = sent.ip;
+    protocol = closes.sent.protocol;
+    asked_at = sent.moment;
+    told = closes.logged;
+    question = asked-entry log q sent closes.sent.protocol None is closes.sent.logged;
+  }
+
   -- a message
   told-end : (entry : ℕ) (sent : Sent) (message : Message) → IsSentOver true ip q since sent → OutcomeIs log now (Told entry sent message)
       → IsEndedBy terms log now entry zone q ip (result_of (classify_of message))
@@ -112,33 +128,38 @@ module _ (terms : Terms) (log : Log) (now since : ℕ) (zone : DomainName) (q : 
         outcome = Ok message;
         class = told_class_itself q message itself;
         ends = answered fits.0.logged question (same_query-refl q);
-        heard = λ response. heard (record {
-          protocol = fits.0.sent.protocol;
-          asked = q;
-          asked_at = sent.moment;
-          told = fits.0.logged;
-          question = question;
-          before = fits.0.before;
-          same = same_query-refl q;
-        }) (Serves-later (given_of terms) log (omega (arith, late)) here) above;
+        heard = λ response. (
+          heard (record {
+            protocol = fits.0.sent.protocol;
+            asked = q;
+            asked_at = sent.moment;
+            told = fits.0.logged;
+            question = question;
+            before = fits.0.before;
+            same = same_query-refl q;
+          }) (Serves-later (given_of terms) log (omega (arith, late)) here) above,
+          asked-as entry sent _ fits.0 over.1,
+        );
       })
 
   -- an error
   denial-heard : (entry : ℕ) (sent : Sent) (error : NetError) → IsSentOver true ip q since sent → OutcomeIs log now (Failed entry sent false error)
-      → Heard (given_of terms) log entry q (said.Error error) now zone
+      → Heard (given_of terms) log entry q (said.Error error) now zone × AskedAs log entry q
   denial-heard entry sent error over fits =
       let question = asked-entry log q sent fits.sent.protocol None over.1 fits.sent.logged in
       let here = subst (λ (x : IpAddr). Serves (given_of terms) log (since + 1) x zone) (sym over.0) serves in
-      let late = over.2 in
-      heard (record {
-        protocol = fits.sent.protocol;
-        asked = q;
-        asked_at = sent.moment;
-        told = fits.logged;
-        question = question;
-        before = fits.before;
-        same = same_query-refl q;
-      }) (Serves-later (given_of terms) log (omega (arith, late)) here) above
+      let late = over.2 in (
+        heard (record {
+          protocol = fits.sent.protocol;
+          asked = q;
+          asked_at = sent.moment;
+          told = fits.logged;
+          question = question;
+          before = fits.before;
+          same = same_query-refl q;
+        }) (Serves-later (given_of terms) log (omega (arith, late)) here) above,
+        asked-as entry sent _ fits over.1,
+      )
 
   failed-end : (asks : Bool) (entry : ℕ) (sent : Sent) (refused : Bool) (error : NetError) → (IsTrue (is_denial error) → (asks ≡ true) × (refused ≡ false))
       → IsSentOver asks ip q since sent → OutcomeIs log now (Failed entry sent refused error) → IsEndedBy terms log now entry zone q ip (Err error)

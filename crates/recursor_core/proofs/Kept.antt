@@ -21,20 +21,21 @@ use Rattle.resolution.specs.Walking.{Walked}
 use Rattle.recursor_core.specs.Causes.{IsDenied, IsReferred, HasFailed, HasNoAddress, HasTimedOut, HasNoServer, ErrorHolds}
 use Rattle.recursor_core.specs.Causes.IsDenied.{told as denial_told, made as denial_made, told_on_the_way, made_on_the_way}
 use Rattle.recursor_core.specs.Causes.IsReferred.{referred}
-use Rattle.recursor_core.specs.declared.error.AuthorityData.{AuthorityData}
-use Rattle.recursor_core.specs.declared.error.WalkCause.{WalkCause}
-use Rattle.recursor_core.specs.declared.error.WalkCause.TheVariants as why
-use Rattle.recursor_core.specs.declared.error.RecursorError.{RecursorError}
-use Rattle.recursor_core.specs.declared.error.RecursorError.TheVariants as error
+use Rattle.recursor_types.specs.declared.error.AuthorityData.{AuthorityData}
+use Rattle.recursor_types.specs.declared.error.WalkCause.{WalkCause}
+use Rattle.recursor_types.specs.declared.error.WalkCause.TheVariants as why
+use Rattle.recursor_types.specs.declared.error.RecursorError.{RecursorError}
+use Rattle.recursor_types.specs.declared.error.RecursorError.TheVariants as error
 use Rattle.recursor_core.specs.Replies.{Terms, given_of, IsToldAnswer, OutcomeHolds, ReplyHolds}
 use Rattle.recursor_core.specs.Tried.{IsTimed, machine_timer}
 use Rattle.recursor_core.specs.Derived.{Passed, WayHolds, StateHolds, ResolutionHolds, terms_of, Derived}
-use Rattle.recursor_core.specs.declared.reply.Reply.{Reply}
+use Rattle.recursor_types.specs.declared.reply.Reply.{Reply}
 use Rattle.recursor_core.specs.declared.walk.Walk.{Walk}
 use Rattle.recursor_core.specs.declared.resolving.State.{State}
 use Rattle.recursor_core.specs.declared.resolving.State.TheVariants.{New, Under, Done, Ended}
 use Rattle.recursor_core.specs.declared.resolving.Resolution.{Resolution}
 use Rattle.recursor_core.specs.declared.machine.RecursorCore.{RecursorCore}
+use Rattle.recursor_core.proofs.Asked.{asked-kept}
 use Rattle.recursor_core.proofs.KeptPools.{began-kept, pool-kept, lookup-kept, pools-kept}
 use Rattle.recursor_core.proofs.Remembering.{cache-kept}
 
@@ -101,9 +102,10 @@ module _ (terms : Terms) (log longer : Log) (x : Extends log longer) (m m' : ℕ
   -- a denial
   denied-kept : (t0 : ℕ) (q : Query) (g : List ℕ) (d : AuthorityData) → IsDenied (given_of terms) log t0 q g d → IsDenied (given_of terms) longer t0 q g d
   denied-kept t0 q _ d (denial_told {z = z} b w n s) = denial_told (based b) (walks-kept q z w) n s
-  denied-kept t0 q _ _ (denial_made {z = z} b w m) = denial_made (based b) (walks-kept q z w) m
+  denied-kept t0 q _ _ (denial_made {i = i} {z = z} {p = p} b w m a) = denial_made (based b) (walks-kept q z w) m (asked-kept log longer x i p a)
   denied-kept t0 q _ _ (told_on_the_way {z = z} {c = c} s on b w e same) = told_on_the_way s on (based b) (walks-kept (question_for c 2) z w) e same
-  denied-kept t0 q _ _ (made_on_the_way {z = z} {c = c} s on b w m) = made_on_the_way s on (based b) (walks-kept (question_for c 2) z w) m
+  denied-kept t0 q _ _ (made_on_the_way {i = i} {z = z} {c = c} {p = p} s on b w m a) =
+      made_on_the_way s on (based b) (walks-kept (question_for c 2) z w) m (asked-kept log longer x i p a)
 
   -- a referral
   referred-kept : (t0 : ℕ) (q : Query) (g : List ℕ) (servers : List ForwardNsData)

@@ -30,6 +30,7 @@ use Rattle.recursor_core.specs.declared.pools.Pools.{Pools}
 use Rattle.recursor_core.specs.declared.lookup.Ask.{Ask}
 use Rattle.recursor_core.specs.declared.lookup.Ask.TheVariants as ask
 use Rattle.recursor_core.specs.declared.lookup.Lookup.{Lookup}
+use Rattle.recursor_core.proofs.Asked.{asked-kept}
 
 -- what holds of each in a list, where one test follows from the other
 pub list_all-weaker : {X : Type 0} (p q : X → Bool) → ((x : X) → IsTrue (p x) → IsTrue (q x)) → (xs : List X) → IsTrue (list_all p xs)
@@ -108,7 +109,7 @@ module _ (terms : Terms) (log longer : Log) (x : Extends log longer) where
   heard-kept zone q (n ∷ g) [] moments h = tt
   heard-kept zone q (n ∷ g) (e ∷ ends) [] h = tt
   heard-kept zone q (n ∷ g) (e ∷ ends) (m ∷ moments) h = (
-    λ is. Heard-extend (given_of terms) terms.patience log longer x (h.0 is),
+    λ is. let told = h.0 is in (Heard-extend (given_of terms) terms.patience log longer x told.0, asked-kept log longer x n q told.1),
     heard-kept zone q g ends moments h.1,
   )
 
@@ -211,6 +212,7 @@ module _ (terms : Terms) (log longer : Log) (x : Extends log longer) where
       response = h.response;
       early = let e = h.early in omega arith;
       heard = Heard-extend (given_of terms) terms.patience log longer x h.heard;
+      asked = asked-kept log longer x entry q h.asked;
       late = h.late;
       is = h.is;
       left = h.left;

@@ -2,6 +2,7 @@ pub mod Plays
 pub mod Ranks
 pub mod Heard
 pub mod Sends
+pub mod Asked
 pub mod KeptPools
 pub mod Pooling
 pub mod Meeting
@@ -25,5 +26,6 @@ pub mod Earlier
 pub mod Answering
 pub mod Timed
 pub mod Standing
+pub mod Moments
 pub mod Playing
 pub mod Tellings

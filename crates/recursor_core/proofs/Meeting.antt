@@ -15,7 +15,7 @@ use Rattle.std.proofs.lemmas.Option.{same_Some}
 use Rattle.server_core.specs.Context.{Context}
 use Rattle.server_core.specs.Servers.{Server}
 use Rattle.recursor_core.specs.Replies.{Terms}
-use Rattle.recursor_core.specs.Pools.{config_at, number_of, server_at, IsMet, IsGrown, ServersHold}
+use Rattle.recursor_core.specs.Pools.{config_at, first_delay_at, number_of, server_at, IsMet, IsGrown, ServersHold}
 use Rattle.recursor_core.specs.declared.pools.Pools.{Pools}
 use Rattle.recursor_core.proofs.Pooling.{config-before}
 
@@ -38,6 +38,16 @@ equal-at Greater h = cc
 config-last : (table : List Server) (server : Server) → config_at (table ++ server ∷ []) (length table) ≡ Some server.config
 config-last [] server = refl
 config-last (s ∷ table) server = config-last table server
+
+-- and begins with its own delay
+delay-last : (table : List Server) (server : Server) → first_delay_at (table ++ server ∷ []) (length table) ≡ Some server.first_delay
+delay-last [] server = refl
+delay-last (s ∷ table) server = delay-last table server
+
+pub delayed-last : (old new : List Server) (server : Server) (n delay : ℕ) → new ≡ old ++ server ∷ [] → n ≡ length old → server.first_delay ≡ delay
+    → first_delay_at new n ≡ Some delay
+delayed-last old new server n delay table number first =
+    ap (λ (t : List Server). first_delay_at t n) table ∙ ap (first_delay_at (old ++ server ∷ [])) number ∙ delay-last old server ∙ ap Some first
 
 -- it is met where it is at the address
 pub met-last : (old new : List Server) (server : Server) (ip : IpAddr) (n : ℕ) → new ≡ old ++ server ∷ [] → n ≡ length old → server.config ≡ server_at ip

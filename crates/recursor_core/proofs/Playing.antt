@@ -20,9 +20,9 @@ use Rattle.recursor_core.specs.Turns.{Begins, BeginsIf, BeginsAt, IsRefused, Rep
 use Rattle.server_core.specs.declared.order.Order.{Order}
 use Rattle.recursor_core.specs.declared.setting.Setting.{Setting}
 use Rattle.server_pool.specs.declared.carrier.Carrier.{Carrier}
-use Rattle.recursor_core.specs.declared.error.RecursorError.TheVariants as error
+use Rattle.recursor_types.specs.declared.error.RecursorError.TheVariants as error
 use Rattle.recursor_core.specs.declared.machine.RecursorCore.{RecursorCore}
-use Rattle.recursor_core.specs.declared.reply.Reply.{Reply}
+use Rattle.recursor_types.specs.declared.reply.Reply.{Reply}
 use Rattle.recursor_core.specs.declared.turns.Played.{Played}
 use Rattle.recursor_core.specs.declared.turns.Played.TheVariants as played
 use Rattle.recursor_core.proofs.Earlier.{ReplyHolds-earlier}

@@ -32,9 +32,11 @@ use Rattle.resolution.proofs.WalksCaseless.{Walked-same}
 use Rattle.recursor_core.specs.Counted.{kept_of, verdict_kept, counted_for, recalled, may_answer, IsCurrentVerdict, Stands, Answers, IsRecalled}
 use Rattle.recursor_core.specs.Remembered.{EntryHolds, CacheHolds}
 use Rattle.recursor_core.specs.Replies.{Terms, given_of}
-use Rattle.recursor_core.specs.SameTold.{SameVerdict, IsShown}
+use Rattle.recursor_core.specs.Asked.{AskedAs}
+use Rattle.recursor_core.specs.SameTold.{SameVerdict, IsShown, ShowsAsked}
 use Rattle.recursor_core.specs.declared.counted.Counted.{Counted}
 use Rattle.recursor_core.proofs.Lowered.{lower_message, lower_denial}
+use Rattle.recursor_core.proofs.Sends.{same_query-refl}
 
 -- the same question for the cache is the same question
 same_question : (a b : Query) → is_same_question a b ≡ true → same_query a b ≡ true
@@ -53,11 +55,12 @@ same_question a b h =
 record ReadsAs (q : Query) (whole v : Verdict) : Type 0 where
   same : SameVerdict q v whole
   current : (t0 moment : ℕ) → IsTrue (may_answer v) → IsCurrentVerdict t0 moment whole
+  asked : (log : Log) (i : ℕ) (p : Query) → AskedAs log i q → ShowsAsked log i p v whole
 
 reads_pos : (q : Query) (n : ℕ) (k : Message) (whole v : Verdict) → IsShown q (Pos k) whole → verdict_kept (lowered n (Ok k)) ≡ Some v → ReadsAs q whole v
 reads_pos q n k (Pos l) v shown h =
     subst (ReadsAs q (Pos l)) (same_Some _ _ h)
-    (subst (λ (m : Message). ReadsAs q (Pos m) (Pos (lowered_message n k))) shown (record { same = lower_message n k; current = λ t0 moment may. inl may }))
+    (subst (λ (m : Message). ReadsAs q (Pos m) (Pos (lowered_message n k))) shown (record { same = lower_message n k; current = λ t0 moment may. inl may; asked = λ log i p asked. tt }))
 reads_pos q n k (Neg d) v shown h = absurd shown
 reads_pos q n k (Made Filter) v shown h = absurd shown
 reads_pos q n k (Made Zone) v shown h = absurd shown
@@ -66,10 +69,14 @@ reads_neg : (q : Query) (n : ℕ) (d : NoRecords) (whole v : Verdict) → IsShow
 reads_neg q n d (Pos l) v shown h = absurd shown
 reads_neg q n d (Neg e) v shown h =
     subst (ReadsAs q (Neg e)) (same_Some _ _ h)
-    (subst (λ (x : NoRecords). ReadsAs q (Neg x) (Neg (lowered_denial n d))) shown (record { same = lower_denial n d; current = λ t0 moment may. tt }))
+    (subst (λ (x : NoRecords). ReadsAs q (Neg x) (Neg (lowered_denial n d))) shown (record { same = lower_denial n d; current = λ t0 moment may. tt; asked = λ log i p asked. tt }))
 reads_neg q n d (Made Filter) v shown h =
     subst (ReadsAs q (Made Filter)) (same_Some _ _ h)
-    (record { same = record { first = shown.first; same = shown.same; is = ap (lowered_denial n) shown.is }; current = λ t0 moment may. tt })
+    (record {
+      same = record { first = q; same = same_query-refl q; is = ap (lowered_denial n) shown };
+      current = λ t0 moment may. tt;
+      asked = λ log i p asked. subst (λ (x : NoRecords). AskedAs log i x.query) (sym shown) asked;
+    })
 reads_neg q n d (Made Zone) v shown h = absurd shown
 
 reads_as : (q : Query) (n : ℕ) (whole shown v : Verdict) (response : Result Message NetError) → IsShown q shown whole → kept_of shown ≡ Some response
@@ -128,6 +135,7 @@ module _ (terms : Terms) (greatest t0 now : ℕ) (log : Log) (cache : Cached) (q
         base = Base-same e.query q same base;
         walked = Walked-same (given_of terms) log e.query q held.zone same held.walked;
         same = respelled e.query q v held.whole same reads.same;
+        asked = reads.asked log e.source q held.asked;
       } in
       subst (λ (s : ℕ). IsRecalled terms greatest t0 log q (record { entry = s; verdict = v })) (sym found.source)
       (record { stands = stands; current = reads.current t0 stands.base.moment })

@@ -32,6 +32,7 @@ use Rattle.recursor_core.specs.Derived.{IsTold}
 use Rattle.recursor_core.specs.SameTold.{IsShown}
 use Rattle.recursor_core.specs.Remembered.{EntryHolds, CacheHolds, Telling, response_in, written, remembered}
 use Rattle.recursor_core.specs.Replies.{Terms, given_of}
+use Rattle.recursor_core.proofs.Asked.{asked-kept}
 use Rattle.recursor_core.proofs.Denials.{counts-of}
 
 -- ---- longer logs, and less patience
@@ -53,6 +54,7 @@ module _ (terms : Terms) (less : ℕ) (fewer : less ≤ terms.patience) (log lon
     whole = h.whole;
     early = let early = h.early in omega arith;
     heard = Heard-extend (given_of terms) less log longer x h.heard;
+    asked = asked-kept log longer x e.source e.query h.asked;
     counts = h.counts;
     walked = walks-on e.query h.zone h.walked;
     shown = h.shown;
@@ -92,7 +94,7 @@ same-life terms q (Neg n) (Pos k) response shown h = absurd shown
 same-life terms q (Neg n) (Neg m) response shown h = sym (ap (λ (d : NoRecords). life_in_seconds (given_of terms) q.query_type (Neg d)) (sym shown) ∙ ap (life_of terms.lives q.query_type) (same_Some _ _ h))
 same-life terms q (Neg n) (Made Filter) response shown h =
     sym (ap (life_of terms.lives q.query_type) (same_Some _ _ h))
-    ∙ ap (λ (d : NoRecords). life_of terms.lives q.query_type (Err (net.Dns (dns.NoRecordsFound d)))) shown.is
+    ∙ ap (λ (d : NoRecords). life_of terms.lives q.query_type (Err (net.Dns (dns.NoRecordsFound d)))) shown
 same-life terms q (Neg n) (Made Zone) response shown h = absurd shown
 same-life terms q (Made cause) whole response shown h = cc
 
@@ -116,6 +118,7 @@ module _ (terms : Terms) (greatest : ℕ) (log : Log) (cache : Cached) (t : Tell
         whole = counts.whole;
         early = counts.early;
         heard = counts.heard;
+        asked = counts.asked;
         counts = counts.counts;
         walked = told.walked;
         shown = v;

@@ -13,7 +13,7 @@ use Rattle.recursor_core.specs.Walk.{Goes}
 use Rattle.recursor_core.specs.Resolving.{state_want, state_steps, steps, IsSettled, SameBegun}
 use Rattle.recursor_core.specs.Derived.{WalkHolds, WalkComes, StateHolds, ResolutionHolds}
 use Rattle.recursor_core.specs.declared.counted.Counted.{Counted}
-use Rattle.recursor_core.specs.declared.reply.Reply.{Reply}
+use Rattle.recursor_types.specs.declared.reply.Reply.{Reply}
 use Rattle.recursor_core.specs.declared.resolving.State.{State}
 use Rattle.recursor_core.specs.declared.resolving.State.TheVariants.{New, Under, Done, Ended}
 use Rattle.recursor_core.specs.declared.resolving.Resolution.{Resolution}

@@ -18,7 +18,7 @@ use Rattle.resolution.specs.Ending.{is_begun, EndsSend}
 use Rattle.resolution.specs.Ending.EndsSend.{open_refused, ask_refused, open_failed, ask_failed, given_up}
 use Rattle.resolution.specs.Timing.{is_send}
 use Rattle.resolution.proofs.Caseless.{both}
-use Rattle.resolution.proofs.PlainServed.{same_ip-itself}
+use Rattle.resolution.proofs.Addresses.{same_ip-itself}
 use Rattle.server_pool.specs.Fits.{entry_for, IsSent, OutcomeIs}
 use Rattle.recursor_core.specs.Order.{IsFor, IsLost}
 use Rattle.recursor_core.specs.Tried.{BeganBy}

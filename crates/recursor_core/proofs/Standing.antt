@@ -8,7 +8,7 @@ use Rattle.dns_core.specs.declared.log.LogEntry.TheVariants.{Opened, Asked}
 use Rattle.dns_core.specs.declared.request.Question.{Question}
 use Rattle.dns_core.specs.declared.provider.ConnectionProvider.{Ghosts}
 use Rattle.resolution.specs.Given.{Given, with_patience}
-use Rattle.resolution.specs.Telling.{Logged}
+use Rattle.resolution.specs.Telling.{Logged, MomentsRise}
 use Rattle.resolution.specs.Asking.{AsksServers}
 use Rattle.resolution.proofs.Keeping.{Serves-later, Serves-extend}
 use Rattle.server_pool.specs.Fits.{Fits, GoesToServer}
@@ -24,7 +24,7 @@ use Rattle.recursor_core.specs.Setting.{with_patience as setting_with}
 use Rattle.recursor_core.specs.Machine.{Begun, begun_at, ReplyGiven, StepGives, IsNewCore}
 use Rattle.recursor_core.specs.Standing.{IsPast, Holds, Rests, Moves, ReplyTold}
 use Rattle.recursor_core.specs.Turns.{TurnFalls}
-use Rattle.recursor_core.specs.declared.options.RecursorOptions.{RecursorOptions}
+use Rattle.recursor_types.specs.declared.options.RecursorOptions.{RecursorOptions}
 use Rattle.recursor_core.specs.declared.setting.Setting.{Setting}
 use Rattle.server_pool.specs.declared.carrier.Carrier.{Carrier}
 use Rattle.recursor_core.specs.declared.machine.RecursorCore.{RecursorCore}
@@ -36,7 +36,7 @@ use Rattle.dns_core.specs.declared.errors.NoMemory.{NoMemory}
 use Rattle.server_core.specs.declared.order.Order.{Order}
 use Rattle.server_core.specs.declared.order.Order.TheVariants.{Open, Ask, Sleep}
 use Rattle.server_core.specs.declared.order.Outcome.{Outcome}
-use Rattle.recursor_core.specs.declared.reply.Reply.{Reply}
+use Rattle.recursor_types.specs.declared.reply.Reply.{Reply}
 use Rattle.server_pool.proofs.Patience.{IsPatient-refl, IsPatient-trans}
 use Rattle.recursor_core.proofs.Kept.{Derived-extends, ReplyHolds-extends}
 
@@ -47,7 +47,7 @@ pub Extends-refl : (log : Log) → Extends log log
 Extends-refl log = record { later = omega arith; kept = λ n h. refl }
 
 -- a log that extends one that extends another extends that one
-Extends-trans : {a b c : Log} → Extends a b → Extends b c → Extends a c
+pub Extends-trans : {a b c : Log} → Extends a b → Extends b c → Extends a c
 Extends-trans x y = record { later = omega (arith, x.later, y.later); kept = λ n h. y.kept n (omega (arith, h, x.later)) ∙ x.kept n h }
 
 -- a number is below another, or not
@@ -271,8 +271,9 @@ module _ {P C F E : Type 0} (p : Ghosts P C F E) where
   }
 
   -- and after it the machine is at rest again
-  pub holds_rests : (patience : ℕ) (core : RecursorCore) (c : Carrier P C F E p) → 0 < length core.setting.roots → Holds p patience core c → Rests p core c
-  holds_rests patience core c some h = record {
+  pub holds_rests : (patience : ℕ) (core : RecursorCore) (c : Carrier P C F E p) → 0 < length core.setting.roots → TellsThat (p.log c.provider) MomentsRise
+      → Holds p patience core c → Rests p core c
+  holds_rests patience core c some rises h = record {
     some = some;
     carrier = h.carrier;
     bound = λ es t. (h.derived es t).bound;
@@ -280,6 +281,7 @@ module _ {P C F E : Type 0} (p : Ghosts P C F E) where
     pools = λ es t. (h.derived es t).pools;
     asks = h.asks;
     past = h.past;
+    rises = rises;
   }
 
   -- a new machine over a provider whose log is empty is at rest
@@ -302,4 +304,5 @@ module _ {P C F E : Type 0} (p : Ghosts P C F E) where
           (subst (λ (xs : List LogEntry). Logged (log_of xs) n (Asked ip protocol q moment refused)) (empty es t) at));
     };
     past = λ es t i moment e logged is. absurd (unlogged i e (subst (λ (xs : List LogEntry). Logged (log_of xs) i e) (empty es t) logged));
+    rises = λ es t i j earlier later e f low logged after is later_is. absurd (unlogged i e (subst (λ (xs : List LogEntry). Logged (log_of xs) i e) (empty es t) logged));
   }

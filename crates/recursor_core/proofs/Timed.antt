@@ -13,7 +13,7 @@ use Rattle.resolution.specs.Timing.{DriveTimed}
 use Rattle.recursor_core.specs.Replies.{Terms, given_of, ReplyHolds}
 use Rattle.recursor_core.specs.Tried.{IsTimed, machine_timer}
 use Rattle.recursor_core.specs.Standing.{last_moment, run_moments, run_timer}
-use Rattle.recursor_core.specs.declared.reply.Reply.{Reply}
+use Rattle.recursor_types.specs.declared.reply.Reply.{Reply}
 use Rattle.recursor_core.proofs.Earlier.{outcome-earlier}
 use Rattle.recursor_core.proofs.Standing.{below_or_not}
 

@@ -18,13 +18,14 @@ use Rattle.resolution.specs.Failing.{Glueless, ends_walk}
 use Rattle.resolution.specs.declared.verdict.Verdict.TheVariants.{Neg, Made}
 use Rattle.resolution.specs.declared.verdict.Cause.{Cause}
 use Rattle.resolution.specs.declared.verdict.Cause.TheVariants.{Filter, Zone}
+use Rattle.recursor_core.specs.Asked.{AskedAs}
 use Rattle.recursor_core.specs.SameTold.{SameDenial, SameReferrals, IsMadeFor}
-use Rattle.recursor_core.specs.declared.error.AuthorityData.{AuthorityData}
-use Rattle.recursor_core.specs.declared.error.MessageKind.TheVariants.{NotQualified}
-use Rattle.recursor_core.specs.declared.error.WalkCause.{WalkCause}
-use Rattle.recursor_core.specs.declared.error.WalkCause.TheVariants as why
-use Rattle.recursor_core.specs.declared.error.RecursorError.{RecursorError}
-use Rattle.recursor_core.specs.declared.error.RecursorError.TheVariants as error
+use Rattle.recursor_types.specs.declared.error.AuthorityData.{AuthorityData}
+use Rattle.recursor_types.specs.declared.error.MessageKind.TheVariants.{NotQualified}
+use Rattle.recursor_types.specs.declared.error.WalkCause.{WalkCause}
+use Rattle.recursor_types.specs.declared.error.WalkCause.TheVariants as why
+use Rattle.recursor_types.specs.declared.error.RecursorError.{RecursorError}
+use Rattle.recursor_types.specs.declared.error.RecursorError.TheVariants as error
 
 -- what is answered for a negative that was told
 abbrev pub told_data : NoRecords → AuthorityData
@@ -39,19 +40,19 @@ abbrev pub made_data : Query → Cause → AuthorityData
 made_data q cause = record { query = q; soa = None; no_records_found = is_filter cause; nx_domain = true; authorities = [] }
 
 -- A denial rests on one entry: of the question; or of a candidate on the way, where a name that is denied ends a walk (RFC 8020). What was told
--- may read with lower TTLs, and a question that reads a denial sees it as it was first asked.
+-- may read with lower TTLs. One that the recursor made shows the question for which its entry was told, as that was asked.
 pub data IsDenied (given : Given) (log : Log) (t0 : ℕ) (q : Query) : List ℕ → AuthorityData → Type 0 where
   told : {i : ℕ} {z : DomainName} {n : NoRecords} {d : AuthorityData}
       → Base given log t0 q i z (Neg n) → Walked given log q z → n.ns ≡ None → SameDenial d (told_data n) → IsDenied given log t0 q (i ∷ []) d
   made : {i : ℕ} {z : DomainName} {cause : Cause} {p : Query}
-      → Base given log t0 q i z (Made cause) → Walked given log q z → IsMadeFor cause p q → IsDenied given log t0 q (i ∷ []) (made_data p cause)
+      → Base given log t0 q i z (Made cause) → Walked given log q z → IsMadeFor cause p q → AskedAs log i p → IsDenied given log t0 q (i ∷ []) (made_data p cause)
   told_on_the_way : {i : ℕ} {z c : DomainName} {n : NoRecords} {d : AuthorityData}
       → IsTrue given.strict → Contains (candidates (walk q)) c
       → Base given log t0 (question c 2) i z (Neg n) → Walked given log (question c 2) z → IsTrue (ends_walk (Neg n))
       → SameDenial d (told_data n) → IsDenied given log t0 q (i ∷ []) d
   made_on_the_way : {i : ℕ} {z c : DomainName} {cause : Cause} {p : Query}
       → IsTrue given.strict → Contains (candidates (walk q)) c
-      → Base given log t0 (question c 2) i z (Made cause) → Walked given log (question c 2) z → IsMadeFor cause p (question c 2)
+      → Base given log t0 (question c 2) i z (Made cause) → Walked given log (question c 2) z → IsMadeFor cause p (question c 2) → AskedAs log i p
       → IsDenied given log t0 q (i ∷ []) (made_data p cause)
 
 -- A referral rests on one entry, a negative of the question that names servers; it may read with lower TTLs.

@@ -17,7 +17,7 @@ use Rattle.resolution.specs.declared.verdict.Verdict.{Verdict}
 use Rattle.resolution.specs.declared.verdict.Verdict.TheVariants.{Pos, Neg, Made}
 use Rattle.resolution.specs.Walking.{Walked}
 use Rattle.recursor_core.specs.Replies.{Terms, given_of}
-use Rattle.recursor_core.specs.SameTold.{SameVerdict}
+use Rattle.recursor_core.specs.SameTold.{SameVerdict, ShowsAsked}
 use Rattle.recursor_core.specs.declared.counted.Counted.{Counted}
 
 -- ---- in the cache
@@ -57,6 +57,7 @@ pub record Stands (terms : Terms) (greatest t0 : ℕ) (log : Log) (q : Query) (e
   pub base : Base (given_of terms) log t0 q entry zone whole
   pub walked : Walked (given_of terms) log q zone
   pub same : SameVerdict q v whole
+  pub asked : ShowsAsked log entry q v whole
 
 -- an answer is authoritative, or was told at or after t0
 abbrev pub IsCurrentVerdict : ℕ → ℕ → Verdict → Type 0

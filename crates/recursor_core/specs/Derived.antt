@@ -20,6 +20,7 @@ use Rattle.resolution.specs.Ending.{Listed}
 use Rattle.resolution.specs.Walking.{NoCut}
 use Rattle.resolution.specs.declared.class.Class.{Class}
 use Rattle.resolution.specs.declared.class.Class.TheVariants.{Error, Code, Truncated, Negative, Foreign, Positive}
+use Rattle.recursor_core.specs.Asked.{AskedAs}
 use Rattle.recursor_core.specs.Causes.{is_lookup_error}
 use Rattle.recursor_core.specs.SameTold.{nothing_left_for}
 use Rattle.recursor_core.specs.Replies.{Terms, terms_with, given_of, ReplyHolds}
@@ -33,7 +34,7 @@ use Rattle.recursor_core.specs.declared.lookup.Ask.TheVariants as ask
 use Rattle.recursor_core.specs.declared.lookup.Lookup.{Lookup}
 use Rattle.recursor_core.specs.declared.lookup.Found.{Found}
 use Rattle.recursor_core.specs.declared.lookup.Found.TheVariants as found
-use Rattle.recursor_core.specs.declared.reply.Reply.{Reply}
+use Rattle.recursor_types.specs.declared.reply.Reply.{Reply}
 use Rattle.recursor_core.specs.declared.walk.Stage.{Stage}
 use Rattle.recursor_core.specs.declared.walk.Stage.TheVariants.{Candidate, Last}
 use Rattle.recursor_core.specs.declared.walk.Walk.{Walk}
@@ -63,13 +64,14 @@ left_of_class denied q (Code c) = None
 left_of_class denied q Truncated = None
 left_of_class denied q (Foreign r) = None
 
--- Entry i, no later than the greatest, tells an answer or a denial for the question, by a server of the zone, at this moment, at or after t0;
+-- Entry i, no later than the greatest, tells an answer or a denial for the question as it was asked, by a server of the zone, at this moment, at or after t0;
 -- the class is what the filter of answers leaves of it.
 pub record IsTold (terms : Terms) (greatest t0 : ℕ) (log : Log) (zone : DomainName) (q : Query) (entry at : ℕ) (class : Result Response DnsError) : Type 0 where
   pub outcome : ToldOutcome
   pub response : Class
   pub early : entry ≤ greatest
   pub heard : Heard (given_of terms) log entry q outcome at zone
+  pub asked : AskedAs log entry q
   pub late : t0 ≤ at
   pub is : class_of outcome q ≡ Some response
   pub left : left_of_class (denies terms.answer_filter) q response ≡ Some class

@@ -7,6 +7,9 @@ pub mod Causes
 pub mod Setting
 pub mod Replies
 pub mod Tried
+pub mod Asked
+pub mod Asking
+pub mod Delays
 pub mod Pools
 pub mod Counted
 pub mod Remembered
@@ -14,5 +17,4 @@ pub mod Derived
 pub mod Machine
 pub mod Turns
 pub mod Standing
-pub mod Options
 pub mod Recursor

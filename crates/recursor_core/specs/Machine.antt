@@ -15,14 +15,16 @@ use Rattle.recursor_core.specs.Derived.{terms_of}
 use Rattle.recursor_core.specs.Remembered.{Telling, telling_of, remembered}
 use Rattle.server_core.specs.declared.order.After.{After}
 use Rattle.server_core.specs.declared.order.After.TheVariants as after
-use Rattle.recursor_core.specs.declared.reply.Reply.{Reply}
+use Rattle.recursor_types.specs.declared.reply.Reply.{Reply}
 use Rattle.dns_core.specs.declared.errors.NoMemory.{NoMemory}
 use Rattle.recursor_core.specs.Resolving as one
-use Rattle.recursor_core.specs.Setting.{setting_of, answer_filter_of}
-use Rattle.recursor_core.specs.declared.options.RecursorOptions.{RecursorOptions}
-use Rattle.recursor_core.specs.declared.error.MessageKind.TheVariants as kind
-use Rattle.recursor_core.specs.declared.error.RecursorError.{RecursorError}
-use Rattle.recursor_core.specs.declared.error.RecursorError.TheVariants as error
+use Rattle.recursor_core.specs.Asking.{request_options_of}
+use Rattle.recursor_types.specs.Options.{answer_filter_of}
+use Rattle.recursor_core.specs.Setting.{setting_of}
+use Rattle.recursor_types.specs.declared.options.RecursorOptions.{RecursorOptions}
+use Rattle.recursor_types.specs.declared.error.MessageKind.TheVariants as kind
+use Rattle.recursor_types.specs.declared.error.RecursorError.{RecursorError}
+use Rattle.recursor_types.specs.declared.error.RecursorError.TheVariants as error
 use Rattle.recursor_core.specs.declared.resolving.Need.{Need}
 use Rattle.recursor_core.specs.declared.resolving.Need.TheVariants as need
 use Rattle.recursor_core.specs.declared.resolving.Resolution.{Resolution}
@@ -55,6 +57,11 @@ asked_at core r = asked_in (slice_get core.resolutions.items r)
 -- the request asks what the resolution at a place asks now
 abbrev pub AsksForAt : DnsRequest → RecursorCore → ℕ → Type 0
 AsksForAt request core r = asked_at core r ≡ Some request.query
+
+-- it is the request of that: with the options that all requests have
+pub record IsRequestAt (request : DnsRequest) (core : RecursorCore) (r : ℕ) : Type 0 where
+  pub asks : AsksForAt request core r
+  pub options : request.options ≡ request_options_of core.setting.context.options
 
 -- a question, and the moment at which it began
 pub record Begun : Type 0 where
@@ -127,13 +134,15 @@ Gives core log r (progress.Step s) = StepGives core log r s
 abbrev pub IsNewError : RecursorError → Type 0
 IsNewError e = (e ≡ error.Message kind.NoRoots) ⊎ (e ≡ error.Message kind.ReversedTtl) ⊎ (e ≡ error.NoMemory)
 
--- A new machine is set as the roots and the options say; its cache is empty, nothing has happened, and its pools hold by any log.
+-- A new machine is set as the roots and the options say, and so are its pools; its cache is empty, nothing has happened, and its pools hold by
+-- any log.
 pub record IsNewCore (roots : List IpAddr) (options : RecursorOptions) (core : RecursorCore) : Type 0 where
   pub setting : core.setting ≡ setting_of roots options
   pub cache : core.cache ≡ record { size = options.response_cache_size; config = options.cache_policy; entries = [] }
   pub moment : core.moment ≡ 0
   pub greatest : core.greatest ≡ 0
   pub resolutions : core.resolutions.items ≡ []
+  pub context : core.pools.shared.context ≡ core.setting.context
   pub pools : (terms : Terms) (greatest moment : ℕ) (log : Log) → terms.answer_filter ≡ answer_filter_of options → PoolsHold terms greatest moment log core.pools
 
 -- what a question is refused for as it begins

@@ -52,6 +52,10 @@ number_of pools ip = tree.get address.ghosts.cmp pools.numbers ip
 abbrev pub config_at : List Server → ℕ → Option NameServer
 config_at table n = option_map (λ server. server.config) (slice_get table n)
 
+-- the delay with which the server of a number began
+abbrev pub first_delay_at : List Server → ℕ → Option ℕ
+first_delay_at table n = option_map (λ server. server.first_delay) (slice_get table n)
+
 -- a server at the address, over UDP and TCP, that is believed what it denies
 abbrev pub server_at : IpAddr → NameServer
 server_at ip = believed ip (over_udp ∷ over_tcp ∷ [])

@@ -17,6 +17,7 @@ use Rattle.resolution.specs.Life.{life_in_seconds}
 use Rattle.resolution.specs.Serving.{Heard}
 use Rattle.resolution.specs.declared.verdict.Verdict.{Verdict}
 use Rattle.resolution.specs.Walking.{Walked}
+use Rattle.recursor_core.specs.Asked.{AskedAs}
 use Rattle.recursor_core.specs.Counted.{kept_of}
 use Rattle.recursor_core.specs.Replies.{Terms, given_of}
 use Rattle.recursor_core.specs.SameTold.{IsShown}
@@ -29,7 +30,7 @@ use Rattle.recursor_core.specs.declared.resolving.Resolution.{Resolution}
 
 -- ---- what holds of the cache
 
--- The response under a question shows the verdict of the entry that it names, told by a server of a zone to which a walk went down, and it
+-- The response under a question, as it was asked, shows the verdict of the entry that it names, told by a server of a zone to which a walk went down, and it
 -- expires no later than its life after the moment of the telling.
 pub record EntryHolds (terms : Terms) (greatest : ℕ) (log : Log) (e : Entry) : Type 0 where
   pub zone : DomainName
@@ -38,6 +39,7 @@ pub record EntryHolds (terms : Terms) (greatest : ℕ) (log : Log) (e : Entry) :
   pub whole : Verdict
   pub early : e.source ≤ greatest
   pub heard : Heard (given_of terms) log e.source e.query told moment zone
+  pub asked : AskedAs log e.source e.query
   pub counts : verdict (given_of terms) told e.query zone ≡ Some whole
   pub walked : Walked (given_of terms) log e.query zone
   pub shown : Verdict

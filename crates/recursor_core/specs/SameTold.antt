@@ -1,6 +1,7 @@
 -- The same but for TTLs, as what was told reads later (RFC 1035 section 3.2.1).
-use Rattle.std.specs.Prelude.{◌≡◌, IsTrue, List, [], Option, Some, None}
+use Rattle.std.specs.Prelude.{◌≡◌, ℕ, IsTrue, List, [], Option, Some, None}
 use Rattle.std.specs.List.{AllZip}
+use Rattle.dns_core.specs.Log.{Log}
 use Rattle.dns_core.specs.declared.message.Query.{Query}
 use Rattle.dns_core.specs.declared.net_error.NoRecords.{NoRecords}
 use Rattle.dns_core.specs.declared.net_error.ForwardNsData.{ForwardNsData}
@@ -10,7 +11,8 @@ use Rattle.resolution.specs.declared.verdict.Verdict.{Verdict}
 use Rattle.resolution.specs.declared.verdict.Verdict.TheVariants.{Pos, Neg, Made}
 use Rattle.resolution.specs.declared.verdict.Cause.{Cause}
 use Rattle.resolution.specs.declared.verdict.Cause.TheVariants.{Filter, Zone}
-use Rattle.recursor_core.specs.declared.error.AuthorityData.{AuthorityData}
+use Rattle.recursor_core.specs.Asked.{AskedAs}
+use Rattle.recursor_types.specs.declared.error.AuthorityData.{AuthorityData}
 
 -- both or none
 abbrev pub SameIfAny : {X : Type 0} → (X → X → Type 0) → Option X → Option X → Type 0
@@ -67,6 +69,14 @@ SameVerdict q _ _ = ⊥
 abbrev pub IsShown : Query → Verdict → Verdict → Type 0
 IsShown q (Pos a) (Pos b) = a ≡ b
 IsShown q (Neg a) (Neg b) = a ≡ b
-IsShown q (Neg a) (Made Filter) = IsNothingLeft q a
+IsShown q (Neg a) (Made Filter) = a ≡ nothing_left_for q
 IsShown q (Made a) (Made b) = a ≡ b
 IsShown q _ _ = ⊥
+
+-- A denial that the recursor made shows the question as it was asked: what it is read as does, or it is shown for that question.
+abbrev pub ShowsAsked : Log → ℕ → Query → Verdict → Verdict → Type 0
+ShowsAsked log i q (Pos k) whole = Unit {0}
+ShowsAsked log i q (Neg n) (Pos k) = Unit {0}
+ShowsAsked log i q (Neg n) (Neg m) = Unit {0}
+ShowsAsked log i q (Neg n) (Made cause) = AskedAs log i n.query
+ShowsAsked log i q (Made cause) whole = AskedAs log i q

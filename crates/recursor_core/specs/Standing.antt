@@ -1,14 +1,15 @@
 -- A recursor, as contracts see it, and what holds of its machine and its provider between two calls.
 use Rattle.std.specs.Prelude.{◌≡◌, ◌≤◌, ◌<◌, ℕ, false, min, max, List, [], ◌∷◌, ◌+◌, ◌==◌, map, length, Contains, if◌then◌else◌, Option, Some, None, slice_get}
 use Rattle.std.specs.declared.net.ip_addr.IpAddr.{IpAddr}
-use Rattle.dns_core.specs.Log.{Log}
+use Rattle.dns_core.specs.Log.{Log, Extends, log_of}
 use Rattle.dns_core.specs.declared.log.LogEntry.{LogEntry}
 use Rattle.dns_core.specs.declared.request.Question.{Question}
 use Rattle.dns_core.specs.declared.request.Turn.{Turn}
 use Rattle.dns_core.specs.declared.provider.ConnectionProvider.{Ghosts}
 use Rattle.resolver_settings.specs.Access.{Access}
 use Rattle.resolver_settings.specs.Ttl.{TtlTable}
-use Rattle.resolution.specs.Telling.{Logged, moment_of}
+use Rattle.server_core.specs.Context.{Context}
+use Rattle.resolution.specs.Telling.{Logged, moment_of, MomentsRise}
 use Rattle.resolution.specs.Asking.{AsksServers}
 use Rattle.resolution.specs.Timing.{known_to_drive}
 use Rattle.recursor_core.specs.Replies.{Terms, Timer, given_of, ReplyHolds}
@@ -21,20 +22,21 @@ use Rattle.recursor_core.specs.Remembered.{CacheHolds}
 use Rattle.recursor_core.specs.Machine.{Begun, begun_at}
 use Rattle.server_pool.specs.declared.carrier.Carrier.{Carrier}
 use Rattle.recursor_core.specs.declared.machine.RecursorCore.{RecursorCore}
-use Rattle.recursor_core.specs.declared.reply.Reply.{Reply}
+use Rattle.recursor_types.specs.declared.reply.Reply.{Reply}
 use Rattle.recursor_core.specs.declared.turns.Turned.{Turned}
 use Rattle.recursor_core.specs.declared.turns.Turned.TheVariants as turned
 use Rattle.recursor_core.specs.declared.turns.Played.{Played}
 use Rattle.recursor_core.specs.declared.turns.Played.TheVariants as played
 
--- a recursor: its provider, its roots, the filters of other servers and of the addresses of answers, the bounds of lives, the least patience of its
--- runs, and the greatest moment handed in so far
+-- a recursor: its provider, its roots, the filters of other servers and of the addresses of answers, the bounds of lives, what its pools are set to,
+-- the least patience of its runs, and the greatest moment handed in so far
 pub record Standing (P : Type 0) : Type 0 where
   pub provider : P
   pub roots : List IpAddr
   pub server_filter : Access
   pub answer_filter : Access
   pub lives : TtlTable
+  pub context : Context
   pub patience : ℕ
   pub moment : ℕ
 
@@ -45,6 +47,21 @@ run_terms patience recursor = record { roots = recursor.roots; server_filter = r
 -- no entry carries a later moment
 abbrev pub IsPast : ℕ → Log → Type 0
 IsPast now log = (i moment : ℕ) (e : LogEntry) → Logged log i e → moment_of e ≡ Some moment → moment ≤ now
+
+-- The moments of the entries numbered n or more do not fall.
+abbrev pub RiseFrom : ℕ → Log → Type 0
+RiseFrom n log = (i j earlier later : ℕ) (e f : LogEntry) → n ≤ i → i ≤ j → Logged log i e → Logged log j f → moment_of e ≡ Some earlier → moment_of f ≡ Some later → earlier ≤ later
+
+-- The log was told before, and goes on by entries at these moments, none before the first one, which do not fall.
+pub record LongerOver (moments : List ℕ) (from : ℕ) (old : Option (List LogEntry)) (es : List LogEntry) : Type 0 where
+  pub before : List LogEntry
+  pub was : old ≡ Some before
+  pub extends : Extends (log_of before) (log_of es)
+  pub at : (i moment : ℕ) (e : LogEntry) → (log_of before).next ≤ i → Logged (log_of es) i e → moment_of e ≡ Some moment → Contains moments moment × (from ≤ moment)
+  pub rises : RiseFrom (log_of before).next (log_of es)
+
+abbrev pub GrownOver : List ℕ → ℕ → Option (List LogEntry) → Option (List LogEntry) → Type 0
+GrownOver moments from old new = (es : List LogEntry) → new ≡ Some es → LongerOver moments from old es
 
 -- What the machine keeps is derived from the provider's log, and only servers were asked, none later than its moment. Its least
 -- patience is no greater than this one.
@@ -64,6 +81,7 @@ pub record Rests {P C F E : Type 0} (p : Ghosts P C F E) (core : RecursorCore) (
   pub pools : TellsThat (p.log c.provider) (λ log. PoolsHold (terms_of core) core.greatest core.moment log core.pools)
   pub asks : TellsThat (p.log c.provider) (AsksServers (given_of (terms_of core)))
   pub past : TellsThat (p.log c.provider) (IsPast core.moment)
+  pub rises : TellsThat (p.log c.provider) MomentsRise
 
 -- What it is set to and the questions are as before, and the log has only grown, by entries of the moment, none of which waits for an entry beyond patience.
 pub record Moves {P C F E : Type 0} (p : Ghosts P C F E) (patience now : ℕ) (core new_core : RecursorCore) (c new : Carrier P C F E p) : Type 0 where

@@ -15,6 +15,7 @@ use Rattle.resolution.specs.Ending.{EndSends, Rise, Finished}
 use Rattle.resolution.specs.Timing.{is_send}
 use Rattle.resolution.specs.declared.class.Class.{Class}
 use Rattle.resolution.specs.declared.class.Class.TheVariants.{Error, Code, Truncated, Negative, Foreign, Positive}
+use Rattle.recursor_core.specs.Asked.{AskedAs}
 use Rattle.recursor_core.specs.Replies.{Terms, Timer, given_of}
 
 -- A send of the question to the server began at the moment, by an entry that is no later than this one.
@@ -46,10 +47,10 @@ abbrev pub told_of : Answered → ToldOutcome
 told_of (Ok m) = told.Message m
 told_of (Err e) = told.Error e
 
--- Each end that is an answer or a denial was heard for the question, from a server of the zone.
+-- Each end that is an answer or a denial was heard for the question as it was asked, from a server of the zone.
 abbrev pub AreHeard : Terms → Log → DomainName → Query → List ℕ → List (End IpAddr) → List ℕ → Type 0
 AreHeard terms log zone q (n ∷ g) (e ∷ ends) (m ∷ moments) =
-    (IsTrue (is_response (class_of_answer q e.outcome)) → Heard (given_of terms) log n q (told_of e.outcome) m zone) × AreHeard terms log zone q g ends moments
+    (IsTrue (is_response (class_of_answer q e.outcome)) → Heard (given_of terms) log n q (told_of e.outcome) m zone × AskedAs log n q) × AreHeard terms log zone q g ends moments
 AreHeard terms log zone q _ _ _ = Unit {0}
 
 -- These entries ended sends of the question to some of the addresses, one after the other, since the start; the last of them came at this moment.

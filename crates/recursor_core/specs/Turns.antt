@@ -1,13 +1,13 @@
 -- How much is left of the questions of a run.
-use Rattle.std.specs.Prelude.{◌≡◌, ◌≤◌, ◌<◌, ◌+◌, ℕ, List, [], Option, Some, None, Err, slice_get, sum_by, ◌⊎◌, false}
+use Rattle.std.specs.Prelude.{◌≡◌, ◌≤◌, ◌<◌, ◌+◌, ℕ, List, [], Option, Some, None, Err, slice_get, sum_by, ◌⊎◌, Bool, true, false}
 use Rattle.std.specs.Global.{Box}
 use Rattle.dns_core.specs.declared.request.Question.{Question}
 use Rattle.server_core.specs.declared.order.Order.{Order}
 use Rattle.recursor_core.specs.Machine as machine
 use Rattle.recursor_core.specs.Machine.{rank}
-use Rattle.recursor_core.specs.declared.error.MessageKind.TheVariants as kind
-use Rattle.recursor_core.specs.declared.error.RecursorError.TheVariants as error
-use Rattle.recursor_core.specs.declared.reply.Reply.{Reply}
+use Rattle.recursor_types.specs.declared.error.MessageKind.TheVariants as kind
+use Rattle.recursor_types.specs.declared.error.RecursorError.TheVariants as error
+use Rattle.recursor_types.specs.declared.reply.Reply.{Reply}
 use Rattle.recursor_core.specs.declared.machine.RecursorCore.{RecursorCore}
 use Rattle.recursor_core.specs.declared.turns.Turned.{Turned}
 use Rattle.recursor_core.specs.declared.turns.Turned.TheVariants as turned
@@ -20,6 +20,14 @@ TurnFalls new old turned.Again = new < old
 TurnFalls new old turned.Pending = new < old
 TurnFalls new old (turned.Done reply) = new < old
 TurnFalls new old turned.Ended = new ≤ old
+
+-- the question has not begun
+abbrev pub is_waiting : Option Played → Bool
+is_waiting None = false
+is_waiting (Some played.Waiting) = true
+is_waiting (Some (played.Begun r order)) = false
+is_waiting (Some (played.Answered reply)) = false
+is_waiting (Some played.Unanswered) = false
 
 abbrev pub open_play : Played → ℕ
 open_play played.Waiting = 0

@@ -6,15 +6,15 @@ use Rattle.dns_core.specs.Name.{DomainName, last_labels}
 use Rattle.dns_core.specs.declared.message.Query.{Query}
 use Rattle.dns_core.specs.declared.net_error.NoRecords.{NoRecords}
 use Rattle.resolution.specs.Names.{question, walk as name_walked}
-use Rattle.recursor_core.specs.declared.error.RecursorError.{RecursorError}
-use Rattle.recursor_core.specs.declared.error.RecursorError.TheVariants.{Negative, ForwardNS}
+use Rattle.recursor_types.specs.declared.error.RecursorError.{RecursorError}
+use Rattle.recursor_types.specs.declared.error.RecursorError.TheVariants.{Negative, ForwardNS}
 use Rattle.dns_core.specs.declared.errors.NoMemory.{NoMemory}
 use Rattle.resolution.specs.declared.verdict.Cause.{Cause}
 use Rattle.recursor_core.specs.Causes.{told_data, made_data}
 use Rattle.recursor_core.specs.Counted.{may_answer}
 use Rattle.recursor_core.specs.Lookup as lookup
 use Rattle.recursor_core.specs.declared.counted.Counted.{Counted}
-use Rattle.recursor_core.specs.declared.reply.Reply.{Reply}
+use Rattle.recursor_types.specs.declared.reply.Reply.{Reply}
 use Rattle.recursor_core.specs.declared.walk.Stage.{Stage}
 use Rattle.recursor_core.specs.declared.walk.Stage.TheVariants.{Candidate, Last}
 use Rattle.recursor_core.specs.declared.walk.Walk.{Walk}

@@ -9,16 +9,17 @@ ghost use Rattle.server_pool.specs.Carrying.{TellsThat, Grown};
 ghost use Rattle.server_pool.specs.Patience.{IsPatient};
 ghost use Rattle.recursor_core.specs.Derived.{terms_of, Derived};
 ghost use Rattle.recursor_core.specs.Machine.{Begun, begun_at};
-ghost use Rattle.recursor_core.specs.Standing.{Holds, run_terms, PlaysHold, RepliesHold, last_moment, run_moments};
-ghost use Rattle.recursor_core.specs.Turns.{BeginsAt, ReplyOf};
-ghost use Rattle.recursor_core.specs.declared.reply.Reply.{Reply};
+ghost use Rattle.resolution.specs.Telling.{MomentsRise};
+ghost use Rattle.recursor_core.specs.Standing.{Holds, run_terms, PlaysHold, RepliesHold, last_moment, run_moments, IsPast, GrownOver};
+ghost use Rattle.recursor_core.specs.Turns.{BeginsAt, ReplyOf, is_waiting};
+ghost use Rattle.recursor_types.specs.declared.reply.Reply.{Reply};
 ghost use Rattle.dns_core.specs.declared.request.Question.{Question};
 
 use crate::machine::RecursorCore;
 use crate::recursor::Recursor;
-use crate::reply::Reply;
 use crate::turns::{Played, begun, play, take_reply};
 use dns_core::{ConnectionProvider, NoMemory, Question, Turn};
+use recursor_types::Reply;
 use server_core::Tick;
 use server_pool::Carrier;
 use std::alloc::Global;
@@ -77,7 +78,10 @@ fn finish<P: ConnectionProvider>(
     }
 }
 
-fn is_waiting(plays: &[Played], q: usize) -> bool {
+/// Whether the question at a place has not begun.
+fn is_waiting(plays: &[Played], q: usize) -> bool
+    ensures { result ≡ is_waiting (slice_get plays.now q) }
+{
     matches!(plays.get(q), Some(Played::Waiting))
 }
 
@@ -131,6 +135,7 @@ fn play_turn<P: ConnectionProvider>(
     ensures patient { IsPatient (max 1 patience) (P.log carrier.old.provider) (P.log carrier.new.provider) }
     ensures moment { core.old.moment ≤ core.new.moment }
     ensures timely { (moments : List ℕ) → Contains moments core.old.moment → Contains moments turn.now.moment → Contains moments core.new.moment }
+    ensures grown { (moments : List ℕ) → Contains moments core.old.moment → Contains moments turn.now.moment → GrownOver moments core.old.moment (P.log carrier.old.provider) (P.log carrier.new.provider) }
     ensures plays { (start : ℕ) (turns rest : List Turn) → start ≤ core.old.moment → Contains (run_moments start turns) core.old.moment → Contains (run_moments start turns) turn.now.moment → PlaysHold core.old (P.log carrier.old.provider) start turns (turn.now ∷ rest) questions.now plays.old.items
         → PlaysHold core.new (P.log carrier.new.provider) start turns rest questions.now plays.new.items }
     ensures count { vec_len plays.new ≡ vec_len plays.old }
@@ -163,6 +168,7 @@ fn play_turns<P: ConnectionProvider>(
     ensures patient { IsPatient (max 1 patience) (P.log carrier.old.provider) (P.log carrier.new.provider) }
     ensures moment { core.old.moment ≤ core.new.moment }
     ensures timely { (moments : List ℕ) → Contains moments core.old.moment → All (λ t. Contains moments t.moment) turns.now → Contains moments core.new.moment }
+    ensures grown { (moments : List ℕ) → Contains moments core.old.moment → All (λ t. Contains moments t.moment) turns.now → GrownOver moments core.old.moment (P.log carrier.old.provider) (P.log carrier.new.provider) }
     ensures plays { (start : ℕ) → start ≤ core.old.moment → Contains (run_moments start turns.now) core.old.moment → PlaysHold core.old (P.log carrier.old.provider) start turns.now turns.now questions.now plays.old.items
         → PlaysHold core.new (P.log carrier.new.provider) start turns.now [] questions.now plays.new.items }
     ensures count { vec_len plays.new ≡ vec_len plays.old }
@@ -277,6 +283,9 @@ fn answer<P: ConnectionProvider>(
     ensures holds { Holds P.ConnectionProvider patience core.new carrier.new }
     ensures setting { core.new.setting ≡ core.old.setting }
     ensures patient { IsPatient (max 1 patience) (P.log carrier.old.provider) (P.log carrier.new.provider) }
+    ensures moment { core.old.moment ≤ core.new.moment }
+    ensures timely { Contains (run_moments core.old.moment turns.now) core.new.moment }
+    ensures grown { GrownOver (run_moments core.old.moment turns.now) core.old.moment (P.log carrier.old.provider) (P.log carrier.new.provider) }
     ensures answered { IfOk result (λ replies. vec_len replies ≡ length questions.now) }
     ensures replies { IfOk result (λ replies. TellsThat (P.log carrier.new.provider) (λ log.
         RepliesHold (terms_of core.old) log core.old.moment turns.now questions.now replies.items)) }
@@ -322,11 +331,20 @@ pub fn drive<P: ConnectionProvider>(
     // No entry was waited for more often than patience allows, which is once at least, or than it was before.
     ensures patient { IsPatient (max 1 patience) (P.log recursor.old.provider) (P.log recursor.new.provider) }
 
-    // The roots, the filters and the bounds of lives stay, and the least patience is that of the runs so far.
+    // The log has grown by entries at the moments of this run, none earlier than the recursor's, and the
+    // moments of all entries do not fall. The recursor's moment is one of the run, no earlier than it was
+    // or than any entry.
+    ensures grown { GrownOver (run_moments recursor.old.moment turns.now) recursor.old.moment (P.log recursor.old.provider) (P.log recursor.new.provider) }
+    ensures rises { TellsThat (P.log recursor.new.provider) MomentsRise }
+    ensures moment { Contains (run_moments recursor.old.moment turns.now) recursor.new.moment × (recursor.old.moment ≤ recursor.new.moment) }
+    ensures past { TellsThat (P.log recursor.new.provider) (IsPast recursor.new.moment) }
+
+    // The roots, the filters, the bounds of lives and the context of pools stay, and the least patience is that of the runs so far.
     ensures roots { recursor.new.roots ≡ recursor.old.roots }
     ensures server_filter { recursor.new.server_filter ≡ recursor.old.server_filter }
     ensures answer_filter { recursor.new.answer_filter ≡ recursor.old.answer_filter }
     ensures lives { recursor.new.lives ≡ recursor.old.lives }
+    ensures context { recursor.new.context ≡ recursor.old.context }
     ensures patience { recursor.new.patience ≡ min recursor.old.patience patience }
 
     // What the provider vouches for of its log it vouched for before.

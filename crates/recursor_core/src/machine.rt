@@ -4,23 +4,23 @@ ghost use Rattle.dns_core.specs.Log.{Log, Extends};
 ghost use Rattle.server_core.specs.Order.{entry_of};
 ghost use Rattle.server_pool.specs.Fits.{Fits};
 ghost use Rattle.resolver_settings.specs.Ttl.{has_reversed};
+ghost use Rattle.recursor_core.specs.Asking.{connect_of};
 ghost use Rattle.recursor_core.specs.Setting.{with_patience};
 ghost use Rattle.recursor_core.specs.declared.lookup.Want.TheVariants as want;
 ghost use Rattle.recursor_core.specs.Pools.{PoolsHold, IsNext};
 ghost use Rattle.recursor_core.specs.Remembered.{CacheHolds, remembered};
 ghost use Rattle.recursor_core.specs.Derived.{terms_of, Derived};
-ghost use Rattle.recursor_core.specs.Machine.{need_at, order_at, asked_at, begun_at, AsksForAt, rank, GoesOn, Steps, Gives, StepGives, IsAwaited, IsNewError, IsBeginError, IsNewCore, SameCore, LookupGives, IsBegunAt, telling_at, Writes};
+ghost use Rattle.recursor_core.specs.Machine.{need_at, order_at, begun_at, IsRequestAt, rank, GoesOn, Steps, Gives, StepGives, IsAwaited, IsNewError, IsBeginError, IsNewCore, SameCore, LookupGives, IsBegunAt, telling_at, Writes};
 
-use crate::error::{MessageKind, RecursorError};
+use crate::asking::{connect_options, request_options};
 use crate::lookup::Want;
-use crate::options::RecursorOptions;
 use crate::pools::Pools;
-use crate::reply::Reply;
 use crate::resolving::{Need, Resolution, State};
 use crate::setting::Setting;
-use dns_core::{DnsRequest, DnsRequestOptions, NoMemory, Question, TryClone};
+use dns_core::{ConnectOptions, DnsRequest, NoMemory, Question, TryClone};
+use recursor_types::{MessageKind, RecursorError, RecursorOptions, Reply};
 use resolver_cache::ResponseCache;
-use server_core::{After, Order, Outcome, Tick};
+use server_core::{After, Order, Outcome, PoolContext, Tick};
 use std::alloc::Global;
 use std::net::IpAddr;
 
@@ -46,7 +46,6 @@ pub enum Progress {
 #[derive(Drop, Debug)]
 pub struct RecursorCore {
     setting: Setting,
-    options: RecursorOptions,
     cache: ResponseCache,
     resolutions: Vec<Resolution>,
     pools: Pools,
@@ -104,7 +103,6 @@ impl RecursorCore {
         let pools = Pools::new(alloc, &options)?;
         Ok(RecursorCore {
             setting,
-            options,
             cache,
             resolutions: Vec::new(alloc),
             pools,
@@ -118,6 +116,20 @@ impl RecursorCore {
         ensures { result ≡ self.now.moment }
     {
         self.moment
+    }
+
+    /// What its pools of servers are set to.
+    pub fn pool_context(&self) -> &PoolContext
+        ensures { result.now ≡ self.now.setting.context }
+    {
+        &self.setting.context
+    }
+
+    /// What each connection is opened with. It fails for want of memory alone.
+    pub fn connect_options(&self, alloc: Global) -> Result<ConnectOptions, NoMemory>
+        ensures { IfOk result (λ connect. connect ≡ connect_of self.now.setting.context.options) }
+    {
+        connect_options(alloc, self.setting.context.options())
     }
 
     /// The moment that has come.
@@ -249,7 +261,7 @@ impl RecursorCore {
     /// The present lookup of a resolution begins at the servers of its zone.
     fn begin_lookup(&mut self, alloc: Global, r: usize, request: DnsRequest) -> Result<(), NoMemory>
         requires want { need_at self.old r ≡ Need.Send want.Begin }
-        requires asks { AsksForAt request self.old r }
+        requires asks { IsRequestAt request self.old r }
         ensures falls { (p : ℕ) → OnOk result (rank p self.new < rank p self.old) }
         ensures keeps { (p : ℕ) → rank p self.new ≤ rank p self.old }
         ensures derived { (log : Log) → Derived self.old log → Derived self.new log }
@@ -286,17 +298,15 @@ impl RecursorCore {
         resolution.take_reply()
     }
 
+    /// The request of what a resolution asks now.
     fn request(&self, alloc: Global, r: usize) -> Result<DnsRequest, NoMemory>
-        ensures { IfOk result (λ request. asked_at self.now r ≡ Some request.query) }
+        ensures { IfOk result (λ request. IsRequestAt request self.now r) }
     {
         let query = match self.resolutions.get(r) {
             Some(resolution) => resolution.query(alloc)?,
             None => None,
         };
-        let mut options = DnsRequestOptions::standard();
-        options.recursion_desired = false;
-        options.edns_payload_len = self.options.edns_payload_len;
-        options.case_randomization = self.options.case_randomization;
+        let options = request_options(self.setting.context.options());
         match query {
             Some(query) => Ok(DnsRequest { query, options }),
             None => Err(NoMemory),

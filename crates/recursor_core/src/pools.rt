@@ -10,18 +10,20 @@ ghost use Rattle.server_core.specs.Order.{entry_of};
 ghost use Rattle.server_core.specs.Servers.{IsFirstDelay};
 ghost use Rattle.server_pool.specs.Fits.{Fits, GoesToServer};
 ghost use Rattle.recursor_core.specs.Replies.{Terms, given_of};
-ghost use Rattle.recursor_core.specs.Setting.{answer_filter_of};
-ghost use Rattle.recursor_core.specs.Pools.{number_of, config_at, server_at, sought_at, ServersHold, SoughtHolds, PoolsHold, IsSentOver, IsFirst, IsOf, MayTake, MayTakeBy, IsNext, is_denial, IsMet, IsGrown, HasForgotten, HasNoted, HasKept, HasLeft, noted, aim_of, sent_to, first_of, StepGoes, IsGivenFor, NotesOutcome, Seeks};
+ghost use Rattle.recursor_types.specs.Options.{answer_filter_of};
+ghost use Rattle.recursor_core.specs.Setting.{context_of};
+ghost use Rattle.recursor_core.specs.Delays.{turn_at, delay_at};
+ghost use Rattle.recursor_core.specs.Pools.{number_of, config_at, first_delay_at, server_at, sought_at, ServersHold, SoughtHolds, PoolsHold, IsSentOver, IsFirst, IsOf, MayTake, MayTakeBy, IsNext, is_denial, IsMet, IsGrown, HasForgotten, HasNoted, HasKept, HasLeft, noted, aim_of, sent_to, first_of, StepGoes, IsGivenFor, NotesOutcome, Seeks};
 ghost use Rattle.recursor_core.specs.Derived.{ArePool, AnswerHolds};
 ghost use Rattle.resolution.specs.Names.{is_above, walk};
 
-use crate::options::RecursorOptions;
-use crate::setting::answer_filter;
+use crate::setting::pool_context;
 use dns_core::{
     Delays, DnsError, DnsRequest, Message, Name, NetError, NoMemory, Numbers, Query, TryClone,
 };
-use resolver_settings::{NameServerConfig, ResolverOpts};
-use server_core::{After, NameServer, Order, Outcome, PoolContext, Sent, Tick};
+use recursor_types::RecursorOptions;
+use resolver_settings::NameServerConfig;
+use server_core::{After, NameServer, Order, Outcome, Sent, Tick};
 use server_pool::{NameServerPool, PoolLookup, PoolShared, PoolStep};
 use std::alloc::Global;
 use std::collections::BTreeMap;
@@ -76,22 +78,6 @@ pub struct Pools {
     first_delays: Delays,
     turn: usize,
     sought: BTreeMap<u64, Sought>,
-}
-
-/// How servers are asked by a recursor that is set to these options: one at a time, the fastest first,
-/// with EDNS, and without the wish that they recurse.
-fn resolver_options(alloc: Global, options: &RecursorOptions) -> Result<ResolverOpts, NoMemory>
-    ensures { IfOk result (λ resolver. resolver.timeout ≡ 5000000) }
-{
-    let mut resolver = ResolverOpts::standard(alloc)?;
-    resolver.ndots = 0;
-    resolver.edns0 = true;
-    resolver.edns_payload_len = options.edns_payload_len;
-    resolver.num_concurrent_reqs = 1;
-    resolver.recursion_desired = false;
-    resolver.case_randomization = options.case_randomization;
-    resolver.avoid_local_udp_ports = options.avoid_local_udp_ports.try_clone(alloc)?;
-    Ok(resolver)
 }
 
 /// Whether an error is a denial in place of a message.
@@ -240,10 +226,10 @@ impl Pools {
     /// Without servers. The first of them begins with the first of the delays.
     pub fn new(alloc: Global, options: &RecursorOptions) -> Result<Pools, NoMemory>
         ensures holds { (terms : Terms) (greatest moment : ℕ) (log : Log) → terms.answer_filter ≡ answer_filter_of options.now → IfOk result (PoolsHold terms greatest moment log) }
+        ensures context { IfOk result (λ pools. pools.shared.context ≡ context_of options.now) }
+        ensures delays { IfOk result (λ pools. (pools.first_delays ≡ options.now.first_delays) × (pools.turn ≡ 0)) }
     {
-        let filter = answer_filter(alloc, options)?;
-        let resolver = resolver_options(alloc, options)?;
-        let context = PoolContext::new(resolver).with_answer_filter(filter);
+        let context = pool_context(alloc, options)?;
         Ok(Pools {
             shared: PoolShared::new(alloc, context),
             numbers: BTreeMap::new(alloc),
@@ -256,6 +242,9 @@ impl Pools {
     /// The delay with which the next server begins, in microseconds.
     fn take_first_delay(&mut self) -> u8
         ensures first { IsFirstDelay result }
+        ensures delay { result ≡ delay_at self.old.first_delays (turn_at (length self.old.first_delays) self.old.turn) }
+        ensures turn { self.new.turn ≡ turn_at (length self.old.first_delays) self.old.turn + 1 }
+        ensures delays { self.new.first_delays ≡ self.old.first_delays }
         ensures same { (self.new.shared ≡ self.old.shared) × (self.new.numbers ≡ self.old.numbers) × (self.new.sought ≡ self.old.sought) }
     {
         let delays = self.first_delays.items();
@@ -271,12 +260,13 @@ impl Pools {
         }
     }
 
-    /// Makes the server of an address that has none yet.
+    /// Makes the server of an address that has none yet. It begins with the delay whose turn it is.
     fn add(&mut self, alloc: Global, ip: IpAddr) -> Result<u32, NoMemory>
         requires { number_of self.old ip ≡ None }
         ensures grown { IsGrown self.old self.new }
         ensures servers { (terms : Terms) → ServersHold terms self.old → ServersHold terms self.new }
         ensures met { IfOk result (λ number. IsMet self.new ip number) }
+        ensures delay { IfOk result (λ number. first_delay_at self.new.shared.table number ≡ Some (delay_at self.old.first_delays (turn_at (length self.old.first_delays) self.old.turn))) }
     {
         let config = NameServerConfig::udp_and_tcp(alloc, ip)?;
         let delay = self.take_first_delay();

@@ -2,22 +2,23 @@
 ghost use Rattle.std.specs.Prelude.{◌≡◌, ◌≢◌, ◌↔◌, IsTrue, false, List, [], Some, Err, IfOk, IfErr};
 ghost use Rattle.dns_core.specs.declared.log.LogEntry.{LogEntry};
 ghost use Rattle.resolver_settings.specs.Ttl.{has_reversed};
-ghost use Rattle.recursor_core.specs.Options.{has_bad_first_delays};
 ghost use Rattle.recursor_core.specs.Recursor.{IsSetupError};
-ghost use Rattle.recursor_core.specs.Setting.{server_filter_of, answer_filter_of};
+ghost use Rattle.recursor_types.specs.Options.{has_bad_first_delays, server_filter_of, answer_filter_of};
+ghost use Rattle.recursor_core.specs.Setting.{context_of};
+ghost use Rattle.recursor_core.specs.Asking.{connect_of};
 ghost use Rattle.recursor_core.specs.Standing.{Standing, Rests};
 
-use crate::error::{MessageKind, RecursorError};
 use crate::machine::RecursorCore;
-use crate::options::RecursorOptions;
-use dns_core::{ConnectOptions, ConnectionProvider, NoMemory, TryClone};
+use dns_core::{ConnectOptions, ConnectionProvider, NoMemory};
+use recursor_types::{MessageKind, RecursorError, RecursorOptions};
+use server_core::PoolContext;
 use server_pool::Carrier;
 use std::alloc::Global;
 use std::marker::Model;
 use std::net::IpAddr;
 
 /// A recursor over a provider. Contracts see the provider, the roots, the filters of other servers and of
-/// the addresses of answers, the bounds of the lives of responses, the least patience of its runs and the greatest moment handed in so
+/// the addresses of answers, the bounds of the lives of responses, what its pools are set to, the least patience of its runs and the greatest moment handed in so
 /// far. What it keeps, its cache of responses too, is derived from the provider's log.
 #[derive(Drop)]
 pub struct Recursor<P: ConnectionProvider> {
@@ -28,20 +29,9 @@ pub struct Recursor<P: ConnectionProvider> {
 impl<P: ConnectionProvider> Model for Recursor<P> {
     ghost Value = { Standing P };
 
-    ghost view = { λ a. record { provider = a.carrier.provider; roots = a.core.setting.roots; server_filter = a.core.setting.server_filter; answer_filter = a.core.setting.answer_filter; lives = a.core.setting.lives; patience = a.core.setting.patience; moment = a.core.moment } };
+    ghost view = { λ a. record { provider = a.carrier.provider; roots = a.core.setting.roots; server_filter = a.core.setting.server_filter; answer_filter = a.core.setting.answer_filter; lives = a.core.setting.lives; context = a.core.setting.context; patience = a.core.setting.patience; moment = a.core.moment } };
 
     ghost invariant = { λ a. Rests P.ConnectionProvider a.core a.carrier };
-}
-
-fn connect_options(alloc: Global, options: &RecursorOptions) -> Result<ConnectOptions, NoMemory> {
-    let avoid_local_udp_ports = options.avoid_local_udp_ports.try_clone(alloc)?;
-    Ok(ConnectOptions {
-        timeout: 5_000_000,
-        max_active_requests: 32,
-        case_randomization: options.case_randomization,
-        os_port_selection: false,
-        avoid_local_udp_ports,
-    })
 }
 
 impl<P: ConnectionProvider> Recursor<P> {
@@ -56,7 +46,7 @@ impl<P: ConnectionProvider> Recursor<P> {
         provider: P,
     ) -> Result<Recursor<P>, RecursorError>
         requires { (es : List LogEntry) → P.log provider ≡ Some es → es ≡ [] }
-        ensures ok { IfOk result (λ recursor. recursor ≡ record { provider = provider; roots = roots.now; server_filter = server_filter_of options; answer_filter = answer_filter_of options; lives = options.cache_policy; patience = 4294967295; moment = 0 }) }
+        ensures ok { IfOk result (λ recursor. recursor ≡ record { provider = provider; roots = roots.now; server_filter = server_filter_of options; answer_filter = answer_filter_of options; lives = options.cache_policy; context = context_of options; patience = 4294967295; moment = 0 }) }
         ensures no_roots { (result ≡ Err (RecursorError.Message MessageKind.NoRoots)) ↔ (roots.now ≡ []) }
         ensures reversed { (result ≡ Err (RecursorError.Message MessageKind.ReversedTtl)) ↔ ((roots.now ≢ []) × IsTrue (has_reversed options.cache_policy)) }
         ensures first_delays { (result ≡ Err (RecursorError.Message MessageKind.FirstDelays)) ↔ ((roots.now ≢ []) × (has_reversed options.cache_policy ≡ false) × IsTrue (has_bad_first_delays options.first_delays)) }
@@ -71,10 +61,10 @@ impl<P: ConnectionProvider> Recursor<P> {
         if options.has_bad_first_delays() {
             return Err(RecursorError::Message(MessageKind::FirstDelays));
         }
-        let Ok(connect) = connect_options(alloc, &options) else {
+        let Ok(core) = RecursorCore::new(alloc, roots, options) else {
             return Err(RecursorError::NoMemory);
         };
-        let Ok(core) = RecursorCore::new(alloc, roots, options) else {
+        let Ok(connect) = core.connect_options(alloc) else {
             return Err(RecursorError::NoMemory);
         };
         Ok(Recursor {
@@ -88,6 +78,29 @@ impl<P: ConnectionProvider> Recursor<P> {
         ensures { result.now ≡ self.now.provider }
     {
         self.carrier.provider()
+    }
+
+    /// What its pools of servers are set to: how servers are asked, one at a time and without the wish
+    /// that they recurse, and which addresses answers may have.
+    pub fn pool_context(&self) -> &PoolContext
+        ensures { result.now ≡ self.now.context }
+    {
+        self.core.pool_context()
+    }
+
+    /// What each connection is opened with, as the options of its pools say. It fails for want of memory
+    /// alone.
+    pub fn connect_options(&self, alloc: Global) -> Result<ConnectOptions, NoMemory>
+        ensures { IfOk result (λ connect. connect ≡ connect_of self.now.context.options) }
+    {
+        self.core.connect_options(alloc)
+    }
+
+    /// The greatest moment handed in so far, 0 at first, in microseconds.
+    pub fn moment(&self) -> u64
+        ensures { result ≡ self.now.moment }
+    {
+        self.core.moment()
     }
 
     /// Gives the provider back.

@@ -15,10 +15,9 @@ ghost use Rattle.recursor_core.specs.Machine.{rank, Begun, begun_at};
 ghost use Rattle.recursor_core.specs.Standing.{Holds, Moves, ReplyTold, TurnedTold, PlaysHold, run_moments};
 ghost use Rattle.recursor_core.specs.Turns.{TurnFalls, work, open_plays, IsBegunAt, IsUnderWay, Begins, ReplyOf};
 
-use crate::error::RecursorError;
 use crate::machine::{RecursorCore, Step};
-use crate::reply::Reply;
 use dns_core::{ConnectionProvider, NoMemory, Numbers, Question, TryClone};
+use recursor_types::{RecursorError, Reply};
 use server_core::{After, Order, Outcome, Tick};
 use server_pool::Carrier;
 use std::alloc::Global;

@@ -17,14 +17,13 @@ ghost use Rattle.recursor_core.specs.declared.lookup.Want.TheVariants as want;
 ghost use Rattle.recursor_core.specs.Derived.{FoundHolds, WayHolds, WalkHolds, WalkComes, LeavesBehind};
 
 use crate::counted::{Counted, kept_of};
-use crate::error::{AuthorityData, RecursorError, WalkCause};
 use crate::lookup::{Ask, Found, Lookup};
 use crate::pools::Pools;
-use crate::reply::Reply;
 use dns_core::{
     DnsClass, DnsError, DnsRequest, Ips, Message, Name, NetError, NoMemory, NoRecords, Numbers,
     Query, Question, RecordType, Records, TryClone, strip,
 };
+use recursor_types::{AuthorityData, RecursorError, Reply, WalkCause};
 use recursor_walk::{addresses, is_delegation, verdict_of_class};
 use resolution::{Cause, Verdict};
 use resolver_cache::ResponseCache;

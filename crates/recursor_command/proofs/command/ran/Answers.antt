@@ -1,13 +1,14 @@
 use Rattle.std.proofs.Common.{◌≡◌, ◌∙◌, min, List, length, refl, ap, subst, arith}
 use Rattle.dns_core.specs.declared.request.Question.{Question}
-use Rattle.recursor_core.specs.Setting.{server_filter_of, answer_filter_of}
+use Rattle.recursor_types.specs.Options.{server_filter_of, answer_filter_of}
 use Rattle.recursor_core.specs.Standing.{run_terms}
-use Rattle.recursor_core.specs.declared.reply.Reply.{Reply}
+use Rattle.recursor_types.specs.declared.reply.Reply.{Reply}
 use Rattle.recursor_world.specs.Script.{Gives}
 use Rattle.recursor_world.specs.Upstream.{Upstream, told_by}
 use Rattle.recursor_world.specs.declared.script.Script.{Script}
 use Rattle.recursor_command.specs.Command.{script_of, terms_of}
-use Rattle.recursor_command.proofs.Runs.{terms-are, asks-of, replies-of}
+use Rattle.recursor_command.proofs.Qualified.{script_qualified}
+use Rattle.recursor_command.proofs.Runs.{terms-are, asks-of, replies-of, moments-of, rises-of, patient-of}
 use Rattle.recursor_command.proofs.command.ran.Goals as goal
 
 pub returns : goal.returns
@@ -32,4 +33,19 @@ returns c =
       asks = asks-of (terms_of s) (run_terms p r) log (told_by provider) terms is (c.drive.ensures.asks (told_by provider) refl);
       replies = replies-of (terms_of s) (run_terms p r) log (told_by provider) r.moment s.turns c.items-2.result.now s.questions c.items.result.now c.new.result c.in_ok-replies.replies.items
           terms is new.3 c.items-2.ensures c.items.ensures c.new.ensures (c.in_ok-replies.ensures.replies (told_by provider) refl);
+      moments = moments-of log (told_by provider) (told_by r.provider) r.moment s.turns c.items-2.result.now is new.7 new.3 c.items-2.ensures (c.drive.ensures.grown (told_by provider) refl);
+      rises = rises-of log (told_by provider) is (c.drive.ensures.rises (told_by provider) refl);
+      patient = patient-of log (told_by provider) (told_by r.provider) p s.patience is new.7 c.first_patience.ensures.same (c.drive.ensures.patient (told_by provider) refl);
     }
+
+pub recursor_over-requires-clause-qualified : goal.recursor_over-requires-clause-qualified
+recursor_over-requires-clause-qualified c = rw c.script_from-script.ensures (script_qualified c.args.scenario.upstream c.requires.rules)
+
+pub recursor_over-requires-clause-rooted : goal.recursor_over-requires-clause-rooted
+recursor_over-requires-clause-rooted c = c.requires.rooted
+
+pub recursor_over-requires-clause-ordered : goal.recursor_over-requires-clause-ordered
+recursor_over-requires-clause-ordered c = c.requires.ordered
+
+pub recursor_over-requires-clause-delayed : goal.recursor_over-requires-clause-delayed
+recursor_over-requires-clause-delayed c = c.requires.delayed

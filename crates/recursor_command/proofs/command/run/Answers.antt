@@ -2,7 +2,7 @@ use Rattle.std.proofs.Common.{ℕ, List, Err, inl, inr, refl, sym, ap, ◌∙◌
 use Rattle.recursor_command.specs.Faults.{fault_text}
 use Rattle.recursor_command.specs.declared.faults.Fault.TheVariants.{Memory, Read, Words}
 use Rattle.recursor_command.specs.Command.{HasRefused, IsTextFor}
-use Rattle.recursor_command.proofs.Held.{refused_held, text_held, memory_fits, part_fits, text_of_run, text_of_refusal}
+use Rattle.recursor_command.proofs.Held.{refused_held, text_held, memory_fits, part_fits, text_of_run, text_of_refusal, nothing_taken}
 use Rattle.recursor_command.proofs.command.run.Goals as goal
 
 pub returns-in-Ok-clause-scenario : goal.returns-in-Ok-clause-scenario
@@ -32,3 +32,6 @@ pub returns-then-not-are_words-clause-write : goal.returns-then-not-are_words-cl
 returns-then-not-are_words-clause-write g c = λ is.
     let part = c.tell.ensures.part is in
     (part.0, (fault_text Words, text_of_refusal _ _ _ _ (sym c.are_words.ensures ∙ c.if-not-are_words.true), part.1))
+
+pub returns-then-not-are_words-clause-bound : goal.returns-then-not-are_words-clause-bound
+returns-then-not-are_words-clause-bound g c = nothing_taken 16777217 _ _ refl

@@ -6,7 +6,9 @@ use Rattle.recursor_core.specs.declared.setting.Setting.{Setting}
 use Rattle.recursor_core.specs.Replies.{terms_with}
 use Rattle.server_pool.proofs.Patience.{IsPatient-trans}
 use Rattle.recursor_core.proofs.Playing.{plays_wait, replies_hold}
-use Rattle.recursor_core.proofs.Timed.{run_first, run_turns, run_last, contains_max}
+use Rattle.recursor_core.proofs.Timed.{run_first, run_turns, run_last, contains_max, contains_moment}
+use Rattle.recursor_core.proofs.Moments.{over_refl, over_one, over_trans}
+use Rattle.recursor_core.proofs.Standing.{Grown-trans, moments_then, moment_later}
 use Rattle.recursor_core.proofs.driving.answer.Goals as goal
 
 pub returns-clause-replies : goal.returns-clause-replies
@@ -38,3 +40,54 @@ returns-clause-replies g c =
 pub returns-clause-patient : goal.returns-clause-patient
 returns-clause-patient g c =
     IsPatient-trans _ _ _ _ c.play_turns-current.ensures.patient (IsPatient-trans _ _ _ _ c.finish.ensures.patient c.play_rest.ensures.patient)
+
+pub returns-in_err-plays-clause-timely : goal.returns-in_err-plays-clause-timely
+returns-in_err-plays-clause-timely g c = run_first c.args.core.now.moment c.args.turns.now
+
+pub returns-in_err-plays-clause-grown : goal.returns-in_err-plays-clause-grown
+returns-in_err-plays-clause-grown g c =
+    over_refl (run_moments c.args.core.now.moment c.args.turns.now) c.args.core.now.moment (g.P.ConnectionProvider.log c.args.carrier.now.provider)
+
+pub returns-clause-moment : goal.returns-clause-moment
+returns-clause-moment g c =
+    let start = c.args.core.now.moment in
+    let mid = c.play_turns-current.new.core.moment in
+    let now = c.max-now.result in
+    let due : mid ≤ now = omega (arith, c.max-now.ensures, c.moment-2.ensures) in
+    let end = c.play_rest.new.core.moment in
+    let later : mid ≤ end = moment_later mid end now due (moments_then mid c.finish.new.core.moment end now c.finish.ensures.moment c.play_rest.ensures.moment) in
+    omega (arith, later, c.play_turns-current.ensures.moment)
+
+pub returns-clause-timely : goal.returns-clause-timely
+returns-clause-timely g c =
+    let start = c.args.core.now.moment in
+    let turns = c.args.turns.now in
+    let moments = run_moments start turns in
+    let mid = c.play_turns-current.new.core.moment in
+    let now = c.max-now.result in
+    let last : c.last_moment-last.result ≡ last_moment start turns = rw c.moment.ensures at c.last_moment-last.ensures in
+    let is : max (last_moment start turns) mid ≡ now = omega (arith, last, c.max-now.ensures, c.moment-2.ensures) in
+    let turned = c.play_turns-current.ensures.timely moments (run_first start turns) (run_turns start turns) in
+    let one : Contains moments now = subst (Contains moments) is (contains_max moments (last_moment start turns) mid (run_last start turns) turned) in
+    contains_moment moments mid c.play_rest.new.core.moment now
+    (moments_then mid c.finish.new.core.moment c.play_rest.new.core.moment now c.finish.ensures.moment c.play_rest.ensures.moment) turned one
+
+pub returns-clause-grown : goal.returns-clause-grown
+returns-clause-grown g c =
+    let start = c.args.core.now.moment in
+    let turns = c.args.turns.now in
+    let moments = run_moments start turns in
+    let log = g.P.ConnectionProvider.log in
+    let mid = c.play_turns-current.new.core.moment in
+    let now = c.max-now.result in
+    let first = log c.args.carrier.now.provider in
+    let turned_to = log c.play_turns-current.new.carrier.provider in
+    let told = log c.play_rest.new.carrier.provider in
+    let last : c.last_moment-last.result ≡ last_moment start turns = rw c.moment.ensures at c.last_moment-last.ensures in
+    let is : max (last_moment start turns) mid ≡ now = omega (arith, last, c.max-now.ensures, c.moment-2.ensures) in
+    let due : mid ≤ now = omega (arith, is) in
+    let turned = c.play_turns-current.ensures.timely moments (run_first start turns) (run_turns start turns) in
+    let one : Contains moments now = subst (Contains moments) is (contains_max moments (last_moment start turns) mid (run_last start turns) turned) in
+    over_trans moments start mid first turned_to told c.play_turns-current.ensures.moment c.play_turns-current.ensures.holds.past
+    (c.play_turns-current.ensures.grown moments (run_first start turns) (run_turns start turns))
+    (over_one moments mid now turned_to told one due (Grown-trans now turned_to (log c.finish.new.carrier.provider) told c.finish.ensures.grown c.play_rest.ensures.grown))

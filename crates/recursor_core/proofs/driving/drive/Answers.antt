@@ -1,6 +1,7 @@
 use Rattle.std.proofs.Common.{◌<◌, ◌∙◌, ℕ, length, IfOk, sym, subst}
 use Rattle.server_pool.specs.Carrying.{TellsThat}
-use Rattle.recursor_core.specs.Standing.{Standing, run_terms, RepliesHold}
+use Rattle.recursor_core.specs.Standing.{Standing, run_terms, run_moments, RepliesHold, IsPast}
+use Rattle.recursor_core.proofs.Moments.{rises_over}
 use Rattle.recursor_core.specs.Replies.{terms_with}
 use Rattle.recursor_core.specs.Setting.{with_patience}
 use Rattle.recursor_core.specs.declared.setting.Setting.{Setting}
@@ -17,7 +18,13 @@ pub invariant_of-recursor : goal.invariant_of-recursor
 invariant_of-recursor g c =
     let same = c.answer.ensures.setting ∙ c.clear.ensures.setting in
     let some : 0 < length c.answer.new.core.setting.roots = subst (λ (held : Setting). 0 < length held.roots) (sym same) c.recursor.invariant.some in
-    holds_rests g.P.ConnectionProvider c.args.patience c.answer.new.core c.answer.new.carrier some c.answer.ensures.holds
+    let log = g.P.ConnectionProvider.log in
+    let was = c.recursor.inside in
+    let start = c.clear.new.self.moment in
+    let old = log was.carrier.provider in
+    let past = subst (λ (m : ℕ). TellsThat old (IsPast m)) (sym c.clear.ensures.same.1) c.recursor.invariant.past in
+    let rises = rises_over (run_moments start c.args.turns.now) start old (log c.answer.new.carrier.provider) past c.recursor.invariant.rises c.answer.ensures.grown in
+    holds_rests g.P.ConnectionProvider c.args.patience c.answer.new.core c.answer.new.carrier some rises c.answer.ensures.holds
 
 pub returns-clause-replies : goal.returns-clause-replies
 returns-clause-replies g c =
@@ -34,3 +41,11 @@ returns-clause-replies g c =
     subst (λ (s : Standing _). IfOk c.answer.result (λ replies. TellsThat told (λ log.
     RepliesHold (run_terms patience s) log s.moment c.args.turns.now c.args.questions.now replies.items))) c.recursor.view_is
     by_moment
+
+pub returns-clause-rises : goal.returns-clause-rises
+returns-clause-rises g c =
+    let log = g.P.ConnectionProvider.log in
+    let start = c.clear.new.self.moment in
+    let old = log c.recursor.inside.carrier.provider in
+    let past = subst (λ (m : ℕ). TellsThat old (IsPast m)) (sym c.clear.ensures.same.1) c.recursor.invariant.past in
+    rises_over (run_moments start c.args.turns.now) start old (log c.answer.new.carrier.provider) past c.recursor.invariant.rises c.answer.ensures.grown

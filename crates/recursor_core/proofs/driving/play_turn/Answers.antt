@@ -2,8 +2,10 @@ use Rattle.std.proofs.Common.{◌≡◌, ◌≤◌, ◌+◌, ◌-◌, ◌∷◌,
 use Rattle.server_pool.proofs.Patience.{IsPatient-trans}
 use Rattle.recursor_core.proofs.Standing.{holds_derived, moment_later}
 use Rattle.recursor_core.proofs.Playing.{plays_skip, plays_turn}
-use Rattle.recursor_core.specs.Standing.{run_moments}
+use Rattle.server_pool.specs.Carrying.{TellsThat}
+use Rattle.recursor_core.specs.Standing.{run_moments, IsPast}
 use Rattle.recursor_core.proofs.Timed.{contains_max, contains_moment}
+use Rattle.recursor_core.proofs.Moments.{over_refl, over_one, over_trans}
 use Rattle.recursor_core.proofs.driving.play_turn.Goals as goal
 
 pub returns-then-turn-eq0-clause-plays : goal.returns-then-turn-eq0-clause-plays
@@ -30,6 +32,28 @@ returns-clause-timely g c moments was here =
     let one : Contains moments now = subst (Contains moments) is (contains_max moments c.args.turn.now.moment core.moment here still) in
     contains_moment moments begun.moment new.moment now c.play-played.ensures.moment
     (contains_moment moments core.moment begun.moment now c.begin_one.ensures.moment still one) one
+
+pub returns-then-turn-eq0-clause-grown : goal.returns-then-turn-eq0-clause-grown
+returns-then-turn-eq0-clause-grown g c moments was here =
+    over_refl moments c.args.core.now.moment (g.P.ConnectionProvider.log c.args.carrier.now.provider)
+
+pub returns-clause-grown : goal.returns-clause-grown
+returns-clause-grown g c moments was here =
+    let log = g.P.ConnectionProvider.log in
+    let start = c.args.core.now.moment in
+    let core = c.make_way-next.new.core in
+    let now = c.max-now.result in
+    let first = log c.args.carrier.now.provider in
+    let way = log c.make_way-next.new.carrier.provider in
+    let last = log c.play-played.new.carrier.provider in
+    let still : Contains moments core.moment = subst (Contains moments) (sym c.make_way-next.ensures.moment) was in
+    let is : max c.args.turn.now.moment core.moment ≡ now = omega (arith, c.max-now.ensures, c.moment.ensures) in
+    let one : Contains moments now = subst (Contains moments) is (contains_max moments c.args.turn.now.moment core.moment here still) in
+    let come : start ≤ now = omega (arith, is, c.make_way-next.ensures.moment) in
+    let past = subst (λ m. TellsThat way (IsPast m)) c.make_way-next.ensures.moment c.make_way-next.ensures.holds.past in
+    over_trans moments start start first way last (omega arith) past
+    (over_one moments start start first way was (omega arith) c.make_way-next.ensures.grown)
+    (over_one moments start now way last one come c.play-played.ensures.moves.grown)
 
 pub returns-clause-plays : goal.returns-clause-plays
 returns-clause-plays g c start turns rest after was here h =

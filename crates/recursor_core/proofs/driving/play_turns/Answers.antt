@@ -4,6 +4,7 @@ use Rattle.std.proofs.lemmas.List.{drop_more}
 use Rattle.dns_core.specs.declared.request.Turn.{Turn}
 use Rattle.recursor_core.specs.Standing.{PlaysHold, run_moments}
 use Rattle.recursor_core.proofs.Timed.{run_turns}
+use Rattle.recursor_core.proofs.Moments.{over_trans}
 use Rattle.server_pool.proofs.Patience.{IsPatient-trans}
 use Rattle.recursor_core.proofs.driving.play_turns.Goals as goal
 
@@ -23,6 +24,9 @@ loop-turn-preserved g c =
       patient = IsPatient-trans _ _ _ _ i.patient e.patient;
       moment = omega (arith, came, e.moment);
       timely = λ moments was all. e.timely moments (i.timely moments was all) (all n _ within);
+      grown = λ moments was all. over_trans moments c.args.core.now.moment c.loop-turn.core.moment (g.P.ConnectionProvider.log c.args.carrier.now.provider) told
+          (g.P.ConnectionProvider.log c.play_turn-current.new.carrier.provider) came i.holds.past (i.grown moments was all)
+          (e.grown moments (i.timely moments was all) (all n _ within));
       plays = λ start after was h. e.plays start turns (drop (n + 1) turns) (omega (arith, after, came))
           (i.timely (run_moments start turns) was (run_turns start turns)) (run_turns start turns n _ within)
           (subst (λ (ts : List Turn). PlaysHold c.loop-turn.core told start turns ts c.args.questions.now c.loop-turn.plays.items)

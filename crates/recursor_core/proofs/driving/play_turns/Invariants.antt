@@ -1,7 +1,7 @@
 use Rattle.std.proofs.Common.{◌≡◌, ◌≤◌, ℕ, max, List, All, Contains, drop, vec_len}
 use Rattle.dns_core.specs.declared.log.LogEntry.{LogEntry}
 use Rattle.server_pool.specs.Patience.{IsPatient}
-use Rattle.recursor_core.specs.Standing.{Holds, PlaysHold, run_moments}
+use Rattle.recursor_core.specs.Standing.{Holds, PlaysHold, run_moments, GrownOver}
 use Rattle.recursor_core.proofs.driving.play_turns.Given as goal
 
 abbrev pub invariant-loop-turn : goal.invariant-loop-turn
@@ -12,6 +12,8 @@ invariant-loop-turn g l = record {
   patient : IsPatient (max 1 l.patience) (g.P.ConnectionProvider.log l.fn.carrier.provider) (g.P.ConnectionProvider.log l.carrier.provider);
   moment : l.fn.core.moment ≤ l.core.moment;
   timely : (moments : List ℕ) → Contains moments l.fn.core.moment → All (λ t. Contains moments t.moment) l.turns → Contains moments l.core.moment;
+  grown : (moments : List ℕ) → Contains moments l.fn.core.moment → All (λ t. Contains moments t.moment) l.turns
+      → GrownOver moments l.fn.core.moment (g.P.ConnectionProvider.log l.fn.carrier.provider) (g.P.ConnectionProvider.log l.carrier.provider);
   plays : (start : ℕ) → start ≤ l.fn.core.moment → Contains (run_moments start l.turns) l.fn.core.moment
       → PlaysHold l.fn.core (g.P.ConnectionProvider.log l.fn.carrier.provider) start l.turns l.turns l.questions l.fn.plays.items
       → PlaysHold l.core (g.P.ConnectionProvider.log l.carrier.provider) start l.turns (drop l.turn-index l.turns) l.questions l.plays.items;

@@ -1,6 +1,6 @@
 use Rattle.std.proofs.Common.{◌≡◌, ◌∙◌, ℕ, Option, length, arith, subst, slice_get}
 use Rattle.recursor_core.specs.Turns.{ReplyOf}
-use Rattle.recursor_core.specs.declared.reply.Reply.{Reply}
+use Rattle.recursor_types.specs.declared.reply.Reply.{Reply}
 use Rattle.recursor_core.specs.declared.turns.Played.{Played}
 use Rattle.recursor_core.proofs.Playing.{each_push}
 use Rattle.recursor_core.proofs.driving.replies.Goals as goal

@@ -1,6 +1,6 @@
 use Rattle.std.proofs.Common.{◌≡◌, ◌≤◌, ℕ, Some, slice_get, vec_len}
 use Rattle.recursor_core.specs.Turns.{ReplyOf}
-use Rattle.recursor_core.specs.declared.reply.Reply.{Reply}
+use Rattle.recursor_types.specs.declared.reply.Reply.{Reply}
 use Rattle.recursor_core.proofs.driving.replies.Given as goal
 
 abbrev pub invariant-loop-place : goal.invariant-loop-place

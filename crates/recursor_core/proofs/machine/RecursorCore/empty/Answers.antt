@@ -1,4 +1,5 @@
-use Rattle.std.proofs.Common.{refl}
+use Rattle.std.proofs.Common.{refl, sym, ap, ◌∙◌}
+use Rattle.recursor_core.specs.declared.setting.Setting.{Setting}
 use Rattle.recursor_core.proofs.machine.RecursorCore.empty.Goals as goal
 
 pub returns : goal.returns
@@ -9,5 +10,6 @@ returns c =
       moment = refl;
       greatest = refl;
       resolutions = c.new-3.ensures.items;
+      context = c.in_ok-pools.ensures.context ∙ sym (ap (λ (held : Setting). held.context) c.in_ok-setting.ensures);
       pools = c.in_ok-pools.ensures.holds;
     }

@@ -8,7 +8,7 @@ use Rattle.server_core.specs.Servers.{Server}
 use Rattle.server_pool.specs.Shared.{Shared}
 use Rattle.recursor_core.specs.Pools.{config_at}
 use Rattle.recursor_core.proofs.Pooling.{config-before, servers-by, servers-same}
-use Rattle.recursor_core.proofs.Meeting.{met-last, servers-added}
+use Rattle.recursor_core.proofs.Meeting.{met-last, delayed-last, servers-added}
 use Rattle.recursor_core.proofs.pools.Pools.add.Goals as goal
 
 pub returns-in_err-server-clause-servers : goal.returns-in_err-server-clause-servers
@@ -56,3 +56,14 @@ returns-clause-met c =
     let number = c.in_ok-number.ensures.number ∙ ap (λ (s : Shared). length s.table) same.0 in
     let config = ap (λ (s : Server). s.config) c.in_ok-server.ensures ∙ c.in_ok-config.ensures in
     met-last core.shared.table c.add.new.self.table server c.args.ip c.in_ok-number.number table number config
+
+pub returns-clause-delay : goal.returns-clause-delay
+returns-clause-delay c =
+    let same = c.take_first_delay-delay.ensures.same in
+    let core = c.args.self.now in
+    let server = c.in_ok-server.server in
+    let shared = c.in_ok-number.ensures.ok ∙ ap (λ (s : Shared). let new : Shared = record s { table = s.table ++ server ∷ [] } in new) same.0 in
+    let table = ap (λ (s : Shared). s.table) shared in
+    let number = c.in_ok-number.ensures.number ∙ ap (λ (s : Shared). length s.table) same.0 in
+    let first = ap (λ (s : Server). s.first_delay) c.in_ok-server.ensures ∙ c.take_first_delay-delay.ensures.delay in
+    delayed-last core.shared.table c.add.new.self.table server c.in_ok-number.number _ table number first

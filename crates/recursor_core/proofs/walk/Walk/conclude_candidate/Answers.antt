@@ -10,9 +10,9 @@ use Rattle.recursor_core.specs.Replies.{Terms}
 use Rattle.recursor_core.specs.Tried.{Concluded}
 use Rattle.recursor_core.specs.Derived.{WalkComes}
 use Rattle.recursor_core.specs.declared.walk.Walk.{Walk}
-use Rattle.recursor_core.specs.declared.error.RecursorError.TheVariants.{NoNameServer}
-use Rattle.recursor_core.specs.declared.error.WalkCause.TheVariants.{Timeout}
-use Rattle.recursor_core.specs.declared.reply.Reply.{Reply}
+use Rattle.recursor_types.specs.declared.error.RecursorError.TheVariants.{NoNameServer}
+use Rattle.recursor_types.specs.declared.error.WalkCause.TheVariants.{Timeout}
+use Rattle.recursor_types.specs.declared.reply.Reply.{Reply}
 use Rattle.recursor_core.proofs.Denials.{stops}
 use Rattle.recursor_core.proofs.Walks.{timed-out, leaves-failed}
 use Rattle.recursor_core.proofs.walk.Walk.conclude_candidate.Goals.{in-Timeout, in_default}

@@ -1,4 +1,4 @@
-use Rattle.recursor_core.specs.declared.error.RecursorError.TheVariants.{Net}
+use Rattle.recursor_types.specs.declared.error.RecursorError.TheVariants.{Net}
 use Rattle.recursor_core.proofs.Denials.{denies, has-failed}
 use Rattle.recursor_core.proofs.Walks.{walked-at-last}
 use Rattle.recursor_core.proofs.walk.Walk.conclude_last.Goals as goal

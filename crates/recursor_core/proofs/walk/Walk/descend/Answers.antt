@@ -1,7 +1,7 @@
 use Rattle.std.proofs.Common.{◌∙◌, sym, subst, refl, List, [], length, ◌<◌, ◌↔◌, Contains, Err, arith}
 use Rattle.std.proofs.lemmas.Bool.Decides.{nat_tests}
-use Rattle.recursor_core.specs.declared.error.RecursorError.TheVariants.{NoNameServer}
-use Rattle.recursor_core.specs.declared.error.WalkCause.TheVariants.{NoAddress}
+use Rattle.recursor_types.specs.declared.error.RecursorError.TheVariants.{NoNameServer}
+use Rattle.recursor_types.specs.declared.error.WalkCause.TheVariants.{NoAddress}
 use Rattle.resolution.specs.declared.verdict.Verdict.TheVariants.{Pos}
 use Rattle.resolution.specs.Serving.{allowed, glue}
 use Rattle.resolver_settings.specs.Access.{Access, denies}
