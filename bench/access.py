@@ -2,34 +2,35 @@
 
     python3 bench/access.py PROGRAM
 
-PROGRAM is crates/settings_tests/out/settings_tests_tests, as `rt test` in that crate builds it. Each time is the
-least of 200 runs of one test, less that of a test that asks two addresses, so the start of a process is not in it. The
-time grows with the addresses and with the networks alone: twice of both should take four times as long. Prints a line
-each, and exits 1 where an address takes more than 10 microseconds, or the second more than 6 times as long as the first."""
+PROGRAM is crates/bench_program/out/bench_program, as `rt run` in that crate builds it. Each time is the least of 200
+runs, less that of one that asks no address, so the start of a process is not in it. The time grows with the addresses
+and with the networks alone: twice of both should take four times as long. Prints a line each, and exits 1 where an
+address takes more than 10 microseconds, or the second more than 6 times as long as the first."""
 import subprocess
 import sys
 import time
 
-FEW = "access_tests::a_set_that_denies_nothing_allows_all"
-ONCE = "access_tests::ten_thousand_addresses_meet_the_recommended_networks"
-TWICE = "access_tests::twenty_thousand_addresses_meet_each_network_twice"
+# How many sets of the networks are denied, and how often 10,000 addresses are gone over.
+NONE = ["access", "1", "0"]
+ONCE = ["access", "1", "1"]
+TWICE = ["access", "2", "2"]
 
 
-def best(program, test, runs):
+def best(program, words, runs):
     least = None
     for _ in range(runs):
         t = time.perf_counter()
-        done = subprocess.run([program, test], stdout=subprocess.DEVNULL, stderr=subprocess.DEVNULL)
+        done = subprocess.run([program] + words, stdout=subprocess.DEVNULL, stderr=subprocess.DEVNULL)
         t = time.perf_counter() - t
         if done.returncode != 0:
-            sys.exit("%s %s ended with status %d" % (program, test, done.returncode))
+            sys.exit("%s %s ended with status %d" % (program, " ".join(words), done.returncode))
         least = t if least is None else min(least, t)
     return least
 
 
 def main():
     program = sys.argv[1]
-    start = best(program, FEW, 200)
+    start = best(program, NONE, 200)
     once, twice = best(program, ONCE, 200) - start, best(program, TWICE, 200) - start
     print("start of a process: %.3f ms" % (start * 1e3))
     print("10,000 addresses, 22 networks: %.3f ms, %.0f ns an address" % (once * 1e3, once * 1e5))

@@ -2,10 +2,10 @@
 
     python3 bench/cache.py PROGRAM
 
-PROGRAM is crates/cost_tests/out/cost_tests_tests, as `rt test` in that crate builds it. Of each world one
-test drives a question once, one 2,000 times, each in a run of its own and after the first from the cache, and one 2,000
-times with a cache of size 0, so that it is walked for each time. Each time is the least of 40 runs of one test, less
-that of the first test: the start of the process and reading the scenario are not in it. In the small world each of the
+PROGRAM is crates/bench_program/out/bench_program, as `rt run` in that crate builds it. In each world a question is
+driven once, 2,000 times, each in a run of its own and after the first from the cache, and 2,000 times with a cache of
+size 0, so that it is walked for each time. Each time is the least of 40 runs of the program, less that of the first:
+the start of the process and reading the scenario are not in it. In the small world each of the
 three zones has one server, and the question is for the name of the last zone. The other has the shape of the DNS: 13
 roots, a delegation of com. to 13 servers and one of example.com. to 4, each with an address of IPv4 and one of IPv6, and
 a question for www.example.com. Prints two lines each, the second with the instructions where valgrind is installed, and
@@ -17,7 +17,7 @@ import sys
 import time
 
 RUNS = 2000
-WORLDS = (("one server a zone", "a_question"), ("shape of the DNS", "a_question_of_the_dns"))
+WORLDS = (("one server a zone", "small"), ("shape of the DNS", "dns"))
 
 
 def run(command):
@@ -27,25 +27,25 @@ def run(command):
     return done.stderr.decode()
 
 
-def seconds(program, test):
+def seconds(program, words):
     least = None
     for _ in range(40):
         t = time.perf_counter()
-        run([program, test])
+        run([program] + words)
         t = time.perf_counter() - t
         least = t if least is None else min(least, t)
     return least
 
 
-def instructions(program, test):
-    told = run(["valgrind", "--tool=callgrind", "--callgrind-out-file=/dev/null", program, test])
+def instructions(program, words):
+    told = run(["valgrind", "--tool=callgrind", "--callgrind-out-file=/dev/null", program] + words)
     return int(re.search(r"Collected : (\d+)", told).group(1))
 
 
 def compare(measure, program, name):
-    once = measure(program, "cost_tests::%s_is_answered_once" % name)
-    cached = (measure(program, "cost_tests::%s_is_answered_from_the_cache" % name) - once) / (RUNS - 1)
-    walked = (measure(program, "cost_tests::%s_is_walked_for" % name) - once) / (RUNS - 1)
+    once = measure(program, [name, "1"])
+    cached = (measure(program, [name, str(RUNS)]) - once) / (RUNS - 1)
+    walked = (measure(program, [name + "-unkept", str(RUNS)]) - once) / (RUNS - 1)
     return cached, walked, walked / cached
 
 

@@ -2,11 +2,11 @@
 
     python3 bench/zones.py PROGRAM
 
-PROGRAM is crates/cost_tests/out/cost_tests_tests, as `rt test` in that crate builds it. Of each way one test
-drives a question once, and one 2,000 times, each in a run of its own and with a cache of size 0, so that it goes down all
-zones each time. Each zone, the root included, has one server; the question is for the name of the last. Each time is that
-of the processor, the least of 20 runs of one test, less that of the test with one question: the start of the process and
-reading the script are not in it. Prints a table, with the instructions where valgrind is installed, and exits 1 where a zone of ten costs more than
+PROGRAM is crates/bench_program/out/bench_program, as `rt run` in that crate builds it. On each way a question is driven
+once, and 2,000 times, each in a run of its own and with a cache of size 0, so that it goes down all zones each time. Each
+zone, the root included, has one server; the question is for the name of the last. Each time is that of the processor, the
+least of 20 runs of the program, less that with one question: the start of the process and reading the script are not in
+it. Prints a table, with the instructions where valgrind is installed, and exits 1 where a zone of ten costs more than
 1.5 times as much as one of three, or fewer than two thirds of that, or where a question costs more than 1.1 times as much
 beside 10,000 other rules. It goes by the instructions where they were counted, and else by the time."""
 import os
@@ -16,7 +16,7 @@ import subprocess
 import sys
 
 RUNS = 2000
-WAYS = (("1 zone", "one_zone"), ("3 zones", "three_zones"), ("10 zones", "ten_zones"), ("3 zones, 10,000 more rules", "three_zones_beside_other_rules"))
+WAYS = (("1 zone", "1", "0"), ("3 zones", "3", "0"), ("10 zones", "10", "0"), ("3 zones, 10,000 more rules", "3", "10000"))
 
 
 def run(command):
@@ -35,20 +35,20 @@ def processor_time(command):
     return used.ru_utime + used.ru_stime
 
 
-def seconds(program, test):
-    return min(processor_time([program, test]) for _ in range(20))
+def seconds(program, words):
+    return min(processor_time([program] + words) for _ in range(20))
 
 
-def instructions(program, test):
-    told = run(["valgrind", "--tool=callgrind", "--callgrind-out-file=/dev/null", program, test])
+def instructions(program, words):
+    told = run(["valgrind", "--tool=callgrind", "--callgrind-out-file=/dev/null", program] + words)
     return int(re.search(r"Collected : (\d+)", told).group(1))
 
 
 def costs(measure, program):
     found = []
-    for _, way in WAYS:
-        test = "cost_tests::a_way_over_%s" % way
-        found.append((measure(program, test) - measure(program, test + "_once")) / (RUNS - 1))
+    for _, zones, unused in WAYS:
+        way = ["way", zones, unused]
+        found.append((measure(program, way + [str(RUNS)]) - measure(program, way + ["1"])) / (RUNS - 1))
     return found
 
 
@@ -58,7 +58,7 @@ def main():
     counts = costs(instructions, program) if shutil.which("valgrind") else None
     print("| on the way | microseconds | instructions |")
     print("|---|---|---|")
-    for n, (label, _) in enumerate(WAYS):
+    for n, (label, _, _) in enumerate(WAYS):
         print("| %s | %.1f | %s |" % (label, times[n] * 1e6, "{:,.0f}".format(counts[n]) if counts else "not counted"))
     _, three, ten, beside = counts or times
     zone, rules = (ten / 10) / (three / 3), beside / three

@@ -1,0 +1,71 @@
+//! Questions of a scenario, driven over its script.
+
+use crate::failure::Failure;
+use dns_core::{Items, Question};
+use recursor_core::{Recursor, Reply, drive};
+use recursor_text::{Scenario, Upstream, read_scenario};
+use recursor_world::ScriptUpstream;
+use std::alloc::Global;
+
+/// A recursor over a script, and its question.
+#[derive(Drop)]
+struct Bench {
+    recursor: Recursor<ScriptUpstream>,
+    questions: Items<Question>,
+}
+
+fn bench_over(alloc: Global, scenario: Scenario) -> Result<Bench, Failure> {
+    let Scenario {
+        roots,
+        options,
+        patience: _,
+        upstream,
+        questions,
+        turns: _,
+    } = scenario;
+    let Upstream::Script(script) = upstream;
+    if !script.is_qualified() {
+        return Err(Failure::Unqualified);
+    }
+    let upstream = ScriptUpstream::new(alloc, script)?;
+    match Recursor::with_options(alloc, roots.items(), options, upstream) {
+        Ok(recursor) => Ok(Bench {
+            recursor,
+            questions,
+        }),
+        Err(_) => Err(Failure::Refused),
+    }
+}
+
+fn bench_of(alloc: Global, text: &str) -> Result<Bench, Failure> {
+    match read_scenario(alloc, text.as_bytes()) {
+        Ok(scenario) => bench_over(alloc, scenario),
+        Err(error) => Err(Failure::Line(error.line)),
+    }
+}
+
+fn is_answered(replies: &[Reply]) -> bool {
+    matches!(replies, [reply] if reply.outcome.is_ok())
+}
+
+/// Whether the question gets an answer, in a run of its own.
+fn has_answer(alloc: Global, bench: &mut Bench) -> Result<bool, Failure> {
+    let replies = drive(alloc, &mut bench.recursor, bench.questions.items(), &[], 3)?;
+    Ok(is_answered(replies.as_slice()))
+}
+
+fn count_answers(alloc: Global, bench: &mut Bench, times: u32) -> Result<u32, Failure> {
+    let mut answers: u32 = 0;
+    for _ in 0..times {
+        if has_answer(alloc, bench)? {
+            answers = answers.saturating_add(1);
+        }
+    }
+    Ok(answers)
+}
+
+/// Drives the question of a scenario so often, each time in a run of its own, and counts its answers.
+pub fn answers(alloc: Global, scenario: &str, times: u32) -> Result<u32, Failure> {
+    let mut bench = bench_of(alloc, scenario)?;
+    count_answers(alloc, &mut bench, times)
+}

@@ -1,0 +1,132 @@
+//! A recursor from its scenario to its transcript, where there is memory.
+
+use crate::message_samples::{answer, is_text, v4};
+use dns_core::{Ips, Items, Log, NoMemory, TryClone};
+use recursor_core::{Recursor, RecursorOptions, drive};
+use recursor_text::{
+    Scenario, Transcript, Upstream, has_transcript_words, print_message, print_transcript,
+    read_scenario,
+};
+use recursor_world::{Script, ScriptUpstream};
+use std::alloc::Global;
+use std::process::Abort;
+use std::test::Fail;
+
+const SCENARIO: &str = "recursor 1
+root 11.0.0.1
+patience 3
+told script
+reply 11.0.0.1 udp . A 0 message NOERROR aa 1 0 0
+. 300 IN A 93.184.215.14
+question . A plain
+end
+";
+
+const TRANSCRIPT: &str = "log 4
+1 opened 11.0.0.1 udp 0
+2 told 1 0 connected
+3 asked 11.0.0.1 udp . A 0
+4 told 3 0 message NOERROR aa 1 0 0
+. 300 IN A 93.184.215.14
+reply 1 message NOERROR aa 1 0 0
+. 300 IN A 93.184.215.14
+end
+";
+
+/// The log of an upstream, which a new one has empty.
+fn log_of(alloc: Global, mut upstream: ScriptUpstream) -> Result<Log, NoMemory> {
+    upstream.gather()?;
+    upstream.log().try_clone(alloc)
+}
+
+/// A recursor over a script.
+fn recursor_over(
+    alloc: Global,
+    roots: &Ips,
+    options: RecursorOptions,
+    script: Script,
+) -> Result<Recursor<ScriptUpstream>, Fail> {
+    if !script.is_qualified() {
+        return Err(Fail::new(format_args!("a name is not fully qualified")));
+    }
+    let upstream = ScriptUpstream::new(alloc, script)?;
+    match Recursor::with_options(alloc, roots.items(), options, upstream) {
+        Ok(recursor) => Ok(recursor),
+        Err(_) => Err(Fail::new(format_args!("the recursor is refused"))),
+    }
+}
+
+/// What is driven of a scenario.
+fn driven(alloc: Global, scenario: Scenario) -> Result<Transcript, Fail> {
+    let Scenario {
+        roots,
+        options,
+        patience,
+        upstream,
+        questions,
+        turns,
+    } = scenario;
+    let Upstream::Script(script) = upstream;
+    let mut recursor = recursor_over(alloc, &roots, options, script)?;
+    let replies = drive(
+        alloc,
+        &mut recursor,
+        questions.items(),
+        turns.items(),
+        patience,
+    )?;
+    let log = log_of(alloc, recursor.into_provider())?;
+    Ok(Transcript {
+        log,
+        replies: Items::new(replies),
+    })
+}
+
+fn printed(alloc: Global, transcript: Transcript) -> Result<Vec<u8>, NoMemory> {
+    let mut out = Vec::new(alloc);
+    if has_transcript_words(&transcript) {
+        print_transcript(alloc, &transcript, &mut out)?;
+    }
+    Ok(out)
+}
+
+fn scenario(alloc: Global) -> Result<Scenario, Fail> {
+    Ok(read_scenario(alloc, SCENARIO.as_bytes())?)
+}
+
+fn message_text(alloc: Global) -> Result<Vec<u8>, Fail> {
+    let mut out = Vec::new(alloc);
+    let message = answer(alloc, "a.", 60, v4(2))?;
+    print_message(alloc, &message, &mut out)?;
+    Ok(out)
+}
+
+#[test]
+fn a_scenario_is_driven_to_its_transcript(rt: HostRuntime) -> Result<(), Fail> {
+    let alloc = rt.alloc();
+    is_text(
+        printed(alloc, driven(alloc, scenario(alloc)?)?)?,
+        TRANSCRIPT,
+    )?;
+    is_text(
+        message_text(alloc)?,
+        "message NOERROR aa 1 0 0\na. 60 IN A 11.0.0.2\n",
+    )
+}
+
+/// How many responses the cache keeps by standard options, how many networks are denied, and the
+/// payload.
+fn standard(alloc: Global) -> Result<(u64, usize, u16), NoMemory> {
+    let options = RecursorOptions::standard(alloc)?;
+    Ok((
+        options.response_cache_size,
+        options.deny_server.len(),
+        options.edns_payload_len,
+    ))
+}
+
+#[test]
+fn options_are_standard(rt: HostRuntime) -> Result<(), Fail> {
+    assert!(rt; standard(rt.alloc())? == (1_048_576, 22, 1_232));
+    Ok(())
+}

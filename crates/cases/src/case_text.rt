@@ -1,0 +1,142 @@
+//! Cases as text: their parts, and what stands for what in them.
+
+use std::alloc::{AllocError, Global};
+
+/// How a case is tried.
+#[derive(Clone, Copy, PartialEq, Eq)]
+pub enum Kind {
+    /// What is handed in comes to what is wanted.
+    Same,
+    /// It does not.
+    Not,
+    /// Each front of what is handed in, but the whole, comes to what is wanted.
+    Fronts,
+}
+
+/// A case: where it stands, its name, what is handed in, and what is wanted, with its rows.
+#[derive(Clone, Copy)]
+pub struct Case<'a> {
+    pub file: &'a str,
+    /// The line of its name, counted from 1.
+    pub line: u64,
+    pub name: &'a str,
+    pub kind: Kind,
+    pub given: &'a str,
+    /// Whether what is handed in has no end of its last line.
+    pub is_cut: bool,
+    pub wanted: &'a str,
+}
+
+/// How many lines end in a text.
+pub fn count_lines(bytes: &[u8]) -> u64 {
+    let mut count: u64 = 0;
+    for byte in bytes {
+        if *byte == b'\n' {
+            count = count.saturating_add(1);
+        }
+    }
+    count
+}
+
+/// How a case with this first line is tried, and its name.
+fn kind_of(head: &str) -> (Kind, &str) {
+    if let Some(name) = head.strip_prefix("not: ") {
+        return (Kind::Not, name);
+    }
+    match head.strip_prefix("fronts: ") {
+        Some(name) => (Kind::Fronts, name),
+        None => (Kind::Same, head),
+    }
+}
+
+/// What stands before and behind the line that parts what is handed in from what is wanted, and
+/// whether that says that the last line has no end.
+fn parts(piece: &str) -> Option<(&str, &str, bool)> {
+    if let Some((head, wanted)) = piece.split_once("\n--\n") {
+        return Some((head, wanted, false));
+    }
+    let (head, wanted) = piece.split_once("\n-- cut\n")?;
+    Some((head, wanted, true))
+}
+
+/// The case of a piece of a file, whose first line is its name.
+pub fn case_of<'a>(file: &'a str, line: u64, piece: &'a str) -> Option<Case<'a>> {
+    let (head, wanted, is_cut) = parts(piece)?;
+    let (first, given) = head.split_once('\n').unwrap_or((head, ""));
+    let (kind, name) = kind_of(first);
+    Some(Case {
+        file,
+        line,
+        name,
+        kind,
+        given,
+        is_cut,
+        wanted,
+    })
+}
+
+/// The row of a table that a line is: what stands for `<line>`, and for `<answer>`.
+pub fn row_of(line: &str) -> Option<(&str, &str)> {
+    let row = line.strip_prefix("| ")?;
+    Some(row.split_once(" => ").unwrap_or((row, "")))
+}
+
+/// The wanted lines, that are neither rows nor notes, with this answer in its place.
+pub fn wanted_with(alloc: Global, wanted: &str, answer: &str) -> Result<String, AllocError> {
+    let mut text = String::new(alloc);
+    for line in wanted.trim_end_matches('\n').lines() {
+        if !line.starts_with("| ") && !line.starts_with("# ") {
+            text.push_str(line)?;
+            text.push_str("\n")?;
+        }
+    }
+    let lines = answer.replace(alloc, "; ", "\n")?;
+    text.replace(alloc, "<answer>", &lines)
+}
+
+/// The value of a hexadecimal digit.
+fn digit(byte: u8) -> Option<u8> {
+    match byte {
+        b'0'..=b'9' => Some(byte - b'0'),
+        b'a'..=b'f' => Some(byte - b'a' + 10),
+        _ => None,
+    }
+}
+
+/// The byte that two hexadecimal digits in front say, and what follows them.
+fn byte_in_front(text: &[u8]) -> Option<(u8, &[u8])> {
+    match text {
+        [high, low, rest @ ..] => {
+            let byte = digit(*high)?.checked_mul(16)?.checked_add(digit(*low)?)?;
+            Some((byte, rest))
+        }
+        _ => None,
+    }
+}
+
+/// The bytes of a text, in which `\x` and two digits stand for a byte.
+fn unescaped(alloc: Global, text: &str) -> Result<Vec<u8>, AllocError> {
+    let mut pieces = text.split("\\x");
+    let mut bytes = Vec::from_slice(alloc, pieces.next().unwrap_or("").as_bytes())?;
+    for piece in pieces {
+        let rest = match byte_in_front(piece.as_bytes()) {
+            Some((byte, rest)) => {
+                bytes.push(byte)?;
+                rest
+            }
+            None => piece.as_bytes(),
+        };
+        bytes.extend_from_slice(rest)?;
+    }
+    Ok(bytes)
+}
+
+/// What is handed in where this row stands in place of `<line>`.
+pub fn given_with(alloc: Global, case: Case<'_>, row: &str) -> Result<Vec<u8>, AllocError> {
+    let lines = row.replace(alloc, "; ", "\n")?;
+    let mut text = case.given.replace(alloc, "<line>", &lines)?;
+    if !text.is_empty() && !case.is_cut {
+        text.push_str("\n")?;
+    }
+    unescaped(alloc, &text)
+}

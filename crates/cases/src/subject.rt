@@ -1,0 +1,56 @@
+//! What cases are of: each is a text that is handed in, and a text that comes of it.
+
+use crate::{codes, delays, names, networks, resolver, run, scenario};
+use dns_core::NoMemory;
+use std::alloc::{AllocError, Global};
+
+/// What a file has cases of.
+#[derive(Clone, Copy)]
+pub enum Subject {
+    /// A scenario, and what the command writes for it.
+    Run,
+    /// The words of the command, and what it writes for an empty text.
+    Words,
+    /// A scenario, and what is read of it but its options.
+    Scenario,
+    /// A scenario, and how it sets a recursor.
+    Options,
+    /// Questions about names.
+    Names,
+    /// The text of a resolver, and what it says.
+    Resolver,
+    /// Search domains.
+    Search,
+    /// Questions about networks.
+    Networks,
+    /// What delays become.
+    Delays,
+    /// The numbers of types, classes and codes.
+    Codes,
+}
+
+impl Subject {
+    /// What comes of these bytes, or want of memory.
+    fn told(self, alloc: Global, given: &[u8]) -> Result<String, NoMemory> {
+        match self {
+            Subject::Run => run::answer(alloc, given),
+            Subject::Words => run::answer_to_words(alloc, given),
+            Subject::Scenario => scenario::answer(alloc, given),
+            Subject::Options => scenario::options(alloc, given),
+            Subject::Names => names::answer(alloc, given),
+            Subject::Resolver => resolver::answer(alloc, given),
+            Subject::Search => resolver::search_domains(alloc, given),
+            Subject::Networks => networks::answer(alloc, given),
+            Subject::Delays => delays::answer(alloc, given),
+            Subject::Codes => codes::answer(alloc, given),
+        }
+    }
+
+    /// What comes of these bytes, as text.
+    pub fn answer(self, alloc: Global, given: &[u8]) -> Result<String, AllocError> {
+        match self.told(alloc, given) {
+            Ok(text) => Ok(text),
+            Err(_) => String::from_str(alloc, "out of memory\n"),
+        }
+    }
+}

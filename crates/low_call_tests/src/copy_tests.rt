@@ -1,0 +1,154 @@
+//! Copies of values of all types.
+
+use crate::message_samples::{
+    Sight, addresses, asked, config, connect_options, denial, foreign, forward, message,
+    no_records, others, query, request, server_address, soa, text, told,
+};
+use crate::server_samples::{
+    ask, bounds, domain, encrypted, filter, open, options, question, resolver_config,
+};
+use dns_core::{
+    DnsError, IoKind, Label, Letter, Name, NetError, NoMemory, ProtocolConfig, ResponseCode,
+    ToldOutcome, TryClone, try_clone_all,
+};
+use resolver_settings::{AccessControlSet, IpNet};
+use server_core::Order;
+use std::alloc::Global;
+use std::net::{IpAddr, Ipv4Addr};
+use std::test::Fail;
+
+/// The copy of a value equals it.
+fn is_copied<T: TryClone + PartialEq>(alloc: Global, value: T) -> Result<(), Fail> {
+    let copy = value.try_clone(alloc)?;
+    if copy == value {
+        return Ok(());
+    }
+    Err(Fail::new(format_args!("another copy")))
+}
+
+/// The same of a value that is compared by what is seen of it.
+fn is_seen_again<S: Copy + PartialEq, T: TryClone + Sight<S>>(
+    alloc: Global,
+    value: T,
+) -> Result<(), Fail> {
+    let copy = value.try_clone(alloc)?;
+    if copy.sight() == value.sight() {
+        return Ok(());
+    }
+    Err(Fail::new(format_args!("another copy")))
+}
+
+/// Whether the first network that it denies is denied, and the one that it allows.
+impl Sight<(bool, bool)> for AccessControlSet {
+    fn sight(&self) -> (bool, bool) {
+        (
+            self.denied(IpAddr::V4(Ipv4Addr::new(10, 2, 0, 0))),
+            self.denied(IpAddr::V4(Ipv4Addr::new(10, 1, 0, 0))),
+        )
+    }
+}
+
+/// Denies 10.0.0.0/8, but allows 10.1.0.0/16.
+fn networks(alloc: Global) -> Result<AccessControlSet, Fail> {
+    let denied = IpNet::new(IpAddr::V4(Ipv4Addr::new(10, 0, 0, 0)), 8)?;
+    let allowed = IpNet::new(IpAddr::V4(Ipv4Addr::new(10, 1, 0, 0)), 16)?;
+    Ok(filter(alloc, denied, allowed)?)
+}
+
+fn label(alloc: Global) -> Result<Label, NoMemory> {
+    let mut letters = Vec::new(alloc);
+    letters.push(Letter::new(b'a'))?;
+    Ok(Label::new(letters))
+}
+
+/// The copies of two numbers are these.
+fn are_copied(alloc: Global) -> Result<(), Fail> {
+    let copies = try_clone_all(alloc, &[7_u16, 9_u16])?;
+    if copies.as_slice() == [7, 9].as_slice() {
+        return Ok(());
+    }
+    Err(Fail::new(format_args!("other copies")))
+}
+
+/// The copy of an order is the same order.
+fn is_ordered_again(alloc: Global, order: Order) -> Result<(), Fail> {
+    let copy = order.try_clone(alloc)?;
+    if copy.identical(&order) {
+        return Ok(());
+    }
+    Err(Fail::new(format_args!("another order")))
+}
+
+/// The copy of a name has its letters in its case.
+fn is_spelled_again(alloc: Global, name: Name) -> Result<(), Fail> {
+    let copy = name.try_clone(alloc)?;
+    if copy.eq_case(&name) {
+        return Ok(());
+    }
+    Err(Fail::new(format_args!("another name")))
+}
+
+#[test]
+fn numbers_names_and_lists_are_copied(rt: HostRuntime) -> Result<(), Fail> {
+    let alloc = rt.alloc();
+    is_copied(alloc, 7_u8)?;
+    is_copied(alloc, 7_u16)?;
+    is_copied(alloc, 7_u64)?;
+    is_copied(alloc, Letter::new(b'a'))?;
+    is_copied(alloc, label(alloc)?)?;
+    is_copied(alloc, server_address())?;
+    is_copied(alloc, Some(server_address()))?;
+    is_copied(alloc, text(alloc)?)?;
+    is_copied(alloc, soa(alloc)?)?;
+    is_copied(alloc, addresses(alloc)?)?;
+    is_copied(alloc, others(alloc)?)?;
+    are_copied(alloc)?;
+    is_spelled_again(alloc, domain(alloc, "WWW.example.com.")?)
+}
+
+#[test]
+fn messages_and_entries_are_copied(rt: HostRuntime) -> Result<(), Fail> {
+    let alloc = rt.alloc();
+    is_copied(alloc, query(alloc)?)?;
+    is_copied(alloc, message(alloc)?)?;
+    is_copied(alloc, ToldOutcome::Connected)?;
+    is_copied(alloc, told(alloc)?)?;
+    is_copied(alloc, asked(alloc)?)
+}
+
+#[test]
+fn errors_are_copied(rt: HostRuntime) -> Result<(), Fail> {
+    let alloc = rt.alloc();
+    is_copied(alloc, forward(alloc)?)?;
+    is_copied(alloc, no_records(alloc)?)?;
+    is_copied(alloc, DnsError::ResponseCode(ResponseCode::ServFail))?;
+    is_copied(alloc, denial(alloc)?)?;
+    is_copied(alloc, foreign(alloc)?)?;
+    is_copied(alloc, NetError::Msg(text(alloc)?))?;
+    is_copied(alloc, NetError::Io(IoKind::Refused))
+}
+
+#[test]
+fn requests_and_ways_to_connect_are_copied(rt: HostRuntime) -> Result<(), Fail> {
+    let alloc = rt.alloc();
+    let server_name = text(alloc)?;
+    is_copied(alloc, ProtocolConfig::Tls { server_name })?;
+    is_copied(alloc, config(ProtocolConfig::Udp))?;
+    is_copied(alloc, connect_options(alloc)?)?;
+    is_copied(alloc, request(alloc)?)?;
+    is_copied(alloc, question(alloc)?)?;
+    is_ordered_again(alloc, ask(alloc)?)?;
+    is_ordered_again(alloc, open())?;
+    is_ordered_again(alloc, Order::Sleep { until: 9 })
+}
+
+#[test]
+fn settings_are_copied(rt: HostRuntime) -> Result<(), Fail> {
+    let alloc = rt.alloc();
+    is_copied(alloc, IpNet::new(server_address(), 8)?)?;
+    is_seen_again(alloc, networks(alloc)?)?;
+    is_copied(alloc, encrypted(alloc)?)?;
+    is_copied(alloc, resolver_config(alloc)?)?;
+    is_copied(alloc, options(alloc)?)?;
+    is_copied(alloc, bounds(alloc)?)
+}
