@@ -12,7 +12,7 @@ use Rattle.dns_core.specs.declared.codes.DnsClass.{DnsClass}
 use Rattle.dns_core.specs.declared.codes.ResponseCode.{ResponseCode}
 use Rattle.recursor_text.specs.Codes.{code_in, number_behind, first_of, code_of, type_of, class_of, response_code_of}
 use Rattle.recursor_text.specs.Numbers.{◌>>=◌, number_of}
-use Rattle.recursor_text.specs.Texts.{name_in, code_text, type_names, class_names, code_names, type_text, class_text, response_code_text}
+use Rattle.dns_core.specs.CodeTexts.{name_in, code_text, type_names, class_names, code_names, type_text, class_text, response_code_text}
 use Rattle.recursor_text.proofs.Binds.{bind_some, guard_some, guard_not, some_is, chosen}
 use Rattle.recursor_text.proofs.FieldLaws.{IsField, bytes_same}
 use Rattle.recursor_text.proofs.NumberLaws.{is_word_byte, number_takes, number_again, decimal_plain}

@@ -21,7 +21,8 @@ use Rattle.recursor_text.specs.Pieces.{pieces}
 use Rattle.recursor_text.specs.Fields.{Fields, field, in_table, whole, nothing}
 use Rattle.recursor_text.specs.Codes.{class_in}
 use Rattle.recursor_text.specs.Lines.{protocols, head_fields, patience_fields, told_fields, count_field, three_counts, counts_from, counts_fields, head_from, head_parts_fields, message_fields, delay_field, failure_field, outcome_fields, connected_fields, answered_fields, refuse_fields, connect_parts, connect_fields, connect_from, reply_parts, reply_fields, reply_from, question_fields, question_from, turn_fields, turn_from, head_of, root_of, option_of, patience_of, told_of, connect_of, refuse_of, reply_of, question_of, turn_of, end_line_of, forms_of, form_of}
-use Rattle.recursor_text.specs.Texts.{ip_text, type_text, response_code_text, protocol_text, error_word, flags_text}
+use Rattle.dns_core.specs.CodeTexts.{type_text, response_code_text}
+use Rattle.recursor_text.specs.Texts.{ip_text, protocol_text, error_word, flags_text}
 use Rattle.recursor_text.specs.Spelling.{dnssec_text, head_words, root_words, option_words, patience_words, told_words, question_words, turn_words, end_words, reply_words, error_words, failed_words, connected_words, connect_words, refuse_words, script_lines, spelled, most_delay, IsFullName, IsAddress, IsOption, IsType, IsTransport, IsCode, IsFailure, IsScriptLine, IsQuestion, IsTurn}
 use Rattle.recursor_text.proofs.AddressLaws.{ip_field}
 use Rattle.recursor_text.proofs.Binds.{bind_some, guard_some, some_is, chosen}

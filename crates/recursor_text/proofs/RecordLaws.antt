@@ -23,7 +23,8 @@ use Rattle.recursor_text.specs.Names.{full_name}
 use Rattle.recursor_text.specs.Numbers.{◌>>=◌, ipv4_of}
 use Rattle.recursor_text.specs.Pieces.{pieces}
 use Rattle.recursor_text.specs.RecordLines.{record_head, soa_parts, soa_fields, soa_from, soa_of, data_of, record_from, record_of_data, records_of, record_of}
-use Rattle.recursor_text.specs.Texts.{type_text, class_text, hex_text, data_words, record_words}
+use Rattle.dns_core.specs.CodeTexts.{type_text, class_text}
+use Rattle.recursor_text.specs.Texts.{hex_text, data_words, record_words}
 use Rattle.recursor_text.specs.Spelling.{record_text, IsFullName, IsClass, IsRecordType, IsData, IsRecord}
 use Rattle.recursor_text.proofs.AddressLaws.{ipv6_field}
 use Rattle.recursor_text.proofs.Binds.{bind_some, some_is, chosen}

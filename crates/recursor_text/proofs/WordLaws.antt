@@ -23,7 +23,8 @@ use Rattle.recursor_text.specs.Fields.{field, kept, in_table}
 use Rattle.recursor_text.specs.Names.{full_name}
 use Rattle.recursor_text.specs.RecordLines.{wide_field}
 use Rattle.recursor_text.specs.Lines.{protocols, failures, flags, dnssec_words}
-use Rattle.recursor_text.specs.Texts.{ip_text, type_text, protocol_text, error_word, flags_text}
+use Rattle.dns_core.specs.CodeTexts.{type_text}
+use Rattle.recursor_text.specs.Texts.{ip_text, protocol_text, error_word, flags_text}
 use Rattle.recursor_text.specs.Spelling.{dnssec_text, spelled, IsName, IsFullName, IsAddress, IsType, IsRecordType, IsTransport, IsFailure}
 use Rattle.recursor_text.proofs.PlainLaws.{AllBytes, AllPlain, pieces_again}
 use Rattle.recursor_text.proofs.NumberLaws.{is_word_byte, decimal_plain, ipv4_plain}

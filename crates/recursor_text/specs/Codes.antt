@@ -6,7 +6,7 @@ use Rattle.dns_core.specs.declared.codes.RecordType.{RecordType}
 use Rattle.dns_core.specs.declared.codes.DnsClass.{DnsClass}
 use Rattle.dns_core.specs.declared.codes.ResponseCode.{ResponseCode}
 use Rattle.recursor_text.specs.Numbers.{◌>>=◌, number_of}
-use Rattle.recursor_text.specs.Texts.{name_in, type_names, class_names, code_names}
+use Rattle.dns_core.specs.CodeTexts.{name_in, type_names, class_names, code_names}
 
 -- the number that a table names so
 abbrev pub code_in : List (ℕ × List ℕ) → List ℕ → Option ℕ

@@ -13,7 +13,8 @@ use Rattle.recursor_types.specs.declared.error.WalkCause.{WalkCause}
 use Rattle.recursor_types.specs.declared.error.WalkCause.TheVariants as cause
 use Rattle.recursor_types.specs.declared.error.RecursorError.{RecursorError}
 use Rattle.recursor_types.specs.declared.error.RecursorError.TheVariants.{MaxRecordLimitExceeded, Message, Msg, Negative, ForwardNS, Io, Net, Timeout, RecursionLimitExceeded, QueryBudgetExceeded, NoNameServer, NoMemory}
-use Rattle.recursor_text.specs.Texts.{type_text, class_text, response_code_text, line_of, record_words, record_lines}
+use Rattle.dns_core.specs.CodeTexts.{type_text, class_text, response_code_text}
+use Rattle.recursor_text.specs.Texts.{line_of, record_words, record_lines}
 
 -- a flag as a digit
 abbrev pub flag_text : Bool → List ℕ

@@ -35,7 +35,8 @@ use Rattle.recursor_text.specs.declared.scenario.Upstream.{Upstream}
 use Rattle.recursor_text.specs.declared.scenario.Upstream.TheVariants.{Script as FromScript}
 use Rattle.recursor_text.specs.Codes.{class_in, is_record_type, is_asked_type}
 use Rattle.recursor_text.specs.Errors.{flag_text}
-use Rattle.recursor_text.specs.Texts.{ip_text, type_text, response_code_text, protocol_text, error_word, flags_text, record_words}
+use Rattle.dns_core.specs.CodeTexts.{type_text, response_code_text}
+use Rattle.recursor_text.specs.Texts.{ip_text, protocol_text, error_word, flags_text, record_words}
 
 -- ---- the words of each line
 

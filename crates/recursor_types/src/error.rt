@@ -3,24 +3,35 @@
 use dns_core::{
     ForwardNsData, IoKind, Items, Name, NetError, Query, Record, RecordType, Records, Text,
 };
+use thiserror::Error;
 
 /// What is wrong with what a recursor was handed.
-#[derive(Clone, Copy, Debug, PartialEq, Eq)]
+#[derive(Clone, Copy, Debug, PartialEq, Eq, Error)]
 pub enum MessageKind {
+    #[error("query's domain name must be fully qualified")]
     NotQualified,
+    #[error("roots must not be empty")]
     NoRoots,
+    #[error("minimum TTL above maximum TTL")]
     ReversedTtl,
+    #[error("first delays must be from 1 to 31")]
     FirstDelays,
 }
 
 /// Why no server of a zone was found.
-#[derive(Clone, Copy, Debug, PartialEq, Eq)]
+#[derive(Clone, Copy, Debug, PartialEq, Eq, Error)]
 pub enum WalkCause {
+    #[error("maximum recursion limit exceeded")]
     DepthLimit,
+    #[error("net error: Timeout")]
     Timeout,
+    #[error("no glue found for any nameservers for zone")]
     NoAddress,
+    #[error("per-request query budget exceeded")]
     Budget,
+    #[error("zone entry limit exceeded")]
     ZoneEntries,
+    #[error("zone is already on the resolution stack")]
     Collision,
 }
 

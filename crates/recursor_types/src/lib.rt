@@ -4,6 +4,7 @@
 
 mod copies;
 mod error;
+mod error_text;
 mod options;
 mod reply;
 mod threads;

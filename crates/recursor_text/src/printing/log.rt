@@ -2,7 +2,8 @@
 ghost use Rattle.std.specs.Prelude.{◌≡◌, ◌+◌, ◌++◌, ◌∷◌, [], IsTrue, OnOk, OnErr, codes, length, decimal};
 ghost use Rattle.dns_core.specs.NameText.{text_of};
 ghost use Rattle.recursor_text.specs.Appending.{Appends, spaced};
-ghost use Rattle.recursor_text.specs.Texts.{ip_text, protocol_text, type_text, error_word, has_error_word, line_of, record_lines};
+ghost use Rattle.dns_core.specs.CodeTexts.{type_text};
+ghost use Rattle.recursor_text.specs.Texts.{ip_text, protocol_text, error_word, has_error_word, line_of, record_lines};
 ghost use Rattle.recursor_text.specs.Log.{numbered_text, refused_words, outcome_words, entry_words, outcome_records, entry_records, entry_text, log_text, has_refusal_word, has_entry_words, has_log_words};
 ghost use Rattle.dns_core.specs.declared.log.LogEntry.TheVariants.{Opened, Asked};
 

@@ -2,7 +2,8 @@
 ghost use Rattle.std.specs.Prelude.{◌≡◌, ◌++◌, ◌∷◌, [], OnOk, OnErr, decimal};
 ghost use Rattle.dns_core.specs.NameText.{text_of};
 ghost use Rattle.recursor_text.specs.Appending.{Appends, spaced};
-ghost use Rattle.recursor_text.specs.Texts.{type_text, class_text, response_code_text, flags_text, hex_text, data_words, record_details, record_line, record_lines, message_details, message_words, message_records, message_text, line_of};
+ghost use Rattle.dns_core.specs.CodeTexts.{type_text, class_text, response_code_text};
+ghost use Rattle.recursor_text.specs.Texts.{flags_text, hex_text, data_words, record_details, record_line, record_lines, message_details, message_words, message_records, message_text, line_of};
 
 use super::codes::{put_class, put_flags, put_response_code, put_type};
 use super::words::{put_bytes, put_count, put_hex, put_ipv4, put_ipv6, put_name, put_number};

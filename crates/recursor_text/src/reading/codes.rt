@@ -1,14 +1,13 @@
 //! Types, classes and response codes, each by its one word.
 ghost use Rattle.std.specs.Prelude.{◌≡◌, drop};
-ghost use Rattle.recursor_text.specs.Texts.{type_names, class_names, code_names};
+ghost use Rattle.dns_core.specs.CodeTexts.{type_names, class_names, code_names};
 ghost use Rattle.recursor_text.specs.Codes.{code_in, number_behind, type_of, class_of, response_code_of, is_record_type, is_asked_type};
 
 use super::numbers::number;
-use crate::printing::codes::{class_name, response_code_name, type_name};
 use dns_core::{DnsClass, RecordType, ResponseCode};
 
 /// The number of a type that has a name.
-#[tactic(auto, unfolding(crate::specs::Texts::type_names))]
+#[tactic(auto, unfolding(dns_core::specs::CodeTexts::type_names))]
 fn named_type(word: &[u8]) -> Option<u16>
     ensures { result ≡ code_in type_names word.now }
 {
@@ -40,7 +39,7 @@ fn named_type(word: &[u8]) -> Option<u16>
 }
 
 /// Of the names from AAAA on.
-#[tactic(auto, unfolding(crate::specs::Texts::type_names))]
+#[tactic(auto, unfolding(dns_core::specs::CodeTexts::type_names))]
 fn later_type(word: &[u8]) -> Option<u16>
     ensures { result ≡ code_in (drop 8 type_names) word.now }
 {
@@ -72,7 +71,7 @@ fn later_type(word: &[u8]) -> Option<u16>
 }
 
 /// Of the names from NSEC3PARAM on.
-#[tactic(auto, unfolding(crate::specs::Texts::type_names))]
+#[tactic(auto, unfolding(dns_core::specs::CodeTexts::type_names))]
 fn last_type(word: &[u8]) -> Option<u16>
     ensures { result ≡ code_in (drop 16 type_names) word.now }
 {
@@ -121,14 +120,14 @@ pub fn record_type(word: &[u8]) -> Option<RecordType>
     }
     let code = number_behind(word, b"TYPE")?;
     let numbered = RecordType { code };
-    if type_name(numbered).is_some() {
+    if numbered.name().is_some() {
         return None;
     }
     Some(numbered)
 }
 
 /// The number of a class that has a name.
-#[tactic(auto, unfolding(crate::specs::Texts::class_names))]
+#[tactic(auto, unfolding(dns_core::specs::CodeTexts::class_names))]
 fn named_class(word: &[u8]) -> Option<u16>
     ensures { result ≡ code_in class_names word.now }
 {
@@ -154,14 +153,14 @@ pub fn dns_class(word: &[u8]) -> Option<DnsClass>
     }
     let code = number_behind(word, b"CLASS")?;
     let numbered = DnsClass { code };
-    if class_name(numbered).is_some() {
+    if numbered.name().is_some() {
         return None;
     }
     Some(numbered)
 }
 
 /// The number of a response code that has a name.
-#[tactic(auto, unfolding(crate::specs::Texts::code_names))]
+#[tactic(auto, unfolding(dns_core::specs::CodeTexts::code_names))]
 fn named_response_code(word: &[u8]) -> Option<u16>
     ensures { result ≡ code_in code_names word.now }
 {
@@ -196,7 +195,7 @@ pub fn response_code(word: &[u8]) -> Option<ResponseCode>
     }
     let code = number_behind(word, b"RCODE")?;
     let numbered = ResponseCode { code };
-    if response_code_name(numbered).is_some() {
+    if numbered.name().is_some() {
         return None;
     }
     Some(numbered)
