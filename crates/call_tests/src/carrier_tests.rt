@@ -151,7 +151,7 @@ impl<P: ConnectionProvider> Course<P> {
         now: u64,
     ) -> Result<Seen, NameError> {
         let order = order(alloc, what)?;
-        Ok(seen(self.carrier.carry(alloc, number, &order, now)?))
+        Ok(seen(self.carrier.carry(number, &order, now)?))
     }
 
     fn give_up(&mut self, number: u64, now: u64) -> Seen {

@@ -70,13 +70,13 @@ pub fn pool_of(
     shared: &mut PoolShared,
     numbers: &[u32],
 ) -> Result<NameServerPool, NoMemory> {
-    NameServerPool::from_nameservers(Vec::from_slice(alloc, numbers)?, shared)
+    NameServerPool::from_nameservers(alloc, Vec::from_slice(alloc, numbers)?, shared)
 }
 
 /// A pool of two more servers, the second of which it names first.
 fn pair(alloc: Global, shared: &mut PoolShared) -> Result<NameServerPool, NoMemory> {
-    let first = shared.add(unopened(alloc)?)?;
-    let second = shared.add(unopened(alloc)?)?;
+    let first = shared.add(alloc, unopened(alloc)?)?;
+    let second = shared.add(alloc, unopened(alloc)?)?;
     pool_of(alloc, shared, &[second, first])
 }
 

@@ -59,7 +59,7 @@ fn a_lookup_goes_from_order_to_order_to_its_answer(rt: HostRuntime) -> Result<()
 /// A lookup names the servers of its pool in their order. Its open orders are those that were given
 /// and have not ended.
 const OPEN: [(u64, Call, Seen); 6] = [
-    (5, Call::Servers, Seen::Numbers(2, Some(1), Some(0))),
+    (5, Call::Servers, Seen::Numbers(2, Some(2), Some(1))),
     (5, Call::Next, Seen::Opens(1, Protocol::Udp)),
     (5, Call::Next, Seen::Opens(2, Protocol::Udp)),
     (5, Call::Open, Seen::Numbers(2, Some(1), Some(2))),

@@ -27,8 +27,8 @@ fn numbered(pool: NameServerPool) -> (u64, usize) {
 /// The numbers of two servers that are added, and how many there are then.
 fn added(alloc: Global) -> Result<(u32, u32, u32), NoMemory> {
     let mut shared = empty(alloc)?;
-    let first = shared.add(unopened(alloc)?)?;
-    let second = shared.add(unopened(alloc)?)?;
+    let first = shared.add(alloc, unopened(alloc)?)?;
+    let second = shared.add(alloc, unopened(alloc)?)?;
     Ok((first, second, shared.live_servers()))
 }
 
@@ -38,7 +38,7 @@ fn pools_and_servers_are_numbered(rt: HostRuntime) -> Result<(), Fail> {
     let [first, second, copy] = pools(alloc)?;
     assert!(rt; first.0 != second.0 && copy.0 == first.0);
     assert!(rt; first.1 == 1 && second.1 == 0 && copy.1 == 1);
-    assert!(rt; added(alloc)? == (0, 1, 2));
+    assert!(rt; added(alloc)? == (1, 2, 2));
     Ok(())
 }
 
@@ -54,7 +54,7 @@ fn table(alloc: Global) -> Result<(ServerTable, Vec<u32>), NoMemory> {
     let mut table = ServerTable::new(alloc);
     let mut numbers = Vec::new(alloc);
     for took in [30_000, 10_000, 20_000] {
-        numbers.push(table.add(server(alloc, took)?)?)?;
+        numbers.push(table.add(alloc, server(alloc, took)?)?)?;
     }
     Ok((table, numbers))
 }
@@ -74,7 +74,7 @@ fn places(numbers: &[u32]) -> Option<[u32; 3]> {
 
 fn sorted(alloc: Global) -> Result<Option<[u32; 3]>, NoMemory> {
     let (table, mut numbers) = table(alloc)?;
-    sort_servers_by_query_statistics(&mut numbers, &table, 2_000_000)?;
+    sort_servers_by_query_statistics(alloc, &mut numbers, &table, 2_000_000)?;
     Ok(places(&numbers))
 }
 
@@ -89,7 +89,7 @@ fn order(
     options.server_ordering_strategy = strategy;
     options.num_concurrent_reqs = 2;
     let mut turn = 1;
-    ordered(&mut numbers, &mut turn, &table, &options, 2_000_000)?;
+    ordered(alloc, &mut numbers, &mut turn, &table, &options, 2_000_000)?;
     Ok((places(&numbers), turn))
 }
 

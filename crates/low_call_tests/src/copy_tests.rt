@@ -70,22 +70,31 @@ fn are_copied(alloc: Global) -> Result<(), Fail> {
     Err(Fail::new(format_args!("other copies")))
 }
 
-/// The copy of an order is the same order.
-fn is_ordered_again(alloc: Global, order: Order) -> Result<(), Fail> {
-    let copy = order.try_clone(alloc)?;
-    if copy.identical(&order) {
-        return Ok(());
-    }
-    Err(Fail::new(format_args!("another order")))
+/// When two values are the same, where `==` is coarser or missing.
+trait Same: TryClone {
+    fn is_same(&self, other: &Self) -> bool;
 }
 
-/// The copy of a name has its letters in its case.
-fn is_spelled_again(alloc: Global, name: Name) -> Result<(), Fail> {
-    let copy = name.try_clone(alloc)?;
-    if copy.eq_case(&name) {
+impl Same for Order {
+    fn is_same(&self, other: &Self) -> bool {
+        self.identical(other)
+    }
+}
+
+/// A name with its letters in their case.
+impl Same for Name {
+    fn is_same(&self, other: &Self) -> bool {
+        self.eq_case(other)
+    }
+}
+
+/// The copy of a value is the same.
+fn is_same_again<T: Same>(alloc: Global, value: T) -> Result<(), Fail> {
+    let copy = value.try_clone(alloc)?;
+    if copy.is_same(&value) {
         return Ok(());
     }
-    Err(Fail::new(format_args!("another name")))
+    Err(Fail::new(format_args!("another copy")))
 }
 
 #[test]
@@ -103,7 +112,7 @@ fn numbers_names_and_lists_are_copied(rt: HostRuntime) -> Result<(), Fail> {
     is_copied(alloc, addresses(alloc)?)?;
     is_copied(alloc, others(alloc)?)?;
     are_copied(alloc)?;
-    is_spelled_again(alloc, domain(alloc, "WWW.example.com.")?)
+    is_same_again(alloc, domain(alloc, "WWW.example.com.")?)
 }
 
 #[test]
@@ -137,9 +146,9 @@ fn requests_and_ways_to_connect_are_copied(rt: HostRuntime) -> Result<(), Fail> 
     is_copied(alloc, connect_options(alloc)?)?;
     is_copied(alloc, request(alloc)?)?;
     is_copied(alloc, question(alloc)?)?;
-    is_ordered_again(alloc, ask(alloc)?)?;
-    is_ordered_again(alloc, open())?;
-    is_ordered_again(alloc, Order::Sleep { until: 9 })
+    is_same_again(alloc, ask(alloc)?)?;
+    is_same_again(alloc, open())?;
+    is_same_again(alloc, Order::Sleep { until: 9 })
 }
 
 #[test]

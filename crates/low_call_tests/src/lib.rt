@@ -10,6 +10,8 @@ mod copy_tests;
 #[cfg(test)]
 mod delay_tests;
 #[cfg(test)]
+mod error_text_tests;
+#[cfg(test)]
 mod message_samples;
 #[cfg(test)]
 mod name_tests;

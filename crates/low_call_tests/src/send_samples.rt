@@ -1,11 +1,13 @@
 //! Sends to one server, and what is seen of their steps.
 ghost use Rattle.std.specs.Prelude.{◌≡◌, ◌<◌, length};
+ghost use Rattle.server_core.specs.Servers.{place_of};
 
 use crate::message_samples::{Sight, addresses, put_in, request, response, seen, server_address};
-use crate::server_samples::{Reached, server};
+use crate::server_samples::{Reached, context, server};
 use dns_core::{IoKind, Message, NameError, NetError, NoMemory, Protocol, Records, ResponseCode};
 use server_core::{
-    After, ConnectionPolicy, Order, Outcome, SendStep, Sent, ServerSend, ServerTable, Status, Tick,
+    After, ConnectionPolicy, Order, Outcome, PoolContext, SendStep, Sent, ServerSend, ServerTable,
+    Status, Tick,
 };
 use std::alloc::Global;
 use std::test::Fail;
@@ -187,44 +189,55 @@ fn tick(now: u64) -> Tick {
     Tick { now, patience: 3 }
 }
 
+/// What calls are made on, and what is kept of the server after them. A course is handed to generic
+/// functions, which let go of it: a body that keeps one alive is dear to prove.
+trait Stepped: Drop {
+    fn see(&mut self, alloc: Global, call: Call, now: u64) -> Result<Seen, NameError>;
+
+    fn kept(&self, now: u64) -> Option<Kept>;
+}
+
 /// Two sends to a server, the only one of its table. Their orders have the numbers of their moments.
 #[derive(Drop)]
 struct Course {
     table: ServerTable,
+    context: PoolContext,
     first: ServerSend,
     late: ServerSend,
-    ghost first_there: { first.server < length table },
-    ghost late_there: { late.server < length table },
+    ghost first_there: { place_of first.server < length table },
+    ghost late_there: { place_of late.server < length table },
 }
 
 /// The next step of a send.
 fn next_of(
     alloc: Global,
     table: &mut ServerTable,
+    context: &mut PoolContext,
     send: &mut ServerSend,
     now: u64,
 ) -> Result<Seen, NoMemory>
-    requires { send.old.server < length table.old }
+    requires { place_of send.old.server < length table.old }
     ensures table { length table.new ≡ length table.old }
     ensures server { send.new.server ≡ send.old.server }
 {
-    Ok(seen(send.next(alloc, table, now, tick(now))?))
+    Ok(seen(send.next(alloc, table, context, now, tick(now))?))
 }
 
 /// Takes an outcome of the order of a send.
 fn put_to(
     alloc: Global,
     table: &mut ServerTable,
+    context: &mut PoolContext,
     send: &mut ServerSend,
     what: What,
     now: u64,
 ) -> Result<Seen, NameError>
-    requires { send.old.server < length table.old }
+    requires { place_of send.old.server < length table.old }
     ensures table { length table.new ≡ length table.old }
     ensures server { send.new.server ≡ send.old.server }
 {
     let outcome = outcome(alloc, what)?;
-    Ok(Seen::Has(send.put(alloc, table, outcome, tick(now))?))
+    Ok(Seen::Has(send.put(alloc, table, context, outcome, tick(now))?))
 }
 
 impl Course {
@@ -233,9 +246,11 @@ impl Course {
         let first = request(alloc)?;
         let late = request(alloc)?;
         let mut table = ServerTable::new(alloc);
-        let number = table.add(server(alloc, reached)?)?;
+        let context = context(alloc)?;
+        let number = table.add(alloc, server(alloc, reached)?)?;
         Ok(Course {
             table,
+            context,
             first: ServerSend::new(number, first, policy),
             late: ServerSend::new(number, late, policy),
         })
@@ -260,6 +275,43 @@ impl Course {
         self.table.get(self.first.server).decayed_srtt(now) >> 60
     }
 
+    fn put_first(&mut self, alloc: Global, what: What, now: u64) -> Result<Seen, NameError> {
+        let (table, context) = (&mut self.table, &mut self.context);
+        put_to(alloc, table, context, &mut self.first, what, now)
+    }
+
+    fn put_late(&mut self, alloc: Global, what: What, now: u64) -> Result<Seen, NameError> {
+        let (table, context) = (&mut self.table, &mut self.context);
+        put_to(alloc, table, context, &mut self.late, what, now)
+    }
+}
+
+impl Stepped for Course {
+    fn see(&mut self, alloc: Global, call: Call, now: u64) -> Result<Seen, NameError> {
+        match call {
+            Call::Next => Ok(next_of(
+                alloc,
+                &mut self.table,
+                &mut self.context,
+                &mut self.first,
+                now,
+            )?),
+            Call::Put(what) => self.put_first(alloc, what, now),
+            Call::TakeEnd => Ok(seen(self.first.take_end())),
+            Call::Again { disable_udp } => self.begin_again(alloc, disable_udp),
+            Call::LateNext => Ok(next_of(
+                alloc,
+                &mut self.table,
+                &mut self.context,
+                &mut self.late,
+                now,
+            )?),
+            Call::LatePut(what) => self.put_late(alloc, what, now),
+            Call::Connections => Ok(Seen::Connections(self.connection(0), self.connection(1))),
+            Call::Delay => Ok(Seen::Delay(self.delay(now))),
+        }
+    }
+
     fn kept(&self, now: u64) -> Option<Kept> {
         let connection = self.table.get(self.first.server).connections().get(0)?;
         Some(Kept {
@@ -267,27 +319,6 @@ impl Course {
             status: connection.status,
             server: self.delay(now),
         })
-    }
-
-    fn see(&mut self, alloc: Global, call: Call, now: u64) -> Result<Seen, NameError> {
-        match call {
-            Call::Next => Ok(next_of(alloc, &mut self.table, &mut self.first, now)?),
-            Call::Put(what) => put_to(alloc, &mut self.table, &mut self.first, what, now),
-            Call::TakeEnd => Ok(seen(self.first.take_end())),
-            Call::Again { disable_udp } => self.begin_again(alloc, disable_udp),
-            Call::LateNext => Ok(next_of(alloc, &mut self.table, &mut self.late, now)?),
-            Call::LatePut(what) => put_to(alloc, &mut self.table, &mut self.late, what, now),
-            Call::Connections => Ok(Seen::Connections(self.connection(0), self.connection(1))),
-            Call::Delay => Ok(Seen::Delay(self.delay(now))),
-        }
-    }
-
-    fn steps(&mut self, alloc: Global, steps: &[(u64, Call, Seen)]) -> Result<(), Fail> {
-        for (now, call, wanted) in steps {
-            let found = self.see(alloc, *call, *now)?;
-            is_same(*call, *now, found, *wanted)?;
-        }
-        Ok(())
     }
 }
 
@@ -298,18 +329,30 @@ fn is_same(call: Call, now: u64, found: Seen, wanted: Seen) -> Result<(), Fail> 
     Err(Fail::new(format_args!("{call:?} at {now}: {found:?}, not {wanted:?}")))
 }
 
-/// At each moment a call is made on sends to a server that is reached so, of which this is to be seen.
+/// At each moment a call is made, of which this is to be seen.
+fn step<C: Stepped>(alloc: Global, mut course: C, steps: &[(u64, Call, Seen)]) -> Result<(), Fail> {
+    for (now, call, wanted) in steps {
+        let found = course.see(alloc, *call, *now)?;
+        is_same(*call, *now, found, *wanted)?;
+    }
+    Ok(())
+}
+
+/// The same on sends to a server that is reached so.
 pub fn goes(
     alloc: Global,
     reached: Reached,
     disable_udp: bool,
     steps: &[(u64, Call, Seen)],
 ) -> Result<(), Fail> {
-    let mut course = Course::over(alloc, reached, disable_udp)?;
-    course.steps(alloc, steps)
+    step(alloc, Course::over(alloc, reached, disable_udp)?, steps)
 }
 
-fn kept_of(alloc: Global, course: &mut Course, what: What) -> Result<Option<Kept>, NameError> {
+fn kept_of<C: Stepped>(
+    alloc: Global,
+    mut course: C,
+    what: What,
+) -> Result<Option<Kept>, NameError> {
     course.see(alloc, Call::Next, 3_000_000)?;
     course.see(alloc, Call::Put(what), 3_002_000)?;
     Ok(course.kept(3_002_000))
@@ -318,8 +361,7 @@ fn kept_of(alloc: Global, course: &mut Course, what: What) -> Result<Option<Kept
 /// What is kept after this outcome of a question that was asked 2,000 microseconds before, three
 /// seconds after the delay of its connection was recorded.
 fn kept_after(alloc: Global, what: What) -> Result<Option<Kept>, NameError> {
-    let mut course = Course::over(alloc, Reached::Known, false)?;
-    kept_of(alloc, &mut course, what)
+    kept_of(alloc, Course::over(alloc, Reached::Known, false)?, what)
 }
 
 pub fn keeps(alloc: Global, what: What, wanted: Kept) -> Result<(), Fail> {

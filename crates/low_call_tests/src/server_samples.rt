@@ -9,7 +9,7 @@ use resolver_settings::{
     AccessControlSet, AccessControlSetBuilder, ConnectionConfigs, IpNet, NameServerConfig,
     ResolverConfig, ResolverOpts, ServerOrderingStrategy, TtlBounds, TtlConfig,
 };
-use server_core::{Connection, DecayingSrtt, NameServer, Order, Status};
+use server_core::{Connection, DecayingSrtt, NameServer, Order, PoolContext, Status};
 use std::alloc::Global;
 
 pub fn domain(alloc: Global, text: &str) -> Result<Name, NameError> {
@@ -24,6 +24,10 @@ pub fn written(alloc: Global, name: &Name) -> Result<Vec<u8>, NoMemory> {
 
 pub fn options(alloc: Global) -> Result<ResolverOpts, NoMemory> {
     ResolverOpts::standard(alloc)
+}
+
+pub fn context(alloc: Global) -> Result<PoolContext, NoMemory> {
+    Ok(PoolContext::new(options(alloc)?))
 }
 
 /// Denies a network, and allows another.

@@ -1,9 +1,9 @@
 //! Servers: their connections, their ways, and how a connection to them is chosen.
 
-use crate::server_samples::{Reached, opened, server};
-use dns_core::{NoMemory, Protocol};
+use crate::server_samples::{Reached, context, opened, server};
+use dns_core::Protocol;
 use resolver_settings::ServerOrderingStrategy;
-use server_core::{ConnectionPolicy, NameServer, ServerTable};
+use server_core::{ConnectionPolicy, NameServer, PoolContext, ServerTable};
 use std::alloc::Global;
 use std::test::Fail;
 
@@ -33,25 +33,31 @@ fn is_ordered(server: NameServer, wanted: [u64; 3]) -> Result<(), Fail> {
 
 const MIXED: [(Protocol, u64); 3] = [(Protocol::Tcp, 1), (Protocol::Udp, 2), (Protocol::Udp, 4)];
 
-fn protocols(alloc: Global, server: NameServer) -> Result<Vec<Protocol>, NoMemory> {
-    server.protocols(alloc)
+/// The first three of the protocols of the ways to a server.
+fn protocols(server: NameServer) -> [Option<Protocol>; 3] {
+    let mut protocols = server.protocols();
+    [protocols.next(), protocols.next(), protocols.next()]
 }
 
 /// The protocols of the ways to a server are these.
-fn is_reached_over(alloc: Global, server: NameServer, wanted: &[Protocol]) -> Result<(), Fail> {
-    let found = protocols(alloc, server)?;
-    if found.as_slice() == wanted {
+fn is_reached_over(server: NameServer, wanted: [Option<Protocol>; 3]) -> Result<(), Fail> {
+    let found = protocols(server);
+    if found == wanted {
         return Ok(());
     }
     Err(Fail::new(format_args!("{found:?} in place of {wanted:?}")))
 }
 
 /// The places of the connection and of the way that are used, over UDP and without it.
-fn chosen(server: NameServer, disable_udp: bool) -> (Option<usize>, Option<usize>) {
+fn chosen(
+    server: NameServer,
+    context: &PoolContext,
+    disable_udp: bool,
+) -> (Option<usize>, Option<usize>) {
     let policy = ConnectionPolicy { disable_udp };
     (
-        policy.select_connection(&server, 0),
-        policy.select_connection_config(&server),
+        policy.select_connection(&server, context, 0),
+        policy.select_connection_config(&server, context, 0),
     )
 }
 
@@ -61,7 +67,8 @@ fn is_chosen(
     disable_udp: bool,
     wanted: (Option<usize>, Option<usize>),
 ) -> Result<(), Fail> {
-    let found = chosen(server(alloc, reached)?, disable_udp);
+    let context = context(alloc)?;
+    let found = chosen(server(alloc, reached)?, &context, disable_udp);
     if found == wanted {
         return Ok(());
     }
@@ -76,9 +83,9 @@ fn servers_have_their_connections_and_their_ways(rt: HostRuntime) -> Result<(), 
     let turns = ServerOrderingStrategy::RoundRobin;
     is_ordered(opened(alloc, &MIXED, turns)?, [2, 4, 1])?;
     is_ordered(server(alloc, Reached::Known)?, [3, 0, 0])?;
-    let both = [Protocol::Udp, Protocol::Tcp];
-    is_reached_over(alloc, server(alloc, Reached::Unopened)?, &both)?;
-    is_reached_over(alloc, server(alloc, Reached::ByUdp)?, &[Protocol::Udp])
+    let (udp, tcp) = (Some(Protocol::Udp), Some(Protocol::Tcp));
+    is_reached_over(server(alloc, Reached::Unopened)?, [udp, tcp, None])?;
+    is_reached_over(server(alloc, Reached::ByUdp)?, [udp, None, None])
 }
 
 #[test]
@@ -91,7 +98,7 @@ fn udp_is_chosen_where_it_is_allowed(rt: HostRuntime) -> Result<(), Fail> {
 }
 
 fn adds(alloc: Global, table: &mut ServerTable, reached: Reached, wanted: u32) -> Result<(), Fail> {
-    let number = table.add(server(alloc, reached)?)?;
+    let number = table.add(alloc, server(alloc, reached)?)?;
     if number == wanted {
         return Ok(());
     }
@@ -102,6 +109,6 @@ fn adds(alloc: Global, table: &mut ServerTable, reached: Reached, wanted: u32) -
 fn a_server_that_is_added_has_the_next_number(rt: HostRuntime) -> Result<(), Fail> {
     let alloc = rt.alloc();
     let mut table = ServerTable::new(alloc);
-    adds(alloc, &mut table, Reached::Udp, 0)?;
-    adds(alloc, &mut table, Reached::Udp, 1)
+    adds(alloc, &mut table, Reached::Udp, 1)?;
+    adds(alloc, &mut table, Reached::Udp, 2)
 }

@@ -4,6 +4,7 @@ use crate::message_samples::server_address;
 use crate::server_samples::{bounds, encrypted, filter, options, plain, resolver_config, written};
 use dns_core::{
     Items, MemorySource, Name, NoMemory, Numbers, Ports, Protocol, ProtocolConfig, RecordType,
+    Source,
 };
 use resolver_settings::{
     ConfError, IpNet, NameServerConfig, ResolverConfig, ResolverOpts, ServerOrderingStrategy,
@@ -147,12 +148,19 @@ fn spaced(alloc: Global, names: &[Name]) -> Result<Vec<u8>, NoMemory> {
     Ok(out)
 }
 
+fn labels(domain: Option<&Name>) -> Option<u8> {
+    match domain {
+        Some(name) => Some(name.num_labels()),
+        None => None,
+    }
+}
+
 /// How many servers and search domains a configuration has, and how many labels its domain.
 fn parts(config: ResolverConfig) -> (usize, usize, Option<u8>) {
     (
         config.name_servers().len(),
         config.search().len(),
-        config.domain().map(|name| name.num_labels()),
+        labels(config.domain()),
     )
 }
 
@@ -190,13 +198,16 @@ fn configurations_are_made_and_read(rt: HostRuntime) -> Result<(), Fail> {
     Ok(())
 }
 
+fn said_by<S: Source + Drop>(alloc: Global, mut source: S) -> Said {
+    let (config, options) = read_system_conf(alloc, &mut source, "box.example.com")?;
+    Ok(said(config, options))
+}
+
 /// What is said by a source of a text whose call of this number fails.
 fn read(alloc: Global, text: Vec<u8>, call: u64) -> Said {
     let mut failing = Numbers::empty(alloc);
     failing.push(call)?;
-    let mut source = MemorySource::new(alloc, Items::new(text), failing);
-    let (config, options) = read_system_conf(alloc, &mut source, "box.example.com")?;
-    Ok(said(config, options))
+    said_by(alloc, MemorySource::new(alloc, Items::new(text), failing))
 }
 
 fn reads(alloc: Global, text: Vec<u8>, call: u64, wanted: Said) -> Result<(), Fail> {

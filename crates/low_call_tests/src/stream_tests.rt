@@ -1,5 +1,7 @@
-//! Sources and sinks, whole and failing in mid-stream.
+//! Sources and sinks, whole and failing in mid-stream. Each is handed to generic functions, which let
+//! go of it or hand it back: a body that keeps one in memory alive is dear to prove.
 
+use crate::message_samples::shown;
 use dns_core::{
     Failed, Items, MemorySink, MemorySource, NoMemory, Numbers, ReadError, Sink, Source, StdSink,
     StdSource, TryClone, read_all, write_all,
@@ -21,6 +23,11 @@ fn source_of(alloc: Global, bytes: &[u8], call: u64) -> Result<MemorySource, NoM
     Ok(MemorySource::new(alloc, bytes, failing(alloc, call)?))
 }
 
+/// A sink whose call of this number fails.
+fn sink_of(alloc: Global, call: u64) -> Result<MemorySink, NoMemory> {
+    Ok(MemorySink::new(alloc, failing(alloc, call)?))
+}
+
 /// A read of two bytes gives these, or fails.
 fn gives<S: Source>(source: &mut S, wanted: Result<&[u8], Failed>) -> Result<(), Fail> {
     let mut piece = [0u8; 2];
@@ -36,6 +43,35 @@ fn gives<S: Source>(source: &mut S, wanted: Result<&[u8], Failed>) -> Result<(),
     Err(Fail::new(format_args!("{count:?} {piece:?} in place of {wanted:?}")))
 }
 
+/// What reads of two bytes give, one after another.
+type Reads<'a> = &'a [Result<&'a [u8], Failed>];
+
+/// Reads of two bytes give these.
+fn reads<S: Source + Drop>(mut source: S, wanted: Reads<'_>) -> Result<S, Fail> {
+    for piece in wanted {
+        gives(&mut source, *piece)?;
+    }
+    Ok(source)
+}
+
+const FRONT: [Result<&[u8], Failed>; 1] = [Ok(b"ab")];
+
+const REST: [Result<&[u8], Failed>; 3] = [Err(Failed), Ok(b"c"), Ok(b"")];
+
+/// A source goes on after its front, and so does its copy.
+fn goes_on<S: Source + TryClone>(alloc: Global, source: S) -> Result<(), Fail> {
+    let source = reads(source, &FRONT)?;
+    let copy = source.try_clone(alloc)?;
+    reads(source, &REST)?;
+    reads(copy, &REST)?;
+    Ok(())
+}
+
+#[test]
+fn a_source_in_memory_fails_where_it_is_told_to(rt: HostRuntime) -> Result<(), Fail> {
+    goes_on(rt.alloc(), source_of(rt.alloc(), b"abc", 2)?)
+}
+
 /// A write of these bytes takes so many, or fails.
 fn takes<K: Sink>(sink: &mut K, bytes: &[u8], wanted: Result<usize, Failed>) -> Result<(), Fail> {
     let count = sink.write(bytes);
@@ -45,53 +81,84 @@ fn takes<K: Sink>(sink: &mut K, bytes: &[u8], wanted: Result<usize, Failed>) -> 
     Err(Fail::new(format_args!("{count:?} in place of {wanted:?}")))
 }
 
-#[test]
-fn a_source_in_memory_fails_where_it_is_told_to(rt: HostRuntime) -> Result<(), Fail> {
-    let mut source = source_of(rt.alloc(), b"abc", 2)?;
-    gives(&mut source, Ok(b"ab"))?;
-    let mut copy = source.try_clone(rt.alloc())?;
-    gives(&mut source, Err(Failed))?;
-    gives(&mut source, Ok(b"c"))?;
-    gives(&mut source, Ok(b""))?;
-    gives(&mut copy, Err(Failed))?;
-    gives(&mut copy, Ok(b"c"))
+/// Bytes to be written, one after another, and how many are taken.
+type Writes<'a> = &'a [(&'a [u8], Result<usize, Failed>)];
+
+fn writes<K: Sink + Drop>(mut sink: K, wanted: Writes<'_>) -> Result<K, Fail> {
+    for (bytes, count) in wanted {
+        takes(&mut sink, *bytes, *count)?;
+    }
+    Ok(sink)
 }
+
+/// Keeps what it took.
+trait Keeps: Drop {
+    fn kept(&self) -> &[u8];
+}
+
+impl Keeps for MemorySink {
+    fn kept(&self) -> &[u8] {
+        self.written()
+    }
+}
+
+/// It kept this.
+fn has<K: Keeps>(sink: K, wanted: &[u8]) -> Result<(), Fail> {
+    let found = sink.kept();
+    if found == wanted {
+        return Ok(());
+    }
+    Err(Fail::new(format_args!("{} in place of {}", shown(found), shown(wanted))))
+}
+
+/// It kept this, and so did its copy.
+fn has_again<K: Keeps + TryClone>(alloc: Global, sink: K, wanted: &[u8]) -> Result<(), Fail> {
+    let copy = sink.try_clone(alloc)?;
+    has(sink, wanted)?;
+    has(copy, wanted)
+}
+
+const SECOND_FAILS: [(&[u8], Result<usize, Failed>); 3] = [
+    (b"ab", Ok(2)),
+    (b"cd", Err(Failed)),
+    (b"ef", Ok(2)),
+];
 
 #[test]
 fn a_sink_in_memory_keeps_what_it_took(rt: HostRuntime) -> Result<(), Fail> {
-    let mut sink = MemorySink::new(rt.alloc(), failing(rt.alloc(), 2)?);
-    takes(&mut sink, b"ab", Ok(2))?;
-    takes(&mut sink, b"cd", Err(Failed))?;
-    takes(&mut sink, b"ef", Ok(2))?;
-    assert_eq!(rt; sink.written(), b"abef".as_slice());
-    let copy = sink.try_clone(rt.alloc())?;
-    assert_eq!(rt; copy.written(), b"abef".as_slice());
-    Ok(())
+    let sink = writes(sink_of(rt.alloc(), 2)?, &SECOND_FAILS)?;
+    has_again(rt.alloc(), sink, b"abef")
 }
+
+const ALL_READ: [Result<&[u8], Failed>; 3] = [Ok(b"ab"), Ok(b"c"), Ok(b"")];
+
+const ALL_WRITTEN: [(&[u8], Result<usize, Failed>); 1] = [(b"abc", Ok(3))];
 
 #[test]
 fn the_streams_of_the_system_pass_bytes_on(rt: HostRuntime) -> Result<(), Fail> {
-    let mut source = StdSource::new(b"abc".as_slice());
-    gives(&mut source, Ok(b"ab"))?;
-    gives(&mut source, Ok(b"c"))?;
-    gives(&mut source, Ok(b""))?;
+    let source = reads(StdSource::new(b"abc".as_slice()), &ALL_READ)?;
     assert_eq!(rt; source.faults, 0);
-    let mut sink = StdSink::new(Vec::new(rt.alloc()));
-    takes(&mut sink, b"abc", Ok(3))?;
+    let sink = writes(StdSink::new(Vec::new(rt.alloc())), &ALL_WRITTEN)?;
     assert_eq!(rt; sink.faults, 0);
     Ok(())
 }
 
-/// How many bytes are read of 5,000, up to a limit, where the call of this number fails; or why none.
-fn read_of(alloc: Global, call: u64, most: usize) -> Result<Result<usize, ReadError>, NoMemory> {
-    let mut source = source_of(alloc, &[7u8; 5000], call)?;
-    match read_all(alloc, &mut source, most) {
-        Ok(bytes) => Ok(Ok(bytes.len())),
-        Err(error) => Ok(Err(error)),
-    }
+/// How many bytes a source gives, up to a limit; or why none.
+fn read_from<S: Source + Drop>(
+    alloc: Global,
+    mut source: S,
+    most: usize,
+) -> Result<usize, ReadError> {
+    let bytes = read_all(alloc, &mut source, most)?;
+    Ok(bytes.len())
 }
 
-fn reads(
+/// The same of 5,000, where the call of this number fails.
+fn read_of(alloc: Global, call: u64, most: usize) -> Result<Result<usize, ReadError>, NoMemory> {
+    Ok(read_from(alloc, source_of(alloc, &[7u8; 5000], call)?, most))
+}
+
+fn is_read(
     alloc: Global,
     call: u64,
     most: usize,
@@ -107,21 +174,39 @@ fn reads(
 #[test]
 fn a_source_is_read_to_its_end_or_the_limit_or_fails(rt: HostRuntime) -> Result<(), Fail> {
     let alloc = rt.alloc();
-    reads(alloc, 0, 6000, Ok(5000))?;
-    reads(alloc, 0, 5000, Ok(5000))?;
-    reads(alloc, 0, 4999, Ok(4999))?;
-    reads(alloc, 0, 0, Ok(0))?;
-    reads(alloc, 1, 6000, Err(ReadError::Failed))?;
-    reads(alloc, 2, 6000, Err(ReadError::Failed))?;
-    reads(alloc, 3, 6000, Err(ReadError::Failed))
+    is_read(alloc, 0, 6000, Ok(5000))?;
+    is_read(alloc, 0, 5000, Ok(5000))?;
+    is_read(alloc, 0, 4999, Ok(4999))?;
+    is_read(alloc, 0, 0, Ok(0))?;
+    is_read(alloc, 1, 6000, Err(ReadError::Failed))?;
+    is_read(alloc, 2, 6000, Err(ReadError::Failed))?;
+    is_read(alloc, 3, 6000, Err(ReadError::Failed))
 }
+
+/// Whole texts are written, or a write of them fails.
+fn writes_whole<K: Sink + Drop>(
+    mut sink: K,
+    texts: &[(&[u8], Result<(), Failed>)],
+) -> Result<K, Fail> {
+    for (text, wanted) in texts {
+        let found = write_all(&mut sink, *text);
+        if found != *wanted {
+            return Err(Fail::new(format_args!("{found:?} in place of {wanted:?}")));
+        }
+    }
+    Ok(sink)
+}
+
+const ONE_IS_LOST: [(&[u8], Result<(), Failed>); 3] = [
+    (b"front", Ok(())),
+    (b"lost", Err(Failed)),
+    (b"end", Ok(())),
+];
 
 #[test]
 fn a_write_that_fails_is_told(rt: HostRuntime) -> Result<(), Fail> {
-    let mut sink = MemorySink::new(rt.alloc(), failing(rt.alloc(), 2)?);
-    assert_eq!(rt; write_all(&mut sink, b"front"), Ok(()));
-    assert_eq!(rt; write_all(&mut sink, b"lost"), Err(Failed));
-    assert_eq!(rt; write_all(&mut sink, b"end"), Ok(()));
-    assert_eq!(rt; sink.written(), b"frontend".as_slice());
-    Ok(())
+    has(
+        writes_whole(sink_of(rt.alloc(), 2)?, &ONE_IS_LOST)?,
+        b"frontend",
+    )
 }

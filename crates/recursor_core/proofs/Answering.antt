@@ -33,8 +33,8 @@ use Rattle.resolution.specs.Ending.EndSends.{no_send, and_send}
 use Rattle.resolution.specs.declared.class.Class.{Class}
 use Rattle.resolution.specs.declared.class.Class.TheVariants.{Error, Code, Truncated, Negative, Foreign, Positive}
 use Rattle.resolution.proofs.Caseless.{both}
-use Rattle.server_pool.specs.Agenda.{rules_of, class_of_sent}
-use Rattle.server_pool.specs.AnswerFilter.{denied_by, foreign_class, nothing_left}
+use Rattle.retry_rules.specs.Agenda.{rules_of, class_of_sent}
+use Rattle.retry_rules.specs.AnswerFilter.{denied_by, foreign_class, nothing_left}
 use Rattle.server_pool.specs.Rounds.{HeardEnd, ends_of, entries_of}
 use Rattle.server_pool.specs.OpenLookup.{left_of}
 use Rattle.server_pool.specs.Lookups.{told_of as lookup_told}
@@ -42,8 +42,8 @@ use Rattle.server_pool.specs.Running.{request_of, start_of, ends_at, IsDone, Run
 use Rattle.server_pool.specs.Running.{answer_of as lookup_answer}
 use Rattle.server_pool.specs.Shared.{lookup_at}
 use Rattle.server_pool.specs.declared.open_lookup.OpenLookup.{OpenLookup}
-use Rattle.server_pool.specs.declared.candidate.Candidate.{Candidate}
-use Rattle.server_pool.proofs.Turning.{but_none}
+use Rattle.retry_rules.specs.declared.candidate.Candidate.{Candidate}
+use Rattle.retry_rules.proofs.Turning.{but_none}
 use Rattle.server_pool.specs.ByAddress.{at_address}
 use Rattle.server_pool.proofs.ByAddress.{IsTrustedBeyondUdp, run_by_address}
 use Rattle.recursor_core.specs.Causes.{is_lookup_error}

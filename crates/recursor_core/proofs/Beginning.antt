@@ -1,6 +1,6 @@
 -- What holds of a lookup that begins at the servers of a zone.
 use Rattle.std.proofs.Common.{◌≡◌, ℕ, ◌+◌, ◌<◌, Bool, true, false, cond, List, [], ◌∷◌, map, filter, length, All, Option, Some, None, refl, sym, ap, subst, ◌∙◌, arith}
-use Rattle.std.specs.Prelude.{IsTrue, slice_get, option_map}
+use Rattle.std.specs.Prelude.{IsTrue, option_map}
 use Rattle.std.specs.List.{AllZip, list_any, AllByRecursion}
 use Rattle.std.specs.List.Sorted.{IsPermutation}
 use Rattle.std.proofs.lemmas.Option.{same_Some, none-some}
@@ -13,13 +13,13 @@ use Rattle.dns_core.specs.declared.request.DnsRequest.{DnsRequest}
 use Rattle.resolver_settings.specs.NameServer.{NameServer, over_udp, over_tcp}
 use Rattle.resolution.specs.Names.{is_above, walk}
 use Rattle.resolution.specs.Ending.EndSends.{no_send}
-use Rattle.server_core.specs.Servers.{Server}
+use Rattle.server_core.specs.Servers.{Server, server_of}
 use Rattle.server_core.specs.Policy.{allows_config}
 use Rattle.server_core.specs.declared.policy.ConnectionPolicy.{ConnectionPolicy}
 use Rattle.server_pool.specs.Candidates.{is_reached, candidate_of, candidates}
 use Rattle.server_pool.specs.Lookups.{Begins}
 use Rattle.server_pool.specs.Running.{Runs, AreReached}
-use Rattle.server_pool.specs.declared.candidate.Candidate.{Candidate}
+use Rattle.retry_rules.specs.declared.candidate.Candidate.{Candidate}
 use Rattle.server_pool.specs.ByAddress.Beside.{no_more}
 use Rattle.server_pool.specs.ByAddress.{at_address}
 use Rattle.recursor_core.specs.Replies.{Terms}
@@ -47,13 +47,13 @@ module _ (table : List Server) where
   reached-any false = refl
 
   reached-met : (policy : ConnectionPolicy) (ip : IpAddr) (k : ℕ) → config_at table k ≡ Some (server_at ip) → is_reached policy table k ≡ true
-  reached-met policy ip k is = reached-by policy ip (slice_get table k) is ∙ reached-any policy.disable_udp
+  reached-met policy ip k is = reached-by policy ip (server_of table k) is ∙ reached-any policy.disable_udp
 
   pub candidate-met : (ip : IpAddr) (k : ℕ) → config_at table k ≡ Some (server_at ip) → IsAt table ip (candidate_of table k)
   candidate-met ip k is = record {
     config = is;
     beyond_udp = reached-met (record { disable_udp = true }) ip k is;
-    trusted = trusted-by ip (slice_get table k) is;
+    trusted = trusted-by ip (server_of table k) is;
   }
 
   module _ (other : IpAddr) where

@@ -1,6 +1,6 @@
 -- What is sought by a lookup that gave an order, and to whom the order goes.
 use Rattle.std.proofs.Common.{◌≡◌, ◌≢◌, ℕ, ◌+◌, ⊎_elim, Bool, true, false, map, All, Contains, Option, Some, None, refl, sym, ap, subst, ◌∙◌, arith}
-use Rattle.std.specs.Prelude.{IsTrue, slice_get, option_map, is_some}
+use Rattle.std.specs.Prelude.{IsTrue, option_map, is_some}
 use Rattle.std.proofs.lemmas.Option.{same_Some}
 use Rattle.std.proofs.lemmas.List.Elements.{All-weaker, All-contains}
 use Rattle.std.proofs.lemmas.List.Sorted.{Contains-permutation, IsPermutation-sym}
@@ -11,7 +11,7 @@ use Rattle.dns_core.specs.declared.request.DnsRequest.{DnsRequest}
 use Rattle.resolver_settings.specs.NameServer.{NameServer}
 use Rattle.resolution.specs.Names.{is_above, walk}
 use Rattle.resolution.specs.Serving.{Serves}
-use Rattle.server_core.specs.Servers.{Server}
+use Rattle.server_core.specs.Servers.{Server, server_of}
 use Rattle.server_core.specs.declared.order.Order.{Order}
 use Rattle.server_core.specs.declared.order.Order.TheVariants as order
 use Rattle.server_pool.specs.Fits.{GoesToServer}
@@ -53,7 +53,7 @@ module _ (terms : Terms) (greatest moment : ℕ) (log : Log) (old new : Pools) (
     at-still = All-contains (λ c. IsAt new.shared.table (h.ip_of c.server) c) h.pool to.candidate known-still to.from_pool
 
     at-ip : h.ip_of to.candidate.server ≡ ip
-    at-ip = same_Some _ _ (sym (address-config (slice_get new.shared.table to.candidate.server) (server_at (h.ip_of to.candidate.server)) at-still.config) ∙ to.at)
+    at-ip = same_Some _ _ (sym (address-config (server_of new.shared.table to.candidate.server) (server_at (h.ip_of to.candidate.server)) at-still.config) ∙ to.at)
 
     -- it goes to one of the addresses of the zone, which serves it
     pub serves-ip : Serves (given_of terms) log (greatest + 1) ip s.zone

@@ -16,7 +16,7 @@ use Rattle.resolution.proofs.FailuresKept.{EndSends-extend, Listed-extend, Finis
 use Rattle.resolution.proofs.Caseless.{both}
 use Rattle.server_pool.specs.Rounds.{HeardEnd}
 use Rattle.server_pool.specs.Running.{answer_of, IsDone, Runs}
-use Rattle.server_pool.specs.declared.candidate.Candidate.{Candidate}
+use Rattle.retry_rules.specs.declared.candidate.Candidate.{Candidate}
 use Rattle.server_pool.specs.declared.open_lookup.OpenLookup.{OpenLookup}
 use Rattle.recursor_core.specs.Replies.{Terms, given_of}
 use Rattle.recursor_core.specs.Tried.{BeganBy, Began, AreHeard, Tried, IsTimed, machine_timer, Concluded}

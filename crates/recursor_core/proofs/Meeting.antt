@@ -1,6 +1,6 @@
 -- Servers that are met come behind those that were there.
-use Rattle.std.proofs.Common.{◌≡◌, ℕ, ◌+◌, ◌<◌, Bool, true, false, cond, List, [], ◌∷◌, ◌++◌, length, take, Some, refl, sym, ap, subst, ◌∙◌, append_assoc}
-use Rattle.std.specs.Prelude.{slice_index_or}
+use Rattle.std.proofs.Common.{◌≡◌, ℕ, ◌+◌, ◌<◌, Bool, true, false, cond, List, [], ◌∷◌, ◌++◌, length, take, Some, refl, sym, ap, subst, ◌∙◌, append_assoc, slice_get}
+use Rattle.std.specs.Prelude.{slice_index_or, option_map}
 use Rattle.std.specs.List.{AllZip}
 use Rattle.std.specs.BTreeMap as tree
 use Rattle.std.specs.FinMap.{nat_cmp-IsAntisymmetric, slice_cmp-IsAntisymmetric}
@@ -13,7 +13,8 @@ use Rattle.std.specs.contracts.net.ip_addr.IpAddrOrd.TheImpl as address
 use Rattle.std.proofs.lemmas.List.{append-nil, take_more}
 use Rattle.std.proofs.lemmas.Option.{same_Some}
 use Rattle.server_core.specs.Context.{Context}
-use Rattle.server_core.specs.Servers.{Server}
+use Rattle.server_core.specs.Servers.{Server, server_of}
+use Rattle.server_core.proofs.Places.{place-next}
 use Rattle.recursor_core.specs.Replies.{Terms}
 use Rattle.recursor_core.specs.Pools.{config_at, first_delay_at, number_of, server_at, IsMet, IsGrown, ServersHold}
 use Rattle.recursor_core.specs.declared.pools.Pools.{Pools}
@@ -34,23 +35,29 @@ equal-at Greater h = cc
 
 -- ---- one more server
 
--- the last server is reached as it is
-config-last : (table : List Server) (server : Server) → config_at (table ++ server ∷ []) (length table) ≡ Some server.config
-config-last [] server = refl
-config-last (s ∷ table) server = config-last table server
+place-last : (table : List Server) (server : Server) → slice_get (table ++ server ∷ []) (length table) ≡ Some server
+place-last [] server = refl
+place-last (s ∷ table) server = place-last table server
+
+-- the last server has the number that is their count
+number-last : (table : List Server) (server : Server) → server_of (table ++ server ∷ []) (length table + 1) ≡ Some server
+number-last table server = ap (slice_get (table ++ server ∷ [])) (place-next (length table)) ∙ place-last table server
+
+-- it is reached as it is
+config-last : (table : List Server) (server : Server) → config_at (table ++ server ∷ []) (length table + 1) ≡ Some server.config
+config-last table server = ap (option_map (λ (s : Server). s.config)) (number-last table server)
 
 -- and begins with its own delay
-delay-last : (table : List Server) (server : Server) → first_delay_at (table ++ server ∷ []) (length table) ≡ Some server.first_delay
-delay-last [] server = refl
-delay-last (s ∷ table) server = delay-last table server
+delay-last : (table : List Server) (server : Server) → first_delay_at (table ++ server ∷ []) (length table + 1) ≡ Some server.first_delay
+delay-last table server = ap (option_map (λ (s : Server). s.first_delay)) (number-last table server)
 
-pub delayed-last : (old new : List Server) (server : Server) (n delay : ℕ) → new ≡ old ++ server ∷ [] → n ≡ length old → server.first_delay ≡ delay
+pub delayed-last : (old new : List Server) (server : Server) (n delay : ℕ) → new ≡ old ++ server ∷ [] → n ≡ length old + 1 → server.first_delay ≡ delay
     → first_delay_at new n ≡ Some delay
 delayed-last old new server n delay table number first =
     ap (λ (t : List Server). first_delay_at t n) table ∙ ap (first_delay_at (old ++ server ∷ [])) number ∙ delay-last old server ∙ ap Some first
 
 -- it is met where it is at the address
-pub met-last : (old new : List Server) (server : Server) (ip : IpAddr) (n : ℕ) → new ≡ old ++ server ∷ [] → n ≡ length old → server.config ≡ server_at ip
+pub met-last : (old new : List Server) (server : Server) (ip : IpAddr) (n : ℕ) → new ≡ old ++ server ∷ [] → n ≡ length old + 1 → server.config ≡ server_at ip
     → config_at new n ≡ Some (server_at ip)
 met-last old new server ip n table number config =
     ap (λ (t : List Server). config_at t n) table ∙ ap (config_at (old ++ server ∷ [])) number ∙ config-last old server ∙ ap Some config
@@ -59,7 +66,7 @@ met-last old new server ip n table number config =
 pub record IsAdded (ip : IpAddr) (server : Server) (n : ℕ) (old new : Pools) : Type 0 where
   pub table : new.shared.table ≡ old.shared.table ++ server ∷ []
   pub context : new.shared.context ≡ old.shared.context
-  pub number : n ≡ length old.shared.table
+  pub number : n ≡ length old.shared.table + 1
   pub config : server.config ≡ server_at ip
   pub numbers : (q : IpAddr) → number_of new q ≡ cond (tree.is_at (address.ghosts.cmp ip) q) (Some n) (number_of old q)
 

@@ -15,7 +15,7 @@ use Rattle.server_pool.specs.Rounds.{HeardEnd, entries_of}
 use Rattle.server_pool.specs.Running.{heard_after, ends_at, Runs, IsOpenTo, IsNapping, AreReached}
 use Rattle.server_pool.specs.Lookups.{HasTaken, HasSlept}
 use Rattle.server_pool.specs.Shared.{Shared, lookup_at, lookup_of, SameBut}
-use Rattle.server_pool.specs.declared.candidate.Candidate.{Candidate}
+use Rattle.retry_rules.specs.declared.candidate.Candidate.{Candidate}
 use Rattle.server_pool.specs.declared.open_lookup.OpenLookup.{OpenLookup}
 use Rattle.recursor_core.specs.Replies.{Terms}
 use Rattle.recursor_core.specs.declared.pools.Aim.{Aim}

@@ -1,6 +1,6 @@
 -- What holds of the lookups after a step of one of them.
 use Rattle.std.proofs.Common.{◌≡◌, ◌≢◌, ℕ, zero, suc, Bool, true, false, List, [], ◌∷◌, ◌++◌, Option, Some, None, IfSome, sym, ap, subst, ◌∙◌, ⊎_elim}
-use Rattle.std.specs.Prelude.{slice_get}
+use Rattle.std.specs.Prelude.{slice_get, option_map}
 use Rattle.std.proofs.lemmas.Bool.{cases_eq}
 use Rattle.std.proofs.lemmas.Option.{slice_get-map, none-some}
 use Rattle.std.proofs.lemmas.List.Elements.{All-weaker}
@@ -9,9 +9,9 @@ use Rattle.dns_core.specs.Name.{DomainName}
 use Rattle.dns_core.specs.Log.{Log}
 use Rattle.resolver_settings.specs.NameServer.{NameServer}
 use Rattle.server_core.specs.Context.{Context}
-use Rattle.server_core.specs.Servers.{Server}
+use Rattle.server_core.specs.Servers.{Server, place_of}
 use Rattle.server_pool.specs.Shared.{Shared, lookup_at, lookup_of, configs, SameBut}
-use Rattle.server_pool.specs.declared.candidate.Candidate.{Candidate}
+use Rattle.retry_rules.specs.declared.candidate.Candidate.{Candidate}
 use Rattle.server_pool.specs.declared.open_lookup.OpenLookup.{OpenLookup}
 use Rattle.recursor_core.specs.Replies.{Terms}
 use Rattle.recursor_core.specs.Pools.{config_at, number_of, sought_at, server_at, IsAt, IsSentTo, GivenHolds, ServersHold, SoughtHolds, PoolsHold, IsGrown, SamePools, HasForgotten, HasKept, HasLeft}
@@ -30,17 +30,21 @@ pub record IsCarried (n : ℕ) (old new : Pools) : Type 0 where
 -- ---- how servers are reached
 
 -- how the server of a number is reached stands at its place
-config-read : (table : List Server) (k : ℕ) → slice_get (configs table) k ≡ config_at table k
-config-read table k = slice_get-map (λ (server : Server). server.config) table k
+config-read : (table : List Server) (k : ℕ) → slice_get (configs table) (place_of k) ≡ config_at table k
+config-read table k = slice_get-map (λ (server : Server). server.config) table (place_of k)
+
+place-before : (table more : List Server) (k : ℕ) (config : NameServer) → option_map (λ (server : Server). server.config) (slice_get table k) ≡ Some config
+    → option_map (λ (server : Server). server.config) (slice_get (table ++ more) k) ≡ Some config
+place-before [] more k config is = cc
+place-before (s ∷ table) more zero config is = is
+place-before (s ∷ table) more (suc k) config is = place-before table more k config is
 
 -- servers that come behind leave those before them
 pub config-before : (table more : List Server) (k : ℕ) (config : NameServer) → config_at table k ≡ Some config → config_at (table ++ more) k ≡ Some config
-config-before [] more k config is = cc
-config-before (s ∷ table) more zero config is = is
-config-before (s ∷ table) more (suc k) config is = config-before table more k config is
+config-before table more k config is = place-before table more (place_of k) config is
 
 pub config-same : (old new : List Server) (k : ℕ) (config : NameServer) → configs new ≡ configs old → config_at old k ≡ Some config → config_at new k ≡ Some config
-config-same old new k config same is = sym (config-read new k) ∙ ap (λ (cs : List NameServer). slice_get cs k) same ∙ config-read old k ∙ is
+config-same old new k config same is = sym (config-read new k) ∙ ap (λ (cs : List NameServer). slice_get cs (place_of k)) same ∙ config-read old k ∙ is
 
 -- ---- what is carried
 

@@ -21,13 +21,13 @@ use Rattle.server_core.specs.declared.order.Tick.{Tick}
 use Rattle.server_core.specs.declared.server_send.Stage.{Stage}
 use Rattle.server_core.specs.declared.server_send.Stage.TheVariants as stage
 use Rattle.server_core.specs.declared.server_send.ServerSend.{ServerSend}
-use Rattle.server_pool.specs.Agenda.{class_of_sent}
+use Rattle.retry_rules.specs.Agenda.{class_of_sent}
 use Rattle.server_pool.specs.Fits.{Fits}
 use Rattle.server_pool.specs.Rounds.{HeardEnd, ends_of, entries_of, heard_at}
 use Rattle.server_pool.specs.Running.{heard_after, ends_at, Runs, IsFor}
 use Rattle.server_pool.specs.Lookups.{HasTaken, HasSlept}
 use Rattle.server_pool.specs.Shared.{SameBut}
-use Rattle.server_pool.specs.declared.candidate.Candidate.{Candidate}
+use Rattle.retry_rules.specs.declared.candidate.Candidate.{Candidate}
 use Rattle.server_pool.specs.declared.open_lookup.OpenLookup.{OpenLookup}
 use Rattle.server_pool.proofs.Beside.{beside_push}
 use Rattle.server_pool.specs.ByAddress.{IsSameEnd, SameEnds, at_address}

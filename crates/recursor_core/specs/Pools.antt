@@ -1,5 +1,5 @@
 -- The servers that were met, and the lookups that are under way at pools of them.
-use Rattle.std.specs.Prelude.{◌≡◌, ◌≢◌, ◌⊎◌, ℕ, ◌+◌, ◌≤◌, ◌<◌, ◌++◌, nat_lt, unwrap_or, if◌then◌else◌, Bool, true, false, not, ◌==◌, IsTrue, List, [], ◌∷◌, length, map, slice_get, option_map, All, Contains, IfSome, Option, Some, None}
+use Rattle.std.specs.Prelude.{◌≡◌, ◌≢◌, ◌⊎◌, ℕ, ◌+◌, ◌≤◌, ◌<◌, ◌++◌, nat_lt, unwrap_or, if◌then◌else◌, Bool, true, false, not, ◌==◌, IsTrue, List, [], ◌∷◌, length, map, option_map, All, Contains, IfSome, Option, Some, None}
 use Rattle.std.specs.BTreeMap as tree
 use Rattle.std.specs.Ordering.{nat_cmp}
 use Rattle.std.specs.List.Sorted.{IsPermutation}
@@ -17,7 +17,7 @@ use Rattle.resolution.specs.Serving.{Serves}
 use Rattle.resolution.specs.Lookups.{End, class_of_answer}
 use Rattle.resolution.specs.Ending.{Listed}
 use Rattle.resolution.specs.Given.{Given as Resolver}
-use Rattle.server_core.specs.Servers.{Server}
+use Rattle.server_core.specs.Servers.{Server, server_of}
 use Rattle.server_core.specs.Order.{entry_of}
 use Rattle.server_core.specs.declared.order.After.{After}
 use Rattle.server_core.specs.declared.order.After.TheVariants as after
@@ -26,13 +26,13 @@ use Rattle.server_core.specs.declared.order.Order.{Order}
 use Rattle.server_core.specs.declared.order.Order.TheVariants as order
 use Rattle.server_core.specs.declared.order.Outcome.{Outcome}
 use Rattle.server_core.specs.declared.order.Outcome.TheVariants.{Pending, Connected, Told, Failed, GaveUp, Slept}
-use Rattle.server_pool.specs.Agenda.{class_of_sent}
+use Rattle.retry_rules.specs.Agenda.{class_of_sent}
 use Rattle.server_pool.specs.ByAddress.{SameEnds, at_address}
 use Rattle.server_pool.specs.Fits.{GoesToServer}
 use Rattle.server_pool.specs.Rounds.{HeardEnd, ends_of, entries_of}
 use Rattle.server_pool.specs.Running.{request_of, start_of, timeout_of, ends_at, Runs, IsOpenTo, IsNapping}
 use Rattle.server_pool.specs.Shared.{lookup_at, lookup_of, SameBut}
-use Rattle.server_pool.specs.declared.candidate.Candidate.{Candidate}
+use Rattle.retry_rules.specs.declared.candidate.Candidate.{Candidate}
 use Rattle.server_pool.specs.declared.open_lookup.OpenLookup.{OpenLookup}
 use Rattle.recursor_core.specs.Replies.{Terms, given_of}
 use Rattle.recursor_core.specs.Tried.{Tried}
@@ -50,11 +50,11 @@ number_of pools ip = tree.get address.ghosts.cmp pools.numbers ip
 
 -- how the server of a number is reached
 abbrev pub config_at : List Server → ℕ → Option NameServer
-config_at table n = option_map (λ server. server.config) (slice_get table n)
+config_at table n = option_map (λ server. server.config) (server_of table n)
 
 -- the delay with which the server of a number began
 abbrev pub first_delay_at : List Server → ℕ → Option ℕ
-first_delay_at table n = option_map (λ server. server.first_delay) (slice_get table n)
+first_delay_at table n = option_map (λ server. server.first_delay) (server_of table n)
 
 -- a server at the address, over UDP and TCP, that is believed what it denies
 abbrev pub server_at : IpAddr → NameServer

@@ -11,6 +11,7 @@ mod pools;
 mod recursor;
 mod resolving;
 mod setting;
+mod threads;
 mod turns;
 mod walk;
 
@@ -19,3 +20,4 @@ pub use recursor::Recursor;
 pub use recursor_types::{
     AuthorityData, MessageKind, RecursorError, RecursorOptions, Reply, WalkCause,
 };
+pub use threads::recursors_cross_threads;

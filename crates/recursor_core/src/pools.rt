@@ -272,7 +272,7 @@ impl Pools {
         let delay = self.take_first_delay();
         let options = self.shared.context().options();
         let server = NameServer::new(alloc, Vec::new(alloc), config, options, delay)?;
-        let number = self.shared.add(server)?;
+        let number = self.shared.add(alloc, server)?;
         let _before = self.numbers.insert(ip, number)?;
         Ok(number)
     }
@@ -340,7 +340,7 @@ impl Pools {
             at: tick.now,
         };
         let servers = self.meet_all(alloc, ips)?;
-        let pool = NameServerPool::from_nameservers(servers, &mut self.shared)?;
+        let pool = NameServerPool::from_nameservers(alloc, servers, &mut self.shared)?;
         let lookup = pool.send(alloc, &mut self.shared, request, tick)?;
         self.keep(lookup, sought)
     }

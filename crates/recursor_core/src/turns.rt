@@ -138,7 +138,7 @@ fn carry_order<P: ConnectionProvider>(
     if carrier.polls(number, order) >= tick.patience.max(1) {
         return give_up_order(alloc, core, carrier, number, tick);
     }
-    let Some(outcome) = carrier.carry(alloc, number, order, tick.now)? else {
+    let Some(outcome) = carrier.carry(number, order, tick.now)? else {
         return Err(NoMemory);
     };
     settle(alloc, core, carrier, number, outcome, tick)

@@ -5,8 +5,8 @@ use Rattle.dns_core.specs.declared.connection.Protocol.{Protocol}
 use Rattle.dns_core.specs.declared.message.Message.{Message}
 use Rattle.dns_core.specs.declared.net_error.DnsError.{DnsError}
 use Rattle.dns_core.specs.declared.net_error.NetError.{NetError}
-use Rattle.server_core.specs.Servers.{Server}
-use Rattle.server_core.specs.Hearing.{after_heard, without_dead, with_opened, changed_at}
+use Rattle.server_core.specs.Servers.{Server, place_of, server_of}
+use Rattle.server_core.specs.Hearing.{after_heard, without_dead, with_opened, changed_place, changed_at}
 use Rattle.server_core.specs.Sending.{lost_put, told_put, heard_put, after_step, after_want}
 use Rattle.server_core.specs.declared.heard.Heard.{Heard}
 use Rattle.server_core.specs.declared.order.Outcome.{Outcome}
@@ -60,18 +60,23 @@ want_configured (stage.Asking asked polls) s = refl
 want_configured (stage.Ended result) s = refl
 want_configured stage.Over s = refl
 
+place_kept :
+    (f : Server → Server) (n : ℕ) (table : List Server) → ((s : Server) → (f s).config ≡ s.config) →
+    map (λ s. s.config) (changed_place f n table) ≡ map (λ s. s.config) table
+place_kept f n [] keeps = refl
+place_kept f zero (s ∷ table) keeps = ap (λ config. config ∷ map (λ s. s.config) table) (keeps s)
+place_kept f (suc n) (s ∷ table) keeps = ap (λ configs. s.config ∷ configs) (place_kept f n table keeps)
+
 -- the configurations of a table whose server of a number was changed by what keeps them
 pub configs_kept :
     (f : Server → Server) (n : ℕ) (table : List Server) → ((s : Server) → (f s).config ≡ s.config) →
     map (λ s. s.config) (changed_at f n table) ≡ map (λ s. s.config) table
-configs_kept f n [] keeps = refl
-configs_kept f zero (s ∷ table) keeps = ap (λ config. config ∷ map (λ s. s.config) table) (keeps s)
-configs_kept f (suc n) (s ∷ table) keeps = ap (λ configs. s.config ∷ configs) (configs_kept f n table keeps)
+configs_kept f n table keeps = place_kept f (place_of n) table keeps
 
 -- the configuration of each number
 pub changed_configured :
     (f : Server → Server) (n : ℕ) (table : List Server) → ((s : Server) → (f s).config ≡ s.config) →
-    (k : ℕ) → option_map (λ s. s.config) (slice_get (changed_at f n table) k) ≡ option_map (λ s. s.config) (slice_get table k)
+    (k : ℕ) → option_map (λ s. s.config) (server_of (changed_at f n table) k) ≡ option_map (λ s. s.config) (server_of table k)
 changed_configured f n table keeps k =
     let config : Server → _ = λ s. s.config in
-    sym (slice_get-map config (changed_at f n table) k) ∙ (ap (λ configs. slice_get configs k) (configs_kept f n table keeps) ∙ slice_get-map config table k)
+    sym (slice_get-map config (changed_at f n table) (place_of k)) ∙ (ap (λ configs. slice_get configs (place_of k)) (configs_kept f n table keeps) ∙ slice_get-map config table (place_of k))

@@ -1,4 +1,5 @@
 pub mod Changing
+pub mod Places
 pub mod Lending
 pub mod Stages
 pub mod Steps

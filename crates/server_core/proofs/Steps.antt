@@ -10,7 +10,7 @@ use Rattle.server_core.specs.declared.server_send.SendStep.{SendStep}
 use Rattle.server_core.specs.declared.server_send.ServerSend.{ServerSend}
 use Rattle.server_core.specs.Choice.{IsFirstLeast}
 use Rattle.server_core.specs.Policy.{allows_connection, allows_config, is_before, is_config_before}
-use Rattle.server_core.specs.Servers.{Server}
+use Rattle.server_core.specs.Servers.{Server, place_of, server_of}
 use Rattle.server_core.specs.Hearing.{changed_at, without_dead, with_opened}
 use Rattle.server_core.specs.Sending.{left_of, asks_left, asks_of, after_step, after_want, IsAskedOver, IsOpenedOver, OpensSelected, Begins, StepIs}
 use Rattle.server_core.proofs.Changing.{changed_length, changed_get, changed_same}
@@ -20,11 +20,14 @@ pub in_both : {T E P : Type 0} (r : Result T E) → OnOk r P → OnErr r P → P
 in_both (Ok x) p q = p
 in_both (Err e) p q = q
 
+at_place : (n : ℕ) (xs : List Server) → n < length xs → (s : Server) × (slice_get xs n ≡ Some s)
+at_place n [] h = absurd (omega arith)
+at_place zero (x ∷ xs) h = (x, refl)
+at_place (suc n) (x ∷ xs) h = at_place n xs (omega arith)
+
 -- a live number has its server
-pub there_is : (n : ℕ) (xs : List Server) → n < length xs → (s : Server) × (slice_get xs n ≡ Some s)
-there_is n [] h = absurd (omega arith)
-there_is zero (x ∷ xs) h = (x, refl)
-there_is (suc n) (x ∷ xs) h = there_is n xs (omega arith)
+pub there_is : (n : ℕ) (xs : List Server) → place_of n < length xs → (s : Server) × (server_of xs n ≡ Some s)
+there_is n xs h = at_place (place_of n) xs h
 
 -- a change keeps the count of servers
 pub length_changed : (f : Server → Server) (n : ℕ) (xs ys : List Server) → ys ≡ changed_at f n xs → length ys ≡ length xs
@@ -36,8 +39,8 @@ live_changed f n k xs ys is h = let same = length_changed f n xs ys is in omega 
 
 -- the server that was changed
 pub read_changed :
-    (f : Server → Server) (n : ℕ) (xs ys : List Server) (s t : Server) → ys ≡ changed_at f n xs → slice_get xs n ≡ Some s →
-    slice_get ys n ≡ Some t → t ≡ f s
+    (f : Server → Server) (n : ℕ) (xs ys : List Server) (s t : Server) → ys ≡ changed_at f n xs → server_of xs n ≡ Some s →
+    server_of ys n ≡ Some t → t ≡ f s
 read_changed f n xs ys s t is was now = let changed = changed_get f n xs s was in cc
 
 -- the configuration that was selected is opened

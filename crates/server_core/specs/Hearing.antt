@@ -13,15 +13,19 @@ use Rattle.server_core.specs.declared.heard.Heard.TheVariants.{Answer, Failure, 
 use Rattle.server_core.specs.declared.name_server.Connection.{Connection}
 use Rattle.server_core.specs.Delays.{Delay, recorded, failed}
 use Rattle.server_core.specs.NewServer.{begun}
-use Rattle.server_core.specs.Servers.{Server, is_live}
+use Rattle.server_core.specs.Servers.{Server, is_live, place_of}
 
--- what counts of a response: its time where it is one with data, or a cut one, a failure where it has no data, and nothing where its code is another
+-- what counts of a response without an answer: a denial as a failure, and each other code not at all
+abbrev pub heard_dns : DnsError → Heard
+heard_dns (NoRecordsFound n) = Failure
+heard_dns (ResponseCode code) = Nothing
+
+-- what counts of a response: its time where it is one with data, or a cut one
 abbrev pub heard_of : ℕ → Result Message DnsError → Heard
 heard_of took (Ok m) = Answer took
-heard_of took (Err (NoRecordsFound n)) = Failure
-heard_of took (Err (ResponseCode code)) = Nothing
+heard_of took (Err e) = heard_dns e
 
--- what counts of an error of transport
+-- what counts of an error: of those of transport these three are failures, and a response that is told as an error counts as in a message
 abbrev pub heard_error : NetError → Heard
 heard_error Busy = Failure
 heard_error (Io kind) = Failure
@@ -30,7 +34,7 @@ heard_error NoConnections = Nothing
 heard_error Truncated = Nothing
 heard_error QueryCaseMismatch = Nothing
 heard_error (ForeignClassRecord name dns_class record_type) = Nothing
-heard_error (Dns e) = Nothing
+heard_error (Dns e) = heard_dns e
 heard_error (Msg text) = Nothing
 heard_error NoMemory = Nothing
 
@@ -66,8 +70,12 @@ without_dead s = record s { connections = filter is_live s.connections }
 abbrev pub with_opened : ℕ → Protocol → Server → Server
 with_opened number protocol s = record s { connections = s.connections ++ begun s.first_delay (protocol, number) ∷ [] }
 
--- the table with the server of a number changed, if it is there, and the others as they were
+-- the list with the server of a place changed, if it is there, and the others as they were
+abbrev pub changed_place : (Server → Server) → ℕ → List Server → List Server
+changed_place f place [] = []
+changed_place f zero (s ∷ table) = f s ∷ table
+changed_place f (suc place) (s ∷ table) = s ∷ changed_place f place table
+
+-- the table with the server of a number changed
 abbrev pub changed_at : (Server → Server) → ℕ → List Server → List Server
-changed_at f number [] = []
-changed_at f zero (s ∷ table) = f s ∷ table
-changed_at f (suc number) (s ∷ table) = s ∷ changed_at f number table
+changed_at f number table = changed_place f (place_of number) table

@@ -3,6 +3,7 @@ pub mod DelayLaws
 pub mod Status
 pub mod Servers
 pub mod NewServer
+pub mod Protocols
 pub mod Choice
 pub mod Policy
 pub mod ChoiceLaws

@@ -1,5 +1,5 @@
 -- What is kept of a name server.
-use Rattle.std.specs.Prelude.{ℕ, ◌≤◌, Bool, true, false, List}
+use Rattle.std.specs.Prelude.{ℕ, ◌≤◌, ◌-◌, ◌==◌, if◌then◌else◌, Bool, true, false, List, Option, slice_get}
 use Rattle.dns_core.specs.declared.connection.Protocol.{Protocol}
 use Rattle.dns_core.specs.declared.connection.Protocol.TheVariants.{Udp}
 use Rattle.resolver_settings.specs.NameServer.{NameServer}
@@ -13,6 +13,14 @@ pub record Server : Type 0 where
   pub connections : List Connection
   pub delay : Delay
   pub first_delay : ℕ
+
+-- the place of the server of a number in the table, from 0: servers are numbered from 1, and no table that is made has one at the place of 0
+abbrev pub place_of : ℕ → ℕ
+place_of number = if number == 0 then 4294967295 else number - 1
+
+-- the server of a number, if there is one
+abbrev pub server_of : List Server → ℕ → Option Server
+server_of table number = slice_get table (place_of number)
 
 -- delays start with 1 to 31 microseconds
 pub record IsFirstDelay (micros : ℕ) : Type 0 where

@@ -2,7 +2,9 @@
 ghost use Rattle.std.specs.Prelude.{◌≡◌, Some, None, option_map};
 ghost use Rattle.server_core.specs.Context.{Context};
 
+use dns_core::{NoMemory, TryClone};
 use resolver_settings::{AccessControlSet, ResolverOpts};
+use std::alloc::Global;
 use std::marker::Model;
 
 /// The options of a pool of servers, how many probes may go on at a time, and the set of the addresses
@@ -68,5 +70,17 @@ impl PoolContext {
         ensures { option_map (λ filter. filter.now) result ≡ self.now.answer_address_filter }
     {
         self.answer_address_filter.as_ref()
+    }
+}
+
+impl TryClone for PoolContext {
+    fn try_clone(&self, alloc: Global) -> Result<Self, NoMemory> {
+        let options = self.options.try_clone(alloc)?;
+        let answer_address_filter = self.answer_address_filter.try_clone(alloc)?;
+        Ok(PoolContext {
+            options,
+            probe_budget: self.probe_budget,
+            answer_address_filter,
+        })
     }
 }

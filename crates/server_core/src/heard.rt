@@ -1,6 +1,6 @@
 //! What an outcome says of how fast a server answers.
 ghost use Rattle.std.specs.Prelude.{◌≡◌, ◌≤◌};
-ghost use Rattle.server_core.specs.Hearing.{heard_of, heard_error, counted};
+ghost use Rattle.server_core.specs.Hearing.{heard_dns, heard_of, heard_error, counted};
 
 use crate::delays::DecayingSrtt;
 use dns_core::{DnsError, Message, NetError};
@@ -13,28 +13,37 @@ pub enum Heard {
     Nothing,
 }
 
+/// What counts of a response without an answer: a denial as a failure, and each other code not at all.
+fn heard_dns(error: &DnsError) -> Heard
+    ensures { result ≡ heard_dns error.now }
+{
+    match error {
+        DnsError::NoRecordsFound(_) => Heard::Failure,
+        DnsError::ResponseCode(_) => Heard::Nothing,
+    }
+}
+
 /// What counts of a response.
 pub(crate) fn heard_of(took: u64, class: &Result<Message, DnsError>) -> Heard
     ensures { result ≡ heard_of took class.now }
 {
     match class {
         Ok(_) => Heard::Answer { took },
-        Err(DnsError::NoRecordsFound(_)) => Heard::Failure,
-        Err(DnsError::ResponseCode(_)) => Heard::Nothing,
+        Err(error) => heard_dns(error),
     }
 }
 
-/// What counts of an error of transport.
+/// What counts of an error. A response that is told as an error counts as in a message.
 pub(crate) fn heard_error(error: &NetError) -> Heard
     ensures { result ≡ heard_error error.now }
 {
     match error {
         NetError::Busy | NetError::Io(_) | NetError::Timeout => Heard::Failure,
+        NetError::Dns(error) => heard_dns(error),
         NetError::NoConnections
         | NetError::Truncated
         | NetError::QueryCaseMismatch
         | NetError::ForeignClassRecord { .. }
-        | NetError::Dns(_)
         | NetError::Msg(_)
         | NetError::NoMemory => Heard::Nothing,
     }

@@ -5,16 +5,19 @@
 
 mod choice_laws;
 mod context;
+mod copies;
 mod delay_laws;
 mod delays;
 mod heard;
 mod name_server;
 mod order;
 mod policy;
+mod protocols;
 mod same_orders;
 mod server_send;
 mod server_table;
 mod status;
+mod threads;
 
 pub use choice_laws::{a_connection_is_chosen_alone, a_way_is_chosen_alone};
 pub use context::PoolContext;
@@ -26,6 +29,8 @@ pub use heard::Heard;
 pub use name_server::{Connection, NameServer};
 pub use order::{After, Order, Outcome, Sent, Tick};
 pub use policy::ConnectionPolicy;
+pub use protocols::Protocols;
 pub use server_send::{Asked, SendStep, ServerSend, Stage};
 pub use server_table::ServerTable;
 pub use status::{Status, a_status_is_read_back};
+pub use threads::servers_cross_threads;

@@ -2,7 +2,6 @@
 ghost use Rattle.std.specs.Prelude.{◌≡◌, ◌+◌, ◌-◌, ◌^◌, ◌++◌, ◌∷◌, [], map, min, IfOk, OnOk, OnErr};
 ghost use Rattle.std.specs.Bool.{beq};
 ghost use Rattle.std.specs.List.{filter, list_any};
-ghost use Rattle.dns_core.specs.Connection.{protocol_of};
 ghost use Rattle.server_core.specs.Delays.{read_fixed, recorded};
 ghost use Rattle.server_core.specs.Servers.{is_udp, is_live, IsFirstDelay};
 ghost use Rattle.server_core.specs.Hearing.{touched, after_heard, without_dead, with_opened};
@@ -10,8 +9,9 @@ ghost use Rattle.server_core.specs.NewServer.{begun, udp_first, in_order, new_se
 
 use crate::delays::DecayingSrtt;
 use crate::heard::{Heard, count};
+use crate::protocols::Protocols;
 use crate::status::Status;
-use dns_core::{ConnectionConfig, NoMemory, Protocol};
+use dns_core::{ConnectionConfig, NoMemory, Protocol, TryClone, try_clone_all};
 use resolver_settings::{NameServerConfig, ResolverOpts, ServerOrderingStrategy};
 use std::alloc::Global;
 use std::marker::Model;
@@ -192,15 +192,12 @@ impl NameServer {
     }
 
     /// The protocols over which it is reached, in their order.
-    pub fn protocols(&self, alloc: Global) -> Result<Vec<Protocol>, NoMemory>
-        ensures { IfOk result (λ protocols. protocols.items ≡ map (λ c. protocol_of c.protocol) self.now.config.connections) }
+    pub fn protocols(&self) -> Protocols<'_>
+        ensures { result.left.now ≡ self.now.config.connections }
     {
-        let configs = self.configs();
-        let mut protocols = Vec::with_capacity(alloc, configs.len())?;
-        for config in configs {
-            protocols.push(config.protocol.to_protocol())?;
+        Protocols {
+            left: self.configs(),
         }
-        Ok(protocols)
     }
 
     /// The connections that are kept to it, in their order.
@@ -269,5 +266,18 @@ impl NameServer {
         ensures { result ≡ list_any is_live self.now.connections }
     {
         self.connections.iter().any(|c| c.is_live())
+    }
+}
+
+impl TryClone for NameServer {
+    fn try_clone(&self, alloc: Global) -> Result<Self, NoMemory> {
+        let config = self.config.try_clone(alloc)?;
+        let connections = try_clone_all(alloc, &self.connections)?;
+        Ok(NameServer {
+            config,
+            connections,
+            delay: self.delay,
+            first_delay: self.first_delay,
+        })
     }
 }

@@ -3,6 +3,7 @@ ghost use Rattle.std.specs.Prelude.{◌≡◌, ◌+◌, ◌<◌, IfSome, length,
 ghost use Rattle.server_core.specs.Choice.{Picks};
 ghost use Rattle.server_core.specs.Policy.{allows, allows_config, allows_connection, allows_server, rank, is_before, is_config_before};
 
+use crate::context::PoolContext;
 use crate::name_server::{Connection, NameServer, is_udp};
 use dns_core::{ConnectionConfig, Protocol};
 
@@ -10,6 +11,17 @@ use dns_core::{ConnectionConfig, Protocol};
 #[derive(Clone, Copy, Debug, PartialEq, Eq)]
 pub struct ConnectionPolicy {
     pub disable_udp: bool,
+}
+
+impl Default for ConnectionPolicy {
+    ghost use Rattle.std.specs.Prelude.{◌≡◌, false};
+
+    ghost is_default = { λ policy. policy ≡ record { disable_udp = false } };
+
+    /// Every protocol is used.
+    fn default() -> Self {
+        ConnectionPolicy { disable_udp: false }
+    }
 }
 
 fn rank(protocol: Protocol) -> u8
@@ -79,8 +91,14 @@ impl ConnectionPolicy {
     }
 
     /// The place of the connection that is used: of those of allowed protocols the one of UDP before
-    /// the rest, then the one of the least delay, and of equal ones the first.
-    pub fn select_connection(&self, server: &NameServer, now: u64) -> Option<usize>
+    /// the rest, then the one of the least delay, and of equal ones the first. As long as connections
+    /// are not encrypted the choice is the same in each context.
+    pub fn select_connection(
+        &self,
+        server: &NameServer,
+        _cx: &PoolContext,
+        now: u64,
+    ) -> Option<usize>
         ensures choice { Picks (allows_connection self.now) (is_before now) server.now.connections result }
         ensures within { IfSome result (λ place. place < length server.now.connections) }
     {
@@ -118,8 +136,14 @@ impl ConnectionPolicy {
     }
 
     /// The place of the way over which a new connection is opened: of those of allowed protocols the
-    /// first one of UDP, or else the first one.
-    pub fn select_connection_config(&self, server: &NameServer) -> Option<usize>
+    /// first one of UDP, or else the first one. As long as connections are not encrypted the choice is
+    /// the same in each context and at each moment.
+    pub fn select_connection_config(
+        &self,
+        server: &NameServer,
+        _cx: &PoolContext,
+        _now: u64,
+    ) -> Option<usize>
         ensures choice { Picks (allows_config self.now) is_config_before server.now.config.connections result }
         ensures within { IfSome result (λ place. place < length server.now.config.connections) }
     {

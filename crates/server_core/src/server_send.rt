@@ -5,9 +5,10 @@ ghost use Rattle.dns_core.specs.declared.connection.Protocol.{Protocol};
 ghost use Rattle.dns_core.specs.declared.connection.ConnectionConfig.{ConnectionConfig};
 ghost use Rattle.server_core.specs.declared.name_server.Connection.{Connection};
 ghost use Rattle.server_core.specs.Hearing.{changed_at, without_dead, with_opened};
-ghost use Rattle.server_core.specs.Servers.{Server};
+ghost use Rattle.server_core.specs.Servers.{Server, place_of, server_of};
 ghost use Rattle.server_core.specs.Sending.{want_of, is_open, asked_of, opening_of, pendings, asks_left, asks_of, end_of, after_end, after_step, after_want, IsAskedOver, IsOpenedOver, OpensSelected, Begins, StepIs, TellsEnd, after_put, lost_put, told_put, heard_put, result_of, IsLostAsk, IsLost, IsHeard, IsConnected, IsTold, Comes, IsSameSend};
 
+use crate::context::PoolContext;
 use crate::heard::{heard_error, heard_of};
 use crate::name_server::NameServer;
 use crate::order::{After, Order, Outcome, Tick};
@@ -191,22 +192,24 @@ impl ServerSend {
         &mut self,
         alloc: Global,
         table: &mut ServerTable,
+        cx: &mut PoolContext,
         number: u64,
         tick: Tick,
     ) -> Result<SendStep, NoMemory>
-        requires { self.old.server < length table.old }
+        requires { place_of self.old.server < length table.old }
         ensures same { IsSameSend self.old self.new }
         ensures retried { self.new.retried ≡ self.old.retried }
         ensures table { OnOk result (table.new ≡ changed_at (after_step self.old.stage) self.old.server table.old) }
-        ensures step { (server : Server) → slice_get table.old self.old.server ≡ Some server
+        ensures step { (server : Server) → server_of table.old self.old.server ≡ Some server
             → IfOk result (λ step. StepIs self.old self.old.stage number tick.now server step self.new.stage) }
         ensures asks { IfOk result (λ step. asks_left self.new + asks_of step ≤ asks_left self.old) }
         ensures count { length table.new ≡ length table.old }
+        ensures context { cx.new ≡ cx.old }
         ensures err { OnErr result (self.new ≡ self.old) }
         ensures want { OnErr result (table.new ≡ changed_at (after_want self.old.stage) self.old.server table.old) }
     {
         match self.stage.want() {
-            Want::Begin => self.begin(alloc, table, number, tick.now),
+            Want::Begin => self.begin(alloc, table, cx, number, tick.now),
             Want::Ask { protocol, conn } => self.ask_first(alloc, table, protocol, conn, tick.now),
             Want::Wait => Ok(SendStep::Waiting),
             Want::Tell => Ok(self.tell()),
@@ -250,26 +253,28 @@ impl ServerSend {
         &mut self,
         alloc: Global,
         table: &mut ServerTable,
+        cx: &PoolContext,
         number: u64,
         now: u64,
     ) -> Result<SendStep, NoMemory>
-        requires live { self.old.server < length table.old }
+        requires live { place_of self.old.server < length table.old }
         requires ready { self.old.stage ≡ Stage.Ready }
         ensures same { IsSameSend self.old self.new }
         ensures retried { self.new.retried ≡ self.old.retried }
         ensures table { table.new ≡ changed_at without_dead self.old.server table.old }
-        ensures step { (server : Server) → slice_get table.old self.old.server ≡ Some server
+        ensures step { (server : Server) → server_of table.old self.old.server ≡ Some server
             → IfOk result (λ step. Begins self.old number now (without_dead server) step self.new.stage) }
         ensures err { OnErr result (self.new ≡ self.old) }
     {
         table.drop_dead(self.server);
-        self.select(alloc, table.get(self.server), number, now)
+        self.select(alloc, table.get(self.server), cx, number, now)
     }
 
     fn select(
         &mut self,
         alloc: Global,
         server: &NameServer,
+        cx: &PoolContext,
         number: u64,
         now: u64,
     ) -> Result<SendStep, NoMemory>
@@ -278,9 +283,9 @@ impl ServerSend {
         ensures step { IfOk result (λ step. Begins self.old number now server.now step self.new.stage) }
         ensures err { OnErr result (self.new ≡ self.old) }
     {
-        match self.policy.select_connection(server, now) {
+        match self.policy.select_connection(server, cx, now) {
             Some(place) => self.ask_again(alloc, server, place, now),
-            None => self.open_selected(alloc, server, number),
+            None => self.open_selected(alloc, server, cx, number, now),
         }
     }
 
@@ -333,14 +338,16 @@ impl ServerSend {
         &mut self,
         alloc: Global,
         server: &NameServer,
+        cx: &PoolContext,
         number: u64,
+        now: u64,
     ) -> Result<SendStep, NoMemory>
         ensures same { IsSameSend self.old self.new }
         ensures retried { self.new.retried ≡ self.old.retried }
         ensures step { IfOk result (λ step. OpensSelected self.old number server.now step self.new.stage) }
         ensures err { OnErr result (self.new ≡ self.old) }
     {
-        match self.policy.select_connection_config(server) {
+        match self.policy.select_connection_config(server, cx, now) {
             Some(place) => self.open_at(alloc, server, place, number),
             None => Ok(self.close_off()),
         }
@@ -394,11 +401,11 @@ impl ServerSend {
         conn: u64,
         now: u64,
     ) -> Result<SendStep, NoMemory>
-        requires live { self.old.server < length table.old }
+        requires live { place_of self.old.server < length table.old }
         ensures same { IsSameSend self.old self.new }
         ensures retried { self.new.retried ≡ self.old.retried }
         ensures table { OnOk result (table.new ≡ changed_at (with_opened conn protocol) self.old.server table.old) }
-        ensures step { (server : Server) → slice_get table.old self.old.server ≡ Some server
+        ensures step { (server : Server) → server_of table.old self.old.server ≡ Some server
             → IfOk result (λ step. IsAskedOver self.old now false protocol conn server step self.new.stage) }
         ensures err { OnErr result (self.new ≡ self.old) }
         ensures want { OnErr result (table.new ≡ table.old) }
@@ -423,10 +430,11 @@ impl ServerSend {
         &mut self,
         alloc: Global,
         table: &mut ServerTable,
+        cx: &mut PoolContext,
         outcome: Outcome,
         tick: Tick,
     ) -> Result<After, NoMemory>
-        requires { self.old.server < length table.old }
+        requires { place_of self.old.server < length table.old }
         ensures after { IfOk result (λ after. after ≡ after_put tick.patience self.old.stage outcome) }
         ensures same { IsSameSend self.old self.new }
         ensures late { is_open self.old.stage ≡ false → (result ≡ Ok After.Late) × (self.new ≡ self.old) × (table.new ≡ table.old) }
@@ -434,6 +442,7 @@ impl ServerSend {
         ensures comes { IsTrue (is_open self.old.stage) → OnOk result (Comes self.old outcome self.new) }
         ensures asks { asks_left self.new ≤ asks_left self.old }
         ensures count { length table.new ≡ length table.old }
+        ensures context { cx.new ≡ cx.old }
         ensures err { OnErr result ((self.new ≡ self.old) × (table.new ≡ table.old)) }
         ensures ample { (IsTold outcome → ⊥) → IsOk result }
     {
@@ -458,7 +467,7 @@ impl ServerSend {
 
     /// The connection is there, where one was being opened.
     fn connect(&mut self, table: &mut ServerTable, now: u64) -> After
-        requires { self.old.server < length table.old }
+        requires { place_of self.old.server < length table.old }
         ensures after { result ≡ After.Ended }
         ensures same { IsSameSend self.old self.new }
         ensures none { opening_of self.old.stage ≡ None → table.new ≡ changed_at (lost_put (asked_of self.old.stage) now (NetError.Io IoKind.Other)) self.old.server table.old }
@@ -476,7 +485,7 @@ impl ServerSend {
 
     /// A response was told, where one was asked for.
     fn hear(&mut self, table: &mut ServerTable, class: Result<Message, DnsError>, now: u64) -> After
-        requires { self.old.server < length table.old }
+        requires { place_of self.old.server < length table.old }
         ensures after { result ≡ After.Ended }
         ensures same { IsSameSend self.old self.new }
         ensures table { table.new ≡ changed_at (told_put (asked_of self.old.stage) now class) self.old.server table.old }
@@ -497,7 +506,7 @@ impl ServerSend {
 
     /// The order came to nothing but an error.
     fn lose(&mut self, table: &mut ServerTable, error: NetError, now: u64) -> After
-        requires { self.old.server < length table.old }
+        requires { place_of self.old.server < length table.old }
         ensures after { result ≡ After.Ended }
         ensures same { IsSameSend self.old self.new }
         ensures table { table.new ≡ changed_at (lost_put (asked_of self.old.stage) now error) self.old.server table.old }

@@ -3,7 +3,7 @@ use Rattle.std.proofs.Common.{◌≡◌, ◌∙◌, ℕ, suc, ◌<◌, ◌==◌,
 use Rattle.std.proofs.lemmas.Bool.{eqb-true}
 use Rattle.dns_core.specs.declared.errors.NoMemory.{NoMemory}
 use Rattle.resolution.specs.Lookups.{Answered, End}
-use Rattle.server_pool.specs.declared.candidate.Candidate.{Candidate}
+use Rattle.retry_rules.specs.declared.candidate.Candidate.{Candidate}
 use Rattle.server_core.specs.declared.order.Outcome.{Outcome}
 use Rattle.server_pool.specs.declared.rounds.Sending.{Sending}
 use Rattle.server_pool.specs.declared.rounds.Phase.{Phase}
@@ -16,7 +16,7 @@ use Rattle.server_core.specs.Order.{entry_of}
 use Rattle.server_core.specs.Sending.{end_of, is_open}
 use Rattle.server_core.specs.declared.server_send.Stage.{Stage}
 use Rattle.server_core.specs.declared.server_send.Stage.TheVariants as stage
-use Rattle.server_pool.proofs.Standing.{or_left}
+use Rattle.retry_rules.proofs.Standing.{or_left}
 
 -- where there was an end
 some_end : {X : Type 0} (xs : List X) → (xs ≡ [] → ⊥) → not (length xs == 0) ≡ true

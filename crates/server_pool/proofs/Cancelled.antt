@@ -4,15 +4,19 @@ use Rattle.std.specs.List.{filter, remove, list_any}
 use Rattle.std.specs.declared.net.IpAddr.{IpAddr}
 use Rattle.std.proofs.Math.ListN.{set}
 use Rattle.std.proofs.lemmas.Option.{slice_get_within}
-use Rattle.server_core.specs.Hearing.{changed_at}
-use Rattle.server_core.specs.Servers.{Server}
+use Rattle.server_core.specs.Hearing.{changed_at, changed_place}
+use Rattle.server_core.specs.Servers.{Server, place_of, server_of}
 use Rattle.server_core.proofs.Changing.{changed_length}
 use Rattle.server_pool.specs.Cancelling.{after_cancelled, address_of, is_at, is_apart, cancelled, cancelled_table, settled_table}
 use Rattle.server_pool.specs.declared.rounds.Sending.{Sending}
 use Rattle.server_pool.specs.declared.rounds.Rounds.{Rounds}
 
+-- the address of a server, if there is one
+abbrev pub address_in : Option Server → Option IpAddr
+address_in o = elim o [ None ↦ None | Some server ↦ Some server.config.ip ]
+
 -- a record leaves the addresses as they were
-address_at : (winner now n : ℕ) (table : List Server) (m : ℕ) → address_of (changed_at (after_cancelled winner now) n table) m ≡ address_of table m
+address_at : (winner now n : ℕ) (table : List Server) (m : ℕ) → address_in (slice_get (changed_place (after_cancelled winner now) n table) m) ≡ address_in (slice_get table m)
 address_at winner now n [] m = refl
 address_at winner now zero (s ∷ table) zero = refl
 address_at winner now zero (s ∷ table) (suc m) = refl
@@ -23,7 +27,7 @@ same_fun : {A B : Type 0} (f g : A → B) → ((x : A) → f x ≡ g x) → f �
 same_fun f g h = λ i x. h x i
 
 same_addresses : (winner now n : ℕ) (table : List Server) → address_of (changed_at (after_cancelled winner now) n table) ≡ address_of table
-same_addresses winner now n table = same_fun (address_of (changed_at (after_cancelled winner now) n table)) (address_of table) (address_at winner now n table)
+same_addresses winner now n table = same_fun (address_of (changed_at (after_cancelled winner now) n table)) (address_of table) (λ m. address_at winner now (place_of n) table (place_of m))
 
 module _ (among : List ℕ) (winner now : ℕ) where
   -- the server of a send records, where it is apart from these
@@ -70,11 +74,11 @@ pub apart_at : (a : ℕ → Option IpAddr) (among : List ℕ) (n : ℕ) (ip : Ip
 apart_at a among n ip h = ap (λ (o : Option IpAddr). elim o as (λ _. Bool) [ None ↦ false | Some ip ↦ not (list_any (λ m. is_at ip (a m)) among) ]) h
 
 -- one that is apart is there
-pub apart_within : (table : List Server) (among : List ℕ) (n : ℕ) → is_apart (address_of table) among n ≡ true → n < length table
-apart_within table among n h = by_server (slice_get table n) refl h
+pub apart_within : (table : List Server) (among : List ℕ) (n : ℕ) → is_apart (address_of table) among n ≡ true → place_of n < length table
+apart_within table among n h = by_server (server_of table n) refl h
   where
-    by_server : (o : Option Server) → slice_get table n ≡ o
+    by_server : (o : Option Server) → server_of table n ≡ o
         → elim (elim o as (λ _. Option IpAddr) [ None ↦ None | Some server ↦ Some server.config.ip ]) as (λ _. Bool) [ None ↦ false | Some ip ↦ not (list_any (λ m. is_at ip (address_of table m)) among) ] ≡ true
-        → n < length table
+        → place_of n < length table
     by_server None e h = cc
-    by_server (Some s) e h = slice_get_within table n s e
+    by_server (Some s) e h = slice_get_within table (place_of n) s e

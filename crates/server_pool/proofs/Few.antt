@@ -1,20 +1,20 @@
 -- A lookup makes few sends.
-use Rattle.std.proofs.Common.{◌≡◌, ◌∙◌, ℕ, ◌+◌, ◌*◌, ◌≤◌, List, [], ◌∷◌, length, refl, ap, sym, subst, Option, Some, None, arith}
+use Rattle.std.proofs.Common.{◌≡◌, ℕ, ◌+◌, ◌*◌, ◌≤◌, List, [], ◌∷◌, length, sym, subst, Option, Some, None, arith}
 use Rattle.std.specs.List.{filter_map, cons_option}
 use Rattle.std.proofs.lemmas.List.{length-map}
 use Rattle.dns_core.specs.declared.message.Query.{Query}
 use Rattle.resolution.specs.Lookups.{Answered, End}
-use Rattle.server_pool.specs.declared.candidate.Candidate.{Candidate}
+use Rattle.retry_rules.specs.declared.candidate.Candidate.{Candidate}
 use Rattle.server_pool.specs.declared.open_lookup.OpenLookup.{OpenLookup}
 use Rattle.server_pool.specs.declared.rounds.Phase.{Phase}
 use Rattle.server_pool.specs.declared.rounds.Phase.TheVariants as phase
 use Rattle.server_pool.specs.declared.rounds.Rounds.{Rounds}
 use Rattle.server_pool.specs.declared.rounds.Sending.{Sending}
-use Rattle.server_pool.specs.Agenda.{Plan, PlanStands, rules_of, class_of_sent}
+use Rattle.retry_rules.specs.Agenda.{Plan, PlanStands, rules_of, class_of_sent}
 use Rattle.server_pool.specs.OpenLookup.{StandsTelling, LookupStands}
 use Rattle.server_pool.specs.Rounds.{HeardEnd, ends_of, entries_of, under_way, sends_made, StandsIn}
-use Rattle.server_pool.proofs.Plans.{same_self}
-use Rattle.server_pool.proofs.Finishing.{few_sends}
+use Rattle.retry_rules.proofs.Plans.{same_self}
+use Rattle.retry_rules.proofs.Finishing.{few_sends}
 
 pub few_made : (q : Query) (timeout : ℕ) (pool : List Candidate) (ends : List (End Candidate)) (sends : List Sending) (p : Plan) → PlanStands q timeout pool ends (under_way sends) p
     → length ends + length sends ≤ 5 * length pool + 1

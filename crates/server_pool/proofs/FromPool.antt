@@ -7,13 +7,13 @@ use Rattle.resolution.specs.Lookups.{Answered, End, Rules}
 use Rattle.resolution.proofs.Members.{Has, Contains-from_Has}
 use Rattle.resolution.proofs.Members.{any_Has, Has_any}
 use Rattle.resolution.specs.declared.class.Class.{Class}
-use Rattle.server_pool.specs.Agenda.{among, Stands, rules_of, class_of_sent, same_candidate}
+use Rattle.retry_rules.specs.Agenda.{among, Stands, rules_of, class_of_sent, same_candidate}
 use Rattle.server_pool.specs.Rounds.{under_way, Goes}
-use Rattle.server_pool.specs.declared.candidate.Candidate.{Candidate}
+use Rattle.retry_rules.specs.declared.candidate.Candidate.{Candidate}
 use Rattle.server_pool.specs.declared.rounds.Sending.{Sending}
 use Rattle.server_pool.specs.declared.rounds.Rounds.{Rounds}
-use Rattle.server_pool.proofs.Standing.{count_cons}
-use Rattle.server_pool.proofs.Plans.{same_self, same_is}
+use Rattle.retry_rules.proofs.Standing.{count_cons}
+use Rattle.retry_rules.proofs.Plans.{same_self, same_is}
 
 module _ {X : Type 0} (p : X → Bool) where
   any_count : (xs : List X) → list_any p xs ≡ true → 1 ≤ count_by p xs

@@ -1,12 +1,3 @@
-mod Foreign
-mod Unfiltered
-pub mod Turning
-pub mod KeptOver
-pub mod Standing
-pub mod Deciding
-pub mod Finishing
-pub mod Plans
-pub mod Moving
 pub mod OpenOrders
 pub mod Sendings
 pub mod Beginning

@@ -7,11 +7,11 @@ use Rattle.dns_core.specs.declared.errors.NoMemory.{NoMemory}
 use Rattle.resolution.specs.Lookups.{Answered}
 use Rattle.server_core.specs.Order.{entry_of}
 use Rattle.server_core.specs.Sending.{is_open, end_of}
-use Rattle.server_core.specs.Servers.{Server}
+use Rattle.server_core.specs.Servers.{Server, place_of}
 use Rattle.server_core.specs.declared.order.After.{After}
 use Rattle.server_core.specs.declared.order.Outcome.{Outcome}
 use Rattle.server_core.specs.declared.order.Tick.{Tick}
-use Rattle.server_pool.specs.declared.candidate.Candidate.{Candidate}
+use Rattle.retry_rules.specs.declared.candidate.Candidate.{Candidate}
 use Rattle.server_pool.specs.declared.open_lookup.LookupStep.{LookupStep}
 use Rattle.server_pool.specs.declared.open_lookup.LookupStep.TheVariants as step
 use Rattle.server_pool.specs.declared.open_lookup.Nap.{Nap}
@@ -125,23 +125,23 @@ module _ (number : ℕ) (outcome : Outcome) (tick : Tick) (table later : List Se
 
   -- ---- the order of a send
 
-  head_is : (servers : ℕ) (s : Sending) (l : List Sending) → (opens number old.rounds.sends.items ≡ l) → IsAlone number servers old.rounds.sends.items → slice_get l 0 ≡ Some s → (l ≡ s ∷ []) × (s.send.server < servers)
+  head_is : (servers : ℕ) (s : Sending) (l : List Sending) → (opens number old.rounds.sends.items ≡ l) → IsAlone number servers old.rounds.sends.items → slice_get l 0 ≡ Some s → (l ≡ s ∷ []) × (place_of s.send.server < servers)
   head_is servers s l is (inl none) first = absurd (none_there (slice_get l 0) s (ap (λ (x : List Sending). slice_get x 0) (sym is ∙ none)) first)
   head_is servers s l is (inr one) first =
       let same : one.0 ≡ s = same_one one.0 s (sym (ap (λ (x : List Sending). slice_get x 0) (sym is ∙ one.1)) ∙ first) in
-      (sym is ∙ one.1 ∙ ap (λ (x : Sending). x ∷ []) same, subst (λ (x : Sending). x.send.server < servers) same one.2)
+      (sym is ∙ one.1 ∙ ap (λ (x : Sending). x ∷ []) same, subst (λ (x : Sending). place_of x.send.server < servers) same one.2)
 
-  one_left : (servers : ℕ) (s : Sending) (sends : List Sending) → s.send.server < servers → TookOutcome number s outcome sends → IsAlone number servers sends
+  one_left : (servers : ℕ) (s : Sending) (sends : List Sending) → place_of s.send.server < servers → TookOutcome number s outcome sends → IsAlone number servers sends
   one_left servers s sends live t = by_test (next.order == number && is_open next.send.stage) refl
     where
       next : Sending
       next = record s { send = t.next; ended_by = ended_by_of t.next.stage (entry_of outcome) }
 
       by_test : (b : Bool) → (next.order == number && is_open next.send.stage) ≡ b → IsAlone number servers sends
-      by_test true e = inr (next, t.now ∙ ap (λ (b : Bool). cond b (next ∷ []) []) e, subst (λ (n : ℕ). n < servers) (sym t.server) live)
+      by_test true e = inr (next, t.now ∙ ap (λ (b : Bool). cond b (next ∷ []) []) e, subst (λ (n : ℕ). place_of n < servers) (sym t.server) live)
       by_test false e = inl (t.now ∙ ap (λ (b : Bool). cond b (next ∷ []) []) e)
 
-  own_after : (servers : ℕ) (s : Sending) (r : Result After NoMemory) → s.send.server < servers → opens number old.rounds.sends.items ≡ s ∷ [] → TakesBy number s outcome r new.rounds.sends.items
+  own_after : (servers : ℕ) (s : Sending) (r : Result After NoMemory) → place_of s.send.server < servers → opens number old.rounds.sends.items ≡ s ∷ [] → TakesBy number s outcome r new.rounds.sends.items
       → IsAlone number servers new.rounds.sends.items
   own_after servers s (Ok after) live only took = one_left servers s new.rounds.sends.items live took
   own_after servers s (Err e) live only (inl same) = inr (s, same, live)
@@ -169,7 +169,7 @@ module _ (number : ℕ) (outcome : Outcome) (tick : Tick) (table later : List Se
       same_alone n apart (inl none) = inl (f.others n apart ∙ none)
       same_alone n apart (inr x) = inr (x.0, f.others n apart ∙ x.1, x.2)
 
-      by_answer : (place : ℕ) (s : Sending) → IsOpenAt number place s old.rounds → opens number old.rounds.sends.items ≡ s ∷ [] → s.send.server < length table
+      by_answer : (place : ℕ) (s : Sending) → IsOpenAt number place s old.rounds → opens number old.rounds.sends.items ≡ s ∷ [] → place_of s.send.server < length table
           → (a : Option Answered) → old.answer ≡ a → StandsTelling h.pool h.heard old a → HasLookup (length later) given new
       by_answer place s at only live (Some answer) e st = absurd (let told = st.2 in let asks = at.asks in cc)
       by_answer place s at only live None e st =
@@ -193,5 +193,5 @@ module _ (number : ℕ) (outcome : Outcome) (tick : Tick) (table later : List Se
 
 -- the servers of its order are there
 pub alone_live : (number servers : ℕ) (l : OpenLookup) → IsAlone number servers l.rounds.sends.items → AreLive number servers l.rounds.sends.items
-alone_live number servers l (inl none) = subst (All (λ (s : Sending). s.send.server < servers)) (sym none) (λ i x less. absurd (omega (arith, less)))
-alone_live number servers l (inr one) = subst (All (λ (s : Sending). s.send.server < servers)) (sym one.1) (All-cons (λ (s : Sending). s.send.server < servers) one.0 [] one.2 (λ i x less. absurd (omega (arith, less))))
+alone_live number servers l (inl none) = subst (All (λ (s : Sending). place_of s.send.server < servers)) (sym none) (λ i x less. absurd (omega (arith, less)))
+alone_live number servers l (inr one) = subst (All (λ (s : Sending). place_of s.send.server < servers)) (sym one.1) (All-cons (λ (s : Sending). place_of s.send.server < servers) one.0 [] one.2 (λ i x less. absurd (omega (arith, less))))

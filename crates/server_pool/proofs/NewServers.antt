@@ -9,8 +9,9 @@ use Rattle.std.specs.Vec.Iter.{into_iter_items, into_iter_steps}
 use Rattle.std.specs.declared.vec.IntoIter.{IntoIter}
 use Rattle.resolver_settings.specs.NameServer.{NameServer}
 use Rattle.resolver_settings.specs.declared.options.ServerOrderingStrategy.{ServerOrderingStrategy}
+use Rattle.server_core.proofs.Places.{place-within}
 use Rattle.server_core.specs.NewServer.{new_server}
-use Rattle.server_core.specs.Servers.{Server}
+use Rattle.server_core.specs.Servers.{Server, place_of}
 use Rattle.server_pool.specs.NewPool.{delay_at, new_servers, with_servers, HasSomeOf}
 use Rattle.server_pool.specs.Pool.{IsPoolOf, IsLive}
 use Rattle.server_pool.specs.Shared.{Shared}
@@ -48,6 +49,10 @@ pub numbers-last : {X : Type 0} (first : ℕ) (xs : List X) (x : X) (at : ℕ) �
 numbers-last first [] x at is = let same : first ≡ at = omega (arith, is) in ap (λ (n : ℕ). n ∷ []) same
 numbers-last first (y ∷ xs) x at is = ap (λ (l : List ℕ). first ∷ l) (numbers-last (first + 1) xs x at (omega (arith, is)))
 
+-- the number of one more server, behind those that were there and those that were added
+pub next-number : (n first more count : ℕ) → n ≡ count + 1 → count ≡ first + more → n ≡ first + 1 + more
+next-number n first more count is many = omega (arith, is, many)
+
 -- the server of the next configuration stands behind those of the ones before
 pub added-more : (delays : List ℕ) (xs : List NameServer) (x : NameServer) (old now new : Shared) (place delay : ℕ)
     → now ≡ with_servers delays xs old → place ≡ length xs → delay ≡ delay_at delays place
@@ -79,18 +84,19 @@ some-of delays configs old new s xs t whole y is = record {
   is = is;
 }
 
--- so many numbers from the first on are below the number that would be next
-pub numbers-below : (first count : ℕ) → All (λ number. number < first + count) (range_with_len first count)
-numbers-below first count = All-from_get_or (λ number. number < first + count) (range_with_len first count) 0 (λ i within.
-    let below : i < count = subst (λ (n : ℕ). i < n) (length-range_with_len first count) within in
-    subst (λ (n : ℕ). n < first + count) (sym (get_or-range_with_len first count i 0 below)) (omega (arith, below)))
+-- the servers of so many numbers behind those of a table are there
+pub numbers-below : (first count : ℕ) → All (λ number. place_of number < first + count) (range_with_len (first + 1) count)
+numbers-below first count = All-from_get_or (λ number. place_of number < first + count) (range_with_len (first + 1) count) 0 (λ i within.
+    let below : i < count = subst (λ (n : ℕ). i < n) (length-range_with_len (first + 1) count) within in
+    subst (λ (n : ℕ). place_of n < first + count) (sym (get_or-range_with_len (first + 1) count i 0 below))
+    (place-within (first + 1 + i) (first + count) (omega arith) (omega (arith, below))))
 
 -- the servers of a pool that is made of those that were added are in the table
 pub pool-live : {E : Type 0} (r : Result NameServerPool E) (delays : List ℕ) (configs : List NameServer) (old now new : Shared) (own : ℕ) (numbers : List ℕ)
-    → now ≡ with_servers delays configs old → numbers ≡ range_with_len (length old.table) (length configs)
+    → now ≡ with_servers delays configs old → numbers ≡ range_with_len (length old.table + 1) (length configs)
     → OnOk r (new ≡ record now { pools = now.pools + 1 }) → IfOk r (IsPoolOf own numbers) → IfOk r (IsLive new.table)
 pool-live (Ok pool) delays configs old now new own numbers was told is h =
     let many = ap (λ (s : Shared). length s.table) is ∙ servers-so_far delays configs old now was in
-    subst (λ (n : ℕ). All (λ number. number < n) pool.servers.items) (sym many)
-    (subst (All (λ number. number < length old.table + length configs)) (sym (h.servers ∙ told)) (numbers-below (length old.table) (length configs)))
+    subst (λ (n : ℕ). All (λ number. place_of number < n) pool.servers.items) (sym many)
+    (subst (All (λ number. place_of number < length old.table + length configs)) (sym (h.servers ∙ told)) (numbers-below (length old.table) (length configs)))
 pool-live (Err e) delays configs old now new own numbers was told is h = tt

@@ -6,7 +6,7 @@ use Rattle.resolution.specs.Lookups.{Answered}
 use Rattle.server_core.specs.Sending.{pendings}
 use Rattle.server_core.specs.declared.order.Outcome.{Outcome}
 use Rattle.server_core.specs.declared.order.Outcome.TheVariants as outcome
-use Rattle.server_pool.specs.declared.candidate.Candidate.{Candidate}
+use Rattle.retry_rules.specs.declared.candidate.Candidate.{Candidate}
 use Rattle.server_pool.specs.declared.open_lookup.LookupStep.{LookupStep}
 use Rattle.server_pool.specs.declared.open_lookup.LookupStep.TheVariants as step
 use Rattle.server_pool.specs.declared.open_lookup.Nap.{Nap}

@@ -7,16 +7,18 @@ use Rattle.std.proofs.lemmas.Bool.Decides.{eqb_tells}
 use Rattle.std.proofs.lemmas.List.Folds.{find_at}
 use Rattle.std.specs.declared.net.ip_addr.IpAddr.{IpAddr}
 use Rattle.dns_core.specs.declared.errors.NoMemory.{NoMemory}
+use Rattle.dns_core.specs.declared.message.Query.{Query}
 use Rattle.resolution.specs.Lookups.{Answered}
 use Rattle.server_core.specs.Sending.{is_open, pendings, after_put, after_outcome, after_step, after_want}
-use Rattle.server_core.specs.Servers.{Server}
+use Rattle.server_core.specs.Context.{Context}
+use Rattle.server_core.specs.Servers.{Server, place_of}
 use Rattle.server_core.specs.declared.order.Order.{Order}
 use Rattle.server_core.specs.declared.order.After.TheVariants.{Late}
 use Rattle.server_core.specs.declared.order.Order.TheVariants.{Sleep}
 use Rattle.server_core.specs.declared.order.Outcome.{Outcome}
 use Rattle.server_core.specs.declared.order.Outcome.TheVariants as outcome
 use Rattle.server_core.specs.declared.server_send.Stage.{Stage}
-use Rattle.server_pool.specs.declared.candidate.Candidate.{Candidate}
+use Rattle.retry_rules.specs.declared.candidate.Candidate.{Candidate}
 use Rattle.server_pool.specs.declared.next_step.RoundStep.TheVariants as given
 use Rattle.server_pool.specs.declared.open_lookup.LookupStep.{LookupStep}
 use Rattle.server_pool.specs.declared.open_lookup.LookupStep.TheVariants as step
@@ -26,6 +28,7 @@ use Rattle.server_pool.specs.declared.rounds.Phase.{Phase}
 use Rattle.server_pool.specs.declared.rounds.Phase.TheVariants as phase
 use Rattle.server_pool.specs.declared.rounds.Rounds.{Rounds}
 use Rattle.server_pool.specs.declared.rounds.Sending.{Sending}
+use Rattle.retry_rules.specs.AnswerFilter.{denied_by}
 use Rattle.server_pool.specs.NextStep.{HasGiven, HasHalted, IsHalted, changed_for, stepping, stepped_table}
 use Rattle.server_pool.specs.NextStep.HasGone.{stayed}
 use Rattle.server_pool.specs.OpenLookup.{IsAsleep, until_of, while_asking, polls_by, polls_with, polls_at, StandsTelling, LookupStands, left_of, after_polls, IsWaiting, StepTells, IsKnown, TableLeft, LookupGives}
@@ -34,6 +37,12 @@ use Rattle.server_pool.specs.Rounds.{HeardEnd, ends_of, RoundsStand, StandsIn, I
 use Rattle.server_pool.proofs.OpenOrders.{passes_in}
 use Rattle.server_pool.proofs.OpenSteps.{place_of_order, without_place}
 use Rattle.server_pool.proofs.Stepping.{some_found}
+
+-- what is left of an answer is the same by the same settings
+pub left_in :
+    {E : Type 0} (r : Result LookupStep E) (q : Query) (answer : Answered) (a b : Context) → a ≡ b
+    → IfOk r (λ s. s ≡ step.Done (left_of q (denied_by a.answer_address_filter) answer)) → IfOk r (λ s. s ≡ step.Done (left_of q (denied_by b.answer_address_filter) answer))
+left_in r q answer a b same h = subst (λ (x : Context). IfOk r (λ s. s ≡ step.Done (left_of q (denied_by x.answer_address_filter) answer))) same h
 
 -- ---- the first of those that pass
 
@@ -407,6 +416,6 @@ nap_own number polls l nap is h = elim (eqb_tells nap.order number) [
 pub awake_polls : (number : ℕ) (o : Option ℕ) (l : OpenLookup) → l.nap ≡ None → polls_at number l ≡ o → polls_by number l.rounds ≡ o
 awake_polls number o l is h = sym (ap (λ (n : Option Nap). polls_with number n l.rounds) is) ∙ h
 
-pub first_live : (servers : ℕ) (l : List Sending) (s : Sending) → All (λ (x : Sending). x.send.server < servers) l → slice_get l 0 ≡ Some s → s.send.server < servers
+pub first_live : (servers : ℕ) (l : List Sending) (s : Sending) → All (λ (x : Sending). place_of x.send.server < servers) l → slice_get l 0 ≡ Some s → place_of s.send.server < servers
 first_live servers [] s all h = cc
-first_live servers (x ∷ xs) s all h = subst (λ (y : Sending). y.send.server < servers) (same_one x s h) (all 0 x (omega arith))
+first_live servers (x ∷ xs) s all h = subst (λ (y : Sending). place_of y.send.server < servers) (same_one x s h) (all 0 x (omega arith))

@@ -8,7 +8,7 @@ use Rattle.std.proofs.lemmas.Option.{get_or_from_slice_get}
 use Rattle.dns_core.specs.declared.errors.NoMemory.{NoMemory}
 use Rattle.resolution.specs.Lookups.{Answered}
 use Rattle.server_core.specs.Sending.{is_open, end_of, after_end, pendings, Comes, StepIs}
-use Rattle.server_core.specs.Servers.{Server}
+use Rattle.server_core.specs.Servers.{Server, place_of}
 use Rattle.server_core.specs.declared.order.After.{After}
 use Rattle.server_core.specs.declared.order.Order.{Order}
 use Rattle.server_core.specs.declared.order.Outcome.{Outcome}
@@ -169,14 +169,14 @@ step_order s stage.Over number now server o next h = absurd (let e = h.0 in cc)
 
 -- what a step made of a send opens its order, or none
 made_by : (number servers now : ℕ) (server : Server) (told : SendStep) (lent new : Sending) (next : ServerSend) (made : Option Order) → StepIs lent.send lent.send.stage number now server told next.stage
-    → next.server ≡ lent.send.server → IsTaken number told (record lent { send = next }) made new → lent.send.server < servers → OpensMade number servers (Ok made) (new ∷ [])
+    → next.server ≡ lent.send.server → IsTaken number told (record lent { send = next }) made new → place_of lent.send.server < servers → OpensMade number servers (Ok made) (new ∷ [])
 made_by number servers now server (step.Order o) lent new next made steps same taken live =
     let opened = step_order lent.send lent.send.stage number now server o next.stage steps in
     let to : OpensMade number servers (Ok (Some o)) (record lent { send = next; order = number } ∷ []) = record {
       sending = record lent { send = next; order = number };
       only = opens_self (record lent { send = next; order = number }) opened.0;
       polls = opened.1;
-      live = subst (λ (x : ℕ). x < servers) (sym same) live;
+      live = subst (λ (x : ℕ). place_of x < servers) (sym same) live;
     } in
     subst (λ (x : Option Order). OpensMade number servers (Ok x) (new ∷ [])) (sym taken.0)
     (subst (λ (x : Sending). OpensMade number servers (Ok (Some o)) (x ∷ [])) (sym taken.1) to)
@@ -197,7 +197,7 @@ module _ (number servers now : ℕ) (sends : List Sending) (i : ℕ) (s lent new
   at_lent : lent ≡ s
   at_lent = is ∙ get_or_from_slice_get sends i s lent there
 
-  pub step_opens : (server : Server) (result : Result (Option Order) NoMemory) → IfOk result (λ made. Steps number now server lent made new) → OnErr result (new ≡ lent) → lent.send.server < servers
+  pub step_opens : (server : Server) (result : Result (Option Order) NoMemory) → IfOk result (λ made. Steps number now server lent made new) → OnErr result (new ≡ lent) → place_of lent.send.server < servers
       → opens number sends ≡ [] → OpensMade number servers result (set sends i new)
   step_opens server (Ok made) steps err live none =
       made_moved number servers (Ok made) (new ∷ []) (set sends i new) (opens_set number sends i s new there (none ∙ sym (opens_closed number s closed)))

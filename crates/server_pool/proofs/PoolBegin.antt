@@ -11,13 +11,13 @@ use Rattle.resolver_settings.specs.declared.options.ServerOrderingStrategy.TheVa
 use Rattle.server_core.specs.Servers.{Server}
 use Rattle.server_pool.specs.Candidates.{candidates}
 use Rattle.server_pool.specs.Lookups.{Begins}
-use Rattle.server_pool.specs.Ordering.{IsByDelay, IsOrdered, next_turn, from_place, place_of_turn, side_by_side}
+use Rattle.retry_rules.specs.Ordering.{IsByDelay, IsOrdered, next_turn, from_place, place_of_turn, side_by_side}
 use Rattle.server_pool.specs.PoolSteps.{HasBegun}
 use Rattle.server_pool.specs.Rounds.{RoundsStand, BeginsWith}
 use Rattle.server_pool.specs.Running.{Runs}
 use Rattle.server_pool.specs.Shared.{Shared, configs, under, lookup_at, turn_at}
 use Rattle.server_pool.specs.SharedStands.{SharedStands}
-use Rattle.server_pool.specs.declared.candidate.Candidate.{Candidate}
+use Rattle.retry_rules.specs.declared.candidate.Candidate.{Candidate}
 use Rattle.server_pool.specs.declared.rounds.Rounds.{Rounds}
 
 -- the first round of a lookup at the servers that were asked in their order

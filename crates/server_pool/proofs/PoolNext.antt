@@ -11,11 +11,11 @@ use Rattle.server_pool.specs.OpenLookup.{IsWaiting, LookupStands, LookupGives, O
 use Rattle.server_pool.specs.PoolSteps.{HasStepped, OrdersLeft, NumbersStep, PoolGives, TellsAgain, denied_in, told_as, told_by}
 use Rattle.dns_core.specs.declared.net_error.NetError.TheVariants as net
 use Rattle.server_core.specs.Servers.{Server}
-use Rattle.server_pool.specs.declared.candidate.Candidate.{Candidate}
+use Rattle.retry_rules.specs.declared.candidate.Candidate.{Candidate}
 use Rattle.server_pool.specs.Rounds.{HeardEnd}
 use Rattle.server_core.specs.Context.{Context}
 use Rattle.server_core.specs.declared.order.Order.{Order}
-use Rattle.server_pool.specs.AnswerFilter.{denied_by}
+use Rattle.retry_rules.specs.AnswerFilter.{denied_by}
 use Rattle.server_pool.specs.Lookups.{Gives}
 use Rattle.server_pool.specs.Running.{Runs, AreReached, RunsOn, request_of}
 use Rattle.server_pool.specs.Shared.{Shared, configs, under, lookup_at, lookup_of, SameBut}

@@ -13,7 +13,7 @@ use Rattle.server_pool.specs.Lookups.{HasTaken, HasSlept}
 use Rattle.server_pool.specs.PoolSteps.{IsFedBy}
 use Rattle.server_pool.specs.Rounds.{HeardEnd}
 use Rattle.server_pool.specs.Running.{Runs, AreReached, IsOpenTo, IsNapping, RunsTaken, RunsSlept}
-use Rattle.server_pool.specs.declared.candidate.Candidate.{Candidate}
+use Rattle.retry_rules.specs.declared.candidate.Candidate.{Candidate}
 use Rattle.server_pool.specs.declared.open_lookup.Nap.{Nap}
 use Rattle.server_pool.specs.Shared.{Shared, configs, under, lookup_at, lookup_of, SameBut}
 use Rattle.server_pool.specs.SharedStands.{IsOpenOrder, SharedStands}

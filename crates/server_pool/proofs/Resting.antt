@@ -1,9 +1,8 @@
 -- What a round comes to once its sends were begun.
 use Rattle.std.proofs.Common.{◌≡◌, ◌∙◌, ℕ, ◌<◌, ◌-◌, ◌^◌, min, length, true, false, ap, sym, subst, Err}
 use Rattle.dns_core.specs.declared.net_error.NetError.{NetError}
-use Rattle.server_pool.specs.Agenda.{Plan, may_sleep, sleep_time}
+use Rattle.retry_rules.specs.Agenda.{Plan, may_sleep}
 use Rattle.server_pool.specs.Rounds.{IsSameLookup, RestsFrom, wakes_at}
-use Rattle.server_pool.specs.declared.rounds.Phase.{Phase}
 use Rattle.server_pool.specs.declared.rounds.Phase.TheVariants.{Asking, Asleep, Decided}
 use Rattle.server_pool.specs.declared.rounds.Rounds.{Rounds}
 

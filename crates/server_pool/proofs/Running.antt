@@ -10,7 +10,7 @@ use Rattle.dns_core.specs.Connection.{protocol_of}
 use Rattle.resolver_settings.specs.NameServer.{NameServer}
 use Rattle.server_core.specs.Hearing.{without_dead}
 use Rattle.server_core.specs.Policy.{allows_config, allows_server}
-use Rattle.server_core.specs.Servers.{Server, is_udp}
+use Rattle.server_core.specs.Servers.{Server, is_udp, place_of, server_of}
 use Rattle.server_core.specs.Sending.{is_open, after_step, IsAskedOver, IsOpenedOver, IsClosedOff, StepIs, IsSameSend}
 use Rattle.server_core.specs.declared.order.Order.{Order}
 use Rattle.server_core.specs.declared.order.Order.TheVariants as order
@@ -29,7 +29,7 @@ use Rattle.server_pool.specs.Rounds.{HeardEnd, ends_of, RoundsStand, IsSameLooku
 use Rattle.server_pool.specs.Rounds.{woken as woken_plan}
 use Rattle.server_pool.specs.Running.{IsGoing, GoesTo, IsFor, AreReached}
 use Rattle.server_pool.specs.Shared.{configs}
-use Rattle.server_pool.specs.declared.candidate.Candidate.{Candidate}
+use Rattle.retry_rules.specs.declared.candidate.Candidate.{Candidate}
 use Rattle.server_pool.specs.declared.rounds.Rounds.{Rounds}
 use Rattle.server_pool.specs.declared.rounds.Sending.{Sending}
 use Rattle.std.proofs.lemmas.List.Quantifiers.{position-Some}
@@ -47,11 +47,11 @@ abbrev beyond : ConnectionPolicy
 beyond = record { disable_udp = true }
 
 -- the server of a candidate that is reached is there, and is reached over another protocol than UDP
-pub reached_there : (table : List Server) (c : Candidate) → (c ≡ candidate_of table c.server) × (c.beyond_udp ≡ true) → (server : Server) × (slice_get table c.server ≡ Some server) × (allows_server beyond server ≡ true)
-reached_there table c h = by_server (slice_get table c.server) refl (sym (ap (λ (x : Candidate). x.beyond_udp) h.0) ∙ h.1)
+pub reached_there : (table : List Server) (c : Candidate) → (c ≡ candidate_of table c.server) × (c.beyond_udp ≡ true) → (server : Server) × (server_of table c.server ≡ Some server) × (allows_server beyond server ≡ true)
+reached_there table c h = by_server (server_of table c.server) refl (sym (ap (λ (x : Candidate). x.beyond_udp) h.0) ∙ h.1)
   where
-    by_server : (o : Option Server) → slice_get table c.server ≡ o → elim o as (λ _. Bool) [ None ↦ false | Some server ↦ allows_server beyond server ] ≡ true
-        → (server : Server) × (slice_get table c.server ≡ Some server) × (allows_server beyond server ≡ true)
+    by_server : (o : Option Server) → server_of table c.server ≡ o → elim o as (λ _. Bool) [ None ↦ false | Some server ↦ allows_server beyond server ] ≡ true
+        → (server : Server) × (server_of table c.server ≡ Some server) × (allows_server beyond server ≡ true)
     by_server None e g = cc
     by_server (Some server) e g = (server, e, g)
 
@@ -174,10 +174,10 @@ open_going stage.Over h = cc
 -- ---- how the servers are reached
 
 module _ (old new : List Server) (same : configs new ≡ configs old) where
-  pub config_same : (n : ℕ) → option_map (λ (s : Server). s.config) (slice_get new n) ≡ option_map (λ (s : Server). s.config) (slice_get old n)
+  pub config_same : (n : ℕ) → option_map (λ (s : Server). s.config) (server_of new n) ≡ option_map (λ (s : Server). s.config) (server_of old n)
   config_same n =
       let config : Server → NameServer = λ s. s.config in
-      sym (slice_get-map config new n) ∙ (ap (λ (l : List NameServer). slice_get l n) same ∙ slice_get-map config old n)
+      sym (slice_get-map config new (place_of n)) ∙ (ap (λ (l : List NameServer). slice_get l (place_of n)) same ∙ slice_get-map config old (place_of n))
 
   abbrev by_config : Option NameServer → Bool
   by_config o = elim o [ None ↦ false | Some config ↦ list_any (allows_config beyond) config.connections ]
@@ -197,8 +197,8 @@ module _ (old new : List Server) (same : configs new ≡ configs old) where
   pub candidate_same : (n : ℕ) → candidate_of new n ≡ candidate_of old n
   candidate_same n =
       let e = config_same n in
-      let reached : is_reached beyond new n ≡ is_reached beyond old n = reached_config (slice_get new n) ∙ (ap by_config e ∙ sym (reached_config (slice_get old n))) in
-      let trusted : is_trusted new n ≡ is_trusted old n = trusted_config (slice_get new n) ∙ (ap trust_config e ∙ sym (trusted_config (slice_get old n))) in
+      let reached : is_reached beyond new n ≡ is_reached beyond old n = reached_config (server_of new n) ∙ (ap by_config e ∙ sym (reached_config (server_of old n))) in
+      let trusted : is_trusted new n ≡ is_trusted old n = trusted_config (server_of new n) ∙ (ap trust_config e ∙ sym (trusted_config (server_of old n))) in
       ap (λ (b : Bool). record { server = n; beyond_udp = b; trusted = is_trusted new n }) reached ∙ ap (λ (b : Bool). record { server = n; beyond_udp = is_reached beyond old n; trusted = b }) trusted
 
   pub are_reached : (pool : List Candidate) → AreReached old pool → AreReached new pool
@@ -281,7 +281,7 @@ pub record IsReachedBy (pool : List Candidate) (request : DnsRequest) (table : L
   pub from_pool : Contains pool s.candidate
   pub going : GoesTo request s
   pub server : Server
-  pub there : slice_get table s.candidate.server ≡ Some server
+  pub there : server_of table s.candidate.server ≡ Some server
   pub way : allows_server beyond server ≡ true
 
 -- the server of a send to a candidate of the pool
@@ -308,7 +308,7 @@ module _ (number : ℕ) (pool : List Candidate) (first : Rounds) (table : List S
   none_heard now h new x =
       let s = x.sending in
       let by = idle_reached x.place s x.idle in
-      let there : slice_get table s.send.server ≡ Some by.server = ap (slice_get table) by.going.server ∙ by.there in
+      let there : server_of table s.send.server ≡ Some by.server = ap (server_of table) by.going.server ∙ by.there in
       gives_one number now by.server s x.next by.going.going (first_idle x.place s r x.idle) by.way (subst (λ (o : Option Server). StepsBy number now o s None x.next) there x.steps)
 
   -- a round that begins

@@ -9,19 +9,19 @@ use Rattle.std.specs.declared.net.ip_addr.IpAddr.{IpAddr}
 use Rattle.dns_core.specs.declared.request.DnsRequest.{DnsRequest}
 use Rattle.resolver_settings.specs.NameServer.{NameServer}
 use Rattle.resolution.specs.Lookups.{Answered, End, PoolRun}
-use Rattle.server_core.specs.Servers.{Server}
+use Rattle.server_core.specs.Servers.{Server, server_of}
 use Rattle.server_core.specs.Sending.{is_open}
 use Rattle.server_core.specs.declared.order.Order.{Order}
 use Rattle.server_core.specs.declared.order.Order.TheVariants as order
 use Rattle.server_core.specs.declared.server_send.Stage.{Stage}
-use Rattle.server_pool.specs.Agenda.{rules_of, class_of_sent}
+use Rattle.retry_rules.specs.Agenda.{rules_of, class_of_sent}
 use Rattle.server_pool.specs.NextStep.{HasOrdered, StepsBy, HasCome, HasGiven}
 use Rattle.server_pool.specs.OpenLookup.{IsAsleep, StandsTelling, left_of}
 use Rattle.server_pool.specs.Orders.{opens}
 use Rattle.server_pool.specs.Rounds.{HeardEnd, ends_of, entries_of, RoundsStand, sends_made, StandsIn, IsAnswered, IsDecidedAt, DecidesAt, IsSameLookup, IsOpenAt}
 use Rattle.server_pool.specs.Running.{answer_in, answer_of, ends_at, request_of, IsDone, GoesTo, Runs, IsFor, AreReached, address_at, IsSentTo, IsGiven, TellsLeft, RunsOn}
 use Rattle.server_pool.specs.Shared.{configs}
-use Rattle.server_pool.specs.declared.candidate.Candidate.{Candidate}
+use Rattle.retry_rules.specs.declared.candidate.Candidate.{Candidate}
 use Rattle.server_pool.specs.declared.next_step.RoundStep.TheVariants as given
 use Rattle.server_pool.specs.declared.open_lookup.LookupStep.TheVariants as step
 use Rattle.server_pool.specs.declared.open_lookup.Nap.{Nap}
@@ -130,9 +130,9 @@ address_config : (o : Option Server) → option_map (λ (s : Server). s.config.i
 address_config None = refl
 address_config (Some server) = refl
 
-at_address : (before later : List Server) → configs later ≡ configs before → (n : ℕ) (server : Server) → slice_get before n ≡ Some server → address_at later n ≡ Some server.config.ip
+at_address : (before later : List Server) → configs later ≡ configs before → (n : ℕ) (server : Server) → server_of before n ≡ Some server → address_at later n ≡ Some server.config.ip
 at_address before later same n server there =
-    address_config (slice_get later n) ∙ (ap (option_map (λ (c : NameServer). c.ip)) (config_same before later same n) ∙ ap (λ (o : Option Server). option_map (λ (c : NameServer). c.ip) (option_map (λ (s : Server). s.config) o)) there)
+    address_config (server_of later n) ∙ (ap (option_map (λ (c : NameServer). c.ip)) (config_same before later same n) ∙ ap (λ (o : Option Server). option_map (λ (c : NameServer). c.ip) (option_map (λ (s : Server). s.config) o)) there)
 
 form_open : (server : Server) (request : DnsRequest) (o : Order) (st : Stage) → IsFormOf server request o st → is_open st ≡ true
 form_open server request (order.Open ip config) st h = for_open false st h.1
@@ -152,7 +152,7 @@ module _ (number now : ℕ) (pool : List Candidate) (first : Rounds) (before : L
   unfolding ordered_by
   ordered_gave =
       let by = ordered_by in
-      let there : slice_get before g.sending.send.server ≡ Some by.server = ap (slice_get before) by.going.server ∙ by.there in
+      let there : server_of before g.sending.send.server ≡ Some by.server = ap (server_of before) by.going.server ∙ by.there in
       gave number now by.server g.sending o g.steps.next (subst (λ (x : Option Server). StepsBy number now x g.sending (Some o) g.steps.next) there g.steps.steps) by.going.going (first_idle g.place g.sending mid g.idle) by.way
 
   ordered_open : is_open g.steps.next.send.stage ≡ true

@@ -12,7 +12,7 @@ use Rattle.dns_core.specs.declared.net_error.NetError.{NetError}
 use Rattle.dns_core.specs.declared.request.DnsRequest.{DnsRequest}
 use Rattle.resolution.specs.Lookups.{Answered}
 use Rattle.server_core.specs.Order.{entry_of}
-use Rattle.server_core.specs.Servers.{Server}
+use Rattle.server_core.specs.Servers.{Server, place_of, server_of}
 use Rattle.server_core.specs.Sending.{is_open, asked_of, opening_of, end_of, is_tried_again, after_put, Comes, IsLost, IsHeard, IsConnected}
 use Rattle.server_core.specs.declared.order.After.{After}
 use Rattle.server_core.specs.declared.order.After.TheVariants as after
@@ -26,7 +26,7 @@ use Rattle.server_core.specs.declared.server_send.Stage.TheVariants as stage
 use Rattle.server_pool.specs.OpenLookup.{IsAsleep, StandsTelling, after_polls, nap_after}
 use Rattle.server_pool.specs.Rounds.{HeardEnd, heard_at, ends_of, RoundsStand, StandsIn, IsDecidedAt, DecidesAt, IsSameLookup, ended_by_of, heard_table, first_send, TakesInTime, TakesBusy, GoesOnFrom, SettlesAt, HasTaken, StandsAtEnd, StandsBy}
 use Rattle.server_pool.specs.Running.{answer_of, request_of, IsDone, IsGoing, GoesTo, Runs, IsFor, IsOpenTo, AreReached, heard_after, RunsTaken, RunsSlept}
-use Rattle.server_pool.specs.declared.candidate.Candidate.{Candidate}
+use Rattle.retry_rules.specs.declared.candidate.Candidate.{Candidate}
 use Rattle.server_pool.specs.declared.open_lookup.Nap.{Nap}
 use Rattle.server_pool.specs.declared.open_lookup.OpenLookup.{OpenLookup}
 use Rattle.server_pool.specs.declared.rounds.Phase.{Phase}
@@ -293,11 +293,11 @@ module _ (pool : List Candidate) (known : List HeardEnd) (tick : Tick) (number :
 
 -- its server is in the table
 pub open_live : (pool : List Candidate) (known : List HeardEnd) (now number : ℕ) (c : Candidate) (asks : Bool) (table : List Server) (l : OpenLookup) → AreReached table pool → Contains pool c → Runs pool known now l → (at : IsOpenTo number c asks l)
-    → at.sending.send.server < length table
+    → place_of at.sending.send.server < length table
 open_live pool known now number c asks table l reached member runs at =
     let goes = at_all (GoesTo (request_of l)) l.rounds.sends.items at.place at.sending at.open_at.there runs.going in
     let by = send_reached pool (request_of l) table at.sending reached (subst (Contains pool) (sym at.to) member) goes in
-    slice_get_within table at.sending.send.server by.server (ap (slice_get table) goes.server ∙ by.there)
+    slice_get_within table (place_of at.sending.send.server) by.server (ap (server_of table) goes.server ∙ by.there)
 
 pub open_stands : (pool : List Candidate) (known : List HeardEnd) (now number : ℕ) (c : Candidate) (asks : Bool) (l : OpenLookup) → Runs pool known now l → (at : IsOpenTo number c asks l) → RoundsStand pool known l.rounds
 open_stands pool known now number c asks l runs at =

@@ -8,18 +8,18 @@ use Rattle.std.proofs.Math.ListN.{set}
 use Rattle.std.proofs.lemmas.List.{map-append}
 use Rattle.dns_core.specs.declared.message.Query.{Query}
 use Rattle.resolution.specs.Lookups.{End}
-use Rattle.server_pool.specs.declared.candidate.Candidate.{Candidate}
+use Rattle.retry_rules.specs.declared.candidate.Candidate.{Candidate}
 use Rattle.server_core.specs.Sending.{Comes, IsSameSend, is_open}
 use Rattle.server_core.specs.declared.order.Outcome.{Outcome}
 use Rattle.server_core.specs.declared.server_send.ServerSend.{ServerSend}
 use Rattle.server_pool.specs.declared.rounds.Sending.{Sending}
 use Rattle.server_pool.specs.declared.rounds.Rounds.{Rounds}
-use Rattle.server_pool.specs.Agenda.{Plan, PlanStands, among, own, may_sleep, same_candidate, rules_of, class_of_sent}
+use Rattle.retry_rules.specs.Agenda.{Plan, PlanStands, among, own, may_sleep, same_candidate, rules_of, class_of_sent}
 use Rattle.server_core.specs.Order.{entry_of}
 use Rattle.server_pool.specs.Rounds.{under_way, ended_by_of, IsFed, IsStillAt, IsOpenAt}
-use Rattle.server_pool.proofs.Standing.{or_left}
-use Rattle.server_pool.proofs.Plans.{same_self}
-use Rattle.server_pool.proofs.Moving.{stands_moved, first_last, picked_first}
+use Rattle.retry_rules.proofs.Standing.{or_left}
+use Rattle.retry_rules.proofs.Plans.{same_self}
+use Rattle.retry_rules.proofs.Moving.{stands_moved, first_last, picked_first}
 
 -- the same sends
 pub same_sends : (q : Query) (timeout : ℕ) (pool : List Candidate) (ends : List (End Candidate)) (sends other : List Sending) (p : Plan) → other ≡ sends

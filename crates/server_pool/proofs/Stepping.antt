@@ -9,15 +9,15 @@ use Rattle.dns_core.specs.declared.errors.NoMemory.{NoMemory}
 use Rattle.dns_core.specs.declared.net_error.NetError.TheVariants.{NoConnections}
 use Rattle.resolution.specs.Lookups.{Answered, End}
 use Rattle.server_core.specs.Sending.{is_open, end_of, after_step, after_want, StepIs}
-use Rattle.server_core.specs.Servers.{Server}
-use Rattle.server_core.specs.Hearing.{changed_at}
+use Rattle.server_core.specs.Servers.{Server, place_of, server_of}
+use Rattle.server_core.specs.Hearing.{changed_at, changed_place}
 use Rattle.server_core.specs.declared.order.Order.{Order}
 use Rattle.server_core.specs.declared.order.Order.TheVariants.{Ask}
 use Rattle.server_core.specs.declared.server_send.SendStep.{SendStep}
 use Rattle.server_core.specs.declared.server_send.SendStep.TheVariants as step
 use Rattle.server_core.specs.declared.server_send.Stage.{Stage}
 use Rattle.server_core.specs.declared.server_send.Stage.TheVariants as stage
-use Rattle.server_pool.specs.declared.candidate.Candidate.{Candidate}
+use Rattle.retry_rules.specs.declared.candidate.Candidate.{Candidate}
 use Rattle.server_pool.specs.declared.rounds.Sending.{Sending}
 use Rattle.server_pool.specs.declared.rounds.Phase.{Phase}
 use Rattle.server_pool.specs.declared.rounds.Phase.TheVariants.{Asking, Asleep, Decided, Told}
@@ -29,10 +29,10 @@ use Rattle.server_pool.specs.Rounds.{Goes, PhaseStands, HeardEnd, heard_at, ends
 use Rattle.server_pool.specs.NextStep.{is_idle, IsTaken, Steps, StepsBy, StepsAt, Tells, doing_of, IsFirstIdle, HasHeard, Gives, GoesOn, BeginsRound, NextStands, IsHalted, stepping, changed_for, stepped_table, told_table, StandsWith, HasCome, HasGiven}
 use Rattle.server_pool.specs.NextStep.BeginsRound.{due, woken}
 use Rattle.server_pool.specs.NextStep.HasGone.{heard, began}
-use Rattle.server_pool.specs.Agenda.{Plan}
+use Rattle.retry_rules.specs.Agenda.{Plan}
 use Rattle.server_pool.specs.Cancelling.{ends_by_message, settled_table}
 use Rattle.server_pool.proofs.Beginning.{decides_on}
-use Rattle.server_pool.proofs.Standing.{or_left}
+use Rattle.retry_rules.proofs.Standing.{or_left}
 use Rattle.server_pool.proofs.Sendings.{get_set}
 
 -- ---- places in a list
@@ -86,14 +86,14 @@ some_open (x ∷ xs) h n = at_head (is_open x.send.stage) refl
 
 -- the step of a send that was written back to its place
 pub stepped_at : (result : Result (Option Order) NoMemory) (sends : List Sending) (place number now : ℕ) (table : List Server) (server : Server) (s lent next : Sending) (r : Rounds) → slice_get sends place ≡ Some s
-    → lent ≡ get_or sends place lent → slice_get table lent.send.server ≡ Some server → next.candidate ≡ lent.candidate → r.sends.items ≡ set sends place next
+    → lent ≡ get_or sends place lent → server_of table lent.send.server ≡ Some server → next.candidate ≡ lent.candidate → r.sends.items ≡ set sends place next
     → IfOk result (λ made. Steps number now server lent made next) → IfOk result (λ made. StepsAt place number now table s made r)
 stepped_at (Ok made) sends place number now table server s lent next r there is at candidate new steps =
     let same : lent ≡ s = is ∙ get_or_from_slice_get sends place s lent there in
-    let by : StepsBy number now (slice_get table lent.send.server) lent made next = subst (λ (o : Option Server). StepsBy number now o lent made next) (sym at) steps in
+    let by : StepsBy number now (server_of table lent.send.server) lent made next = subst (λ (o : Option Server). StepsBy number now o lent made next) (sym at) steps in
     record {
       next = next;
-      steps = subst (λ (x : Sending). StepsBy number now (slice_get table x.send.server) x made next) same by;
+      steps = subst (λ (x : Sending). StepsBy number now (server_of table x.send.server) x made next) same by;
       candidate = candidate ∙ ap (λ (x : Sending). x.candidate) same;
       there = ap (λ (l : List Sending). slice_get l place) new ∙ get_set sends place next s there;
     }
@@ -101,14 +101,14 @@ stepped_at (Err e) sends place number now table server s lent next r there is at
 
 -- the same where the server is not there
 pub ended_at : (sends : List Sending) (place number now : ℕ) (table : List Server) (s lent next : Sending) (r : Rounds) → slice_get sends place ≡ Some s
-    → lent ≡ get_or sends place lent → slice_get table lent.send.server ≡ None → next.candidate ≡ lent.candidate → r.sends.items ≡ set sends place next
+    → lent ≡ get_or sends place lent → server_of table lent.send.server ≡ None → next.candidate ≡ lent.candidate → r.sends.items ≡ set sends place next
     → StepsBy number now None lent None next → StepsAt place number now table s None r
 ended_at sends place number now table s lent next r there is at candidate new steps =
     let same : lent ≡ s = is ∙ get_or_from_slice_get sends place s lent there in
-    let by : StepsBy number now (slice_get table lent.send.server) lent None next = subst (λ (o : Option Server). StepsBy number now o lent None next) (sym at) steps in
+    let by : StepsBy number now (server_of table lent.send.server) lent None next = subst (λ (o : Option Server). StepsBy number now o lent None next) (sym at) steps in
     record {
       next = next;
-      steps = subst (λ (x : Sending). StepsBy number now (slice_get table x.send.server) x None next) same by;
+      steps = subst (λ (x : Sending). StepsBy number now (server_of table x.send.server) x None next) same by;
       candidate = candidate ∙ ap (λ (x : Sending). x.candidate) same;
       there = ap (λ (l : List Sending). slice_get l place) new ∙ get_set sends place next s there;
     }
@@ -158,7 +158,7 @@ module _ (number now place : ℕ) (table : List Server) (pool : List Candidate) 
         told.2 ∙ stepped,
       )
   step_stands None (Ok step) after later sa st others round plan asks stepped ordered goes ended settled =
-      let found = steps_end number now (slice_get table s.send.server) s sa.next sa.steps in
+      let found = steps_end number now (server_of table s.send.server) s sa.next sa.steps in
       let h = heard_at sa.next.candidate found.0 sa.next.ended_by in
       let stands : RoundsStand pool (first ++ h ∷ []) new = subst (λ (o : Option Answered). StandsAtEnd sa.next.candidate o sa.next.ended_by pool first new) found.1 (ended refl sa.next sa.there) in
       let settles : SettlesAt (Some found.0) now place sa.next after mid later new = subst (λ (o : Option Answered). SettlesAt o now place sa.next after mid later new) found.1 (settled refl sa.next sa.there) in
@@ -245,11 +245,14 @@ no_step Told sends d = refl
 
 -- ---- the table
 
+place_past : (f : Server → Server) (place : ℕ) (table : List Server) → length table ≤ place → changed_place f place table ≡ table
+place_past f place [] h = refl
+place_past f zero (s ∷ table) h = absurd (omega (arith, h))
+place_past f (suc place) (s ∷ table) h = ap (λ (l : List Server). s ∷ l) (place_past f place table (omega (arith, h)))
+
 -- a place past the end has nothing to change
-pub changed_past : (f : Server → Server) (number : ℕ) (table : List Server) → length table ≤ number → changed_at f number table ≡ table
-changed_past f number [] h = refl
-changed_past f zero (s ∷ table) h = absurd (omega (arith, h))
-changed_past f (suc number) (s ∷ table) h = ap (λ (l : List Server). s ∷ l) (changed_past f number table (omega (arith, h)))
+pub changed_past : (f : Server → Server) (number : ℕ) (table : List Server) → length table ≤ place_of number → changed_at f number table ≡ table
+changed_past f number table h = place_past f (place_of number) table h
 
 -- the change for a send is the same for the one that was lent
 pub changed_same : (f : Stage → Server → Server) (s lent : Sending) (table after : List Server) → lent ≡ s → after ≡ changed_for f (Some lent) table → after ≡ changed_for f (Some s) table
@@ -263,12 +266,12 @@ none_past {X = X} xs i h = either (slice_get_cases xs i).1
     either (inr (past, none)) = past
 
 -- a send that gives no order changes the table as one that memory was wanting for
-no_order : (number now : ℕ) (table : List Server) (old next : Sending) (st : Stage) → old.send.stage ≡ st → (o : Option Server) → slice_get table old.send.server ≡ o → StepsBy number now o old None next
+no_order : (number now : ℕ) (table : List Server) (old next : Sending) (st : Stage) → old.send.stage ≡ st → (o : Option Server) → server_of table old.send.server ≡ o → StepsBy number now o old None next
     → changed_at (after_step st) old.send.server table ≡ changed_at (after_want st) old.send.server table
 no_order number now table old next stage.Ready e o at t = refl
 no_order number now table old next (stage.Opening protocol order polls) e o at t = refl
 no_order number now table old next (stage.Opened protocol conn) e None at t =
-    let past : length table ≤ old.send.server = none_past table old.send.server at in
+    let past : length table ≤ place_of old.send.server = none_past table (place_of old.send.server) at in
     changed_past (after_step (stage.Opened protocol conn)) old.send.server table past ∙ sym (changed_past (after_want (stage.Opened protocol conn)) old.send.server table past)
 no_order number now table old next (stage.Opened protocol conn) e (Some server) at t =
     let step = subst (λ (x : Stage). StepIs old.send x number now server t.told t.next.stage) e t.step in
@@ -286,7 +289,7 @@ module _ (number now place : ℕ) (table : List Server) (old mid new : Rounds) (
   step_table (Some order) result after later sa ordered is =
       subst (λ (x : Result (Option RoundStep) NoMemory). OnErr x (after ≡ changed_for after_want (Some s) table)) (sym (ordered order refl).0) tt
   step_table None (Ok step) after later sa ordered is = tt
-  step_table None (Err e) after later sa ordered is = is ∙ no_order number now table s sa.next s.send.stage refl (slice_get table s.send.server) refl sa.steps
+  step_table None (Err e) after later sa ordered is = is ∙ no_order number now table s sa.next s.send.stage refl (server_of table s.send.server) refl sa.steps
 
   -- an end that is heard leaves fewer steps
   pub step_falls : (made : Option Order) (result : Result (Option RoundStep) NoMemory) (after later : List Server) → StepsAt place number now table s made mid
@@ -297,7 +300,7 @@ module _ (number now place : ℕ) (table : List Server) (old mid new : Rounds) (
       subst (λ (x : Result (Option RoundStep) NoMemory). IfOk x (λ step. step ≡ None → steps_left new < steps_left old)) (sym (ordered order refl).0)
       (λ (bad : Some (given.Order order) ≡ None). cc)
   step_falls None (Ok step) after later sa ordered falls same =
-      let found = steps_end number now (slice_get table s.send.server) s sa.next sa.steps in
+      let found = steps_end number now (server_of table s.send.server) s sa.next sa.steps in
       λ none. subst (λ (n : ℕ). steps_left new < n) same (falls refl sa.next found.0 sa.there found.1)
   step_falls None (Err e) after later sa ordered falls same = tt
 

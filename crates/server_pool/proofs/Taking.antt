@@ -5,14 +5,14 @@ use Rattle.std.proofs.Math.Seq.{take-add, take-nil, drop-nil}
 use Rattle.std.proofs.lemmas.List.{drop-drop, map-append}
 use Rattle.dns_core.specs.declared.request.DnsRequest.{DnsRequest}
 use Rattle.dns_core.specs.declared.net_error.NetError.TheVariants.{NoConnections}
-use Rattle.server_pool.specs.declared.candidate.Candidate.{Candidate}
+use Rattle.retry_rules.specs.declared.candidate.Candidate.{Candidate}
 use Rattle.server_pool.specs.declared.rounds.Sending.{Sending}
 use Rattle.server_pool.specs.declared.rounds.Phase.TheVariants.{Asking}
 use Rattle.server_pool.specs.declared.rounds.Rounds.{Rounds}
-use Rattle.server_pool.specs.Agenda.{Plan, may_ask}
+use Rattle.retry_rules.specs.Agenda.{Plan, may_ask}
 use Rattle.server_pool.specs.Rounds.{allowed, fresh_send, first_send, Takes, TakesBusy, woken, IsSameLookup}
 use Rattle.server_pool.proofs.Sendings.{empty_list}
-use Rattle.server_pool.proofs.Turning.{after_yes, after_no}
+use Rattle.retry_rules.proofs.Turning.{after_yes, after_no}
 
 -- the first that passes comes first of those that do
 pub first_passes : {X : Type 0} (p : X → Bool) (xs : List X) (c : X) → find p xs ≡ Some c → filter p xs ≡ c ∷ filter p (after_first p xs)

@@ -7,14 +7,14 @@ use Rattle.std.proofs.lemmas.Option.{slice_get_within}
 use Rattle.std.proofs.Math.Nat.{mul-le-mul_left}
 use Rattle.resolution.specs.Lookups.{is_turn, is_retryable, is_busy}
 use Rattle.resolution.specs.declared.class.Class.{Class}
-use Rattle.server_pool.specs.KeptError.{kept_after}
-use Rattle.server_pool.specs.declared.candidate.Candidate.{Candidate}
-use Rattle.server_pool.specs.declared.candidate.Ending.{Ending}
-use Rattle.server_pool.specs.declared.candidate.Ending.TheVariants.{Turns, Passes, Ends}
+use Rattle.retry_rules.specs.KeptError.{kept_after}
+use Rattle.retry_rules.specs.declared.candidate.Candidate.{Candidate}
+use Rattle.retry_rules.specs.declared.candidate.Ending.{Ending}
+use Rattle.retry_rules.specs.declared.candidate.Ending.TheVariants.{Turns, Passes, Ends}
 use Rattle.server_pool.specs.declared.rounds.Phase.{Phase}
 use Rattle.server_pool.specs.declared.rounds.Phase.TheVariants.{Asking, Asleep, Decided, Told}
 use Rattle.server_pool.specs.declared.rounds.Rounds.{Rounds}
-use Rattle.server_pool.specs.Agenda.{Plan, ending_of, after_end}
+use Rattle.retry_rules.specs.Agenda.{Plan, ending_of, after_end}
 use Rattle.server_pool.specs.Rounds.{work_of, turns_left, work, due, steps_left}
 
 pub work_fewer : (few many busy turns sleeps : ℕ) → few ≤ many → work_of few busy turns sleeps ≤ work_of many busy turns sleeps

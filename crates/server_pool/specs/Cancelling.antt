@@ -1,12 +1,12 @@
 -- Which servers of a round record that another one answered first.
-use Rattle.std.specs.Prelude.{ℕ, ◌+◌, ◌-◌, ◌^◌, min, Bool, false, not, ◌||◌, if◌then◌else◌, List, filter, fold, slice_get, Option, Some, None, Ok, Err}
+use Rattle.std.specs.Prelude.{ℕ, ◌+◌, ◌-◌, ◌^◌, min, Bool, false, not, ◌||◌, if◌then◌else◌, List, filter, fold, Option, Some, None, Ok, Err}
 use Rattle.std.specs.List.{list_any}
 use Rattle.std.specs.declared.net.IpAddr.{IpAddr}
 use Rattle.std.specs.contracts.net.ip_addr.IpAddrPartialEq.TheImpl as address
 use Rattle.resolution.specs.Lookups.{Answered}
 use Rattle.server_core.specs.Delays.{recorded}
 use Rattle.server_core.specs.Hearing.{changed_at}
-use Rattle.server_core.specs.Servers.{Server}
+use Rattle.server_core.specs.Servers.{Server, server_of}
 use Rattle.server_pool.specs.declared.rounds.Sending.{Sending}
 use Rattle.server_pool.specs.declared.rounds.Rounds.{Rounds}
 
@@ -21,7 +21,7 @@ after_cancelled winner now server = record server { delay = recorded server.dela
 
 -- the address of the server of a number, if it is there
 abbrev pub address_of : List Server → ℕ → Option IpAddr
-address_of table number = elim (slice_get table number) [ None ↦ None | Some server ↦ Some server.config.ip ]
+address_of table number = elim (server_of table number) [ None ↦ None | Some server ↦ Some server.config.ip ]
 
 abbrev pub is_at : IpAddr → Option IpAddr → Bool
 is_at ip None = false

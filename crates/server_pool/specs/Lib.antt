@@ -1,8 +1,3 @@
-pub mod KeptError
-pub mod Statistics
-pub mod Ordering
-pub mod AnswerFilter
-pub mod Agenda
 pub mod Cancelling
 pub mod Orders
 pub mod Rounds

@@ -11,13 +11,13 @@ use Rattle.server_core.specs.declared.order.Order.{Order}
 use Rattle.server_core.specs.declared.order.Outcome.{Outcome}
 use Rattle.server_core.specs.declared.order.Tick.{Tick}
 use Rattle.server_core.specs.declared.server_send.ServerSend.{ServerSend}
-use Rattle.server_pool.specs.AnswerFilter.{denied_by}
+use Rattle.retry_rules.specs.AnswerFilter.{denied_by}
 use Rattle.server_pool.specs.Candidates.{candidates}
 use Rattle.server_pool.specs.OpenLookup.{left_of}
 use Rattle.server_pool.specs.Rounds.{HeardEnd}
 use Rattle.server_pool.specs.Running.{request_of, start_of, timeout_of, answer_of, Runs, IsFor, IsOpenTo, IsNapping, IsGiven, SameLookup, heard_after}
 use Rattle.server_pool.specs.Shared.{Shared, lookup_at, lookup_of, SameBut}
-use Rattle.server_pool.specs.declared.candidate.Candidate.{Candidate}
+use Rattle.retry_rules.specs.declared.candidate.Candidate.{Candidate}
 use Rattle.server_pool.specs.declared.open_lookup.OpenLookup.{OpenLookup}
 use Rattle.server_pool.specs.declared.pool_shared.PoolStep.{PoolStep}
 use Rattle.server_pool.specs.declared.pool_shared.PoolStep.TheVariants as step

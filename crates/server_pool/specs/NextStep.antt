@@ -2,7 +2,7 @@
 use Rattle.std.specs.Prelude.{◌≡◌, ℕ, ◌<◌, ◌≤◌, Bool, true, not, find, List, [], ◌∷◌, ◌++◌, length, slice_get, Option, Some, None, Err, ◌⊎◌}
 use Rattle.std.specs.List.{list_any, position, remove}
 use Rattle.dns_core.specs.declared.net_error.NetError.TheVariants as net
-use Rattle.server_core.specs.Servers.{Server}
+use Rattle.server_core.specs.Servers.{Server, server_of}
 use Rattle.server_core.specs.Hearing.{changed_at}
 use Rattle.server_core.specs.Sending.{is_open, StepIs, IsSameSend, after_step, after_want}
 use Rattle.server_core.specs.declared.server_send.ServerSend.{ServerSend}
@@ -11,7 +11,7 @@ use Rattle.server_core.specs.declared.server_send.Stage.{Stage}
 use Rattle.server_core.specs.declared.server_send.Stage.TheVariants as stage
 use Rattle.server_core.specs.declared.server_send.SendStep.{SendStep}
 use Rattle.server_core.specs.declared.server_send.SendStep.TheVariants as step
-use Rattle.server_pool.specs.declared.candidate.Candidate.{Candidate}
+use Rattle.retry_rules.specs.declared.candidate.Candidate.{Candidate}
 use Rattle.server_pool.specs.declared.rounds.Sending.{Sending}
 use Rattle.server_pool.specs.declared.rounds.Phase.{Phase}
 use Rattle.server_pool.specs.declared.rounds.Phase.TheVariants as phase
@@ -54,7 +54,7 @@ StepsBy number now (Some server) old made new = Steps number now server old made
 -- so is the step of a send, which is at a place then
 pub record StepsAt (place number now : ℕ) (table : List Server) (old : Sending) (made : Option Order) (r : Rounds) : Type 0 where
   pub next : Sending
-  pub steps : StepsBy number now (slice_get table old.send.server) old made next
+  pub steps : StepsBy number now (server_of table old.send.server) old made next
   pub candidate : next.candidate ≡ old.candidate
   pub there : slice_get r.sends.items place ≡ Some next
 
@@ -102,7 +102,7 @@ pub record HasHeard (number now : ℕ) (table : List Server) (pool : List Candid
   pub sending : Sending
   pub idle : IsFirstIdle place sending old
   pub next : Sending
-  pub steps : StepsBy number now (slice_get table sending.send.server) sending None next
+  pub steps : StepsBy number now (server_of table sending.send.server) sending None next
   pub candidate : next.candidate ≡ sending.candidate
   pub ended : IsEndOf next h
   pub stands : RoundsStand pool (heard ++ h ∷ []) new

@@ -6,18 +6,18 @@ use Rattle.dns_core.specs.declared.message.Query.{Query}
 use Rattle.dns_core.specs.declared.errors.NoMemory.{NoMemory}
 use Rattle.resolution.specs.Lookups.{Answered}
 use Rattle.server_core.specs.Sending.{pendings}
-use Rattle.server_core.specs.Servers.{Server}
+use Rattle.server_core.specs.Servers.{Server, place_of}
 use Rattle.server_core.specs.declared.order.After.{After}
 use Rattle.server_core.specs.declared.order.After.TheVariants.{Kept, Ended, GiveUp}
 use Rattle.server_core.specs.declared.order.Order.{Order}
 use Rattle.server_core.specs.declared.order.Order.TheVariants.{Sleep}
 use Rattle.server_core.specs.declared.order.Outcome.{Outcome}
 use Rattle.server_core.specs.declared.order.Outcome.TheVariants.{Pending, Connected, Told, Failed, GaveUp, Slept}
-use Rattle.server_pool.specs.AnswerFilter.{filtered}
+use Rattle.retry_rules.specs.AnswerFilter.{filtered}
 use Rattle.server_pool.specs.NextStep.{HasCome, HasOrdered, HasHeard, stepped_table, halted_table}
 use Rattle.server_pool.specs.Orders.{opens}
 use Rattle.server_pool.specs.Rounds.{HeardEnd, ends_of, RoundsStand, IsAnswered}
-use Rattle.server_pool.specs.declared.candidate.Candidate.{Candidate}
+use Rattle.retry_rules.specs.declared.candidate.Candidate.{Candidate}
 use Rattle.server_pool.specs.declared.open_lookup.LookupStep.{LookupStep}
 use Rattle.server_pool.specs.declared.open_lookup.LookupStep.TheVariants as step
 use Rattle.server_pool.specs.declared.open_lookup.Nap.{Nap}
@@ -93,7 +93,7 @@ nap_after nap Slept = None
 
 -- each send whose order of this number is open is to one of so many servers
 abbrev pub AreLive : ℕ → ℕ → List Sending → Type 0
-AreLive number servers sends = All (λ s. s.send.server < servers) (opens number sends)
+AreLive number servers sends = All (λ s. place_of s.send.server < servers) (opens number sends)
 
 -- ---- the next step
 
@@ -150,7 +150,7 @@ pub record LookupGives (number now : ℕ) (denied : IpAddr → Bool) (pool : Lis
 
 -- an order of the number is open at one send at most, whose server is one of so many
 abbrev pub IsAlone : ℕ → ℕ → List Sending → Type 0
-IsAlone number servers sends = (opens number sends ≡ []) ⊎ ((s : Sending) × (opens number sends ≡ s ∷ []) × (s.send.server < servers))
+IsAlone number servers sends = (opens number sends ≡ []) ⊎ ((s : Sending) × (opens number sends ≡ s ∷ []) × (place_of s.send.server < servers))
 
 -- none of the number is open
 abbrev pub IsQuiet : ℕ → OpenLookup → Type 0

@@ -2,6 +2,7 @@
 use Rattle.std.specs.Prelude.{◌≡◌, ℕ, ◌<◌, ◌==◌, ◌&&◌, ◌⊎◌, List, [], ◌∷◌, Option, Some, None, Result, Ok, Err}
 use Rattle.std.specs.List.{filter}
 use Rattle.dns_core.specs.declared.errors.NoMemory.{NoMemory}
+use Rattle.server_core.specs.Servers.{place_of}
 use Rattle.server_core.specs.Order.{entry_of}
 use Rattle.server_core.specs.Sending.{is_open, pendings, Comes}
 use Rattle.server_core.specs.declared.order.After.{After}
@@ -30,7 +31,7 @@ pub record IsGiven (number servers : ℕ) (sends : List Sending) : Type 0 where
   pub sending : Sending
   pub only : opens number sends ≡ sending ∷ []
   pub polls : pendings sending.send.stage ≡ 0
-  pub live : sending.send.server < servers
+  pub live : place_of sending.send.server < servers
 
 -- an order that was made is open, and it is one of this number
 abbrev pub OpensMade : ℕ → ℕ → Result (Option Order) NoMemory → List Sending → Type 0

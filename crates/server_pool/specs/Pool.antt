@@ -1,7 +1,7 @@
 -- Pools of servers: which servers they name, until when they are good, and what a copy is.
 use Rattle.std.specs.Prelude.{◌≡◌, ℕ, ◌<◌, ◌+◌, ◌-◌, ◌^◌, min, List, length, Option, Some, None}
 use Rattle.std.specs.List.{All}
-use Rattle.server_core.specs.Servers.{Server}
+use Rattle.server_core.specs.Servers.{Server, place_of}
 use Rattle.server_pool.specs.declared.pool.NameServerPool.{NameServerPool}
 
 -- the pool with this number of its own and the servers of these numbers, of no zone, and good for ever
@@ -13,7 +13,7 @@ pub record IsPoolOf (own : ℕ) (numbers : List ℕ) (pool : NameServerPool) : T
 
 -- each of its servers is in the table
 abbrev pub IsLive : List Server → NameServerPool → Type 0
-IsLive table pool = All (λ number. number < length table) pool.servers.items
+IsLive table pool = All (λ number. place_of number < length table) pool.servers.items
 
 -- the pool, good until so many microseconds after a moment
 abbrev pub good_for : ℕ → ℕ → NameServerPool → NameServerPool

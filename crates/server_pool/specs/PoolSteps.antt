@@ -7,20 +7,20 @@ use Rattle.dns_core.specs.declared.request.DnsRequest.{DnsRequest}
 use Rattle.dns_core.specs.declared.request.DnsRequestOptions.{DnsRequestOptions}
 use Rattle.server_core.specs.Context.{Context}
 use Rattle.resolution.specs.Lookups.{Answered}
-use Rattle.server_core.specs.Servers.{Server}
+use Rattle.server_core.specs.Servers.{Server, place_of}
 use Rattle.server_core.specs.declared.order.After.{After}
 use Rattle.server_core.specs.declared.order.Outcome.{Outcome}
 use Rattle.server_core.specs.declared.order.Tick.{Tick}
-use Rattle.server_pool.specs.AnswerFilter.{denied_by}
+use Rattle.retry_rules.specs.AnswerFilter.{denied_by}
 use Rattle.server_pool.specs.Candidates.{candidates}
 use Rattle.server_pool.specs.OpenLookup.{polls_at, after_polls, nap_after, AreLive, LookupStands, LookupGives, OwnLeft, StaysOpen, left_of}
-use Rattle.server_pool.specs.Ordering.{IsOrdered, next_turn, side_by_side}
+use Rattle.retry_rules.specs.Ordering.{IsOrdered, next_turn, side_by_side}
 use Rattle.server_pool.specs.Orders.{opens, HasSameOrders, HasSameOrdersBut, TakesBy}
 use Rattle.server_pool.specs.Rounds.{HeardEnd, RoundsStand, BeginsWith, IsSameLookup, IsOpenAt, StandsBy, StandsStill, HasEnded, HasTaken, TakesInTime, TakesBusy}
 use Rattle.server_pool.specs.Running.{Runs, AreReached, IsOpenTo, IsNapping, RunsOn, RunsTaken, RunsSlept}
 use Rattle.server_pool.specs.Shared.{Shared, under, lookup_at, lookup_of, turn_at}
 use Rattle.server_pool.specs.SharedStands.{IsOpenOrder}
-use Rattle.server_pool.specs.declared.candidate.Candidate.{Candidate}
+use Rattle.retry_rules.specs.declared.candidate.Candidate.{Candidate}
 use Rattle.server_pool.specs.declared.open_lookup.LookupStep.{LookupStep}
 use Rattle.server_pool.specs.declared.open_lookup.LookupStep.TheVariants as step
 use Rattle.server_pool.specs.declared.open_lookup.Nap.{Nap}
@@ -73,13 +73,13 @@ pub record HasStepped (number now : ℕ) (denied : IpAddr → Bool) (table : Lis
 -- it took the outcome of its order of the number
 pub record IsFedBy (number : ℕ) (outcome : Outcome) (tick : Tick) (table : List Server) (old : OpenLookup) (result : Result After NoMemory) (later : List Server) (new : OpenLookup) : Type 0 where
   pub after : (polls : ℕ) → polls_at number old ≡ Some polls → AreLive number (length table) old.rounds.sends.items → IfOk result (λ a. a ≡ after_polls tick.patience polls outcome)
-  pub feeds : (pool : List Candidate) (heard : List HeardEnd) (place : ℕ) (s : Sending) → old.nap ≡ None → IsOpenAt number place s old.rounds → s.send.server < length table
+  pub feeds : (pool : List Candidate) (heard : List HeardEnd) (place : ℕ) (s : Sending) → old.nap ≡ None → IsOpenAt number place s old.rounds → place_of s.send.server < length table
       → RoundsStand pool heard old.rounds → OnOk result (StandsBy s outcome pool heard new.rounds)
-  pub halts : (pool : List Candidate) (heard : List HeardEnd) (place : ℕ) (s : Sending) → old.nap ≡ None → IsOpenAt number place s old.rounds → s.send.server < length table
+  pub halts : (pool : List Candidate) (heard : List HeardEnd) (place : ℕ) (s : Sending) → old.nap ≡ None → IsOpenAt number place s old.rounds → place_of s.send.server < length table
       → RoundsStand pool heard old.rounds → OnErr result (StandsStill pool heard (HasEnded s outcome) new.rounds)
-  pub settles : (place : ℕ) (s : Sending) → old.nap ≡ None → IsOpenAt number place s old.rounds → s.send.server < length table
+  pub settles : (place : ℕ) (s : Sending) → old.nap ≡ None → IsOpenAt number place s old.rounds → place_of s.send.server < length table
       → OnOk result (HasTaken tick.now place s outcome table old.rounds later new.rounds)
-  pub own : (s : Sending) → old.nap ≡ None → old.rounds.phase ≡ phase.Asking → s.send.server < length table → opens number old.rounds.sends.items ≡ s ∷ [] → TakesBy number s outcome result new.rounds.sends.items
+  pub own : (s : Sending) → old.nap ≡ None → old.rounds.phase ≡ phase.Asking → place_of s.send.server < length table → opens number old.rounds.sends.items ≡ s ∷ [] → TakesBy number s outcome result new.rounds.sends.items
   pub awake : old.nap ≡ None → new.nap ≡ None
   pub sleeps : (nap : Nap) → old.nap ≡ Some nap → nap.order ≡ number → (new.nap ≡ nap_after nap outcome) × ((pool : List Candidate) (heard : List HeardEnd) → LookupStands pool heard old → LookupStands pool heard new)
   pub wakes : (nap : Nap) (until : ℕ) (pool : List Candidate) (heard : List HeardEnd) → old.nap ≡ Some nap → new.nap ≡ None → old.rounds.phase ≡ phase.Asleep until → LookupStands pool heard old

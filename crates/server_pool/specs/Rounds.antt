@@ -6,7 +6,7 @@ use Rattle.dns_core.specs.declared.request.DnsRequest.{DnsRequest}
 use Rattle.dns_core.specs.declared.net_error.NetError.{NetError}
 use Rattle.dns_core.specs.declared.net_error.NetError.TheVariants.{Timeout}
 use Rattle.resolution.specs.Lookups.{Answered, End, PoolRun}
-use Rattle.server_pool.specs.declared.candidate.Candidate.{Candidate}
+use Rattle.retry_rules.specs.declared.candidate.Candidate.{Candidate}
 use Rattle.server_pool.specs.declared.rounds.Sending.{Sending}
 use Rattle.server_pool.specs.declared.rounds.Phase.{Phase}
 use Rattle.server_pool.specs.declared.rounds.Phase.TheVariants.{Asking, Asleep, Decided, Told}
@@ -20,7 +20,7 @@ use Rattle.server_core.specs.declared.server_send.ServerSend.{ServerSend}
 use Rattle.server_core.specs.declared.server_send.Stage.{Stage}
 use Rattle.server_core.specs.declared.server_send.Stage.TheVariants as stage
 use Rattle.server_pool.specs.Cancelling.{ends_by_message, settled_table}
-use Rattle.server_pool.specs.Agenda.{Plan, may_ask, rules_of, class_of_sent, end_at, may_sleep, sleep_time, PlanStands}
+use Rattle.retry_rules.specs.Agenda.{Plan, may_ask, rules_of, class_of_sent, end_at, may_sleep, sleep_time, PlanStands}
 
 -- the servers of the sends that have not ended
 abbrev pub under_way : List Sending → List Candidate

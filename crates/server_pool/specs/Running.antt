@@ -1,11 +1,11 @@
 -- How an open lookup runs, as whoever carries out its orders sees it: by which ends it stands, to which candidate its open order goes, and what it was answered.
-use Rattle.std.specs.Prelude.{◌≡◌, ◌≢◌, ℕ, ◌≤◌, Bool, true, false, List, ◌∷◌, [], ◌++◌, All, Contains, IfSome, Option, Some, None, slice_get, option_map}
+use Rattle.std.specs.Prelude.{◌≡◌, ◌≢◌, ℕ, ◌≤◌, Bool, true, false, List, ◌∷◌, [], ◌++◌, All, Contains, IfSome, Option, Some, None, option_map}
 use Rattle.std.specs.declared.net.ip_addr.IpAddr.{IpAddr}
 use Rattle.dns_core.specs.declared.request.DnsRequest.{DnsRequest}
 use Rattle.resolution.specs.Lookups.{Answered, PoolRun}
 use Rattle.server_core.specs.Order.{entry_of}
 use Rattle.server_core.specs.Sending.{is_open, end_of, after_put, Comes}
-use Rattle.server_core.specs.Servers.{Server}
+use Rattle.server_core.specs.Servers.{Server, server_of}
 use Rattle.server_core.specs.declared.order.After.{After}
 use Rattle.server_core.specs.declared.order.After.TheVariants as after
 use Rattle.server_core.specs.declared.order.Order.{Order}
@@ -15,11 +15,11 @@ use Rattle.server_core.specs.declared.order.Tick.{Tick}
 use Rattle.server_core.specs.declared.server_send.ServerSend.{ServerSend}
 use Rattle.server_core.specs.declared.server_send.Stage.{Stage}
 use Rattle.server_core.specs.declared.server_send.Stage.TheVariants as stage
-use Rattle.server_pool.specs.Agenda.{rules_of, class_of_sent}
+use Rattle.retry_rules.specs.Agenda.{rules_of, class_of_sent}
 use Rattle.server_pool.specs.Candidates.{candidate_of}
 use Rattle.server_pool.specs.OpenLookup.{LookupStands, left_of}
 use Rattle.server_pool.specs.Rounds.{HeardEnd, ends_of, entries_of, heard_at, IsOpenAt, IsSameLookup}
-use Rattle.server_pool.specs.declared.candidate.Candidate.{Candidate}
+use Rattle.retry_rules.specs.declared.candidate.Candidate.{Candidate}
 use Rattle.server_pool.specs.declared.open_lookup.LookupStep.{LookupStep}
 use Rattle.server_pool.specs.declared.open_lookup.LookupStep.TheVariants as step
 use Rattle.server_pool.specs.declared.open_lookup.Nap.{Nap}
@@ -122,7 +122,7 @@ heard_after heard c (Some o) entry = heard ++ heard_at c o (Some entry) ∷ []
 
 -- the address of the server of a number
 abbrev pub address_at : List Server → ℕ → Option IpAddr
-address_at table n = option_map (λ server. server.config.ip) (slice_get table n)
+address_at table n = option_map (λ server. server.config.ip) (server_of table n)
 
 -- ---- its steps
 

@@ -4,7 +4,7 @@ use Rattle.server_core.specs.Servers.{Server}
 use Rattle.server_pool.specs.OpenLookup.{IsAlone, polls_at, LookupStands, IsQuiet}
 use Rattle.server_pool.specs.Rounds.{HeardEnd}
 use Rattle.server_pool.specs.Shared.{Shared, under, lookup_at, lookup_of}
-use Rattle.server_pool.specs.declared.candidate.Candidate.{Candidate}
+use Rattle.retry_rules.specs.declared.candidate.Candidate.{Candidate}
 use Rattle.server_pool.specs.declared.open_lookup.OpenLookup.{OpenLookup}
 
 -- the order of the number is open at the lookup of the number, and so many polls of it found nothing

@@ -2,9 +2,8 @@
 ghost use Rattle.std.specs.Prelude.{◌≡◌, ◌≢◌, ℕ, ◌↔◌, Ok, Err, Some, None, IsTrue, OnOk, OnErr, IfOk, length, unwrap_or, ◌+◌, List, Bool};
 ghost use Rattle.std.specs.BTreeMap.{is_at, insert_entry};
 ghost use Rattle.std.specs.Map.{remove_entry};
-ghost use Rattle.std.specs.Option.{option_copied};
 ghost use Rattle.std.specs.Ordering.{nat_cmp};
-ghost use Rattle.server_pool.specs.AnswerFilter.{denied_by};
+ghost use Rattle.retry_rules.specs.AnswerFilter.{denied_by};
 ghost use Rattle.server_pool.specs.OpenLookup.{polls_at};
 ghost use Rattle.server_pool.specs.Shared.{under, configs};
 ghost use Rattle.server_pool.specs.PoolSteps.{HasStepped, IsFedBy, OrdersLeft};
@@ -13,8 +12,7 @@ ghost use Rattle.server_pool.specs.declared.open_lookup.OpenLookup.{OpenLookup a
 use crate::open_lookup::{LookupStep, OpenLookup};
 use crate::rounds::Rounds;
 use dns_core::{NetError, NoMemory};
-use resolver_settings::AccessControlSet;
-use server_core::{After, Outcome, ServerTable, Tick};
+use server_core::{After, Outcome, PoolContext, ServerTable, Tick};
 use std::alloc::Global;
 use std::collections::BTreeMap;
 
@@ -23,20 +21,21 @@ pub(crate) fn step(
     alloc: Global,
     lookups: &mut BTreeMap<u64, OpenLookup>,
     table: &mut ServerTable,
-    filter: Option<&AccessControlSet>,
+    cx: &mut PoolContext,
     lookup: u64,
     number: u64,
     tick: Tick,
 ) -> Result<LookupStep, NoMemory>
     ensures none { under lookup lookups.old.entries ≡ None → (result ≡ Ok (LookupStep.Done (Err NetError.NoConnections))) × (lookups.new ≡ lookups.old) × (table.new ≡ table.old) }
     ensures there { (l : Seen) → under lookup lookups.old.entries ≡ Some l → (next : Seen) × (under lookup lookups.new.entries ≡ Some next)
-        × HasStepped number tick.now (denied_by (option_copied filter.entry)) table.old l result table.new next }
+        × HasStepped number tick.now (denied_by cx.old.answer_address_filter) table.old l result table.new next }
     ensures others { (n : ℕ) → n ≢ lookup → under n lookups.new.entries ≡ under n lookups.old.entries }
     ensures count { length table.new ≡ length table.old }
     ensures reached { configs table.new ≡ configs table.old }
+    ensures context { cx.new ≡ cx.old }
 {
     match lookups.get_mut(&lookup) {
-        Some(open) => open.next(alloc, table, filter, number, tick),
+        Some(open) => open.next(alloc, table, cx, number, tick),
         None => Ok(LookupStep::Done(Err(NetError::NoConnections))),
     }
 }
@@ -46,6 +45,7 @@ pub(crate) fn feed(
     alloc: Global,
     lookups: &mut BTreeMap<u64, OpenLookup>,
     table: &mut ServerTable,
+    cx: &mut PoolContext,
     lookup: u64,
     number: u64,
     outcome: Outcome,
@@ -57,9 +57,10 @@ pub(crate) fn feed(
     ensures others { (n : ℕ) → n ≢ lookup → under n lookups.new.entries ≡ under n lookups.old.entries }
     ensures count { length table.new ≡ length table.old }
     ensures reached { configs table.new ≡ configs table.old }
+    ensures context { cx.new ≡ cx.old }
 {
     match lookups.get_mut(&lookup) {
-        Some(open) => open.put(alloc, table, number, outcome, tick),
+        Some(open) => open.put(alloc, table, cx, number, outcome, tick),
         None => Ok(After::Late),
     }
 }
@@ -79,6 +80,7 @@ pub(crate) fn feed_open(
     alloc: Global,
     lookups: &mut BTreeMap<u64, OpenLookup>,
     table: &mut ServerTable,
+    cx: &mut PoolContext,
     open_at: Option<u64>,
     number: u64,
     outcome: Outcome,
@@ -90,9 +92,10 @@ pub(crate) fn feed_open(
     ensures others { (lookup n : ℕ) → open_at ≡ Some lookup → n ≢ lookup → under n lookups.new.entries ≡ under n lookups.old.entries }
     ensures count { length table.new ≡ length table.old }
     ensures reached { configs table.new ≡ configs table.old }
+    ensures context { cx.new ≡ cx.old }
 {
     match open_at {
-        Some(lookup) => feed(alloc, lookups, table, lookup, number, outcome, tick),
+        Some(lookup) => feed(alloc, lookups, table, cx, lookup, number, outcome, tick),
         None => Ok(After::Late),
     }
 }

@@ -23,7 +23,7 @@ pub(crate) fn ends_by_message(policy: ConnectionPolicy, outcome: &Result<Message
 fn address_of(table: &ServerTable, number: u32) -> Option<IpAddr>
     ensures { result ≡ address_of table.now number }
 {
-    if (number as usize) < table.len() {
+    if table.is_live(number) {
         Some(table.get(number).ip())
     } else {
         None

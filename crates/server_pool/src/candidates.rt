@@ -1,17 +1,18 @@
 //! The servers of a pool that can be asked, as a lookup sees them.
-ghost use Rattle.std.specs.Prelude.{◌≡◌, slice_get, IfOk, filter, map, true, false, option_map};
+ghost use Rattle.std.specs.Prelude.{◌≡◌, IfOk, filter, map, true, false, option_map};
+ghost use Rattle.server_core.specs.Servers.{server_of};
 ghost use Rattle.server_pool.specs.Candidates.{candidate_of, candidates, is_reached, is_trusted};
 
-use crate::candidate::Candidate;
 use dns_core::NoMemory;
+use retry_rules::Candidate;
 use server_core::{ConnectionPolicy, NameServer, ServerTable};
 use std::alloc::Global;
 
 /// The server of a number, where the table has it.
 fn server_of(table: &ServerTable, number: u32) -> Option<&NameServer>
-    ensures { option_map (λ s. s.now) result ≡ slice_get table.now number }
+    ensures { option_map (λ s. s.now) result ≡ server_of table.now number }
 {
-    if (number as usize) < table.len() {
+    if table.is_live(number) {
         Some(table.get(number))
     } else {
         None

@@ -30,6 +30,7 @@ use std::net::IpAddr;
 /// order.
 #[derive(Drop)]
 pub struct Carrier<P: ConnectionProvider> {
+    alloc: Global,
     pub(crate) provider: P,
     options: ConnectOptions,
     pub(crate) slots: BTreeMap<OrderKey, Slot<P>>,
@@ -70,10 +71,12 @@ impl<P: ConnectionProvider> Carrier<P> {
     /// Carries orders over a provider whose log is empty.
     pub fn new(alloc: Global, provider: P, options: ConnectOptions) -> Carrier<P>
         ensures provider { result.provider ≡ provider }
+        ensures options { result.options ≡ options }
         ensures unseen { (key : Key) → stand_at result.slots key ≡ Unseen }
         ensures holds { ((es : List LogEntry) → P.log provider ≡ Some es → es ≡ []) → CarrierHolds P.ConnectionProvider result }
     {
         Carrier {
+            alloc,
             provider,
             options,
             slots: BTreeMap::new(alloc),
@@ -91,6 +94,7 @@ impl<P: ConnectionProvider> Carrier<P> {
         ensures { result ≡ self.provider }
     {
         let Carrier {
+            alloc: _,
             provider,
             options: _,
             slots: _,
@@ -713,7 +717,6 @@ impl<P: ConnectionProvider> Carrier<P> {
     /// entries or of polls would pass their types the answer is want of memory too.
     pub fn carry(
         &mut self,
-        alloc: Global,
         number: u64,
         order: &Order,
         now: u64,
@@ -750,7 +753,7 @@ impl<P: ConnectionProvider> Carrier<P> {
     {
         let key = OrderKey::of(number, order);
         match self.standing(key, order) {
-            Standing::Unseen => self.start(alloc, key, order, now),
+            Standing::Unseen => self.start(self.alloc, key, order, now),
             Standing::UnderWay => {
                 let outcome = self.poll(key, order, now)?;
                 Ok(Some(outcome))

@@ -32,13 +32,13 @@ fn add_one(
     shared: &mut PoolShared,
 ) -> Result<u32, NoMemory>
     requires { IsFirstDelay first_delay }
-    ensures number { IfOk result (λ number. number ≡ length shared.old.table) }
+    ensures number { IfOk result (λ number. number ≡ length shared.old.table + 1) }
     ensures ok { OnOk result (shared.new ≡ record shared.old { table = shared.old.table ++ new_server [] config shared.old.context.options.server_ordering_strategy first_delay ∷ [] }) }
     ensures err { OnErr result (shared.new ≡ shared.old) }
 {
     let options = shared.context().options();
     let server = NameServer::new(alloc, Vec::new(alloc), config, options, first_delay)?;
-    let number = shared.add(server)?;
+    let number = shared.add(alloc, server)?;
     Ok(number)
 }
 
@@ -52,7 +52,7 @@ fn add_all(
 ) -> Result<Vec<u32>, NoMemory>
     requires some { first_delays.now ≢ [] }
     requires fit { All IsFirstDelay first_delays.now }
-    ensures numbers { IfOk result (λ numbers. numbers.items ≡ range_with_len (length shared.old.table) (length servers.items)) }
+    ensures numbers { IfOk result (λ numbers. numbers.items ≡ range_with_len (length shared.old.table + 1) (length servers.items)) }
     ensures ok { OnOk result (shared.new ≡ with_servers first_delays.now servers.items shared.old) }
     ensures err { OnErr result (HasSomeOf first_delays.now servers.items shared.old shared.new) }
 {
@@ -67,7 +67,11 @@ fn add_all(
 
 impl NameServerPool {
     /// A pool of servers that are there, with a number of its own.
-    pub fn from_nameservers(servers: Vec<u32>, shared: &mut PoolShared) -> Result<Self, NoMemory>
+    pub fn from_nameservers(
+        _alloc: Global,
+        servers: Vec<u32>,
+        shared: &mut PoolShared,
+    ) -> Result<Self, NoMemory>
         ensures pool { IfOk result (λ pool. IsPoolOf (shared.old.pools + 1) servers.items pool) }
         ensures ok { OnOk result (shared.new ≡ record shared.old { pools = shared.old.pools + 1 }) }
         ensures err { OnErr result (shared.new ≡ shared.old) }
@@ -86,13 +90,13 @@ impl NameServerPool {
     ) -> Result<Self, NoMemory>
         requires some { first_delays.now ≢ [] }
         requires fit { All IsFirstDelay first_delays.now }
-        ensures pool { IfOk result (λ pool. IsPoolOf (shared.old.pools + 1) (range_with_len (length shared.old.table) (length servers.items)) pool) }
+        ensures pool { IfOk result (λ pool. IsPoolOf (shared.old.pools + 1) (range_with_len (length shared.old.table + 1) (length servers.items)) pool) }
         ensures live { IfOk result (IsLive shared.new.table) }
         ensures ok { OnOk result (shared.new ≡ record (with_servers first_delays.now servers.items shared.old) { pools = shared.old.pools + 1 }) }
         ensures err { OnErr result (HasSomeOf first_delays.now servers.items shared.old shared.new) }
     {
         let numbers = add_all(alloc, servers, first_delays, shared)?;
-        NameServerPool::from_nameservers(numbers, shared)
+        NameServerPool::from_nameservers(alloc, numbers, shared)
     }
 
     /// The settings of all pools.

@@ -3,10 +3,10 @@ ghost use Rattle.std.specs.Prelude.{◌≡◌, ◌<◌, ℕ, ◌↔◌, List, []
 ghost use Rattle.std.specs.List.{position, remove};
 ghost use Rattle.resolution.specs.Lookups.{Answered, End};
 ghost use Rattle.server_core.specs.declared.order.Order.{Order};
-ghost use Rattle.server_core.specs.Servers.{Server};
+ghost use Rattle.server_core.specs.Servers.{Server, place_of, server_of};
 ghost use Rattle.server_core.specs.Sending.{end_of, after_step, after_want};
 ghost use Rattle.server_core.specs.Hearing.{changed_at};
-ghost use Rattle.server_pool.specs.declared.candidate.Candidate.{Candidate};
+ghost use Rattle.retry_rules.specs.declared.candidate.Candidate.{Candidate};
 ghost use Rattle.server_pool.specs.declared.rounds.Sending.{Sending};
 ghost use Rattle.server_pool.specs.Orders.{opens, HasSameOrders, HasSameOrdersBut, OpensMade, OpensBy, OpensNext};
 ghost use Rattle.server_pool.specs.Shared.{configs};
@@ -15,7 +15,7 @@ ghost use Rattle.server_pool.specs.NextStep.{is_idle, IsTaken, IsClosed, Steps, 
 
 use crate::rounds::{Phase, Rounds, Sending};
 use dns_core::{Message, NetError, NoMemory};
-use server_core::{Order, SendStep, ServerTable, Stage, Tick};
+use server_core::{Order, PoolContext, SendStep, ServerTable, Stage, Tick};
 use std::alloc::Global;
 use std::mem;
 
@@ -64,11 +64,12 @@ impl Sending {
         &mut self,
         alloc: Global,
         table: &mut ServerTable,
+        cx: &mut PoolContext,
         number: u64,
         tick: Tick,
     ) -> Result<Option<Order>, NoMemory>
-        requires { self.old.send.server < length table.old }
-        ensures steps { (server : Server) → slice_get table.old self.old.send.server ≡ Some server
+        requires { place_of self.old.send.server < length table.old }
+        ensures steps { (server : Server) → server_of table.old self.old.send.server ≡ Some server
             → IfOk result (λ made. Steps number tick.now server self.old made self.new) }
         ensures candidate { self.new.candidate ≡ self.old.candidate }
         ensures err { OnErr result (self.new ≡ self.old) }
@@ -76,8 +77,9 @@ impl Sending {
         ensures want { OnErr result (table.new ≡ changed_at (after_want self.old.send.stage) self.old.send.server table.old) }
         ensures count { length table.new ≡ length table.old }
         ensures reached { configs table.new ≡ configs table.old }
+        ensures context { cx.new ≡ cx.old }
     {
-        let step = self.send.next(alloc, table, number, tick)?;
+        let step = self.send.next(alloc, table, cx, number, tick)?;
         let made = self.take_step(number, step);
         Ok(made)
     }
@@ -107,6 +109,7 @@ impl Rounds {
         &mut self,
         alloc: Global,
         table: &mut ServerTable,
+        cx: &mut PoolContext,
         place: usize,
         number: u64,
         tick: Tick,
@@ -124,16 +127,17 @@ impl Rounds {
         ensures want { (s : Sending) → slice_get self.old.sends.items place ≡ Some s → OnErr result (table.new ≡ changed_for after_want (Some s) table.old) }
         ensures count { length table.new ≡ length table.old }
         ensures reached { configs table.new ≡ configs table.old }
+        ensures context { cx.new ≡ cx.old }
         ensures beside { (s : Sending) → slice_get self.old.sends.items place ≡ Some s → is_idle s ≡ true → HasSameOrdersBut number self.old.sends.items self.new.sends.items }
         ensures own { (s : Sending) → slice_get self.old.sends.items place ≡ Some s → is_idle s ≡ true → opens number self.old.sends.items ≡ []
             → OpensMade number (length table.old) result self.new.sends.items }
     {
         let sending = &mut self.sends[place];
-        if sending.send.server as usize >= table.len() {
+        if !table.is_live(sending.send.server) {
             sending.send.stage = Stage::Ended(Err(NetError::NoConnections));
             return Ok(None);
         }
-        sending.step(alloc, table, number, tick)
+        sending.step(alloc, table, cx, number, tick)
     }
 
     /// Goes on after the send at a place gave an order, or ended.
@@ -176,6 +180,7 @@ impl Rounds {
         &mut self,
         alloc: Global,
         table: &mut ServerTable,
+        cx: &mut PoolContext,
         place: usize,
         number: u64,
         tick: Tick,
@@ -192,11 +197,12 @@ impl Rounds {
         ensures halted { (s : Sending) → IsFirstIdle place s self.old → OnErr result (table.new ≡ changed_for after_want (Some s) table.old) }
         ensures count { length table.new ≡ length table.old }
         ensures reached { configs table.new ≡ configs table.old }
+        ensures context { cx.new ≡ cx.old }
         ensures beside { (s : Sending) → slice_get self.old.sends.items place ≡ Some s → is_idle s ≡ true → HasSameOrdersBut number self.old.sends.items self.new.sends.items }
         ensures own { (s : Sending) → slice_get self.old.sends.items place ≡ Some s → is_idle s ≡ true → opens number self.old.sends.items ≡ []
             → OpensBy number (length table.old) result self.new.sends.items }
     {
-        let made = self.step_send(alloc, table, place, number, tick)?;
+        let made = self.step_send(alloc, table, cx, place, number, tick)?;
         self.after_send(alloc, table, place, made, tick.now)
     }
 
@@ -227,6 +233,7 @@ impl Rounds {
         &mut self,
         alloc: Global,
         table: &mut ServerTable,
+        cx: &mut PoolContext,
         number: u64,
         tick: Tick,
     ) -> Result<Option<RoundStep>, NoMemory>
@@ -241,11 +248,12 @@ impl Rounds {
         ensures halted { OnErr result (table.new ≡ changed_for after_want (find is_idle self.old.sends.items) table.old) }
         ensures count { length table.new ≡ length table.old }
         ensures reached { configs table.new ≡ configs table.old }
+        ensures context { cx.new ≡ cx.old }
         ensures beside { HasSameOrdersBut number self.old.sends.items self.new.sends.items }
         ensures own { opens number self.old.sends.items ≡ [] → OpensBy number (length table.old) result self.new.sends.items }
     {
         match self.idle_place() {
-            Some(place) => self.step_at(alloc, table, place, number, tick),
+            Some(place) => self.step_at(alloc, table, cx, place, number, tick),
             None => self.wait(alloc, tick.now),
         }
     }
@@ -295,6 +303,7 @@ impl Rounds {
         &mut self,
         alloc: Global,
         table: &mut ServerTable,
+        cx: &mut PoolContext,
         number: u64,
         tick: Tick,
     ) -> Result<Option<RoundStep>, NoMemory>
@@ -309,12 +318,13 @@ impl Rounds {
         ensures halted { OnErr result (table.new ≡ halted_table self.old table.old) }
         ensures count { length table.new ≡ length table.old }
         ensures reached { configs table.new ≡ configs table.old }
+        ensures context { cx.new ≡ cx.old }
         ensures beside { HasSameOrdersBut number self.old.sends.items self.new.sends.items }
         ensures own { opens number self.old.sends.items ≡ [] → OpensBy number (length table.old) result self.new.sends.items }
         ensures told { self.old.phase ≡ Phase.Told → (result ≡ Ok (Some RoundStep.Told)) × (self.new ≡ self.old) × (table.new ≡ table.old) }
     {
         match self.doing() {
-            Doing::Asks => self.ask_next(alloc, table, number, tick),
+            Doing::Asks => self.ask_next(alloc, table, cx, number, tick),
             Doing::Sleeps { until } => self.sleep(alloc, until, tick.now),
             Doing::Tells => Ok(Some(self.tell())),
         }
@@ -327,6 +337,7 @@ impl Rounds {
         &mut self,
         alloc: Global,
         table: &mut ServerTable,
+        cx: &mut PoolContext,
         number: u64,
         tick: Tick,
     ) -> Result<RoundStep, NoMemory>
@@ -339,12 +350,13 @@ impl Rounds {
         ensures decides { DecidesAt tick.now self.old.phase self.new.phase }
         ensures count { length table.new ≡ length table.old }
         ensures reached { configs table.new ≡ configs table.old }
+        ensures context { cx.new ≡ cx.old }
         ensures beside { HasSameOrdersBut number self.old.sends.items self.new.sends.items }
         ensures own { opens number self.old.sends.items ≡ [] → OpensNext number (length table.old) result self.new.sends.items }
         ensures told { self.old.phase ≡ Phase.Told → (result ≡ Ok RoundStep.Told) × (self.new ≡ self.old) × (table.new ≡ table.old) }
     {
         'going: loop {
-            match self.advance(alloc, table, number, tick)? {
+            match self.advance(alloc, table, cx, number, tick)? {
                 Some(step) => return Ok(step),
                 None => {}
             }

@@ -2,10 +2,11 @@
 ghost use Rattle.std.specs.Prelude.{◌≡◌, ◌≢◌, ◌<◌, ℕ, ◌↔◌, [], ◌∷◌, ◌==◌, IfOk, OnOk, OnErr, Ok, Err, Some, None, IsSome, IsTrue, Bool, List, length, option_map, Contains};
 ghost use Rattle.std.specs.Option.{option_copied};
 ghost use Rattle.resolution.specs.Lookups.{Answered};
+ghost use Rattle.server_core.specs.Servers.{place_of};
 ghost use Rattle.server_core.specs.declared.order.Order.{Order as Ordered};
-ghost use Rattle.server_pool.specs.declared.candidate.Candidate.{Candidate};
+ghost use Rattle.retry_rules.specs.declared.candidate.Candidate.{Candidate};
 ghost use Rattle.server_pool.specs.declared.rounds.Sending.{Sending};
-ghost use Rattle.server_pool.specs.AnswerFilter.{denied_by};
+ghost use Rattle.retry_rules.specs.AnswerFilter.{denied_by};
 ghost use Rattle.server_pool.specs.NextStep.{HasGiven};
 ghost use Rattle.server_pool.specs.OpenLookup.{until_of, AreLive, polls_by, polls_at, left_of, after_polls, nap_after, LookupStands, LookupGives, OwnLeft, StaysOpen};
 ghost use Rattle.server_pool.specs.declared.open_lookup.Nap.{Nap as Slumber};
@@ -14,12 +15,11 @@ ghost use Rattle.server_pool.specs.Shared.{configs};
 ghost use Rattle.server_pool.specs.Orders.{opens, HasSameOrders, HasSameOrdersBut, TakesBy};
 ghost use Rattle.server_pool.specs.Rounds.{HeardEnd, RoundsStand, IsSameLookup, IsOpenAt, StandsBy, StandsStill, HasEnded, HasTaken, DecidesAt, TakesInTime, TakesBusy};
 
-use crate::answer_filter::filtered;
 use crate::next_step::RoundStep;
 use crate::rounds::{Phase, Rounds};
 use dns_core::{Message, NetError, NoMemory, Query, TryClone};
-use resolver_settings::AccessControlSet;
-use server_core::{After, Order, Outcome, ServerTable, Tick};
+use retry_rules::filtered;
+use server_core::{After, Order, Outcome, PoolContext, ServerTable, Tick};
 use std::alloc::Global;
 
 /// A sleep that was ordered: the number of its order, and how many polls of it found nothing.
@@ -51,16 +51,16 @@ pub enum LookupStep {
 fn told(
     alloc: Global,
     query: &Query,
-    filter: Option<&AccessControlSet>,
+    cx: &PoolContext,
     answer: &Result<Message, NetError>,
 ) -> Result<Result<Message, NetError>, NoMemory>
-    ensures { IfOk result (λ left. left ≡ left_of query.now (denied_by (option_copied filter.entry)) answer.now) }
+    ensures { IfOk result (λ left. left ≡ left_of query.now (denied_by cx.now.answer_address_filter) answer.now) }
 {
     match answer {
         Ok(message) => {
             let message = message.try_clone(alloc)?;
             let query = query.try_clone(alloc)?;
-            Ok(filtered(alloc, message, query, filter))
+            Ok(filtered(alloc, message, query, cx.answer_address_filter()))
         }
         Err(error) => Ok(Err(error.try_clone(alloc)?)),
     }
@@ -172,14 +172,14 @@ impl OpenLookup {
     fn again(
         &self,
         alloc: Global,
-        filter: Option<&AccessControlSet>,
+        cx: &PoolContext,
     ) -> Result<Option<Result<Message, NetError>>, NoMemory>
-        ensures left { IfOk result (λ left. left ≡ option_map (left_of self.now.rounds.request.query (denied_by (option_copied filter.entry))) self.now.answer) }
+        ensures left { IfOk result (λ left. left ≡ option_map (left_of self.now.rounds.request.query (denied_by cx.now.answer_address_filter)) self.now.answer) }
         ensures none { self.now.answer ≡ None → result ≡ Ok None }
     {
         match &self.answer {
             Some(answer) => {
-                let answer = told(alloc, &self.rounds.request.query, filter, answer)?;
+                let answer = told(alloc, &self.rounds.request.query, cx, answer)?;
                 Ok(Some(answer))
             }
             None => Ok(None),
@@ -190,13 +190,13 @@ impl OpenLookup {
     fn tell(
         &mut self,
         alloc: Global,
-        filter: Option<&AccessControlSet>,
+        cx: &PoolContext,
         answer: Result<Message, NetError>,
     ) -> Result<LookupStep, NoMemory>
         ensures kept { self.new ≡ record self.old { answer = Some answer } }
-        ensures left { IfOk result (λ step. step ≡ LookupStep.Done (left_of self.old.rounds.request.query (denied_by (option_copied filter.entry)) answer)) }
+        ensures left { IfOk result (λ step. step ≡ LookupStep.Done (left_of self.old.rounds.request.query (denied_by cx.now.answer_address_filter) answer)) }
     {
-        let left = told(alloc, &self.rounds.request.query, filter, &answer);
+        let left = told(alloc, &self.rounds.request.query, cx, &answer);
         self.answer = Some(answer);
         Ok(LookupStep::Done(left?))
     }
@@ -206,7 +206,7 @@ impl OpenLookup {
         &mut self,
         alloc: Global,
         table: &mut ServerTable,
-        filter: Option<&AccessControlSet>,
+        cx: &mut PoolContext,
         number: u64,
         tick: Tick,
     ) -> Result<LookupStep, NoMemory>
@@ -214,7 +214,7 @@ impl OpenLookup {
         requires untold { self.old.answer ≡ None }
         requires awake_too { until_of self.old.rounds.phase ≡ None }
         ensures gives { (pool : List Candidate) (heard : List HeardEnd) → RoundsStand pool heard self.old.rounds
-            → LookupGives number tick.now (denied_by (option_copied filter.entry)) pool heard table.old self.old result table.new self.new }
+            → LookupGives number tick.now (denied_by cx.old.answer_address_filter) pool heard table.old self.old result table.new self.new }
         ensures own { (pool : List Candidate) (heard : List HeardEnd) → RoundsStand pool heard self.old.rounds → opens number self.old.rounds.sends.items ≡ []
             → OwnLeft number (length table.old) result self.new }
         ensures stays { StaysOpen number self.old self.new }
@@ -222,15 +222,16 @@ impl OpenLookup {
         ensures count { length table.new ≡ length table.old }
         ensures others { HasSameOrdersBut number self.old.rounds.sends.items self.new.rounds.sends.items }
         ensures runs { (pool : List Candidate) (heard : List HeardEnd) → AreReached table.old pool → Runs pool heard tick.now self.old → opens number self.old.rounds.sends.items ≡ []
-            → IfOk result (λ step. RunsOn pool heard tick.now (denied_by (option_copied filter.entry)) table.new number self.old step self.new) }
+            → IfOk result (λ step. RunsOn pool heard tick.now (denied_by cx.old.answer_address_filter) table.new number self.old step self.new) }
         ensures reached { configs table.new ≡ configs table.old }
+        ensures context { cx.new ≡ cx.old }
     {
-        match self.rounds.next(alloc, table, number, tick)? {
+        match self.rounds.next(alloc, table, cx, number, tick)? {
             RoundStep::Order(order) => Ok(LookupStep::Order(order)),
             RoundStep::Waiting => Ok(LookupStep::Waiting),
             RoundStep::Told => Ok(LookupStep::Waiting),
             RoundStep::Asleep { until } => Ok(self.sleep(number, until)),
-            RoundStep::Done(answer) => self.tell(alloc, filter, answer),
+            RoundStep::Done(answer) => self.tell(alloc, cx, answer),
         }
     }
 
@@ -240,14 +241,14 @@ impl OpenLookup {
         &mut self,
         alloc: Global,
         table: &mut ServerTable,
-        filter: Option<&AccessControlSet>,
+        cx: &mut PoolContext,
         number: u64,
         tick: Tick,
     ) -> Result<LookupStep, NoMemory>
         ensures gives { (pool : List Candidate) (heard : List HeardEnd) → self.old.answer ≡ None → LookupStands pool heard self.old
-            → LookupGives number tick.now (denied_by (option_copied filter.entry)) pool heard table.old self.old result table.new self.new }
+            → LookupGives number tick.now (denied_by cx.old.answer_address_filter) pool heard table.old self.old result table.new self.new }
         ensures again { (answer : Answered) → self.old.answer ≡ Some answer → (self.new ≡ self.old) × (table.new ≡ table.old)
-            × IfOk result (λ step. step ≡ LookupStep.Done (left_of self.old.rounds.request.query (denied_by (option_copied filter.entry)) answer)) }
+            × IfOk result (λ step. step ≡ LookupStep.Done (left_of self.old.rounds.request.query (denied_by cx.old.answer_address_filter) answer)) }
         ensures own { (pool : List Candidate) (heard : List HeardEnd) → self.old.answer ≡ None → LookupStands pool heard self.old → opens number self.old.rounds.sends.items ≡ [] → polls_at number self.old ≡ None
             → OwnLeft number (length table.old) result self.new }
         ensures stays { StaysOpen number self.old self.new }
@@ -255,10 +256,11 @@ impl OpenLookup {
         ensures count { length table.new ≡ length table.old }
         ensures others { HasSameOrdersBut number self.old.rounds.sends.items self.new.rounds.sends.items }
         ensures runs { (pool : List Candidate) (heard : List HeardEnd) → AreReached table.old pool → Runs pool heard tick.now self.old → opens number self.old.rounds.sends.items ≡ []
-            → IfOk result (λ step. RunsOn pool heard tick.now (denied_by (option_copied filter.entry)) table.new number self.old step self.new) }
+            → IfOk result (λ step. RunsOn pool heard tick.now (denied_by cx.old.answer_address_filter) table.new number self.old step self.new) }
         ensures reached { configs table.new ≡ configs table.old }
+        ensures context { cx.new ≡ cx.old }
     {
-        if let Some(answer) = self.again(alloc, filter)? {
+        if let Some(answer) = self.again(alloc, cx)? {
             return Ok(LookupStep::Done(answer));
         }
         if self.nap.is_some() {
@@ -266,7 +268,7 @@ impl OpenLookup {
         }
         match self.rounds.sleeps_until() {
             Some(until) => Ok(self.sleep(number, until)),
-            None => self.advance(alloc, table, filter, number, tick),
+            None => self.advance(alloc, table, cx, number, tick),
         }
     }
 
@@ -339,6 +341,7 @@ impl OpenLookup {
         &mut self,
         alloc: Global,
         table: &mut ServerTable,
+        cx: &mut PoolContext,
         number: u64,
         outcome: Outcome,
         tick: Tick,
@@ -346,13 +349,13 @@ impl OpenLookup {
         ensures late { polls_at number self.old ≡ None → (result ≡ Ok After.Late) × (self.new ≡ self.old) × (table.new ≡ table.old) }
         ensures after { (polls : ℕ) → polls_at number self.old ≡ Some polls → AreLive number (length table.old) self.old.rounds.sends.items
             → IfOk result (λ a. a ≡ after_polls tick.patience polls outcome) }
-        ensures feeds { (pool : List Candidate) (heard : List HeardEnd) (place : ℕ) (s : Sending) → self.old.nap ≡ None → IsOpenAt number place s self.old.rounds → s.send.server < length table.old
+        ensures feeds { (pool : List Candidate) (heard : List HeardEnd) (place : ℕ) (s : Sending) → self.old.nap ≡ None → IsOpenAt number place s self.old.rounds → place_of s.send.server < length table.old
             → RoundsStand pool heard self.old.rounds → OnOk result (StandsBy s outcome pool heard self.new.rounds) }
-        ensures halts { (pool : List Candidate) (heard : List HeardEnd) (place : ℕ) (s : Sending) → self.old.nap ≡ None → IsOpenAt number place s self.old.rounds → s.send.server < length table.old
+        ensures halts { (pool : List Candidate) (heard : List HeardEnd) (place : ℕ) (s : Sending) → self.old.nap ≡ None → IsOpenAt number place s self.old.rounds → place_of s.send.server < length table.old
             → RoundsStand pool heard self.old.rounds → OnErr result (StandsStill pool heard (HasEnded s outcome) self.new.rounds) }
-        ensures settles { (place : ℕ) (s : Sending) → self.old.nap ≡ None → IsOpenAt number place s self.old.rounds → s.send.server < length table.old
+        ensures settles { (place : ℕ) (s : Sending) → self.old.nap ≡ None → IsOpenAt number place s self.old.rounds → place_of s.send.server < length table.old
             → OnOk result (HasTaken tick.now place s outcome table.old self.old.rounds table.new self.new.rounds) }
-        ensures own { (s : Sending) → self.old.nap ≡ None → self.old.rounds.phase ≡ Phase.Asking → s.send.server < length table.old → opens number self.old.rounds.sends.items ≡ s ∷ []
+        ensures own { (s : Sending) → self.old.nap ≡ None → self.old.rounds.phase ≡ Phase.Asking → place_of s.send.server < length table.old → opens number self.old.rounds.sends.items ≡ s ∷ []
             → TakesBy number s outcome result self.new.rounds.sends.items }
         ensures rounds { self.old.nap ≡ None → self.new.nap ≡ None }
         ensures sleeps { (nap : Slumber) → self.old.nap ≡ Some nap → nap.order ≡ number → (self.new.nap ≡ nap_after nap outcome)
@@ -366,6 +369,7 @@ impl OpenLookup {
         ensures count { length table.new ≡ length table.old }
         ensures others { HasSameOrdersBut number self.old.rounds.sends.items self.new.rounds.sends.items }
         ensures reached { configs table.new ≡ configs table.old }
+        ensures context { cx.new ≡ cx.old }
         ensures sends { (pool : List Candidate) (heard : List HeardEnd) (c : Candidate) (asks : Bool) → AreReached table.old pool → Contains pool c → Runs pool heard tick.now self.old → IsOpenTo number c asks self.old
             → IfOk result (λ did. RunsTaken pool heard tick number c asks outcome self.old did self.new) }
         ensures slept { (pool : List Candidate) (heard : List HeardEnd) → Runs pool heard tick.now self.old → IsNapping number self.old
@@ -373,7 +377,7 @@ impl OpenLookup {
     {
         match self.nap {
             Some(nap) => self.put_asleep(alloc, nap, number, &outcome, tick),
-            None => self.rounds.put(alloc, table, number, outcome, tick),
+            None => self.rounds.put(alloc, table, cx, number, outcome, tick),
         }
     }
 
@@ -394,13 +398,13 @@ impl OpenLookup {
     pub fn left_answer(
         &self,
         alloc: Global,
-        filter: Option<&AccessControlSet>,
+        cx: &PoolContext,
     ) -> Result<Option<Result<Message, NetError>>, NoMemory>
-        ensures { IfOk result (λ left. left ≡ option_map (left_of self.now.rounds.request.query (denied_by (option_copied filter.entry))) (answer_of self.now)) }
+        ensures { IfOk result (λ left. left ≡ option_map (left_of self.now.rounds.request.query (denied_by cx.now.answer_address_filter)) (answer_of self.now)) }
     {
         match self.decided() {
             Some(answer) => {
-                let left = told(alloc, &self.rounds.request.query, filter, answer)?;
+                let left = told(alloc, &self.rounds.request.query, cx, answer)?;
                 Ok(Some(left))
             }
             None => Ok(None),

@@ -9,7 +9,7 @@ ghost use Rattle.server_pool.specs.Lookups.{Begins, Gives, told_of};
 ghost use Rattle.server_pool.specs.Running.{Runs, AreReached, answer_of, ends_at};
 ghost use Rattle.server_pool.specs.OpenLookup.{LookupStands};
 ghost use Rattle.server_pool.specs.Rounds.{HeardEnd, ends_of, sends_made};
-ghost use Rattle.server_pool.specs.declared.candidate.Candidate.{Candidate};
+ghost use Rattle.retry_rules.specs.declared.candidate.Candidate.{Candidate};
 ghost use Rattle.server_pool.specs.declared.open_lookup.OpenLookup.{OpenLookup as Seen};
 
 use crate::pool::NameServerPool;

@@ -4,7 +4,7 @@ ghost use Rattle.std.specs.List.Sorted.{IsStrictlyIncreasing};
 ghost use Rattle.resolution.specs.Lookups.{Answered};
 ghost use Rattle.server_pool.specs.Candidates.{candidates};
 ghost use Rattle.server_pool.specs.Orders.{opens};
-ghost use Rattle.server_pool.specs.Ordering.{IsOrdered, next_turn, side_by_side};
+ghost use Rattle.retry_rules.specs.Ordering.{IsOrdered, next_turn, side_by_side};
 ghost use Rattle.server_pool.specs.OpenLookup.{after_polls, LookupStands};
 ghost use Rattle.server_pool.specs.Rounds.{HeardEnd, ends_of, sends_made, RoundsStand, BeginsWith};
 ghost use Rattle.server_pool.specs.Shared.{lookup_at, lookup_of, turn_at, SameBut};
@@ -12,7 +12,7 @@ ghost use Rattle.server_pool.specs.Lookups.{Begins, Gives, HasTaken, HasSlept, t
 ghost use Rattle.server_pool.specs.Running.{Runs, AreReached, IsOpenTo, IsNapping, answer_of};
 ghost use Rattle.server_pool.specs.SharedStands.{IsOpenOrder, IsWithdrawn};
 ghost use Rattle.server_pool.specs.PoolSteps.{IsSameBeside, HasSameLookupsBut, HasSameOrdersAtBut, IsFedBy, HasBegun, NumbersStep, PoolGives, IsHaltedBefore, TellsAgain, told_by};
-ghost use Rattle.server_pool.specs.declared.candidate.Candidate.{Candidate};
+ghost use Rattle.retry_rules.specs.declared.candidate.Candidate.{Candidate};
 ghost use Rattle.server_pool.specs.declared.open_lookup.OpenLookup.{OpenLookup as Seen};
 
 use crate::by_number::{
@@ -20,9 +20,9 @@ use crate::by_number::{
 };
 use crate::candidates::candidates;
 use crate::open_lookup::{LookupStep, OpenLookup};
-use crate::ordering::ordered;
 use crate::rounds::Rounds;
-use dns_core::{DnsRequest, Message, NetError, NoMemory, Numbers};
+use dns_core::{DnsRequest, Message, NetError, NoMemory, Numbers, TryClone};
+use retry_rules::ordered;
 use server_core::{After, NameServer, Order, Outcome, PoolContext, ServerTable, Tick};
 use std::alloc::Global;
 use std::collections::BTreeMap;
@@ -35,6 +35,29 @@ pub enum PoolStep {
     Order { number: u64, order: Order },
     Waiting,
     Done(Result<Message, NetError>),
+}
+
+impl TryClone for PoolStep {
+    fn try_clone(&self, alloc: Global) -> Result<Self, NoMemory> {
+        match self {
+            PoolStep::Order { number, order } => {
+                let order = order.try_clone(alloc)?;
+                Ok(PoolStep::Order {
+                    number: *number,
+                    order,
+                })
+            }
+            PoolStep::Waiting => Ok(PoolStep::Waiting),
+            PoolStep::Done(Ok(message)) => {
+                let message = message.try_clone(alloc)?;
+                Ok(PoolStep::Done(Ok(message)))
+            }
+            PoolStep::Done(Err(error)) => {
+                let error = error.try_clone(alloc)?;
+                Ok(PoolStep::Done(Err(error)))
+            }
+        }
+    }
 }
 
 /// The servers, the settings of all pools, the open lookups by their numbers, the lookup of each order
@@ -106,23 +129,23 @@ impl PoolShared {
         &self.table
     }
 
-    /// How many servers it has: their numbers are those below.
+    /// How many servers it has: their numbers are those from 1 to it.
     pub fn live_servers(&self) -> u32
         ensures { result ≡ length self.now.table }
     {
         self.table.len() as u32
     }
 
-    /// Adds a server. Its number is the count of those before it.
-    pub fn add(&mut self, server: NameServer) -> Result<u32, NoMemory>
-        ensures number { IfOk result (λ number. number ≡ length self.old.table) }
+    /// Adds a server. Its number is the count of servers, from 1 on.
+    pub fn add(&mut self, alloc: Global, server: NameServer) -> Result<u32, NoMemory>
+        ensures number { IfOk result (λ number. number ≡ length self.old.table + 1) }
         ensures ok { OnOk result (self.new ≡ record self.old { table = self.old.table ++ server ∷ [] }) }
         ensures err { OnErr result (self.new ≡ self.old) }
     {
         if self.live_servers() == u32::MAX {
             return Err(NoMemory);
         }
-        let number = self.table.add(server)?;
+        let number = self.table.add(alloc, server)?;
         Ok(number)
     }
 
@@ -168,7 +191,7 @@ impl PoolShared {
     {
         let options = self.context.options();
         let mut servers = Vec::from_slice(alloc, servers)?;
-        ordered(&mut servers, turn, &self.table, options, tick.now)?;
+        ordered(alloc, &mut servers, turn, &self.table, options, tick.now)?;
         let found = candidates(alloc, &self.table, servers.as_slice())?;
         Rounds::new(alloc, found.as_slice(), request, options, tick.now)
     }
@@ -227,12 +250,11 @@ impl PoolShared {
         }
         let number = self.given + 1;
         let _room = self.orders.insert(number, lookup)?;
-        let filter = self.context.answer_address_filter();
         let made = step(
             alloc,
             &mut self.lookups,
             &mut self.table,
-            filter,
+            &mut self.context,
             lookup,
             number,
             tick,
@@ -289,6 +311,7 @@ impl PoolShared {
             alloc,
             &mut self.lookups,
             &mut self.table,
+            &mut self.context,
             open_at,
             number,
             outcome,
@@ -389,7 +412,7 @@ impl PoolShared {
         ensures gone { lookup_at self.now lookup ≡ None → IfOk result (λ told. told ≡ None) }
     {
         match self.lookups.get(&lookup) {
-            Some(open) => open.left_answer(alloc, self.context.answer_address_filter()),
+            Some(open) => open.left_answer(alloc, &self.context),
             None => Ok(None),
         }
     }

@@ -3,24 +3,25 @@
 ghost use Rattle.std.specs.Prelude.{vec_len, vec_capacity, ◌≡◌, ◌≤◌, ◌<◌, ◌+◌, ◌-◌, ◌^◌, ℕ, nat_le, min, [], ◌∷◌, ◌++◌, List, true, false, length, slice_get, map, take, Some, None, Ok, Err, IfOk, IfSome, IfNone, OnOk, OnErr, IsSome, IsTrue, ◌↔◌, ◌==◌, ◌&&◌, ◌⊎◌};
 ghost use Rattle.std.specs.List.{position, remove};
 ghost use Rattle.resolution.specs.Lookups.{Answered, End};
+ghost use Rattle.server_core.specs.Servers.{place_of};
 ghost use Rattle.server_core.specs.Order.{entry_of};
 ghost use Rattle.server_core.specs.Sending.{is_open, end_of, after_put, Comes, IsSameSend};
-ghost use Rattle.server_pool.specs.declared.candidate.Candidate.{Candidate};
+ghost use Rattle.retry_rules.specs.declared.candidate.Candidate.{Candidate};
 ghost use Rattle.server_pool.specs.declared.rounds.Sending.{Sending};
-ghost use Rattle.server_pool.specs.Agenda.{may_sleep, sleep_time, end_at};
-ghost use Rattle.server_pool.specs.Ordering.{side_by_side};
+ghost use Rattle.retry_rules.specs.Agenda.{may_sleep, sleep_time, end_at};
+ghost use Rattle.retry_rules.specs.Ordering.{side_by_side};
 ghost use Rattle.server_pool.specs.Orders.{opens, HasSameOrders, HasSameOrdersBut, TakesBy};
 ghost use Rattle.server_pool.specs.Running.{Runs};
 ghost use Rattle.server_pool.specs.Shared.{configs};
 ghost use Rattle.server_pool.specs.Rounds.{Goes, PhaseStands, RoundsStand, HeardEnd, listed, ended_by_of, IsDecidedAt, DecidesAt, IsSameRound, IsNewRound, SettlesAt, HasTaken, IsSameLookup, MayBeLate, IsFed, IsOpenAt, IsStillAt, IsEndOf, HasEnded, StandsAtEnd, StandsBy, StandsStill, wakes_at, RestsFrom, BeginsWith, work, steps_left, first_send, Takes, TakesRound, TakesBusy, heard_table};
 
-use crate::agenda::Agenda;
 use crate::cancelling::ends_by_message;
-use crate::candidate::{Candidate, Hearing};
-use crate::ordering::side_by_side;
 use dns_core::{DnsRequest, Message, NetError, NoMemory, TryClone};
 use resolver_settings::ResolverOpts;
-use server_core::{After, ConnectionPolicy, Outcome, ServerSend, ServerTable, Stage, Tick};
+use retry_rules::{Agenda, Candidate, Hearing, side_by_side};
+use server_core::{
+    After, ConnectionPolicy, Outcome, PoolContext, ServerSend, ServerTable, Stage, Tick,
+};
 use std::alloc::Global;
 
 /// A send to a server whose end was not heard yet: `order` is the number of its last order, 0 before
@@ -135,10 +136,11 @@ impl Sending {
         &mut self,
         alloc: Global,
         table: &mut ServerTable,
+        cx: &mut PoolContext,
         outcome: Outcome,
         tick: Tick,
     ) -> Result<After, NoMemory>
-        requires { self.old.send.server < length table.old }
+        requires { place_of self.old.send.server < length table.old }
         ensures after { IfOk result (λ a. a ≡ after_put tick.patience self.old.send.stage outcome) }
         ensures comes { IsTrue (is_open self.old.send.stage) → OnOk result (Comes self.old.send outcome self.new.send) }
         ensures rest { OnOk result (self.new ≡ record self.old { send = self.new.send; ended_by = ended_by_of self.new.send.stage (entry_of outcome) }) }
@@ -150,9 +152,10 @@ impl Sending {
         ensures err { OnErr result ((self.new ≡ self.old) × (table.new ≡ table.old)) }
         ensures count { length table.new ≡ length table.old }
         ensures reached { configs table.new ≡ configs table.old }
+        ensures context { cx.new ≡ cx.old }
     {
         let entry = outcome.entry();
-        let after = self.send.put(alloc, table, outcome, tick)?;
+        let after = self.send.put(alloc, table, cx, outcome, tick)?;
         self.ended_by = ended_by_of(&self.send.stage, entry);
         Ok(after)
     }
@@ -480,6 +483,7 @@ impl Rounds {
         &mut self,
         alloc: Global,
         table: &mut ServerTable,
+        cx: &mut PoolContext,
         place: usize,
         outcome: Outcome,
         tick: Tick,
@@ -491,25 +495,26 @@ impl Rounds {
         ensures table { (s : Sending) → slice_get self.old.sends.items place ≡ Some s → OnOk result (table.new ≡ heard_table s tick.now outcome table.old) }
         ensures err { OnErr result (table.new ≡ table.old) }
         ensures phase { self.new.phase ≡ self.old.phase }
-        ensures after { (s : Sending) → slice_get self.old.sends.items place ≡ Some s → s.send.server < length table.old
+        ensures after { (s : Sending) → slice_get self.old.sends.items place ≡ Some s → place_of s.send.server < length table.old
             → IfOk result (λ a. a ≡ after_put tick.patience s.send.stage outcome) }
-        ensures fed { (s : Sending) → slice_get self.old.sends.items place ≡ Some s → IsTrue (is_open s.send.stage) → s.send.server < length table.old
+        ensures fed { (s : Sending) → slice_get self.old.sends.items place ≡ Some s → IsTrue (is_open s.send.stage) → place_of s.send.server < length table.old
             → OnOk result (IsFed s place outcome self.new) }
         ensures count { length self.new.sends.items ≡ length self.old.sends.items }
         ensures others { remove self.new.sends.items place ≡ remove self.old.sends.items place }
         ensures agenda { self.new.agenda ≡ self.old.agenda }
-        ensures past { (s : Sending) → slice_get self.old.sends.items place ≡ Some s → length table.old ≤ s.send.server → (table.new ≡ table.old) × (slice_get self.new.sends.items place ≡ Some s) }
+        ensures past { (s : Sending) → slice_get self.old.sends.items place ≡ Some s → length table.old ≤ place_of s.send.server → (table.new ≡ table.old) × (slice_get self.new.sends.items place ≡ Some s) }
         ensures servers { length table.new ≡ length table.old }
         ensures reached { configs table.new ≡ configs table.old }
+        ensures context { cx.new ≡ cx.old }
         ensures beside { (s : Sending) → slice_get self.old.sends.items place ≡ Some s → HasSameOrdersBut s.order self.old.sends.items self.new.sends.items }
-        ensures own { (s : Sending) → slice_get self.old.sends.items place ≡ Some s → IsTrue (is_open s.send.stage) → s.send.server < length table.old
+        ensures own { (s : Sending) → slice_get self.old.sends.items place ≡ Some s → IsTrue (is_open s.send.stage) → place_of s.send.server < length table.old
             → opens s.order self.old.sends.items ≡ s ∷ [] → TakesBy s.order s outcome result self.new.sends.items }
     {
         let sending = &mut self.sends[place];
-        if sending.send.server as usize >= table.len() {
+        if !table.is_live(sending.send.server) {
             return Ok(After::Late);
         }
-        sending.put(alloc, table, outcome, tick)
+        sending.put(alloc, table, cx, outcome, tick)
     }
 
     /// Takes what the send at a place ended with, where that was not heard yet.
@@ -596,31 +601,33 @@ impl Rounds {
         &mut self,
         alloc: Global,
         table: &mut ServerTable,
+        cx: &mut PoolContext,
         place: usize,
         outcome: Outcome,
         tick: Tick,
     ) -> Result<After, NoMemory>
         requires place { place < length self.old.sends.items }
         requires asks { self.old.phase ≡ Phase.Asking }
-        ensures after { (s : Sending) → slice_get self.old.sends.items place ≡ Some s → s.send.server < length table.old
+        ensures after { (s : Sending) → slice_get self.old.sends.items place ≡ Some s → place_of s.send.server < length table.old
             → IfOk result (λ a. a ≡ after_put tick.patience s.send.stage outcome) }
         ensures stands { (pool : List Candidate) (heard : List HeardEnd) (s : Sending) → slice_get self.old.sends.items place ≡ Some s → IsTrue (is_open s.send.stage)
-            → s.send.server < length table.old → RoundsStand pool heard self.old → OnOk result (StandsBy s outcome pool heard self.new) }
+            → place_of s.send.server < length table.old → RoundsStand pool heard self.old → OnOk result (StandsBy s outcome pool heard self.new) }
         ensures want { (pool : List Candidate) (heard : List HeardEnd) (s : Sending) → slice_get self.old.sends.items place ≡ Some s → IsTrue (is_open s.send.stage)
-            → s.send.server < length table.old → RoundsStand pool heard self.old → OnErr result (StandsStill pool heard (HasEnded s outcome) self.new) }
+            → place_of s.send.server < length table.old → RoundsStand pool heard self.old → OnErr result (StandsStill pool heard (HasEnded s outcome) self.new) }
         ensures same { IsSameLookup self.old self.new }
         ensures decides { DecidesAt tick.now self.old.phase self.new.phase }
-        ensures settles { (s : Sending) → slice_get self.old.sends.items place ≡ Some s → IsTrue (is_open s.send.stage) → s.send.server < length table.old
+        ensures settles { (s : Sending) → slice_get self.old.sends.items place ≡ Some s → IsTrue (is_open s.send.stage) → place_of s.send.server < length table.old
             → OnOk result (HasTaken tick.now place s outcome table.old self.old table.new self.new) }
-        ensures past { (s : Sending) → slice_get self.old.sends.items place ≡ Some s → IsTrue (is_open s.send.stage) → length table.old ≤ s.send.server → table.new ≡ table.old }
+        ensures past { (s : Sending) → slice_get self.old.sends.items place ≡ Some s → IsTrue (is_open s.send.stage) → length table.old ≤ place_of s.send.server → table.new ≡ table.old }
         ensures halted { (s : Sending) → slice_get self.old.sends.items place ≡ Some s → OnErr result ((table.new ≡ table.old) ⊎ (table.new ≡ heard_table s tick.now outcome table.old)) }
         ensures table { length table.new ≡ length table.old }
         ensures reached { configs table.new ≡ configs table.old }
+        ensures context { cx.new ≡ cx.old }
         ensures beside { (s : Sending) → slice_get self.old.sends.items place ≡ Some s → HasSameOrdersBut s.order self.old.sends.items self.new.sends.items }
-        ensures own { (s : Sending) → slice_get self.old.sends.items place ≡ Some s → IsTrue (is_open s.send.stage) → s.send.server < length table.old
+        ensures own { (s : Sending) → slice_get self.old.sends.items place ≡ Some s → IsTrue (is_open s.send.stage) → place_of s.send.server < length table.old
             → opens s.order self.old.sends.items ≡ s ∷ [] → TakesBy s.order s outcome result self.new.sends.items }
     {
-        let after = self.feed(alloc, table, place, outcome, tick)?;
+        let after = self.feed(alloc, table, cx, place, outcome, tick)?;
         self.end(alloc, table, place, tick.now)?;
         Ok(after)
     }
@@ -645,31 +652,33 @@ impl Rounds {
         &mut self,
         alloc: Global,
         table: &mut ServerTable,
+        cx: &mut PoolContext,
         number: u64,
         outcome: Outcome,
         tick: Tick,
     ) -> Result<After, NoMemory>
-        ensures after { (place : ℕ) (s : Sending) → IsOpenAt number place s self.old → s.send.server < length table.old
+        ensures after { (place : ℕ) (s : Sending) → IsOpenAt number place s self.old → place_of s.send.server < length table.old
             → IfOk result (λ a. a ≡ after_put tick.patience s.send.stage outcome) }
-        ensures stands { (pool : List Candidate) (heard : List HeardEnd) (place : ℕ) (s : Sending) → IsOpenAt number place s self.old → s.send.server < length table.old
+        ensures stands { (pool : List Candidate) (heard : List HeardEnd) (place : ℕ) (s : Sending) → IsOpenAt number place s self.old → place_of s.send.server < length table.old
             → RoundsStand pool heard self.old → OnOk result (StandsBy s outcome pool heard self.new) }
-        ensures want { (pool : List Candidate) (heard : List HeardEnd) (place : ℕ) (s : Sending) → IsOpenAt number place s self.old → s.send.server < length table.old
+        ensures want { (pool : List Candidate) (heard : List HeardEnd) (place : ℕ) (s : Sending) → IsOpenAt number place s self.old → place_of s.send.server < length table.old
             → RoundsStand pool heard self.old → OnErr result (StandsStill pool heard (HasEnded s outcome) self.new) }
         ensures late { (self.old.phase ≡ Phase.Asking → position (λ s. s.order == number && is_open s.send.stage) self.old.sends.items ≡ None)
             → (result ≡ Ok After.Late) × (self.new ≡ self.old) × (table.new ≡ table.old) }
         ensures same { IsSameLookup self.old self.new }
         ensures decides { DecidesAt tick.now self.old.phase self.new.phase }
-        ensures settles { (place : ℕ) (s : Sending) → IsOpenAt number place s self.old → s.send.server < length table.old
+        ensures settles { (place : ℕ) (s : Sending) → IsOpenAt number place s self.old → place_of s.send.server < length table.old
             → OnOk result (HasTaken tick.now place s outcome table.old self.old table.new self.new) }
-        ensures past { (place : ℕ) (s : Sending) → IsOpenAt number place s self.old → length table.old ≤ s.send.server → table.new ≡ table.old }
+        ensures past { (place : ℕ) (s : Sending) → IsOpenAt number place s self.old → length table.old ≤ place_of s.send.server → table.new ≡ table.old }
         ensures halted { (place : ℕ) (s : Sending) → IsOpenAt number place s self.old → OnErr result ((table.new ≡ table.old) ⊎ (table.new ≡ heard_table s tick.now outcome table.old)) }
         ensures table { length table.new ≡ length table.old }
         ensures reached { configs table.new ≡ configs table.old }
+        ensures context { cx.new ≡ cx.old }
         ensures beside { HasSameOrdersBut number self.old.sends.items self.new.sends.items }
-        ensures own { (s : Sending) → self.old.phase ≡ Phase.Asking → s.send.server < length table.old → opens number self.old.sends.items ≡ s ∷ [] → TakesBy number s outcome result self.new.sends.items }
+        ensures own { (s : Sending) → self.old.phase ≡ Phase.Asking → place_of s.send.server < length table.old → opens number self.old.sends.items ≡ s ∷ [] → TakesBy number s outcome result self.new.sends.items }
     {
         match self.open_place(number) {
-            Some(place) => self.put_at(alloc, table, place, outcome, tick),
+            Some(place) => self.put_at(alloc, table, cx, place, outcome, tick),
             None => Ok(After::Late),
         }
     }

@@ -1,4 +1,4 @@
-use Rattle.std.proofs.Common.{◌≡◌, length}
+use Rattle.std.proofs.Common.{◌≡◌, ◌+◌, length}
 use Rattle.std.specs.List.{range_with_len}
 use Rattle.server_pool.specs.NewPool.{with_servers}
 use Rattle.server_pool.proofs.new_pool.add_all.Given as goal
@@ -7,5 +7,5 @@ use Rattle.server_pool.proofs.new_pool.add_all.Given as goal
 abbrev pub invariant-loop-config : goal.invariant-loop-config
 invariant-loop-config l = record {
   shared : l.shared ≡ with_servers l.first_delays l.yielded l.fn.shared;
-  numbers : l.numbers.items ≡ range_with_len (length l.fn.shared.table) (length l.yielded);
+  numbers : l.numbers.items ≡ range_with_len (length l.fn.shared.table + 1) (length l.yielded);
 }

@@ -1,4 +1,4 @@
-use Rattle.std.proofs.Common.{◌∙◌, ◌++◌, ◌∷◌, [], ℕ, List, Some, cond, length, ap}
+use Rattle.std.proofs.Common.{◌∙◌, ◌+◌, ◌++◌, ◌∷◌, [], ℕ, List, Some, cond, length, ap}
 use Rattle.std.specs.Map.{lookup}
 use Rattle.std.specs.BTreeMap as tree
 use Rattle.std.specs.BTreeMap.{BTreeMap}
@@ -41,7 +41,7 @@ returns-clause-servers c terms h =
     (record {
       table = ap (λ (s : Shared). s.table) shared;
       context = ap (λ (s : Shared). s.context) shared;
-      number = c.in_ok-number.ensures.number ∙ ap (λ (s : Shared). length s.table) same.0;
+      number = c.in_ok-number.ensures.number ∙ ap (λ (s : Shared). length s.table + 1) same.0;
       config = ap (λ (s : Server). s.config) c.in_ok-server.ensures ∙ c.in_ok-config.ensures;
       numbers = λ q. c.in_ok-_before.ensures.updates.0 q ∙ ap (λ (ns : BTreeMap IpAddr ℕ). cond (tree.is_at (address.ghosts.cmp c.args.ip) q) (Some c.in_ok-number.number) (tree.get address.ghosts.cmp ns q)) same.1;
     }) h
@@ -53,7 +53,7 @@ returns-clause-met c =
     let server = c.in_ok-server.server in
     let shared = c.in_ok-number.ensures.ok ∙ ap (λ (s : Shared). let new : Shared = record s { table = s.table ++ server ∷ [] } in new) same.0 in
     let table = ap (λ (s : Shared). s.table) shared in
-    let number = c.in_ok-number.ensures.number ∙ ap (λ (s : Shared). length s.table) same.0 in
+    let number = c.in_ok-number.ensures.number ∙ ap (λ (s : Shared). length s.table + 1) same.0 in
     let config = ap (λ (s : Server). s.config) c.in_ok-server.ensures ∙ c.in_ok-config.ensures in
     met-last core.shared.table c.add.new.self.table server c.args.ip c.in_ok-number.number table number config
 
@@ -64,6 +64,6 @@ returns-clause-delay c =
     let server = c.in_ok-server.server in
     let shared = c.in_ok-number.ensures.ok ∙ ap (λ (s : Shared). let new : Shared = record s { table = s.table ++ server ∷ [] } in new) same.0 in
     let table = ap (λ (s : Shared). s.table) shared in
-    let number = c.in_ok-number.ensures.number ∙ ap (λ (s : Shared). length s.table) same.0 in
+    let number = c.in_ok-number.ensures.number ∙ ap (λ (s : Shared). length s.table + 1) same.0 in
     let first = ap (λ (s : Server). s.first_delay) c.in_ok-server.ensures ∙ c.take_first_delay-delay.ensures.delay in
     delayed-last core.shared.table c.add.new.self.table server c.in_ok-number.number _ table number first

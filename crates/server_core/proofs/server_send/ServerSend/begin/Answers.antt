@@ -1,5 +1,5 @@
 use Rattle.std.proofs.Common.{IfOk, subst}
-use Rattle.server_core.specs.Servers.{Server}
+use Rattle.server_core.specs.Servers.{Server, place_of}
 use Rattle.server_core.specs.Hearing.{without_dead}
 use Rattle.server_core.specs.Sending.{Begins}
 use Rattle.server_core.proofs.Steps.{live_changed, read_changed}
@@ -8,7 +8,7 @@ use Rattle.server_core.proofs.server_send.ServerSend.begin.Goals as goal
 pub get-requires : goal.get-requires
 get-requires c =
     let number = c.args.self.now.server in
-    live_changed without_dead number number c.args.table.now c.drop_dead.new.self c.drop_dead.ensures c.requires.live
+    live_changed without_dead number (place_of number) c.args.table.now c.drop_dead.new.self c.drop_dead.ensures c.requires.live
 
 pub returns-clause-step : goal.returns-clause-step
 returns-clause-step c = λ server was.

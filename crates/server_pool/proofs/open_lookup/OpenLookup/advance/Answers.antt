@@ -1,8 +1,7 @@
 use Rattle.std.proofs.Common.{◌≡◌, sym, subst, refl, ap, length, Some, Ok, Result}
-use Rattle.std.specs.Option.{option_copied}
 use Rattle.std.proofs.lemmas.Result.{err_from_is_err_and}
 use Rattle.dns_core.specs.declared.errors.NoMemory.{NoMemory}
-use Rattle.server_pool.specs.AnswerFilter.{denied_by}
+use Rattle.retry_rules.specs.AnswerFilter.{denied_by}
 use Rattle.server_pool.specs.NextStep.{HasGiven}
 use Rattle.server_pool.specs.OpenLookup.{LookupGives, OwnLeft, polls_at}
 use Rattle.server_pool.specs.Orders.{OpensStep}
@@ -11,7 +10,7 @@ use Rattle.server_pool.proofs.OpenLeft.{quiet_left, given_open, slept_open, told
 use Rattle.server_pool.specs.declared.next_step.RoundStep.{RoundStep}
 use Rattle.server_pool.specs.declared.open_lookup.LookupStep.{LookupStep}
 use Rattle.server_pool.specs.declared.open_lookup.OpenLookup.{OpenLookup}
-use Rattle.server_pool.proofs.OpenLookups.{gives_halted, gives_order, gives_waiting, gives_told, gives_asleep, gives_done}
+use Rattle.server_pool.proofs.OpenLookups.{left_in, gives_halted, gives_order, gives_waiting, gives_told, gives_asleep, gives_done}
 use Rattle.server_pool.specs.OpenLookup.{left_of}
 use Rattle.server_pool.specs.Running.{RunsOn}
 use Rattle.server_pool.specs.declared.open_lookup.LookupStep.TheVariants as step
@@ -22,7 +21,7 @@ use Rattle.server_pool.proofs.open_lookup.OpenLookup.advance.Goals as goal
 pub returns-in_err-order-clause-gives : goal.returns-in_err-order-clause-gives
 returns-in_err-order-clause-gives c = λ pool ends st.
     let old = c.args.self.now in
-    let denied = denied_by (option_copied c.args.filter) in
+    let denied = denied_by c.args.cx.now.answer_address_filter in
     let new : OpenLookup = record old { rounds = c.next.new.self } in
     let p = err_from_is_err_and c.from_residual.result c.from_residual.ensures.1 in
     subst (λ (r : Result LookupStep NoMemory). LookupGives c.args.number c.args.tick.now denied pool ends c.args.table.now old r c.next.new.table new) (sym p.1)
@@ -31,7 +30,7 @@ returns-in_err-order-clause-gives c = λ pool ends st.
 pub returns-in-Order-clause-gives : goal.returns-in-Order-clause-gives
 returns-in-Order-clause-gives c = λ pool ends st.
     let old = c.args.self.now in
-    let denied = denied_by (option_copied c.args.filter) in
+    let denied = denied_by c.args.cx.now.answer_address_filter in
     let new : OpenLookup = record old { rounds = c.next.new.self } in
     let h = subst (λ (s : RoundStep). HasGiven c.args.number c.args.tick.now pool ends c.args.table.now old.rounds s c.next.new.table c.next.new.self) c.in-Order.is (c.in_ok-order.ensures.stands pool ends st) in
     gives_order c.args.number c.args.tick.now denied pool ends c.args.table.now old c.next.new.table new c.requires.untold c.requires.awake c.in-Order.order h
@@ -39,7 +38,7 @@ returns-in-Order-clause-gives c = λ pool ends st.
 pub returns-in-Waiting-clause-gives : goal.returns-in-Waiting-clause-gives
 returns-in-Waiting-clause-gives c = λ pool ends st.
     let old = c.args.self.now in
-    let denied = denied_by (option_copied c.args.filter) in
+    let denied = denied_by c.args.cx.now.answer_address_filter in
     let new : OpenLookup = record old { rounds = c.next.new.self } in
     let h = subst (λ (s : RoundStep). HasGiven c.args.number c.args.tick.now pool ends c.args.table.now old.rounds s c.next.new.table c.next.new.self) c.in-Waiting.is (c.in_ok-order.ensures.stands pool ends st) in
     gives_waiting c.args.number c.args.tick.now denied pool ends c.args.table.now old c.next.new.table new c.requires.untold c.requires.awake h
@@ -47,14 +46,14 @@ returns-in-Waiting-clause-gives c = λ pool ends st.
 pub returns-in-Told-clause-gives : goal.returns-in-Told-clause-gives
 returns-in-Told-clause-gives c = λ pool ends st.
     let old = c.args.self.now in
-    let denied = denied_by (option_copied c.args.filter) in
+    let denied = denied_by c.args.cx.now.answer_address_filter in
     let h = subst (λ (s : RoundStep). HasGiven c.args.number c.args.tick.now pool ends c.args.table.now old.rounds s c.next.new.table c.next.new.self) c.in-Told.is (c.in_ok-order.ensures.stands pool ends st) in
     gives_told c.args.number c.args.tick.now denied pool ends c.args.table.now old c.next.new.table old c.next.new.self h
 
 pub returns-in-Asleep-clause-gives : goal.returns-in-Asleep-clause-gives
 returns-in-Asleep-clause-gives c = λ pool ends st.
     let old = c.args.self.now in
-    let denied = denied_by (option_copied c.args.filter) in
+    let denied = denied_by c.args.cx.now.answer_address_filter in
     let new : OpenLookup = record old { rounds = c.next.new.self; nap = Some (record { order = c.args.number; polls = 0 }) } in
     let h = subst (λ (s : RoundStep). HasGiven c.args.number c.args.tick.now pool ends c.args.table.now old.rounds s c.next.new.table c.next.new.self) c.in-Asleep.is (c.in_ok-order.ensures.stands pool ends st) in
     let made = c.sleep.ensures.orders c.requires.awake in
@@ -65,16 +64,17 @@ returns-in-Asleep-clause-gives c = λ pool ends st.
 pub returns-in-Done-clause-gives : goal.returns-in-Done-clause-gives
 returns-in-Done-clause-gives c = λ pool ends st.
     let old = c.args.self.now in
-    let denied = denied_by (option_copied c.args.filter) in
+    let denied = denied_by c.args.cx.now.answer_address_filter in
+    let left = left_in c.tell.result c.next.new.self.request.query c.in-Done.answer c.next.new.cx c.args.cx.now c.next.ensures.context c.tell.ensures.left in
     let new : OpenLookup = record old { rounds = c.next.new.self; answer = Some c.in-Done.answer } in
     let h = subst (λ (s : RoundStep). HasGiven c.args.number c.args.tick.now pool ends c.args.table.now old.rounds s c.next.new.table c.next.new.self) c.in-Done.is (c.in_ok-order.ensures.stands pool ends st) in
     subst (λ (l : OpenLookup). LookupGives c.args.number c.args.tick.now denied pool ends c.args.table.now old c.tell.result c.next.new.table l) (sym c.tell.ensures.kept)
-    (gives_done c.args.number c.args.tick.now denied pool ends c.args.table.now old c.next.new.table new c.in-Done.answer c.tell.result refl c.requires.awake c.tell.ensures.left h)
+    (gives_done c.args.number c.args.tick.now denied pool ends c.args.table.now old c.next.new.table new c.in-Done.answer c.tell.result refl c.requires.awake left h)
 
 pub returns-in-Order-clause-runs : goal.returns-in-Order-clause-runs
 returns-in-Order-clause-runs c = λ pool heard reached runs closed.
     let old = c.args.self.now in
-    let denied = denied_by (option_copied c.args.filter) in
+    let denied = denied_by c.args.cx.now.answer_address_filter in
     let h = subst (λ (s : RoundStep). HasGiven c.args.number c.args.tick.now pool heard c.args.table.now old.rounds s c.next.new.table c.next.new.self) c.in-Order.is (c.in_ok-order.ensures.stands pool heard (rounds_stand c.args.number c.args.tick.now denied pool heard c.args.table.now old c.next.new.table reached runs c.requires.untold closed)) in
     let new : OpenLookup = record old { rounds = c.next.new.self } in
     runs_ordered c.args.number c.args.tick.now denied pool heard c.args.table.now old c.next.new.table reached runs c.requires.untold closed new c.next.ensures.same c.in-Order.order c.requires.untold c.requires.awake h
@@ -82,7 +82,7 @@ returns-in-Order-clause-runs c = λ pool heard reached runs closed.
 pub returns-in-Waiting-clause-runs : goal.returns-in-Waiting-clause-runs
 returns-in-Waiting-clause-runs c = λ pool heard reached runs closed.
     let old = c.args.self.now in
-    let denied = denied_by (option_copied c.args.filter) in
+    let denied = denied_by c.args.cx.now.answer_address_filter in
     let h = subst (λ (s : RoundStep). HasGiven c.args.number c.args.tick.now pool heard c.args.table.now old.rounds s c.next.new.table c.next.new.self) c.in-Waiting.is (c.in_ok-order.ensures.stands pool heard (rounds_stand c.args.number c.args.tick.now denied pool heard c.args.table.now old c.next.new.table reached runs c.requires.untold closed)) in
     let new : OpenLookup = record old { rounds = c.next.new.self } in
     runs_waiting c.args.number c.args.tick.now denied pool heard c.args.table.now old c.next.new.table reached runs c.requires.untold closed new c.next.ensures.same c.requires.untold c.requires.awake h
@@ -90,14 +90,14 @@ returns-in-Waiting-clause-runs c = λ pool heard reached runs closed.
 pub returns-in-Told-clause-runs : goal.returns-in-Told-clause-runs
 returns-in-Told-clause-runs c = λ pool heard reached runs closed.
     let old = c.args.self.now in
-    let denied = denied_by (option_copied c.args.filter) in
+    let denied = denied_by c.args.cx.now.answer_address_filter in
     let h = subst (λ (s : RoundStep). HasGiven c.args.number c.args.tick.now pool heard c.args.table.now old.rounds s c.next.new.table c.next.new.self) c.in-Told.is (c.in_ok-order.ensures.stands pool heard (rounds_stand c.args.number c.args.tick.now denied pool heard c.args.table.now old c.next.new.table reached runs c.requires.untold closed)) in
     gives_told c.args.number c.args.tick.now denied pool heard c.args.table.now old c.next.new.table old c.next.new.self h
 
 pub returns-in-Asleep-clause-runs : goal.returns-in-Asleep-clause-runs
 returns-in-Asleep-clause-runs c = λ pool heard reached runs closed.
     let old = c.args.self.now in
-    let denied = denied_by (option_copied c.args.filter) in
+    let denied = denied_by c.args.cx.now.answer_address_filter in
     let h = subst (λ (s : RoundStep). HasGiven c.args.number c.args.tick.now pool heard c.args.table.now old.rounds s c.next.new.table c.next.new.self) c.in-Asleep.is (c.in_ok-order.ensures.stands pool heard (rounds_stand c.args.number c.args.tick.now denied pool heard c.args.table.now old c.next.new.table reached runs c.requires.untold closed)) in
     let nap : Nap = record { order = c.args.number; polls = 0 } in
     let new : OpenLookup = record old { rounds = c.next.new.self; nap = Some nap } in
@@ -109,14 +109,15 @@ returns-in-Asleep-clause-runs c = λ pool heard reached runs closed.
 pub returns-in-Done-clause-runs : goal.returns-in-Done-clause-runs
 returns-in-Done-clause-runs c = λ pool heard reached runs closed.
     let old = c.args.self.now in
-    let denied = denied_by (option_copied c.args.filter) in
+    let denied = denied_by c.args.cx.now.answer_address_filter in
     let h = subst (λ (s : RoundStep). HasGiven c.args.number c.args.tick.now pool heard c.args.table.now old.rounds s c.next.new.table c.next.new.self) c.in-Done.is (c.in_ok-order.ensures.stands pool heard (rounds_stand c.args.number c.args.tick.now denied pool heard c.args.table.now old c.next.new.table reached runs c.requires.untold closed)) in
+    let left = left_in c.tell.result c.next.new.self.request.query c.in-Done.answer c.next.new.cx c.args.cx.now c.next.ensures.context c.tell.ensures.left in
     let new : OpenLookup = record old { rounds = c.next.new.self; answer = Some c.in-Done.answer } in
     let told = left_of c.next.new.self.request.query denied c.in-Done.answer in
     let on = runs_done c.args.number c.args.tick.now denied pool heard c.args.table.now old c.next.new.table reached runs c.requires.untold closed new c.next.ensures.same c.in-Done.answer told refl c.requires.awake refl h in
     if_ok_then c.tell.result (λ s. s ≡ step.Done told) (λ s. RunsOn pool heard c.args.tick.now denied c.next.new.table c.args.number old s c.tell.new.self)
     (λ s e. subst (λ (l : OpenLookup). RunsOn pool heard c.args.tick.now denied c.next.new.table c.args.number old s l) (sym c.tell.ensures.kept)
-    (subst (λ (x : LookupStep). RunsOn pool heard c.args.tick.now denied c.next.new.table c.args.number old x new) (sym e) on)) c.tell.ensures.left
+    (subst (λ (x : LookupStep). RunsOn pool heard c.args.tick.now denied c.next.new.table c.args.number old x new) (sym e) on)) left
 
 pub returns-in_err-order-clause-own : goal.returns-in_err-order-clause-own
 returns-in_err-order-clause-own c = λ pool ends st none.

@@ -1,7 +1,6 @@
 use Rattle.std.proofs.Common.{◌≡◌, ◌∙◌, true, false, refl, ap, sym, subst, length, Option, Some, None, Ok, IfSome}
 use Rattle.std.specs.Prelude.{is_some}
-use Rattle.std.specs.Option.{option_copied}
-use Rattle.server_pool.specs.AnswerFilter.{denied_by}
+use Rattle.retry_rules.specs.AnswerFilter.{denied_by}
 use Rattle.server_pool.specs.Orders.{opens}
 use Rattle.server_pool.specs.OpenLookup.{IsAsleep, LookupGives, OwnLeft}
 use Rattle.server_pool.specs.declared.open_lookup.LookupStep.{LookupStep}
@@ -29,12 +28,12 @@ returns-then-is_some-clause-gives c = λ pool heard untold st.
     let old : OpenLookup = c.args.self.now in
     let nap = there old.nap (sym c.is_some.ensures ∙ c.if-is_some.true) in
     let stands = stands_untold pool heard old untold st in
-    gives_nap c.args.number c.args.tick.now (denied_by (option_copied c.args.filter)) pool heard c.args.table.now old c.args.table.now old nap.0 nap.1 refl refl stands.0 (asleep_of old nap.0 nap.1 stands.1) st
+    gives_nap c.args.number c.args.tick.now (denied_by c.args.cx.now.answer_address_filter) pool heard c.args.table.now old c.args.table.now old nap.0 nap.1 refl refl stands.0 (asleep_of old nap.0 nap.1 stands.1) st
 
 pub returns-in-Some-sleeps_until-clause-gives : goal.returns-in-Some-sleeps_until-clause-gives
 returns-in-Some-sleeps_until-clause-gives c = λ pool heard untold st.
     let old : OpenLookup = c.args.self.now in
-    let denied = denied_by (option_copied c.args.filter) in
+    let denied = denied_by c.args.cx.now.answer_address_filter in
     let until = c.in-Some-sleeps_until.until in
     let sleeps = until_is old.rounds.phase until (sym c.sleeps_until.ensures ∙ c.in-Some-sleeps_until.is) in
     let awake = not_there old.nap (sym c.is_some.ensures ∙ c.if-is_some.false) in
@@ -48,12 +47,12 @@ returns-in-None-clause-gives c = λ pool heard untold st. c.advance.ensures.give
 
 pub returns-then-is_some-clause-runs : goal.returns-then-is_some-clause-runs
 returns-then-is_some-clause-runs c = λ pool heard reached runs closed.
-    runs_resting c.args.number c.args.tick.now (denied_by (option_copied c.args.filter)) pool heard c.args.table.now c.args.self.now runs
+    runs_resting c.args.number c.args.tick.now (denied_by c.args.cx.now.answer_address_filter) pool heard c.args.table.now c.args.self.now runs
 
 pub returns-in-Some-sleeps_until-clause-runs : goal.returns-in-Some-sleeps_until-clause-runs
 returns-in-Some-sleeps_until-clause-runs c = λ pool heard reached runs closed.
     let old : OpenLookup = c.args.self.now in
-    let denied = denied_by (option_copied c.args.filter) in
+    let denied = denied_by c.args.cx.now.answer_address_filter in
     let until = c.in-Some-sleeps_until.until in
     let sleeps = until_is old.rounds.phase until (sym c.sleeps_until.ensures ∙ c.in-Some-sleeps_until.is) in
     let awake = not_there old.nap (sym c.is_some.ensures ∙ c.if-is_some.false) in
@@ -67,7 +66,7 @@ returns-in-None-clause-runs c = λ pool heard reached runs closed. c.advance.ens
 
 pub returns-in-Some-clause-runs : goal.returns-in-Some-clause-runs
 returns-in-Some-clause-runs c = λ pool heard reached runs closed.
-    runs_again c.args.number c.args.tick.now (denied_by (option_copied c.args.filter)) pool heard c.args.table.now c.args.self.now runs c.in-Some.answer (sym c.in-Some.is ∙ c.in_ok-answer.ensures.left)
+    runs_again c.args.number c.args.tick.now (denied_by c.args.cx.now.answer_address_filter) pool heard c.args.table.now c.args.self.now runs c.in-Some.answer (sym c.in-Some.is ∙ c.in_ok-answer.ensures.left)
 
 pub advance-requires-clause-awake_too : goal.advance-requires-clause-awake_too
 advance-requires-clause-awake_too c = sym c.sleeps_until.ensures ∙ c.in-None.is

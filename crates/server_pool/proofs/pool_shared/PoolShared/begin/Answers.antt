@@ -1,7 +1,7 @@
 use Rattle.std.proofs.Common.{◌≡◌, ◌∙◌, ℕ, ◌+◌, length, refl, ap, sym, subst, unwrap_or, Option}
 use Rattle.server_pool.specs.Candidates.{candidates}
 use Rattle.server_pool.specs.Lookups.{Begins}
-use Rattle.server_pool.specs.Ordering.{IsOrdered, next_turn}
+use Rattle.retry_rules.specs.Ordering.{IsOrdered, next_turn}
 use Rattle.server_pool.specs.PoolSteps.{HasBegun}
 use Rattle.server_pool.specs.Shared.{Shared}
 use Rattle.server_pool.specs.SharedStands.{SharedStands}

@@ -1,7 +1,7 @@
 use Rattle.std.proofs.Common.{◌∙◌, ℕ, List, [], ap, subst, None, IfOk}
 use Rattle.resolver_settings.specs.declared.options.ResolverOpts.{ResolverOpts}
 use Rattle.server_pool.specs.Candidates.{candidates}
-use Rattle.server_pool.specs.Ordering.{IsOrdered, side_by_side}
+use Rattle.retry_rules.specs.Ordering.{IsOrdered, side_by_side}
 use Rattle.server_pool.specs.Rounds.{RoundsStand, BeginsWith}
 use Rattle.server_pool.specs.Running.{Runs}
 use Rattle.server_pool.specs.Shared.{Shared}

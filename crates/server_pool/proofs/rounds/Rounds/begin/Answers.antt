@@ -1,10 +1,10 @@
 use Rattle.std.proofs.Common.{◌∙◌, ◌+◌, ◌≤◌, sym}
 use Rattle.std.proofs.lemmas.Bool.{leb-true}
-use Rattle.server_pool.specs.Agenda.{rules_of, class_of_sent}
+use Rattle.retry_rules.specs.Agenda.{rules_of, class_of_sent}
 use Rattle.server_pool.specs.Rounds.{under_way}
 use Rattle.server_pool.proofs.Few.{few_made}
-use Rattle.server_pool.proofs.Plans.{same_self}
-use Rattle.server_pool.proofs.Finishing.{pool_late}
+use Rattle.retry_rules.proofs.Plans.{same_self}
+use Rattle.retry_rules.proofs.Finishing.{pool_late}
 use Rattle.server_pool.proofs.Resting.{rests_from}
 use Rattle.server_pool.proofs.rounds.Rounds.begin.Goals as goal
 

@@ -3,9 +3,9 @@ use Rattle.std.proofs.lemmas.List.Edits.{length-remove}
 use Rattle.std.specs.List.{remove}
 use Rattle.std.proofs.lemmas.Option.{get_or_from_slice_get}
 use Rattle.resolution.specs.Lookups.{PoolRun}
-use Rattle.server_pool.specs.declared.candidate.Candidate.{Candidate}
+use Rattle.retry_rules.specs.declared.candidate.Candidate.{Candidate}
 use Rattle.server_pool.specs.declared.rounds.Sending.{Sending}
-use Rattle.server_pool.specs.Agenda.{Plan, PlanStands, rules_of, class_of_sent, end_at}
+use Rattle.retry_rules.specs.Agenda.{Plan, PlanStands, rules_of, class_of_sent, end_at}
 use Rattle.server_pool.specs.Rounds.{under_way}
 use Rattle.server_pool.proofs.Few.{few_made}
 use Rattle.server_pool.proofs.Sendings.{same_sends, ended_send}

@@ -1,7 +1,7 @@
-use Rattle.std.proofs.Common.{◌≡◌, ◌∙◌, ℕ, ◌+◌, ◌≤◌, ◌<◌, false, [], map, take, List, ap, sym, subst, arith, eq-eqb}
+use Rattle.std.proofs.Common.{◌≡◌, ◌∙◌, ℕ, ◌+◌, ◌≤◌, ◌<◌, false, [], map, take, ap, sym, subst, arith, eq-eqb}
 use Rattle.server_pool.proofs.Sendings.{same_sends}
 use Rattle.server_pool.proofs.Taking.{takes_first, waits_first}
-use Rattle.server_pool.specs.Ordering.{side_by_side}
+use Rattle.retry_rules.specs.Ordering.{side_by_side}
 use Rattle.dns_core.specs.declared.request.DnsRequest.{DnsRequest}
 use Rattle.server_pool.specs.declared.rounds.Phase.TheVariants.{Asking}
 use Rattle.server_pool.specs.Rounds.{first_send}

@@ -29,6 +29,7 @@ going-init c = record {
   own = λ none. none;
   count = refl;
   reached = refl;
+  context = refl;
   told = λ is. (refl, refl);
 }
 
@@ -66,6 +67,7 @@ going-preserved c = record {
   own = λ none. quiet_own c.args.number (length c.going.table) c.in_ok-step.field-0 c.advance.new.self.sends.items c.in-None.is (c.in_ok-step.ensures.own (c.going.invariant.own none));
   count = c.advance.ensures.count ∙ c.going.invariant.count;
   reached = c.advance.ensures.reached ∙ c.going.invariant.reached;
+  context = c.advance.ensures.context ∙ c.going.invariant.context;
   told = λ is.
       let still = c.going.invariant.told is in
       let h = c.in_ok-step.ensures.told (ap (λ (r : Rounds). r.phase) still.0 ∙ is) in

@@ -1,5 +1,5 @@
 use Rattle.std.proofs.Common.{◌≡◌, List, [], length}
-use Rattle.server_pool.specs.declared.candidate.Candidate.{Candidate}
+use Rattle.retry_rules.specs.declared.candidate.Candidate.{Candidate}
 use Rattle.server_pool.specs.declared.rounds.Phase.TheVariants.{Told}
 use Rattle.server_pool.specs.Rounds.{HeardEnd, RoundsStand, DecidesAt, IsSameLookup, steps_left}
 use Rattle.server_pool.specs.Shared.{configs}
@@ -17,6 +17,7 @@ invariant-going l = record {
   own : opens l.number l.fn.self.sends.items ≡ [] → opens l.number l.self.sends.items ≡ [];
   count : length l.table ≡ length l.fn.table;
   reached : configs l.table ≡ configs l.fn.table;
+  context : l.cx ≡ l.fn.cx;
   told : l.fn.self.phase ≡ Told → (l.self ≡ l.fn.self) × (l.table ≡ l.fn.table);
 }
 

@@ -1,5 +1,5 @@
 use Rattle.std.proofs.Common.{◌≡◌, ◌∙◌, ◌+◌, length, length-append, ap, sym, arith, [], ◌∷◌, ◌++◌}
-use Rattle.server_pool.specs.Agenda.{Plan, may_ask}
+use Rattle.retry_rules.specs.Agenda.{Plan, may_ask}
 use Rattle.std.specs.List.{filter}
 use Rattle.dns_core.specs.declared.request.DnsRequest.{DnsRequest}
 use Rattle.server_core.specs.Sending.{is_open}

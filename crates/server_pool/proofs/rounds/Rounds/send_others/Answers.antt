@@ -1,7 +1,7 @@
 use Rattle.std.proofs.Common.{◌≡◌, ◌∙◌, ◌+◌, ◌-◌, ◌≤◌, ℕ, [], ap, subst, false, arith}
 use Rattle.std.specs.List.{filter}
 use Rattle.std.proofs.lemmas.Grind.{common_steps}
-use Rattle.server_pool.specs.Agenda.{may_ask}
+use Rattle.retry_rules.specs.Agenda.{may_ask}
 use Rattle.server_pool.specs.Rounds.{Takes}
 use Rattle.server_pool.proofs.Stepping.{same_still, same_round}
 use Rattle.server_pool.proofs.Taking.{takes_more, takes_all}

@@ -1,6 +1,6 @@
 use Rattle.std.proofs.Common.{◌≡◌, ◌-◌, ◌≤◌, max, List, length}
 use Rattle.resolution.specs.Lookups.{End}
-use Rattle.server_pool.specs.declared.candidate.Candidate.{Candidate}
+use Rattle.retry_rules.specs.declared.candidate.Candidate.{Candidate}
 use Rattle.server_pool.specs.Rounds.{Goes, IsSameLookup, IsSameRound, work, Takes}
 use Rattle.server_pool.specs.Orders.{HasSameOrders}
 use Rattle.server_pool.proofs.rounds.Rounds.send_others.Given as goal

@@ -1,6 +1,6 @@
 use Rattle.std.proofs.Common.{length, ap, subst, arith, OnOk}
 use Rattle.dns_core.specs.declared.net_error.NetError.{NetError}
-use Rattle.server_pool.specs.Agenda.{Plan}
+use Rattle.retry_rules.specs.Agenda.{Plan}
 use Rattle.server_pool.specs.Rounds.{RestsFrom}
 use Rattle.server_pool.proofs.Sendings.{no_sends, without_sends}
 use Rattle.server_pool.proofs.Beginning.{not_first, stands_anyway}

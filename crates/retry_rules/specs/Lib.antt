@@ -1,0 +1,5 @@
+pub mod KeptError
+pub mod Statistics
+pub mod Ordering
+pub mod AnswerFilter
+pub mod Agenda
