@@ -118,7 +118,7 @@ struct Course<P: ConnectionProvider> {
 }
 
 impl<P: ConnectionProvider> Model for Course<P> {
-    ghost use Rattle.server_pool.specs.Carrying.{CarrierHolds};
+    ghost use Rattle.order_carrier.specs.Carrying.{CarrierHolds};
 
     ghost Value = { P };
 

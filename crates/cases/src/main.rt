@@ -1,14 +1,17 @@
 //! Tries the cases of the files in data/, and tells those that do not come to what they want.
 #![tactic(auto)]
 
+mod cache_steps;
 mod case_text;
 mod cases;
 mod codes;
 mod comparing;
 mod delays;
+mod kept;
 mod names;
 mod networks;
 mod owned;
+mod plain_cache;
 mod resolver;
 mod run;
 mod scenario;
@@ -22,7 +25,7 @@ use std::{fs, io};
 use subject::Subject;
 
 /// The files of cases, and what each has cases of.
-const FILES: [(&str, Subject); 17] = [
+const FILES: [(&str, Subject); 18] = [
     ("words.cases", Subject::Words),
     ("worked_runs.cases", Subject::Run),
     ("runs.cases", Subject::Run),
@@ -40,6 +43,7 @@ const FILES: [(&str, Subject); 17] = [
     ("search.cases", Subject::Search),
     ("networks.cases", Subject::Networks),
     ("delays.cases", Subject::Delays),
+    ("cache.cases", Subject::Cache),
 ];
 
 fn main(rt: HostRuntime) -> io::Result<ExitCode> {

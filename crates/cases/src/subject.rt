@@ -1,6 +1,6 @@
 //! What cases are of: each is a text that is handed in, and a text that comes of it.
 
-use crate::{codes, delays, names, networks, resolver, run, scenario};
+use crate::{codes, delays, kept, names, networks, resolver, run, scenario};
 use dns_core::NoMemory;
 use std::alloc::{AllocError, Global};
 
@@ -25,6 +25,8 @@ pub enum Subject {
     Networks,
     /// What delays become.
     Delays,
+    /// What a cache of responses reads.
+    Cache,
     /// The numbers of types, classes and codes.
     Codes,
 }
@@ -42,6 +44,7 @@ impl Subject {
             Subject::Search => resolver::search_domains(alloc, given),
             Subject::Networks => networks::answer(alloc, given),
             Subject::Delays => delays::answer(alloc, given),
+            Subject::Cache => kept::answer(alloc, given),
             Subject::Codes => codes::answer(alloc, given),
         }
     }

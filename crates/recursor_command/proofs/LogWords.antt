@@ -23,9 +23,9 @@ use Rattle.recursor_world.specs.declared.index.Endpoint.{Endpoint}
 use Rattle.recursor_world.specs.declared.script.Script.{Script}
 use Rattle.recursor_world.specs.declared.script.ScriptLine.{ScriptLine}
 use Rattle.recursor_world.specs.declared.script.ScriptLine.TheVariants.{Connect, Refuse, Reply}
-use Rattle.recursor_text.specs.Texts.{has_error_word}
-use Rattle.recursor_text.specs.Log.{has_refusal_word, has_outcome_words, has_entry_words, has_log_words}
-use Rattle.recursor_text.specs.Spelling.{IsFailure, IsScriptLine}
+use Rattle.text_words.specs.Texts.{has_error_word}
+use Rattle.transcript_printer.specs.Log.{has_refusal_word, has_outcome_words, has_entry_words, has_log_words}
+use Rattle.line_forms.specs.Spelling.{IsFailure, IsScriptLine}
 use Rattle.recursor_command.proofs.Failures.{failure_word, failure_stays}
 
 -- ---- what holds of each element holds of those that are found

@@ -13,7 +13,8 @@ use Rattle.recursor_world.specs.declared.script.ScriptLine.TheVariants.{Connect,
 use Rattle.recursor_world.specs.Script.{is_qualified_line, is_qualified_script}
 use Rattle.recursor_text.specs.declared.scenario.Upstream.{Upstream}
 use Rattle.recursor_text.specs.declared.scenario.Upstream.TheVariants.{Script as FromScript}
-use Rattle.recursor_text.specs.Spelling.{IsData, IsRecord, IsScriptLine, rules_of}
+use Rattle.line_forms.specs.Spelling.{IsData, IsRecord, IsScriptLine}
+use Rattle.recursor_text.specs.Spelling.{rules_of}
 use Rattle.recursor_command.specs.Command.{script_of}
 use Rattle.recursor_command.proofs.Failures.{failure_qualified, failure_no_records}
 

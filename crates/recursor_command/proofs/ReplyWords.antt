@@ -36,10 +36,10 @@ use Rattle.recursor_types.specs.declared.reply.Reply.{Reply}
 use Rattle.recursor_core.specs.Causes.{ErrorHolds, HasFailed, is_lookup_error}
 use Rattle.recursor_core.specs.Replies.{Terms, given_of, OutcomeHolds, ReplyHolds}
 use Rattle.recursor_core.specs.Standing.{RepliesHold}
-use Rattle.recursor_text.specs.Texts.{has_error_word}
-use Rattle.recursor_text.specs.Errors.{has_words, has_net_words, is_not_qualified}
-use Rattle.recursor_text.specs.Log.{has_entry_words}
-use Rattle.recursor_text.specs.Transcript.{has_result_words, has_reply_words}
+use Rattle.text_words.specs.Texts.{has_error_word}
+use Rattle.transcript_printer.specs.Errors.{has_words, has_net_words, is_not_qualified}
+use Rattle.transcript_printer.specs.Log.{has_entry_words}
+use Rattle.transcript_printer.specs.Transcript.{has_result_words, has_reply_words}
 use Rattle.recursor_command.proofs.LogWords.{all_at_places}
 
 -- each entry of the log has its words

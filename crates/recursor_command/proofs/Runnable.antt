@@ -7,10 +7,12 @@ use Rattle.std.proofs.lemmas.Bool.Decides.{nat_tests}
 use Rattle.resolver_settings.specs.Ttl.{TtlTable, is_reversed, has_reversed}
 use Rattle.recursor_types.specs.Options.{is_first_delay, has_bad_first_delays}
 use Rattle.recursor_types.specs.declared.options.RecursorOptions.{RecursorOptions}
-use Rattle.recursor_text.specs.declared.reading.option_form.OptionLine.{OptionLine}
-use Rattle.recursor_text.specs.declared.reading.option_form.OptionLine.TheVariants.{ResponseCacheSize, AllowAnswers, DenyAnswers, AllowServer, DenyServer, AvoidLocalUdpPorts, PositiveTtl, NegativeTtl, CaseRandomization, EdnsPayloadLen, FirstDelays}
+use Rattle.line_forms.specs.declared.option_form.OptionLine.{OptionLine}
+use Rattle.line_forms.specs.declared.option_form.OptionLine.TheVariants.{ResponseCacheSize, AllowAnswers, DenyAnswers, AllowServer, DenyServer, AvoidLocalUdpPorts, PositiveTtl, NegativeTtl, CaseRandomization, EdnsPayloadLen, FirstDelays}
 use Rattle.recursor_text.specs.declared.scenario.Scenario.{Scenario}
-use Rattle.recursor_text.specs.Spelling.{Reads, IsOption, IsBounds, AreFirstDelays, standard_options, changed, changed_by, options_with}
+use Rattle.text_words.specs.Spelling.{AreFirstDelays}
+use Rattle.line_forms.specs.Spelling.{IsOption, IsBounds, standard_options, changed, changed_by, options_with}
+use Rattle.recursor_text.specs.Spelling.{Reads}
 use Rattle.recursor_command.specs.Command.{IsRunnable}
 
 neither : (a b : Bool) → a ≡ false → b ≡ false → (a || b) ≡ false

@@ -11,7 +11,7 @@ use Rattle.resolver_settings.specs.Ttl.{TtlTable}
 use Rattle.resolution.specs.Asking.{AsksServers}
 use Rattle.resolution.specs.Telling.{Logged, MomentsRise}
 use Rattle.resolution.specs.Ending.{waits}
-use Rattle.server_pool.specs.Patience.{PatientSince}
+use Rattle.order_carrier.specs.Patience.{PatientSince}
 use Rattle.recursor_core.specs.Replies.{Terms, given_of}
 use Rattle.recursor_core.specs.Standing.{Standing, run_terms, run_moments, LongerOver, RepliesHold}
 use Rattle.recursor_types.specs.declared.reply.Reply.{Reply}

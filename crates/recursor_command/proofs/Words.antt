@@ -2,13 +2,14 @@
 use Rattle.std.proofs.Common.{◌≡◌, Bool, true, List, ap, ◌∙◌}
 use Rattle.std.specs.Prelude.{◌&&◌, IsTrue}
 use Rattle.std.specs.List.{list_all, AllByRecursion}
-use Rattle.recursor_text.specs.Log.{has_log_words}
-use Rattle.recursor_text.specs.Transcript.{has_reply_words, has_transcript_words}
-use Rattle.recursor_text.specs.Spelling.{IsScriptLine, rules_of}
+use Rattle.transcript_printer.specs.Log.{has_log_words}
+use Rattle.transcript_printer.specs.Transcript.{has_reply_words, has_transcript_words}
+use Rattle.line_forms.specs.Spelling.{IsScriptLine}
+use Rattle.recursor_text.specs.Spelling.{rules_of}
 use Rattle.recursor_text.specs.declared.scenario.Scenario.{Scenario}
 use Rattle.recursor_text.specs.declared.scenario.Upstream.{Upstream}
 use Rattle.recursor_text.specs.declared.scenario.Upstream.TheVariants.{Script as FromScript}
-use Rattle.recursor_text.specs.declared.transcript.Transcript.{Transcript}
+use Rattle.transcript_printer.specs.declared.transcript.Transcript.{Transcript}
 use Rattle.recursor_command.specs.Command.{script_of, terms_of, IsRunnable, Ran}
 use Rattle.recursor_command.proofs.LogWords.{log_worded, entry_worded}
 use Rattle.recursor_command.proofs.ReplyWords.{replies_worded}

@@ -26,11 +26,12 @@ use Rattle.recursor_text.specs.declared.scenario.Scenario.{Scenario}
 use Rattle.recursor_text.specs.declared.scenario.ScenarioError.{ScenarioError}
 use Rattle.recursor_text.specs.declared.scenario.Upstream.{Upstream as Told}
 use Rattle.recursor_text.specs.declared.scenario.Upstream.TheVariants as upstream
-use Rattle.recursor_text.specs.declared.transcript.Transcript.{Transcript}
-use Rattle.recursor_text.specs.Spelling.{Reads, IsScriptLine, rules_of}
+use Rattle.transcript_printer.specs.declared.transcript.Transcript.{Transcript}
+use Rattle.line_forms.specs.Spelling.{IsScriptLine}
+use Rattle.recursor_text.specs.Spelling.{Reads, rules_of}
 use Rattle.recursor_text.specs.Reading.{fails_at, scenario_in}
 use Rattle.recursor_text.specs.Faults.{HasFault}
-use Rattle.recursor_text.specs.Transcript.{transcript_text}
+use Rattle.transcript_printer.specs.Transcript.{transcript_text}
 use Rattle.dns_core.specs.WholeStreams.{AppendsPart}
 use Rattle.recursor_command.specs.Faults.{fault_text, status_of}
 use Rattle.recursor_command.specs.declared.faults.Fault.{Fault}

@@ -7,7 +7,7 @@ ghost use Rattle.recursor_world.specs.Script.{Gives, is_qualified_script};
 ghost use Rattle.recursor_world.specs.Upstream.{told_by};
 ghost use Rattle.resolver_settings.specs.Ttl.{has_reversed};
 ghost use Rattle.recursor_types.specs.Options.{has_bad_first_delays};
-ghost use Rattle.recursor_text.specs.Transcript.{has_transcript_words, transcript_text};
+ghost use Rattle.transcript_printer.specs.Transcript.{has_transcript_words, transcript_text};
 ghost use Rattle.recursor_command.specs.Faults.{fault_text};
 ghost use Rattle.recursor_command.specs.Command.{are_words, script_of, fault_of, IsNewOver, IsRunnable, Ran, HasRun, HasOutput, IsFaultOf, Tells, HasWritten, HasRefused, IsTextFor, IsTextOf, WrotePart, ToldMemory, IsRefusal};
 

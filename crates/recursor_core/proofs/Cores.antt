@@ -9,7 +9,7 @@ use Rattle.dns_core.specs.Log.{Log}
 use Rattle.dns_core.specs.declared.request.Question.{Question}
 use Rattle.dns_core.specs.declared.errors.NoMemory.{NoMemory}
 use Rattle.resolver_cache.specs.Cached.{Cached}
-use Rattle.server_pool.specs.Fits.{GoesToServer}
+use Rattle.order_carrier.specs.Fits.{GoesToServer}
 use Rattle.recursor_core.specs.Pools.{PoolsHold}
 use Rattle.recursor_core.specs.declared.pools.Pools.{Pools}
 use Rattle.recursor_core.specs.Remembered.{CacheHolds}
@@ -18,7 +18,7 @@ use Rattle.recursor_core.specs.Tried.{machine_timer}
 use Rattle.recursor_core.specs.Derived.{ResolutionHolds, terms_of, Derived}
 use Rattle.recursor_core.specs.Resolving.{SameBegun}
 use Rattle.recursor_core.specs.Machine.{Begun, begun_of, begun_at, rank, GoesOn, ReplyGiven, StepGives, Gives, SameCore}
-use Rattle.recursor_core.specs.declared.setting.Setting.{Setting}
+use Rattle.recursor_setting.specs.declared.setting.Setting.{Setting}
 use Rattle.recursor_core.specs.declared.machine.RecursorCore.{RecursorCore}
 use Rattle.recursor_core.specs.declared.machine.Step.{Step}
 use Rattle.recursor_core.specs.declared.machine.Step.TheVariants as step

@@ -2,7 +2,7 @@
 use Rattle.std.proofs.Common.{◌≡◌, ℕ, Bool, true, false, cond, List, [], ◌∷◌, ◌++◌, Option, Some, None, Contains, refl, sym, ap, subst, ◌∙◌, ◌≤◌, arith, inl, inr, Result, Ok, Err, IfOk}
 use Rattle.std.proofs.lemmas.Result.{IfOk-weaker}
 use Rattle.std.proofs.lemmas.Option.{same_Some, none-some}
-use Rattle.std.specs.Prelude.{◌||◌, ◌&&◌, ◌==◌, not, find, filter, if◌then◌else◌, option_and_then}
+use Rattle.std.specs.Prelude.{◌||◌, ◌&&◌, ◌==◌, not, find, filter, if◌then◌else◌}
 use Rattle.std.proofs.lemmas.List.Elements.{filter-append}
 use Rattle.std.specs.Option.{is_none}
 use Rattle.std.specs.Cmp.{second_so}
@@ -44,20 +44,19 @@ use Rattle.resolution.specs.Same.{Same}
 use Rattle.recursor_walk.specs.Response.{error_of}
 use Rattle.recursor_walk.proofs.Allowing.{verdict_allowed}
 use Rattle.resolution.proofs.Invented.{class_of-positive}
-use Rattle.recursor_core.specs.Replies.{Terms, given_of, IsToldAnswer, ReplyHolds, IsReply}
+use Rattle.recursor_core.specs.Replies.{Terms, given_of, IsToldAnswer, OutcomeHolds, ReplyHolds, IsReply}
 use Rattle.recursor_core.specs.Tried.{Concluded, machine_timer}
-use Rattle.recursor_core.specs.Causes.{told_data, ErrorHolds, HasFailed, HasNoAddress}
+use Rattle.recursor_core.specs.Causes.{ErrorHolds, HasFailed, HasNoAddress}
 use Rattle.resolution.specs.Walking.{Walked}
 use Rattle.resolution.specs.Serving.{Heard}
 use Rattle.resolution.proofs.Sameness.{Same-refl}
 use Rattle.dns_core.specs.declared.log.ToldOutcome.{ToldOutcome}
 use Rattle.recursor_core.specs.Causes.IsDenied.{told as denial_told, made as denial_made, told_on_the_way, made_on_the_way}
 use Rattle.recursor_core.specs.Causes.IsReferred.{referred}
-use Rattle.recursor_core.specs.Counted.{Stands, Answers, IsCurrentVerdict, kept_of}
-use Rattle.recursor_core.specs.Remembered.{response_in}
+use Rattle.recursor_core.specs.Counted.{Stands, Answers, IsCurrentVerdict}
 use Rattle.recursor_core.specs.Asked.{AskedAs}
 use Rattle.recursor_core.specs.SameTold.{SameIfAny, SameReferrals, SameNegative, SameVerdict, ShowsAsked, IsShown, IsMadeFor, IsNothingLeft, nothing_left_for}
-use Rattle.recursor_core.specs.Walk.{told_negative, made_negative, ends_walk}
+use Rattle.recursor_walk.specs.Answer.{told_data, told_negative, made_negative, ends_walk, outcome_of}
 use Rattle.recursor_core.specs.Derived.{left_of_class, IsTold, WalkComes}
 use Rattle.recursor_types.specs.declared.error.RecursorError.{RecursorError}
 use Rattle.recursor_types.specs.declared.error.RecursorError.TheVariants.{Negative, ForwardNS}
@@ -258,20 +257,6 @@ left-no-error denied outcome q (Code c) class e is left fails = cc
 left-no-error denied outcome q Truncated class e is left fails = cc
 left-no-error denied outcome q (Foreign r) class e is left fails = cc
 
--- a class that is an error counts for nothing
-counts-none : (class : Class) (zone : DomainName) (e : NetError) → error_of class ≡ Some e → verdict_of_class allows_all class zone ≡ None
-counts-none (Positive m) zone e h = absurd (none-some e h)
-counts-none (NoData n) zone e h = absurd (none-some e h)
-counts-none (Error error) zone e h = refl
-counts-none (Code code) zone e h = refl
-counts-none Truncated zone e h = refl
-counts-none (Foreign r) zone e h = refl
-
--- a class that is an error is not kept
-pub not-kept : (q : Query) (class : Result Message DnsError) (zone : DomainName) (e : NetError) → error_of (class_of_classified q class) ≡ Some e
-    → None ≡ response_in zone q class
-not-kept q class zone e h = sym (ap (λ (v : Option Verdict). option_and_then kept_of v) (counts-none (class_of_classified q class) zone e h))
-
 -- ---- replies
 
 -- a response that stands is the answer, less what was not asked for
@@ -300,13 +285,13 @@ pub told-answer : (terms : Terms) (greatest t0 : ℕ) (log : Log) (q : Query) (e
 told-answer terms greatest t0 log q entry kept dnssec h =
     told-by terms t0 log q entry h.stands.zone kept dnssec h.stands.whole h.stands.base h.current h.stands.walked h.stands.same
 
--- a reply with the answer
-pub replies : (terms : Terms) (moment t0 : ℕ) (log : Log) (asked : Question) (r : Result (Box Reply) NoMemory) (m : Message) (entry : ℕ)
-    → IfOk r (λ reply. reply.value ≡ record { outcome = Ok m; grounds = entry ∷ [] })
-    → IsToldAnswer (given_of terms) log t0 asked.query asked.dnssec_ok (entry ∷ []) m
+-- a reply with what has its cause
+pub replies : (terms : Terms) (moment t0 : ℕ) (log : Log) (asked : Question) (r : Result (Box Reply) NoMemory) (outcome : Result Message RecursorError) (g : List ℕ)
+    → IfOk r (λ reply. reply.value ≡ record { outcome = outcome; grounds = g })
+    → OutcomeHolds (given_of terms) (machine_timer moment log t0) log t0 asked g outcome
     → IfOk r (λ reply. ReplyHolds terms (machine_timer moment) log t0 asked reply.value)
-replies terms moment t0 log asked r m entry is told =
-    IfOk-weaker r _ (λ reply. ReplyHolds terms (machine_timer moment) log t0 asked reply.value) (λ reply e. subst (ReplyHolds terms (machine_timer moment) log t0 asked) (sym e) told) is
+replies terms moment t0 log asked r outcome g is holds =
+    IfOk-weaker r _ (λ reply. ReplyHolds terms (machine_timer moment) log t0 asked reply.value) (λ reply e. subst (ReplyHolds terms (machine_timer moment) log t0 asked) (sym e) holds) is
 
 -- one reply with an error that has its cause
 pub denied : (terms : Terms) (moment t0 : ℕ) (log : Log) (asked : Question) (reply : Reply) (error : RecursorError) (g : List ℕ)
@@ -364,7 +349,7 @@ negative-by terms moment t0 log q entry zone n (Neg before) base walked same ask
     by None (Some servers) e alike = absurd alike
     by (Some forward) None e alike = absurd alike
 
-pub answers-negative : (terms : Terms) (greatest moment t0 : ℕ) (log : Log) (q : Query) (entry : ℕ) (n : NoRecords)
+answers-negative : (terms : Terms) (greatest moment t0 : ℕ) (log : Log) (q : Query) (entry : ℕ) (n : NoRecords)
     → Stands terms greatest t0 log q entry (Neg n)
     → ErrorHolds (given_of terms) (machine_timer moment log t0) log t0 q (entry ∷ []) (told_negative n)
 answers-negative terms greatest moment t0 log q entry n h = negative-by terms moment t0 log q entry h.zone n h.whole h.base h.walked h.same h.asked
@@ -383,10 +368,18 @@ made-by terms moment t0 log q entry zone cause (Neg n) base walked same asked = 
 made-by terms moment t0 log q entry zone cause (Made before) base walked same asked =
     subst (λ (x : Cause). ErrorHolds (given_of terms) (machine_timer moment log t0) log t0 q (entry ∷ []) (made_negative q x)) (sym same) (denial_made base walked (made-for before q) asked)
 
-pub answers-made : (terms : Terms) (greatest moment t0 : ℕ) (log : Log) (q : Query) (entry : ℕ) (cause : Cause)
+answers-made : (terms : Terms) (greatest moment t0 : ℕ) (log : Log) (q : Query) (entry : ℕ) (cause : Cause)
     → Stands terms greatest t0 log q entry (Made cause)
     → ErrorHolds (given_of terms) (machine_timer moment log t0) log t0 q (entry ∷ []) (made_negative q cause)
 answers-made terms greatest moment t0 log q entry cause h = made-by terms moment t0 log q entry h.zone cause h.whole h.base h.walked h.same h.asked
+
+-- what counts for the question and may be answered is the cause of what is answered with it
+pub answered-by : (terms : Terms) (greatest moment t0 : ℕ) (log : Log) (asked : Question) (entry : ℕ) (v : Verdict)
+    → Answers terms greatest t0 log asked.query entry v
+    → OutcomeHolds (given_of terms) (machine_timer moment log t0) log t0 asked (entry ∷ []) (outcome_of asked v)
+answered-by terms greatest moment t0 log asked entry (Pos kept) h = told-answer terms greatest t0 log asked.query entry kept asked.dnssec_ok h
+answered-by terms greatest moment t0 log asked entry (Neg n) h = answers-negative terms greatest moment t0 log asked.query entry n h.stands
+answered-by terms greatest moment t0 log asked entry (Made cause) h = answers-made terms greatest moment t0 log asked.query entry cause h.stands
 
 -- a negative that ends a walk names no servers
 ends-none : (n : NoRecords) → ends_walk n ≡ true → n.ns ≡ None

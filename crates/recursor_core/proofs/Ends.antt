@@ -32,7 +32,7 @@ use Rattle.server_core.specs.declared.server_send.Stage.{Stage}
 use Rattle.server_core.specs.declared.server_send.Stage.TheVariants as stage
 use Rattle.server_core.specs.declared.server_send.ServerSend.{ServerSend}
 use Rattle.retry_rules.specs.Agenda.{class_of_sent}
-use Rattle.server_pool.specs.Fits.{Closes, OutcomeIs}
+use Rattle.order_carrier.specs.Fits.{Closes, OutcomeIs}
 use Rattle.server_pool.specs.Running.{IsFor as IsAt_stage}
 use Rattle.server_pool.proofs.ByAddress.{told_class_itself}
 use Rattle.recursor_core.specs.Order.{IsFor}

@@ -14,7 +14,7 @@ use Rattle.resolution.specs.Serving.{Serves}
 use Rattle.server_core.specs.Servers.{Server, server_of}
 use Rattle.server_core.specs.declared.order.Order.{Order}
 use Rattle.server_core.specs.declared.order.Order.TheVariants as order
-use Rattle.server_pool.specs.Fits.{GoesToServer}
+use Rattle.order_carrier.specs.Fits.{GoesToServer}
 use Rattle.server_pool.specs.Running.{request_of}
 use Rattle.server_pool.specs.Lookups.{HasOrdered, HasAnswered}
 use Rattle.server_pool.specs.Running.{IsGiven, IsSentTo as IsOrderedTo}

@@ -10,7 +10,7 @@ use Rattle.resolver_cache.specs.Lowering.{lowered_record, lowered_message, lower
 use Rattle.resolution.specs.Same.{SameRecord, SameRecords, Same}
 use Rattle.resolution.proofs.Sameness.{SameRecords-refl}
 use Rattle.recursor_core.specs.SameTold.{SameIfAny, SameReferrals, SameNegative, SameDenial}
-use Rattle.recursor_core.specs.Causes.{told_data}
+use Rattle.recursor_walk.specs.Answer.{told_data}
 
 -- ---- itself
 

@@ -3,7 +3,7 @@ use Rattle.std.proofs.Common.{◌≡◌, ◌≤◌, ◌<◌, ℕ, List, Contains
 use Rattle.dns_core.specs.Log.{log_of}
 use Rattle.dns_core.specs.declared.log.LogEntry.{LogEntry}
 use Rattle.resolution.specs.Telling.{Logged, moment_of, MomentsRise}
-use Rattle.server_pool.specs.Carrying.{TellsThat, Grown}
+use Rattle.order_carrier.specs.Carrying.{TellsThat, Grown}
 use Rattle.recursor_core.specs.Standing.{IsPast, LongerOver, GrownOver}
 use Rattle.recursor_core.proofs.Standing.{Extends-refl, Extends-trans, entry_sides}
 

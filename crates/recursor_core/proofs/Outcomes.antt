@@ -10,7 +10,7 @@ use Rattle.server_core.specs.Sending.{end_of}
 use Rattle.server_core.specs.declared.order.After.{After}
 use Rattle.server_core.specs.declared.order.Outcome.{Outcome}
 use Rattle.server_core.specs.declared.order.Tick.{Tick}
-use Rattle.server_pool.specs.Fits.{Fits}
+use Rattle.order_carrier.specs.Fits.{Fits}
 use Rattle.server_pool.specs.Rounds.{HeardEnd, entries_of}
 use Rattle.server_pool.specs.Running.{heard_after, ends_at, Runs, IsOpenTo, IsNapping, AreReached}
 use Rattle.server_pool.specs.Lookups.{HasTaken, HasSlept}

@@ -12,14 +12,14 @@ use Rattle.dns_core.specs.declared.request.Turn.{Turn}
 use Rattle.dns_core.specs.declared.provider.ConnectionProvider.{Ghosts}
 use Rattle.recursor_core.specs.Replies.{Terms, terms_with, Timer, ReplyHolds}
 use Rattle.recursor_core.specs.Tried.{machine_timer}
-use Rattle.server_pool.specs.Carrying.{TellsThat, Grown}
+use Rattle.order_carrier.specs.Carrying.{TellsThat, Grown}
 use Rattle.recursor_core.specs.Derived.{terms_of}
 use Rattle.recursor_core.specs.Machine.{Begun, begun_at}
 use Rattle.recursor_core.specs.Standing.{Moves, ReplyTold, first_moment, last_moment, begin_moment, run_moments, run_timer, PlayHolds, PlaysHold, RepliesHold}
 use Rattle.recursor_core.specs.Turns.{Begins, BeginsIf, BeginsAt, IsRefused, ReplyOf}
 use Rattle.server_core.specs.declared.order.Order.{Order}
-use Rattle.recursor_core.specs.declared.setting.Setting.{Setting}
-use Rattle.server_pool.specs.declared.carrier.Carrier.{Carrier}
+use Rattle.recursor_setting.specs.declared.setting.Setting.{Setting}
+use Rattle.order_carrier.specs.declared.carrier.Carrier.{Carrier}
 use Rattle.recursor_types.specs.declared.error.RecursorError.TheVariants as error
 use Rattle.recursor_core.specs.declared.machine.RecursorCore.{RecursorCore}
 use Rattle.recursor_types.specs.declared.reply.Reply.{Reply}

@@ -22,7 +22,7 @@ use Rattle.server_core.specs.declared.server_send.Stage.{Stage}
 use Rattle.server_core.specs.declared.server_send.Stage.TheVariants as stage
 use Rattle.server_core.specs.declared.server_send.ServerSend.{ServerSend}
 use Rattle.retry_rules.specs.Agenda.{class_of_sent}
-use Rattle.server_pool.specs.Fits.{Fits}
+use Rattle.order_carrier.specs.Fits.{Fits}
 use Rattle.server_pool.specs.Rounds.{HeardEnd, ends_of, entries_of, heard_at}
 use Rattle.server_pool.specs.Running.{heard_after, ends_at, Runs, IsFor}
 use Rattle.server_pool.specs.Lookups.{HasTaken, HasSlept}

@@ -29,7 +29,8 @@ use Rattle.resolution.specs.declared.verdict.Cause.TheVariants.{Filter, Zone}
 use Rattle.dns_core.specs.declared.net_error.NoRecords.{NoRecords}
 use Rattle.resolution.proofs.Caseless.{Base-same, both, same_through}
 use Rattle.resolution.proofs.WalksCaseless.{Walked-same}
-use Rattle.recursor_core.specs.Counted.{kept_of, verdict_kept, counted_for, recalled, may_answer, IsCurrentVerdict, Stands, Answers, IsRecalled}
+use Rattle.recursor_walk.specs.Kept.{kept_of, verdict_kept}
+use Rattle.recursor_core.specs.Counted.{counted_for, recalled, may_answer, IsCurrentVerdict, Stands, Answers, IsRecalled}
 use Rattle.recursor_core.specs.Remembered.{EntryHolds, CacheHolds}
 use Rattle.recursor_core.specs.Replies.{Terms, given_of}
 use Rattle.recursor_core.specs.Asked.{AskedAs}

@@ -27,10 +27,10 @@ use Rattle.dns_core.specs.declared.net_error.DnsError.TheVariants as dns
 use Rattle.resolution.proofs.Keeping.{Heard-extend}
 use Rattle.resolution.proofs.FailuresKept.{Walked-extend}
 use Rattle.resolution.specs.Walking.{Walked}
-use Rattle.recursor_core.specs.Counted.{kept_of}
+use Rattle.recursor_walk.specs.Kept.{kept_of, response_in}
 use Rattle.recursor_core.specs.Derived.{IsTold}
 use Rattle.recursor_core.specs.SameTold.{IsShown}
-use Rattle.recursor_core.specs.Remembered.{EntryHolds, CacheHolds, Telling, response_in, written, remembered}
+use Rattle.recursor_core.specs.Remembered.{EntryHolds, CacheHolds, Telling, written, remembered}
 use Rattle.recursor_core.specs.Replies.{Terms, given_of}
 use Rattle.recursor_core.proofs.Asked.{asked-kept}
 use Rattle.recursor_core.proofs.Denials.{counts-of}

@@ -19,7 +19,7 @@ use Rattle.resolution.specs.Ending.EndsSend.{open_refused, ask_refused, open_fai
 use Rattle.resolution.specs.Timing.{is_send}
 use Rattle.resolution.proofs.Caseless.{both}
 use Rattle.resolution.proofs.Addresses.{same_ip-itself}
-use Rattle.server_pool.specs.Fits.{entry_for, IsSent, OutcomeIs}
+use Rattle.order_carrier.specs.Fits.{entry_for, IsSent, OutcomeIs}
 use Rattle.recursor_core.specs.Order.{IsFor, IsLost}
 use Rattle.recursor_core.specs.Tried.{BeganBy}
 use Rattle.server_core.specs.declared.order.Sent.{Sent}

@@ -11,22 +11,22 @@ use Rattle.resolution.specs.Given.{Given, with_patience}
 use Rattle.resolution.specs.Telling.{Logged, MomentsRise}
 use Rattle.resolution.specs.Asking.{AsksServers}
 use Rattle.resolution.proofs.Keeping.{Serves-later, Serves-extend}
-use Rattle.server_pool.specs.Fits.{Fits, GoesToServer}
+use Rattle.order_carrier.specs.Fits.{Fits, GoesToServer}
 use Rattle.recursor_core.specs.Replies.{Terms, terms_with, given_of, ReplyHolds}
 use Rattle.recursor_core.specs.Tried.{machine_timer}
-use Rattle.server_pool.specs.Carrying.{TellsThat, Grown, CarrierHolds}
+use Rattle.order_carrier.specs.Carrying.{TellsThat, Grown, CarrierHolds}
 use Rattle.recursor_core.specs.Pools.{PoolsHold}
 use Rattle.recursor_core.specs.Derived.{terms_of, Derived}
-use Rattle.server_pool.specs.Patience.{IsPatient}
+use Rattle.order_carrier.specs.Patience.{IsPatient}
 use Rattle.resolver_cache.specs.Cached.{Cached}
 use Rattle.recursor_core.specs.Remembered.{EntryHolds, CacheHolds}
-use Rattle.recursor_core.specs.Setting.{with_patience as setting_with}
+use Rattle.recursor_setting.specs.Setting.{with_patience as setting_with}
 use Rattle.recursor_core.specs.Machine.{Begun, begun_at, ReplyGiven, StepGives, IsNewCore}
 use Rattle.recursor_core.specs.Standing.{IsPast, Holds, Rests, Moves, ReplyTold}
 use Rattle.recursor_core.specs.Turns.{TurnFalls}
 use Rattle.recursor_types.specs.declared.options.RecursorOptions.{RecursorOptions}
-use Rattle.recursor_core.specs.declared.setting.Setting.{Setting}
-use Rattle.server_pool.specs.declared.carrier.Carrier.{Carrier}
+use Rattle.recursor_setting.specs.declared.setting.Setting.{Setting}
+use Rattle.order_carrier.specs.declared.carrier.Carrier.{Carrier}
 use Rattle.recursor_core.specs.declared.machine.RecursorCore.{RecursorCore}
 use Rattle.recursor_core.specs.declared.machine.Step.{Step}
 use Rattle.recursor_core.specs.declared.machine.Step.TheVariants as step
@@ -37,7 +37,7 @@ use Rattle.server_core.specs.declared.order.Order.{Order}
 use Rattle.server_core.specs.declared.order.Order.TheVariants.{Open, Ask, Sleep}
 use Rattle.server_core.specs.declared.order.Outcome.{Outcome}
 use Rattle.recursor_types.specs.declared.reply.Reply.{Reply}
-use Rattle.server_pool.proofs.Patience.{IsPatient-refl, IsPatient-trans}
+use Rattle.order_carrier.proofs.Patience.{IsPatient-refl, IsPatient-trans}
 use Rattle.recursor_core.proofs.Kept.{Derived-extends, ReplyHolds-extends}
 
 -- ---- growing logs

@@ -13,7 +13,7 @@ use Rattle.resolution.specs.Walking.{Walked}
 use Rattle.recursor_core.specs.Replies.{Terms, given_of}
 use Rattle.recursor_core.specs.Derived.{AskHolds, WalkHolds, StateHolds, ResolutionHolds}
 use Rattle.recursor_core.specs.Lookup.{want_of as wanted}
-use Rattle.recursor_core.specs.Walk.{IsCandidate}
+use Rattle.recursor_walk.specs.Stage.{IsCandidate}
 use Rattle.recursor_core.specs.Resolving.{order_of, state_want}
 use Rattle.recursor_core.specs.Remembered.{Telling, telling, telling_in, telling_of, CacheHolds, remembered}
 use Rattle.recursor_core.specs.declared.lookup.Ask.{Ask}
@@ -22,8 +22,8 @@ use Rattle.recursor_core.specs.declared.resolving.Need.TheVariants as need
 use Rattle.recursor_core.specs.declared.resolving.State.{State}
 use Rattle.recursor_core.specs.declared.resolving.State.TheVariants.{New, Under, Done, Ended}
 use Rattle.recursor_core.specs.declared.resolving.Resolution.{Resolution}
-use Rattle.recursor_core.specs.declared.walk.Stage.{Stage}
-use Rattle.recursor_core.specs.declared.walk.Stage.TheVariants.{Candidate, Last}
+use Rattle.recursor_walk.specs.declared.stage.Stage.{Stage}
+use Rattle.recursor_walk.specs.declared.stage.Stage.TheVariants.{Candidate, Last}
 use Rattle.recursor_core.specs.declared.walk.Walk.{Walk}
 use Rattle.recursor_core.specs.Machine.{need_in}
 use Rattle.recursor_core.proofs.Remembering.{TellingHolds, remembered-holds}

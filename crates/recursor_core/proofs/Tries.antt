@@ -17,7 +17,7 @@ use Rattle.server_core.specs.declared.order.Outcome.{Outcome}
 use Rattle.server_core.specs.declared.order.Outcome.TheVariants.{Pending, Connected, Told, Failed, GaveUp, Slept}
 use Rattle.server_core.specs.declared.order.Sent.{Sent}
 use Rattle.server_core.specs.Order.{entry_of}
-use Rattle.server_pool.specs.Fits.{IsSent, OutcomeIs}
+use Rattle.order_carrier.specs.Fits.{IsSent, OutcomeIs}
 use Rattle.dns_core.specs.declared.net_error.NetError.{NetError}
 use Rattle.recursor_core.specs.Replies.{Terms, given_of}
 use Rattle.recursor_core.specs.Tried.{BeganBy, Began, AreHeard, Tried}

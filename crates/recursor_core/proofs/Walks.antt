@@ -35,14 +35,14 @@ use Rattle.recursor_core.specs.Tried.{Concluded, machine_timer}
 use Rattle.recursor_core.specs.Causes.{HasNoServer}
 use Rattle.recursor_core.specs.Counted.{Stands, Answers, IsRecalled, may_answer}
 use Rattle.recursor_core.specs.SameTold.{SameVerdict}
-use Rattle.recursor_core.specs.Walk.{next_stage, query_of, IsCandidate}
+use Rattle.recursor_walk.specs.Stage.{next_stage, query_of, IsCandidate}
 use Rattle.recursor_core.specs.Derived.{ArePool, LookupHolds, StageHolds, Passed, LeavesBehind, WayHolds, WalkHolds, last_name, reached}
 use Rattle.recursor_types.specs.declared.error.WalkCause.TheVariants as why
 use Rattle.recursor_core.specs.declared.counted.Counted.{Counted}
 use Rattle.recursor_core.specs.declared.lookup.Lookup.{Lookup}
 use Rattle.recursor_types.specs.declared.reply.Reply.{Reply}
-use Rattle.recursor_core.specs.declared.walk.Stage.{Stage}
-use Rattle.recursor_core.specs.declared.walk.Stage.TheVariants.{Candidate, Last}
+use Rattle.recursor_walk.specs.declared.stage.Stage.{Stage}
+use Rattle.recursor_walk.specs.declared.stage.Stage.TheVariants.{Candidate, Last}
 use Rattle.recursor_core.specs.declared.walk.Walk.{Walk}
 use Rattle.recursor_core.proofs.Candidates.{above-last, last-above, last-length, root-above, walked-from-passed, walked-at-candidate}
 use Rattle.recursor_core.proofs.Denials.{has-failed}

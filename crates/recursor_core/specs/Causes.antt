@@ -18,6 +18,7 @@ use Rattle.resolution.specs.Failing.{Glueless, ends_walk}
 use Rattle.resolution.specs.declared.verdict.Verdict.TheVariants.{Neg, Made}
 use Rattle.resolution.specs.declared.verdict.Cause.{Cause}
 use Rattle.resolution.specs.declared.verdict.Cause.TheVariants.{Filter, Zone}
+use Rattle.recursor_walk.specs.Answer.{told_data, made_data}
 use Rattle.recursor_core.specs.Asked.{AskedAs}
 use Rattle.recursor_core.specs.SameTold.{SameDenial, SameReferrals, IsMadeFor}
 use Rattle.recursor_types.specs.declared.error.AuthorityData.{AuthorityData}
@@ -26,18 +27,6 @@ use Rattle.recursor_types.specs.declared.error.WalkCause.{WalkCause}
 use Rattle.recursor_types.specs.declared.error.WalkCause.TheVariants as why
 use Rattle.recursor_types.specs.declared.error.RecursorError.{RecursorError}
 use Rattle.recursor_types.specs.declared.error.RecursorError.TheVariants as error
-
--- what is answered for a negative that was told
-abbrev pub told_data : NoRecords → AuthorityData
-told_data n = record { query = n.query; soa = n.soa; no_records_found = true; nx_domain = n.response_code.code == 3; authorities = n.authorities }
-
-abbrev pub is_filter : Cause → Bool
-is_filter Filter = true
-is_filter Zone = false
-
--- what is answered where the filter or the zone leaves nothing of what was told
-abbrev pub made_data : Query → Cause → AuthorityData
-made_data q cause = record { query = q; soa = None; no_records_found = is_filter cause; nx_domain = true; authorities = [] }
 
 -- A denial rests on one entry: of the question; or of a candidate on the way, where a name that is denied ends a walk (RFC 8020). What was told
 -- may read with lower TTLs. One that the recursor made shows the question for which its entry was told, as that was asked.

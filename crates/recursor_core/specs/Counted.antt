@@ -1,14 +1,9 @@
 -- What counts for a question, whether it was told just now or is read from the cache (RFC 2308 section 5).
-use Rattle.std.specs.Prelude.{ℕ, ◌≤◌, Bool, true, IsTrue, Option, Some, None, Result, Ok, Err, option_and_then}
+use Rattle.std.specs.Prelude.{ℕ, ◌≤◌, Bool, true, IsTrue, Option, option_and_then}
 use Rattle.std.specs.Option.{option_map}
 use Rattle.dns_core.specs.Name.{DomainName}
 use Rattle.dns_core.specs.Log.{Log}
-use Rattle.dns_core.specs.NetError.{negative_data}
 use Rattle.dns_core.specs.declared.message.Query.{Query}
-use Rattle.dns_core.specs.declared.message.Message.{Message}
-use Rattle.dns_core.specs.declared.net_error.NetError.{NetError}
-use Rattle.dns_core.specs.declared.net_error.NetError.TheVariants as net
-use Rattle.dns_core.specs.declared.net_error.DnsError.TheVariants as dns
 use Rattle.resolver_cache.specs.Cached.{Cached}
 use Rattle.resolver_cache.specs.Cache.{found_for}
 use Rattle.resolver_cache.specs.declared.entry.CachedResponse.{CachedResponse}
@@ -16,22 +11,12 @@ use Rattle.resolution.specs.Answering.{Base, IsCurrent}
 use Rattle.resolution.specs.declared.verdict.Verdict.{Verdict}
 use Rattle.resolution.specs.declared.verdict.Verdict.TheVariants.{Pos, Neg, Made}
 use Rattle.resolution.specs.Walking.{Walked}
+use Rattle.recursor_walk.specs.Kept.{verdict_kept}
 use Rattle.recursor_core.specs.Replies.{Terms, given_of}
 use Rattle.recursor_core.specs.SameTold.{SameVerdict, ShowsAsked}
 use Rattle.recursor_core.specs.declared.counted.Counted.{Counted}
 
 -- ---- in the cache
-
--- as what a verdict is kept; a denial that the zone made is not kept
-abbrev pub kept_of : Verdict → Option (Result Message NetError)
-kept_of (Pos k) = Some (Ok k)
-kept_of (Neg n) = Some (Err (net.Dns (dns.NoRecordsFound n)))
-kept_of (Made cause) = None
-
--- the verdict that is kept so
-abbrev pub verdict_kept : Result Message NetError → Option Verdict
-verdict_kept (Ok k) = Some (Pos k)
-verdict_kept (Err e) = option_map Neg (negative_data e)
 
 abbrev pub counted_for : CachedResponse → Option Counted
 counted_for f = option_map (λ v. let c : Counted = record { entry = f.source; verdict = v } in c) (verdict_kept f.response)

@@ -35,8 +35,8 @@ use Rattle.recursor_core.specs.declared.lookup.Lookup.{Lookup}
 use Rattle.recursor_core.specs.declared.lookup.Found.{Found}
 use Rattle.recursor_core.specs.declared.lookup.Found.TheVariants as found
 use Rattle.recursor_types.specs.declared.reply.Reply.{Reply}
-use Rattle.recursor_core.specs.declared.walk.Stage.{Stage}
-use Rattle.recursor_core.specs.declared.walk.Stage.TheVariants.{Candidate, Last}
+use Rattle.recursor_walk.specs.declared.stage.Stage.{Stage}
+use Rattle.recursor_walk.specs.declared.stage.Stage.TheVariants.{Candidate, Last}
 use Rattle.recursor_core.specs.declared.walk.Walk.{Walk}
 use Rattle.recursor_core.specs.declared.resolving.State.{State}
 use Rattle.recursor_core.specs.declared.resolving.State.TheVariants as state

@@ -4,12 +4,9 @@ pub mod Resolving
 pub mod Order
 pub mod SameTold
 pub mod Causes
-pub mod Setting
 pub mod Replies
 pub mod Tried
 pub mod Asked
-pub mod Asking
-pub mod Delays
 pub mod Pools
 pub mod Counted
 pub mod Remembered

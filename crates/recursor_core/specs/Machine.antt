@@ -6,7 +6,7 @@ use Rattle.dns_core.specs.Log.{Log}
 use Rattle.dns_core.specs.declared.message.Query.{Query}
 use Rattle.dns_core.specs.declared.request.Question.{Question}
 use Rattle.dns_core.specs.declared.request.DnsRequest.{DnsRequest}
-use Rattle.server_pool.specs.Fits.{GoesToServer}
+use Rattle.order_carrier.specs.Fits.{GoesToServer}
 use Rattle.recursor_core.specs.Replies.{Terms, given_of, ReplyHolds}
 use Rattle.recursor_core.specs.Tried.{machine_timer}
 use Rattle.server_core.specs.declared.order.Order.{Order}
@@ -18,9 +18,9 @@ use Rattle.server_core.specs.declared.order.After.TheVariants as after
 use Rattle.recursor_types.specs.declared.reply.Reply.{Reply}
 use Rattle.dns_core.specs.declared.errors.NoMemory.{NoMemory}
 use Rattle.recursor_core.specs.Resolving as one
-use Rattle.recursor_core.specs.Asking.{request_options_of}
+use Rattle.recursor_setting.specs.Asking.{request_options_of}
 use Rattle.recursor_types.specs.Options.{answer_filter_of}
-use Rattle.recursor_core.specs.Setting.{setting_of}
+use Rattle.recursor_setting.specs.Setting.{setting_of}
 use Rattle.recursor_types.specs.declared.options.RecursorOptions.{RecursorOptions}
 use Rattle.recursor_types.specs.declared.error.MessageKind.TheVariants as kind
 use Rattle.recursor_types.specs.declared.error.RecursorError.{RecursorError}

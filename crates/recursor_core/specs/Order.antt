@@ -6,7 +6,7 @@ use Rattle.dns_core.specs.declared.net_error.NetError.{NetError}
 use Rattle.resolution.specs.Given.{Given}
 use Rattle.resolution.specs.Ending.{EndsSend}
 use Rattle.server_core.specs.declared.order.Sent.{Sent}
-use Rattle.server_pool.specs.Fits.{IsSent}
+use Rattle.order_carrier.specs.Fits.{IsSent}
 
 -- It is an opening, or asks the question.
 abbrev pub IsFor : Option Query → Query → Type 0

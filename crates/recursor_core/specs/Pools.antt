@@ -28,7 +28,7 @@ use Rattle.server_core.specs.declared.order.Outcome.{Outcome}
 use Rattle.server_core.specs.declared.order.Outcome.TheVariants.{Pending, Connected, Told, Failed, GaveUp, Slept}
 use Rattle.retry_rules.specs.Agenda.{class_of_sent}
 use Rattle.server_pool.specs.ByAddress.{SameEnds, at_address}
-use Rattle.server_pool.specs.Fits.{GoesToServer}
+use Rattle.order_carrier.specs.Fits.{GoesToServer}
 use Rattle.server_pool.specs.Rounds.{HeardEnd, ends_of, entries_of}
 use Rattle.server_pool.specs.Running.{request_of, start_of, timeout_of, ends_at, Runs, IsOpenTo, IsNapping}
 use Rattle.server_pool.specs.Shared.{lookup_at, lookup_of, SameBut}

@@ -1,5 +1,5 @@
 -- What the machine keeps of finished lookups (RFC 1034 section 5.3.3, step 4).
-use Rattle.std.specs.Prelude.{◌≡◌, ℕ, ◌+◌, ◌*◌, ◌≤◌, ◌==◌, Option, Some, None, Result, option_and_then, All, IsSomeAnd}
+use Rattle.std.specs.Prelude.{◌≡◌, ℕ, ◌+◌, ◌*◌, ◌≤◌, ◌==◌, Option, Some, None, Result, All, IsSomeAnd}
 use Rattle.dns_core.specs.Name.{DomainName}
 use Rattle.dns_core.specs.Log.{Log}
 use Rattle.dns_core.specs.declared.message.Query.{Query}
@@ -10,15 +10,13 @@ use Rattle.dns_core.specs.declared.log.ToldOutcome.{ToldOutcome}
 use Rattle.resolver_cache.specs.Cached.{Cached}
 use Rattle.resolver_cache.specs.Cache.{upserted}
 use Rattle.resolver_cache.specs.declared.entry.Entry.{Entry}
-use Rattle.resolution.specs.Class.{class_of_classified}
-use Rattle.resolution.specs.Given.{allows_all}
-use Rattle.resolution.specs.Verdict.{verdict, verdict_of_told}
+use Rattle.resolution.specs.Verdict.{verdict}
 use Rattle.resolution.specs.Life.{life_in_seconds}
 use Rattle.resolution.specs.Serving.{Heard}
 use Rattle.resolution.specs.declared.verdict.Verdict.{Verdict}
 use Rattle.resolution.specs.Walking.{Walked}
 use Rattle.recursor_core.specs.Asked.{AskedAs}
-use Rattle.recursor_core.specs.Counted.{kept_of}
+use Rattle.recursor_walk.specs.Kept.{kept_of, response_in}
 use Rattle.recursor_core.specs.Replies.{Terms, given_of}
 use Rattle.recursor_core.specs.SameTold.{IsShown}
 use Rattle.recursor_core.specs.declared.lookup.Ask.{Ask}
@@ -80,10 +78,6 @@ telling_in Ended = None
 abbrev pub telling_of : Option Resolution → Option Telling
 telling_of None = None
 telling_of (Some r) = telling_in r.state
-
--- as what a classified message that a server of the zone told for the question is kept
-abbrev pub response_in : DomainName → Query → Result Message DnsError → Option (Result Message NetError)
-response_in zone q class = option_and_then kept_of (verdict_of_told allows_all (Some (class_of_classified q class)) zone)
 
 abbrev pub written : Cached → Telling → Option (Result Message NetError) → Cached
 written cache t None = cache

@@ -20,7 +20,7 @@ use Rattle.resolution.specs.declared.verdict.Verdict.TheVariants.{Pos}
 use Rattle.resolution.specs.declared.following.Follow.TheVariants.{Done}
 use Rattle.recursor_types.specs.declared.error.RecursorError.{RecursorError}
 use Rattle.recursor_types.specs.declared.reply.Reply.{Reply}
-use Rattle.recursor_core.specs.declared.setting.Setting.{Setting}
+use Rattle.recursor_setting.specs.declared.setting.Setting.{Setting}
 use Rattle.resolution.specs.Walking.{Walked}
 use Rattle.recursor_core.specs.Causes.{ErrorHolds}
 

@@ -14,13 +14,13 @@ use Rattle.resolution.specs.Asking.{AsksServers}
 use Rattle.resolution.specs.Timing.{known_to_drive}
 use Rattle.recursor_core.specs.Replies.{Terms, Timer, given_of, ReplyHolds}
 use Rattle.recursor_core.specs.Tried.{machine_timer}
-use Rattle.server_pool.specs.Carrying.{TellsThat, Grown, CarrierHolds}
+use Rattle.order_carrier.specs.Carrying.{TellsThat, Grown, CarrierHolds}
 use Rattle.recursor_core.specs.Derived.{terms_of, Derived}
-use Rattle.server_pool.specs.Patience.{IsPatient}
+use Rattle.order_carrier.specs.Patience.{IsPatient}
 use Rattle.recursor_core.specs.Pools.{PoolsHold}
 use Rattle.recursor_core.specs.Remembered.{CacheHolds}
 use Rattle.recursor_core.specs.Machine.{Begun, begun_at}
-use Rattle.server_pool.specs.declared.carrier.Carrier.{Carrier}
+use Rattle.order_carrier.specs.declared.carrier.Carrier.{Carrier}
 use Rattle.recursor_core.specs.declared.machine.RecursorCore.{RecursorCore}
 use Rattle.recursor_types.specs.declared.reply.Reply.{Reply}
 use Rattle.recursor_core.specs.declared.turns.Turned.{Turned}

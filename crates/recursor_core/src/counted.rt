@@ -1,8 +1,9 @@
 //! What counts for a question, whether it was told just now or is read from the cache.
 ghost use Rattle.std.specs.Prelude.{◌≡◌, IfOk};
-ghost use Rattle.recursor_core.specs.Counted.{kept_of, verdict_kept, recalled, may_answer};
+ghost use Rattle.recursor_core.specs.Counted.{recalled, may_answer};
 
-use dns_core::{DnsError, Message, NetError, NoMemory, Query};
+use dns_core::{NoMemory, Query};
+use recursor_walk::verdict_kept;
 use resolution::Verdict;
 use resolver_cache::{CachedResponse, ResponseCache};
 use std::alloc::Global;
@@ -24,28 +25,6 @@ impl Counted {
             Verdict::Neg(_) => true,
             Verdict::Made(_) => true,
         }
-    }
-}
-
-/// As what a verdict is kept.
-pub fn kept_of(verdict: Verdict) -> Option<Result<Message, NetError>>
-    ensures { result ≡ kept_of verdict }
-{
-    match verdict {
-        Verdict::Pos(kept) => Some(Ok(kept)),
-        Verdict::Neg(found) => Some(Err(NetError::Dns(DnsError::NoRecordsFound(found)))),
-        Verdict::Made(_) => None,
-    }
-}
-
-/// The verdict that is kept so.
-fn verdict_kept(response: Result<Message, NetError>) -> Option<Verdict>
-    ensures { result ≡ verdict_kept response }
-{
-    match response {
-        Ok(kept) => Some(Verdict::Pos(kept)),
-        Err(NetError::Dns(DnsError::NoRecordsFound(found))) => Some(Verdict::Neg(found)),
-        Err(_) => None,
     }
 }
 

@@ -6,9 +6,9 @@ ghost use Rattle.recursor_core.specs.Replies.{Terms, ReplyHolds};
 ghost use Rattle.recursor_core.specs.Tried.{machine_timer};
 ghost use Rattle.recursor_core.specs.Remembered.{CacheHolds};
 
-use crate::walk::just;
 use dns_core::{NoMemory, Question};
 use recursor_types::Reply;
+use recursor_walk::just;
 use resolver_cache::{ResponseCache, read_message, seconds_between};
 use std::alloc::Global;
 

@@ -1,7 +1,6 @@
 //! The recursor: it goes from the roots down the delegations to the servers of a name, and asks them.
 #![tactic(auto)]
 
-mod asking;
 mod counted;
 mod driving;
 mod kept_answer;
@@ -10,7 +9,6 @@ mod machine;
 mod pools;
 mod recursor;
 mod resolving;
-mod setting;
 mod threads;
 mod turns;
 mod walk;

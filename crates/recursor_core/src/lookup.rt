@@ -4,7 +4,7 @@ ghost use Rattle.dns_core.specs.Name.{DomainName};
 ghost use Rattle.dns_core.specs.Log.{Log, Extends};
 ghost use Rattle.resolution.specs.Names.{is_above, walk};
 ghost use Rattle.server_core.specs.Order.{entry_of};
-ghost use Rattle.server_pool.specs.Fits.{Fits};
+ghost use Rattle.order_carrier.specs.Fits.{Fits};
 ghost use Rattle.recursor_core.specs.Replies.{Terms, given_of};
 ghost use Rattle.recursor_core.specs.Pools.{PoolsHold, IsNext, StepGoes};
 ghost use Rattle.recursor_core.specs.Lookup.{want_of, answered_by, failed_by, last_of, ask_steps, ask_rank, steps, rank, IsWaiting, HasNoted};

@@ -2,22 +2,21 @@
 ghost use Rattle.std.specs.Prelude.{◌≡◌, ◌≢◌, ◌≤◌, ◌<◌, ◌+◌, ◌⊎◌, ◌↔◌, ℕ, [], true, false, max, length, None, Some, Ok, Err, IfOk, IfSome, IfNone, IfErr, IsSome, OnOk, OnErr, IsTrue};
 ghost use Rattle.dns_core.specs.Log.{Log, Extends};
 ghost use Rattle.server_core.specs.Order.{entry_of};
-ghost use Rattle.server_pool.specs.Fits.{Fits};
+ghost use Rattle.order_carrier.specs.Fits.{Fits};
 ghost use Rattle.resolver_settings.specs.Ttl.{has_reversed};
-ghost use Rattle.recursor_core.specs.Asking.{connect_of};
-ghost use Rattle.recursor_core.specs.Setting.{with_patience};
+ghost use Rattle.recursor_setting.specs.Asking.{connect_of};
+ghost use Rattle.recursor_setting.specs.Setting.{with_patience};
 ghost use Rattle.recursor_core.specs.declared.lookup.Want.TheVariants as want;
 ghost use Rattle.recursor_core.specs.Pools.{PoolsHold, IsNext};
 ghost use Rattle.recursor_core.specs.Remembered.{CacheHolds, remembered};
 ghost use Rattle.recursor_core.specs.Derived.{terms_of, Derived};
 ghost use Rattle.recursor_core.specs.Machine.{need_at, order_at, begun_at, IsRequestAt, rank, GoesOn, Steps, Gives, StepGives, IsAwaited, IsNewError, IsBeginError, IsNewCore, SameCore, LookupGives, IsBegunAt, telling_at, Writes};
 
-use crate::asking::{connect_options, request_options};
 use crate::lookup::Want;
 use crate::pools::Pools;
 use crate::resolving::{Need, Resolution, State};
-use crate::setting::Setting;
 use dns_core::{ConnectOptions, DnsRequest, NoMemory, Question, TryClone};
+use recursor_setting::{Setting, connect_options, request_options};
 use recursor_types::{MessageKind, RecursorError, RecursorOptions, Reply};
 use resolver_cache::ResponseCache;
 use server_core::{After, Order, Outcome, PoolContext, Tick};

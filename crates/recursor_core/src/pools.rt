@@ -8,19 +8,19 @@ ghost use Rattle.dns_core.specs.Log.{Log, Extends};
 ghost use Rattle.dns_core.specs.declared.message.Query.{Query};
 ghost use Rattle.server_core.specs.Order.{entry_of};
 ghost use Rattle.server_core.specs.Servers.{IsFirstDelay};
-ghost use Rattle.server_pool.specs.Fits.{Fits, GoesToServer};
+ghost use Rattle.order_carrier.specs.Fits.{Fits, GoesToServer};
 ghost use Rattle.recursor_core.specs.Replies.{Terms, given_of};
 ghost use Rattle.recursor_types.specs.Options.{answer_filter_of};
-ghost use Rattle.recursor_core.specs.Setting.{context_of};
-ghost use Rattle.recursor_core.specs.Delays.{turn_at, delay_at};
+ghost use Rattle.recursor_setting.specs.Setting.{context_of};
+ghost use Rattle.recursor_setting.specs.Delays.{turn_at, delay_at};
 ghost use Rattle.recursor_core.specs.Pools.{number_of, config_at, first_delay_at, server_at, sought_at, ServersHold, SoughtHolds, PoolsHold, IsSentOver, IsFirst, IsOf, MayTake, MayTakeBy, IsNext, is_denial, IsMet, IsGrown, HasForgotten, HasNoted, HasKept, HasLeft, noted, aim_of, sent_to, first_of, StepGoes, IsGivenFor, NotesOutcome, Seeks};
 ghost use Rattle.recursor_core.specs.Derived.{ArePool, AnswerHolds};
 ghost use Rattle.resolution.specs.Names.{is_above, walk};
 
-use crate::setting::pool_context;
 use dns_core::{
     Delays, DnsError, DnsRequest, Message, Name, NetError, NoMemory, Numbers, Query, TryClone,
 };
+use recursor_setting::{FirstDelay, first_delay, pool_context};
 use recursor_types::RecursorOptions;
 use resolver_settings::NameServerConfig;
 use server_core::{After, NameServer, Order, Outcome, Sent, Tick};
@@ -247,17 +247,9 @@ impl Pools {
         ensures delays { self.new.first_delays ≡ self.old.first_delays }
         ensures same { (self.new.shared ≡ self.old.shared) × (self.new.numbers ≡ self.old.numbers) × (self.new.sought ≡ self.old.sought) }
     {
-        let delays = self.first_delays.items();
-        let place = if self.turn < delays.len() {
-            self.turn
-        } else {
-            0
-        };
-        self.turn = place.saturating_add(1);
-        match delays.get(place) {
-            Some(delay) => (*delay).clamp(1, 31),
-            None => 1,
-        }
+        let FirstDelay { micros, next } = first_delay(self.first_delays.items(), self.turn);
+        self.turn = next;
+        micros
     }
 
     /// Makes the server of an address that has none yet. It begins with the delay whose turn it is.

@@ -4,8 +4,8 @@ ghost use Rattle.dns_core.specs.declared.log.LogEntry.{LogEntry};
 ghost use Rattle.resolver_settings.specs.Ttl.{has_reversed};
 ghost use Rattle.recursor_core.specs.Recursor.{IsSetupError};
 ghost use Rattle.recursor_types.specs.Options.{has_bad_first_delays, server_filter_of, answer_filter_of};
-ghost use Rattle.recursor_core.specs.Setting.{context_of};
-ghost use Rattle.recursor_core.specs.Asking.{connect_of};
+ghost use Rattle.recursor_setting.specs.Setting.{context_of};
+ghost use Rattle.recursor_setting.specs.Asking.{connect_of};
 ghost use Rattle.recursor_core.specs.Standing.{Standing, Rests};
 
 use crate::machine::RecursorCore;

@@ -3,7 +3,7 @@ ghost use Rattle.std.specs.Prelude.{max, ◌≡◌, ◌≢◌, ◌≤◌, ◌<�
 ghost use Rattle.std.specs.declared.net.ip_addr.IpAddr.{IpAddr};
 ghost use Rattle.dns_core.specs.Log.{Log, Extends};
 ghost use Rattle.server_core.specs.Order.{entry_of};
-ghost use Rattle.server_pool.specs.Fits.{Fits};
+ghost use Rattle.order_carrier.specs.Fits.{Fits};
 ghost use Rattle.recursor_core.specs.Replies.{Terms, given_of, ReplyHolds};
 ghost use Rattle.recursor_core.specs.Tried.{machine_timer};
 ghost use Rattle.recursor_core.specs.Counted.{IsRecalled, recalled};

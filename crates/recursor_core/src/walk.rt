@@ -1,43 +1,39 @@
 //! The way of one question: from the roots down the zone cuts to the servers of its name, and the
 //! question itself at them; at each step what the cache has comes first (RFC 1034 section 5.3.3).
-ghost use Rattle.std.specs.Prelude.{◌≡◌, ◌≢◌, max, ◌<◌, ◌≤◌, ◌+◌, ◌∷◌, [], ℕ, true, length, Ok, Err, Some, None, IfOk, IfSome, IsSome, OnOk, OnErr};
+ghost use Rattle.std.specs.Prelude.{◌≡◌, ◌≢◌, max, ◌<◌, ◌≤◌, ◌+◌, [], ℕ, true, length, Ok, Err, Some, None, IfOk, IfSome, IsSome, OnOk, OnErr};
 ghost use Rattle.dns_core.specs.Log.{Log, Extends};
 ghost use Rattle.dns_core.specs.declared.message.Query.{Query};
-ghost use Rattle.resolution.specs.Names.{walk};
 ghost use Rattle.recursor_core.specs.Replies.{Terms, given_of, ReplyHolds, IsReply};
 ghost use Rattle.recursor_core.specs.Tried.{machine_timer};
 ghost use Rattle.recursor_core.specs.Lookup.{want_of, IsWaiting};
 ghost use Rattle.recursor_core.specs.Pools.{PoolsHold, IsNext, StepGoes};
 ghost use Rattle.server_core.specs.Order.{entry_of};
-ghost use Rattle.server_pool.specs.Fits.{Fits};
-ghost use Rattle.recursor_core.specs.Walk.{lookups_after, next_stage, query_of, made_negative, told_negative, ends_walk, IsCandidate, steps, rank, begin_steps, Goes, Recalls};
+ghost use Rattle.order_carrier.specs.Fits.{Fits};
+ghost use Rattle.recursor_walk.specs.Stage.{IsCandidate};
+ghost use Rattle.recursor_core.specs.Walk.{steps, rank, begin_steps, Goes, Recalls};
 ghost use Rattle.recursor_core.specs.Counted.{Stands, Answers, IsRecalled, may_answer};
-ghost use Rattle.recursor_core.specs.Remembered.{response_in, telling_of_walk, remembered};
+ghost use Rattle.recursor_core.specs.Remembered.{telling_of_walk, remembered};
 ghost use Rattle.recursor_core.specs.declared.lookup.Want.TheVariants as want;
 ghost use Rattle.recursor_core.specs.Derived.{FoundHolds, WayHolds, WalkHolds, WalkComes, LeavesBehind};
 
-use crate::counted::{Counted, kept_of};
+use crate::counted::Counted;
 use crate::lookup::{Ask, Found, Lookup};
 use crate::pools::Pools;
 use dns_core::{
-    DnsClass, DnsError, DnsRequest, Ips, Message, Name, NetError, NoMemory, NoRecords, Numbers,
-    Query, Question, RecordType, Records, TryClone, strip,
+    DnsError, DnsRequest, Ips, Message, Name, NetError, NoMemory, NoRecords, Numbers, Question,
+    RecordType, TryClone,
 };
-use recursor_types::{AuthorityData, RecursorError, Reply, WalkCause};
-use recursor_walk::{addresses, is_delegation, verdict_of_class};
-use resolution::{Cause, Verdict};
+use recursor_types::{RecursorError, Reply, WalkCause};
+use recursor_walk::{
+    Stage, addresses, ends_walk, is_delegation, made_negative, outcome_of, query_at, reply_by,
+    response_in, stage_after, told_negative, verdict_of_class, walked_name,
+};
+use resolution::Verdict;
 use resolver_cache::ResponseCache;
 use resolver_settings::AccessControlSet;
 use server_core::{After, Order, Outcome, Tick};
 use std::alloc::Global;
 use std::mem;
-
-/// What is looked for now: the NS records of the last labels of the name, or the question itself.
-#[derive(Clone, Copy, Debug)]
-pub enum Stage {
-    Candidate { labels: usize },
-    Last,
-}
 
 /// The way of a question: `name` is what it is walked to, and `servers` serve `zone`, the deepest zone that was found at or above the
 /// name walked to.
@@ -50,138 +46,6 @@ pub struct Walk {
     pub lookup: Lookup,
 }
 
-/// The name that a question is walked to: its own, and for DS the parent's, since DS records are
-/// the parent's (RFC 4035 section 3.1.4.1).
-fn walked_name(alloc: Global, query: &Query) -> Result<Name, NoMemory>
-    ensures { IfOk result (λ name. name ≡ walk query.now) }
-{
-    if query.query_type == RecordType::DS {
-        query.name.base_name(alloc)
-    } else {
-        query.name.try_clone(alloc)
-    }
-}
-
-/// The stage after a candidate of so many labels.
-fn stage_after(total: usize, labels: usize) -> Stage
-    ensures falls { lookups_after total result < lookups_after total (Stage.Candidate labels) }
-    ensures next { result ≡ next_stage total labels }
-{
-    if labels < total {
-        Stage::Candidate { labels: labels + 1 }
-    } else {
-        Stage::Last
-    }
-}
-
-/// A copy of a message, as it is classified.
-fn copy_of(
-    alloc: Global,
-    class: &Result<Message, DnsError>,
-) -> Result<Result<Message, DnsError>, NoMemory>
-    ensures { IfOk result (λ copy. copy ≡ class.now) }
-{
-    match class {
-        Ok(message) => Ok(Ok(message.try_clone(alloc)?)),
-        Err(error) => Ok(Err(error.try_clone(alloc)?)),
-    }
-}
-
-/// As what a message is kept that was told for the question by a server of the zone.
-fn response_in(
-    alloc: Global,
-    class: &Result<Message, DnsError>,
-    query: &Query,
-    zone: &Name,
-) -> Result<Option<Result<Message, NetError>>, NoMemory>
-    ensures { IfOk result (λ response. response ≡ response_in zone.now query.now class.now) }
-{
-    let copy = copy_of(alloc, class)?;
-    match verdict_of_class(copy, query, zone) {
-        Ok(verdict) => Ok(kept_of(verdict)),
-        Err(_) => Ok(None),
-    }
-}
-
-/// What is looked for at a stage.
-fn query_at(alloc: Global, name: &Name, query: &Query, stage: Stage) -> Result<Query, NoMemory>
-    ensures { IfOk result (λ asked. asked ≡ query_of name.now query.now stage) }
-{
-    match stage {
-        Stage::Candidate { labels } => Ok(Query {
-            name: name.trim_to(alloc, labels)?,
-            query_type: RecordType::NS,
-            query_class: DnsClass::IN,
-        }),
-        Stage::Last => query.try_clone(alloc),
-    }
-}
-
-/// The numbers that hold one.
-pub(crate) fn just(alloc: Global, entry: u64) -> Result<Numbers, NoMemory>
-    ensures { IfOk result (λ numbers. numbers ≡ entry ∷ []) }
-{
-    let mut numbers = Numbers::empty(alloc);
-    numbers.push(entry)?;
-    Ok(numbers)
-}
-
-/// A negative response that the recursor makes where the filter or the zone leaves nothing of what
-/// was told.
-fn made_negative(alloc: Global, query: &Query, cause: Cause) -> Result<RecursorError, NoMemory>
-    ensures { IfOk result (λ error. error ≡ made_negative query.now cause) }
-{
-    Ok(RecursorError::Negative(AuthorityData {
-        query: query.try_clone(alloc)?,
-        soa: None,
-        no_records_found: matches!(cause, Cause::Filter),
-        nx_domain: true,
-        authorities: Records::empty(alloc),
-    }))
-}
-
-/// A told negative response, which is a referral where it names servers.
-fn told_negative(found: NoRecords) -> RecursorError
-    ensures { result ≡ told_negative found }
-{
-    let NoRecords {
-        query,
-        soa,
-        ns,
-        response_code,
-        authorities,
-    } = found;
-    match ns {
-        Some(forward) => RecursorError::ForwardNS(forward),
-        None => RecursorError::Negative(AuthorityData {
-            query,
-            soa,
-            no_records_found: true,
-            nx_domain: response_code.code == 3,
-            authorities,
-        }),
-    }
-}
-
-/// Whether a negative response to a candidate says that nothing exists at or below it (RFC 8020).
-fn ends_walk(found: &NoRecords) -> bool
-    ensures { result ≡ ends_walk found.now }
-{
-    found.response_code.code == 3 && found.ns.is_none()
-}
-
-/// The reply that an entry gives.
-fn reply_by(
-    alloc: Global,
-    entry: u64,
-    outcome: Result<Message, RecursorError>,
-) -> Result<Box<Reply>, NoMemory>
-    ensures { IfOk result (λ reply. reply.value ≡ record { outcome = outcome; grounds = entry ∷ [] }) }
-{
-    let grounds = just(alloc, entry)?;
-    Ok(Box::new(alloc, Reply { outcome, grounds })?)
-}
-
 /// Answers a question with what counts for it, less the DNSSEC records that it does not want.
 pub(crate) fn answer_with(
     alloc: Global,
@@ -192,14 +56,8 @@ pub(crate) fn answer_with(
         → IfOk result (λ reply. ReplyHolds terms (machine_timer moment) log t0 question.now reply.value) }
 {
     let Counted { entry, verdict } = counted;
-    match verdict {
-        Verdict::Pos(kept) => reply_by(alloc, entry, Ok(strip(kept, question.dnssec_ok))),
-        Verdict::Neg(found) => reply_by(alloc, entry, Err(told_negative(found))),
-        Verdict::Made(cause) => {
-            let denial = made_negative(alloc, &question.query, cause)?;
-            reply_by(alloc, entry, Err(denial))
-        }
-    }
+    let outcome = outcome_of(alloc, question, verdict)?;
+    reply_by(alloc, entry, outcome)
 }
 
 impl Walk {

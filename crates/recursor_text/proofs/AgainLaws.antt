@@ -16,21 +16,23 @@ use Rattle.recursor_world.specs.declared.script.ScriptLine.TheVariants.{Connect,
 use Rattle.recursor_text.specs.declared.scenario.Scenario.{Scenario}
 use Rattle.recursor_text.specs.declared.scenario.Upstream.{Upstream}
 use Rattle.recursor_text.specs.declared.scenario.Upstream.TheVariants.{Script as FromScript}
-use Rattle.recursor_text.specs.declared.reading.lines.Form.{Form}
-use Rattle.recursor_text.specs.declared.reading.lines.Form.TheVariants as form
-use Rattle.recursor_text.specs.declared.reading.option_form.OptionLine.{OptionLine}
-use Rattle.recursor_text.specs.declared.reading.rules.OpenRule.{OpenRule}
+use Rattle.line_forms.specs.declared.lines.Form.{Form}
+use Rattle.line_forms.specs.declared.lines.Form.TheVariants as form
+use Rattle.line_forms.specs.declared.option_form.OptionLine.{OptionLine}
+use Rattle.line_forms.specs.declared.rules.OpenRule.{OpenRule}
 use Rattle.recursor_text.specs.declared.reading.draft.Stage.{Stage}
 use Rattle.recursor_text.specs.declared.reading.draft.Stage.TheVariants.{Headed, Rooted, Optioned, Patient, Scripted, Asked, Turned, Ended}
 use Rattle.recursor_text.specs.declared.reading.draft.Draft.{Draft}
-use Rattle.recursor_text.specs.Numbers.{◌>>=◌}
-use Rattle.recursor_text.specs.Codes.{class_in}
+use Rattle.text_words.specs.Numbers.{◌>>=◌}
+use Rattle.text_words.specs.Codes.{class_in}
 use Rattle.recursor_text.specs.Steps.{start, may_turn, may_end, is_settled, rule_of, settle, add, put, taken_at, taken, scenario_of}
-use Rattle.recursor_text.specs.Spelling.{spelled, record_text, record_texts, script_lines, root_line, option_line, question_line, turn_line, rules_of, to_roots, to_options, to_patience, to_told, to_rules, to_questions, to_turns, scenario_lines, patience_words, told_words, end_words, options_with, option_rank, last_rank, RiseAbove, most_roots, most_questions, most_turns, IsAddress, IsRecord, IsRule, IsScriptLine, IsQuestion, IsTurn, NoneFalls, last_moment, IsOption, IsScenario}
-use Rattle.recursor_text.proofs.Binds.{bind_some}
-use Rattle.recursor_text.proofs.LineLaws.{rule_words, form_words, IsBare, IsLone, IsForm, form_again}
-use Rattle.recursor_text.proofs.OptionLaws.{last_push}
-use Rattle.recursor_text.proofs.RecordLaws.{record_again}
+use Rattle.text_words.specs.Spelling.{spelled, IsAddress}
+use Rattle.line_forms.specs.Spelling.{record_text, record_texts, script_lines, root_line, option_line, question_line, turn_line, patience_words, told_words, end_words, options_with, option_rank, last_rank, RiseAbove, IsRecord, IsRule, IsScriptLine, IsQuestion, IsTurn, IsOption}
+use Rattle.recursor_text.specs.Spelling.{rules_of, to_roots, to_options, to_patience, to_told, to_rules, to_questions, to_turns, scenario_lines, most_roots, most_questions, most_turns, NoneFalls, last_moment, IsScenario}
+use Rattle.text_words.proofs.Binds.{bind_some}
+use Rattle.line_forms.proofs.LineLaws.{rule_words, form_words, IsBare, IsLone, IsForm, form_again}
+use Rattle.line_forms.proofs.OptionLaws.{last_push}
+use Rattle.line_forms.proofs.RecordLaws.{record_again}
 use Rattle.recursor_text.proofs.TurnLaws.{moment_push}
 
 abbrev pub run : Draft → List (List ℕ) → Option Draft

@@ -14,27 +14,29 @@ use Rattle.recursor_text.specs.declared.scenario.Scenario.{Scenario}
 use Rattle.recursor_text.specs.declared.scenario.ScenarioError.{ScenarioError}
 use Rattle.recursor_text.specs.declared.scenario.Cause.{Cause}
 use Rattle.recursor_text.specs.declared.scenario.Cause.TheVariants as cause
-use Rattle.recursor_text.specs.declared.reading.lines.Form.{Form}
-use Rattle.recursor_text.specs.declared.reading.lines.Form.TheVariants as form
-use Rattle.recursor_text.specs.declared.reading.rules.Counts.{Counts}
-use Rattle.recursor_text.specs.declared.reading.rules.OpenRule.{OpenRule}
+use Rattle.line_forms.specs.declared.lines.Form.{Form}
+use Rattle.line_forms.specs.declared.lines.Form.TheVariants as form
+use Rattle.line_forms.specs.declared.rules.Counts.{Counts}
+use Rattle.line_forms.specs.declared.rules.OpenRule.{OpenRule}
 use Rattle.recursor_text.specs.declared.reading.draft.Stage.{Stage}
 use Rattle.recursor_text.specs.declared.reading.draft.Stage.TheVariants.{Start, Headed, Rooted, Optioned, Patient, Scripted, Asked, Turned, Ended}
 use Rattle.recursor_text.specs.declared.reading.draft.Draft.{Draft}
 use Rattle.recursor_text.specs.declared.reading.draft.Refusal.{Refusal}
 use Rattle.recursor_text.specs.declared.reading.draft.Refusal.TheVariants.{Bad, NotBuilt}
-use Rattle.recursor_text.specs.Pieces.{pieces}
-use Rattle.recursor_text.specs.Numbers.{◌>>=◌}
-use Rattle.recursor_text.specs.Codes.{class_in}
+use Rattle.text_words.specs.Pieces.{pieces}
+use Rattle.text_words.specs.Numbers.{◌>>=◌}
+use Rattle.text_words.specs.Codes.{class_in}
 use Rattle.recursor_text.specs.Steps.{start, may_wait, may_end, settle, rule_of, add, put, taken, is_settled, is_ended, scenario_of}
 use Rattle.recursor_text.specs.Unbuilt.{refusal_of}
 use Rattle.recursor_text.specs.Reading.{cause_of, step_by, finish, onward, read_from, scenario_in, GivesScenario, FailsBy}
 use Rattle.recursor_text.specs.Faults.{CanStand, IsWhole, IsFirstBad, FaultIn, HasFault}
-use Rattle.recursor_text.specs.Spelling.{spelled, record_text, scenario_lines, IsRecord}
-use Rattle.recursor_text.proofs.Binds.{bind_some}
-use Rattle.recursor_text.proofs.Cuts.{split_cons}
-use Rattle.recursor_text.proofs.NumberLaws.{octet_fits}
-use Rattle.recursor_text.proofs.LineLaws.{form_words, IsForm}
+use Rattle.text_words.specs.Spelling.{spelled}
+use Rattle.line_forms.specs.Spelling.{record_text, IsRecord}
+use Rattle.recursor_text.specs.Spelling.{scenario_lines}
+use Rattle.text_words.proofs.Binds.{bind_some}
+use Rattle.text_words.proofs.Cuts.{split_cons}
+use Rattle.text_words.proofs.NumberLaws.{octet_fits}
+use Rattle.line_forms.proofs.LineLaws.{form_words, IsForm}
 use Rattle.recursor_text.proofs.DraftLaws.{rank, Good, so_far, taken_takes, start_good, ended_is}
 use Rattle.recursor_text.proofs.AgainLaws.{run, run_append, run_again, takes_form, takes_record, draft_is}
 

@@ -1,13 +1,13 @@
 -- One line of a text that is read line by line.
 use Rattle.std.proofs.Common.{◌≡◌, ℕ, ◌+◌, List, ◌∷◌, ◌==◌, Option, Some, None, Result, refl, sym, ap, ◌∙◌}
-use Rattle.recursor_text.specs.Pieces.{pieces}
+use Rattle.text_words.specs.Pieces.{pieces}
 use Rattle.recursor_text.specs.declared.reading.draft.Draft.{Draft}
 use Rattle.recursor_text.specs.declared.scenario.Scenario.{Scenario}
 use Rattle.recursor_text.specs.declared.scenario.ScenarioError.{ScenarioError}
 use Rattle.recursor_text.specs.Steps.{taken}
 use Rattle.recursor_text.specs.Unbuilt.{place_of, refusal_at, refusal_of}
 use Rattle.recursor_text.specs.Reading.{fails_at, cause_of, step_by, step, onward, read_from}
-use Rattle.recursor_text.proofs.Cuts.{split_cons}
+use Rattle.text_words.proofs.Cuts.{split_cons}
 
 pub read_line : (d : Draft) (n : ℕ) (line after : List ℕ) → read_from d n (line ∷ pieces 10 after) ≡ onward n (step d line) (λ e. read_from e (n + 1) (pieces 10 after))
 unfolding read_from

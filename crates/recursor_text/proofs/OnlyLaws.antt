@@ -2,25 +2,26 @@
 use Rattle.std.proofs.Common.{◌≡◌, ℕ, ◌+◌, Bool, true, false, ◌||◌, eqb, ltb, List, [], ◌∷◌, ◌++◌, length, Option, Some, None, Result, Ok, Err, refl, sym, ap, subst, ◌∙◌, append_assoc}
 use Rattle.std.specs.Prelude.{IfOk}
 use Rattle.std.proofs.lemmas.Bool.{le-ltb}
-use Rattle.recursor_text.specs.Pieces.{pieces}
-use Rattle.recursor_text.specs.Numbers.{◌>>=◌}
-use Rattle.recursor_text.specs.declared.reading.rules.OpenRule.{OpenRule}
+use Rattle.text_words.specs.Pieces.{pieces}
+use Rattle.text_words.specs.Numbers.{◌>>=◌}
+use Rattle.line_forms.specs.declared.rules.OpenRule.{OpenRule}
 use Rattle.recursor_text.specs.declared.reading.draft.Stage.TheVariants.{Ended}
 use Rattle.recursor_text.specs.declared.reading.draft.Draft.{Draft}
 use Rattle.recursor_text.specs.declared.scenario.Scenario.{Scenario}
 use Rattle.recursor_text.specs.declared.scenario.ScenarioError.{ScenarioError}
-use Rattle.recursor_text.specs.Lines.{form_of}
-use Rattle.recursor_text.specs.RecordLines.{record_of}
+use Rattle.line_forms.specs.Lines.{form_of}
+use Rattle.line_forms.specs.RecordLines.{record_of}
 use Rattle.recursor_text.specs.Steps.{start, settle, add, put, taken_at, taken, is_ended, scenario_of}
-use Rattle.recursor_text.specs.Texts.{record_words}
+use Rattle.text_words.specs.Texts.{record_words}
 use Rattle.recursor_text.specs.Unbuilt.{refusal_of}
 use Rattle.recursor_text.specs.Reading.{step_by, step, finish, onward, read_from, scenario_in, GivesScenario}
-use Rattle.recursor_text.specs.Spelling.{spelled, scenario_lines, text_of, Reads}
-use Rattle.recursor_text.proofs.Binds.{bind_some}
-use Rattle.recursor_text.proofs.PlainLaws.{AllBytes, AllPlain, split_at_byte, weaker, joined_plain}
-use Rattle.recursor_text.proofs.NumberLaws.{is_word_byte}
-use Rattle.recursor_text.proofs.LineLaws.{form_words, form_takes, form_plain}
-use Rattle.recursor_text.proofs.RecordLaws.{record_takes, record_plain}
+use Rattle.text_words.specs.Spelling.{spelled}
+use Rattle.recursor_text.specs.Spelling.{scenario_lines, text_of, Reads}
+use Rattle.text_words.proofs.Binds.{bind_some}
+use Rattle.text_words.proofs.PlainLaws.{AllBytes, AllPlain, split_at_byte, weaker, joined_plain}
+use Rattle.text_words.proofs.NumberLaws.{is_word_byte}
+use Rattle.line_forms.proofs.LineLaws.{form_words, form_takes, form_plain}
+use Rattle.line_forms.proofs.RecordLaws.{record_takes, record_plain}
 use Rattle.recursor_text.proofs.AgainLaws.{run, run_again, draft_is}
 use Rattle.recursor_text.proofs.WholeLaws.{found}
 

@@ -4,11 +4,12 @@ use Rattle.std.specs.List.{AllByRecursion}
 use Rattle.std.proofs.lemmas.Bool.{ltb-true, ltb-false}
 use Rattle.std.proofs.lemmas.List.{append-nil, map_push, length_push}
 use Rattle.dns_core.specs.declared.record.Record.{Record}
-use Rattle.recursor_text.specs.declared.reading.rules.OpenRule.{OpenRule}
-use Rattle.recursor_text.specs.Codes.{class_in}
+use Rattle.line_forms.specs.declared.rules.OpenRule.{OpenRule}
+use Rattle.text_words.specs.Codes.{class_in}
 use Rattle.recursor_text.specs.Steps.{add}
-use Rattle.recursor_text.specs.Spelling.{reply_words, spelled, record_text, record_texts, most_delay, IsFullName, IsAddress, IsTransport, IsType, IsCode, IsRecord}
-use Rattle.recursor_text.proofs.Binds.{guard_some, some_is, chosen}
+use Rattle.text_words.specs.Spelling.{spelled, IsFullName, IsAddress, IsType, IsCode}
+use Rattle.line_forms.specs.Spelling.{reply_words, record_text, record_texts, most_delay, IsTransport, IsRecord}
+use Rattle.text_words.proofs.Binds.{guard_some, some_is, chosen}
 
 -- ---- lists that grow
 

@@ -5,19 +5,20 @@ use Rattle.recursor_world.specs.declared.script.ScriptLine.{ScriptLine}
 use Rattle.recursor_world.specs.declared.script.ScriptLine.TheVariants.{Reply}
 use Rattle.recursor_text.specs.declared.scenario.Scenario.{Scenario}
 use Rattle.recursor_text.specs.declared.scenario.Upstream.TheVariants.{Script as FromScript}
-use Rattle.recursor_text.specs.declared.reading.words.LineError.{LineError}
-use Rattle.recursor_text.specs.declared.reading.words.LineError.TheVariants.{Refused, NoMemory}
-use Rattle.recursor_text.specs.declared.reading.lines.Form.{Form}
-use Rattle.recursor_text.specs.declared.reading.lines.Form.TheVariants as form
-use Rattle.recursor_text.specs.declared.reading.rules.Counts.{Counts}
-use Rattle.recursor_text.specs.declared.reading.rules.OpenRule.{OpenRule}
+use Rattle.text_words.specs.declared.words.LineError.{LineError}
+use Rattle.text_words.specs.declared.words.LineError.TheVariants.{Refused, NoMemory}
+use Rattle.line_forms.specs.declared.lines.Form.{Form}
+use Rattle.line_forms.specs.declared.lines.Form.TheVariants as form
+use Rattle.line_forms.specs.declared.rules.Counts.{Counts}
+use Rattle.line_forms.specs.declared.rules.OpenRule.{OpenRule}
 use Rattle.recursor_text.specs.declared.reading.draft.Stage.{Stage}
 use Rattle.recursor_text.specs.declared.reading.draft.Stage.TheVariants.{Start, Headed, Rooted, Optioned, Patient, Scripted, Asked, Turned, Ended}
 use Rattle.recursor_text.specs.declared.reading.draft.Draft.{Draft}
-use Rattle.recursor_text.specs.Numbers.{◌>>=◌}
-use Rattle.recursor_text.specs.Lines.{form_of}
-use Rattle.recursor_text.specs.RecordLines.{record_of}
-use Rattle.recursor_text.specs.Spelling.{option_rank, last_rank, last_moment, options_with, most_roots, most_questions, most_turns}
+use Rattle.text_words.specs.Numbers.{◌>>=◌}
+use Rattle.line_forms.specs.Lines.{form_of}
+use Rattle.line_forms.specs.RecordLines.{record_of}
+use Rattle.line_forms.specs.Spelling.{option_rank, last_rank, options_with}
+use Rattle.recursor_text.specs.Spelling.{last_moment, most_roots, most_questions, most_turns}
 
 -- What a step did is what it should do, unless memory ran out.
 abbrev pub Steps : {X : Type 0} → Result X LineError → Draft → Option Draft → Type 0

@@ -8,17 +8,17 @@ use Rattle.recursor_text.specs.declared.reading.draft.Stage.TheVariants.{Rooted,
 use Rattle.recursor_text.specs.declared.reading.draft.Place.{Place}
 use Rattle.recursor_text.specs.declared.reading.draft.Refusal.{Refusal}
 use Rattle.recursor_text.specs.declared.reading.draft.Refusal.TheVariants.{Bad, NotBuilt}
-use Rattle.recursor_text.specs.Addresses.{ip_of, ipv6_of}
-use Rattle.recursor_text.specs.Codes.{type_of, class_of}
-use Rattle.recursor_text.specs.Fields.{checked, field, both, skip, whole, nothing}
-use Rattle.recursor_text.specs.Hex.{bytes_of}
-use Rattle.recursor_text.specs.Lines.{delay_field, connected_fields, answered_fields}
-use Rattle.recursor_text.specs.Names.{full_name, relaxed_name}
-use Rattle.recursor_text.specs.Numbers.{◌>>=◌, ipv4_of}
+use Rattle.text_words.specs.Addresses.{ip_of, ipv6_of}
+use Rattle.text_words.specs.Codes.{type_of, class_of}
+use Rattle.text_words.specs.Fields.{checked, field, both, skip, whole, nothing, wide_field}
+use Rattle.text_words.specs.Hex.{bytes_of}
+use Rattle.line_forms.specs.Lines.{delay_field, connected_fields, answered_fields}
+use Rattle.text_words.specs.Names.{full_name, relaxed_name}
+use Rattle.text_words.specs.Numbers.{◌>>=◌, ipv4_of}
 use Rattle.recursor_text.specs.OptionLines.{Line, option_line}
-use Rattle.recursor_text.specs.Pieces.{pieces}
-use Rattle.recursor_text.specs.RecordLines.{wide_field}
-use Rattle.recursor_text.specs.Spelling.{last_rank, most_questions}
+use Rattle.text_words.specs.Pieces.{pieces}
+use Rattle.line_forms.specs.Spelling.{last_rank}
+use Rattle.recursor_text.specs.Spelling.{most_questions}
 
 -- ---- words
 

@@ -1,7 +1,6 @@
-//! Copies of scenarios and transcripts.
+//! Copies of scenarios.
 
 use crate::scenario::{Scenario, Upstream};
-use crate::transcript::Transcript;
 use dns_core::{Items, NoMemory, TryClone};
 use std::alloc::Global;
 
@@ -28,13 +27,5 @@ impl TryClone for Scenario {
             questions,
             turns: Items::new(turns),
         })
-    }
-}
-
-impl TryClone for Transcript {
-    fn try_clone(&self, alloc: Global) -> Result<Self, NoMemory> {
-        let log = self.log.try_clone(alloc)?;
-        let replies = self.replies.try_clone(alloc)?;
-        Ok(Transcript { log, replies })
     }
 }

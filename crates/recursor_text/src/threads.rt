@@ -1,7 +1,7 @@
-//! Each type of this crate may go to another thread, and be shared among threads.
+//! Each type of scenarios and transcripts may go to another thread, and be shared among threads.
 
 use crate::scenario::{Cause, Scenario, ScenarioError, Upstream};
-use crate::transcript::Transcript;
+use transcript_printer::Transcript;
 
 fn crosses<T: Send + Sync>() {}
 

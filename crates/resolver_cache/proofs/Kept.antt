@@ -63,7 +63,7 @@ in_place_of_least size es e i within none h =
     let less = left_over es e i there.0 e.query in
     grown size es (remove es i) e within (omega (arith, l, few)) (left_over es e i there.0) (omega (arith, before, less))
 
-in_the_room : (size : ℕ) (es : List Entry) (e : Entry) → IsWithin size es → position (is_for e.query) es ≡ None → length es < size → IsWithin size (es ++ e ∷ [])
+pub in_the_room : (size : ℕ) (es : List Entry) (e : Entry) → IsWithin size es → position (is_for e.query) es ≡ None → length es < size → IsWithin size (es ++ e ∷ [])
 in_the_room size es e within none room =
     grown size es es e within (omega (arith, room)) (λ q. omega arith) (none_counted (is_for e.query) es (none_passes (is_for e.query) es none))
 

@@ -2,6 +2,8 @@ pub mod Entry
 pub mod Life
 pub mod Lowering
 pub mod Placing
+pub mod Writings
+pub mod Index
 pub mod Cached
 pub mod Cache
 pub mod Laws

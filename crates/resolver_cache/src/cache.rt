@@ -5,13 +5,15 @@ ghost use Rattle.std.specs.Option.{option_copied};
 ghost use Rattle.resolver_settings.specs.Ttl.{has_reversed};
 ghost use Rattle.resolver_cache.specs.Entry.{is_for, current_for};
 ghost use Rattle.resolver_cache.specs.Cache.{read, found_for, upserted, new_expiry, IsSound};
+ghost use Rattle.resolver_cache.specs.Index.{ArePlaced};
+ghost use Rattle.std.specs.Map.{values_of};
 
 use crate::bounds::ReversedTtl;
-use crate::entry::{CachedResponse, Entry, current_for};
+use crate::entry::{CachedResponse, Entry};
+use crate::index::Index;
 use crate::life::{life_of, moment_after};
 use crate::lowering::{lowered, seconds_between};
-use crate::placing::put;
-use dns_core::{Message, NetError, NoMemory, Query, TryClone, try_clone_all};
+use dns_core::{Message, NetError, NoMemory, Query, TryClone};
 use resolver_settings::TtlConfig;
 use std::alloc::Global;
 use std::marker::Model;
@@ -21,7 +23,7 @@ use std::marker::Model;
 pub struct ResponseCache {
     size: u64,
     config: TtlConfig,
-    entries: Vec<Entry>,
+    index: Index,
 }
 
 impl Model for ResponseCache {
@@ -29,21 +31,25 @@ impl Model for ResponseCache {
 
     ghost Value = { Cached };
 
-    ghost view = { λ a. record { size = a.size; config = a.config; entries = a.entries.items } };
+    ghost use Rattle.std.specs.Map.{values_of};
+    ghost use Rattle.resolver_cache.specs.Index.{ArePlaced};
 
-    ghost invariant = { λ a. IsWithin a.size a.entries.items };
+    ghost view = { λ a. record { size = a.size; config = a.config; entries = values_of a.index.writings } };
+
+    ghost invariant = { λ a. IsWithin a.size (values_of a.index.writings) × ArePlaced a.index.writings a.index.places };
 }
 
 /// When a new entry for a question expires that lives so many seconds. With `clamp` it is no later
 /// than what is current.
-fn new_expiry(entries: &[Entry], query: &Query, now: u64, clamp: bool, life: u64) -> u64
-    ensures { result ≡ new_expiry entries.now query.now now clamp life }
+fn new_expiry(index: &Index, query: &Query, now: u64, clamp: bool, life: u64) -> u64
+    requires { ArePlaced index.now.writings index.now.places }
+    ensures { result ≡ new_expiry (values_of index.now.writings) query.now now clamp life }
 {
     let whole = moment_after(now, life);
     if !clamp {
         return whole;
     }
-    match current_for(entries, query, now) {
+    match index.current_for(query, now) {
         Some(e) => whole.min(e.expiry),
         None => whole,
     }
@@ -61,7 +67,7 @@ impl ResponseCache {
         Ok(ResponseCache {
             size,
             config,
-            entries: Vec::new(alloc),
+            index: Index::new(alloc),
         })
     }
 
@@ -89,7 +95,7 @@ impl ResponseCache {
     ) -> Result<Option<CachedResponse>, NoMemory>
         ensures { IfOk result (λ found. found ≡ found_for self.now query.now now) }
     {
-        match current_for(self.entries.as_slice(), query, now) {
+        match self.index.current_for(query, now) {
             Some(e) => {
                 let seconds = seconds_between(e.written, now);
                 Ok(Some(CachedResponse {
@@ -105,7 +111,7 @@ impl ResponseCache {
     pub fn current(&self, query: &Query, now: u64) -> Option<&Entry>
         ensures { option_copied result ≡ current_for query.now now self.now.entries }
     {
-        current_for(self.entries.as_slice(), query, now)
+        self.index.current_for(query, now)
     }
 
     /// Writes a response, for as long as it says.
@@ -141,7 +147,7 @@ impl ResponseCache {
     /// The same for a response that the log entry of this number told.
     pub fn upsert_told(
         &mut self,
-        _alloc: Global,
+        alloc: Global,
         query: Query,
         response: Result<Message, NetError>,
         source: u64,
@@ -154,7 +160,7 @@ impl ResponseCache {
         let Some(life) = life_of(&self.config, query.query_type, &response) else {
             return Ok(());
         };
-        let expiry = new_expiry(self.entries.as_slice(), &query, now, clamp, life);
+        let expiry = new_expiry(&self.index, &query, now, clamp, life);
         let entry = Entry {
             query,
             response,
@@ -162,32 +168,32 @@ impl ResponseCache {
             expiry,
             source,
         };
-        put(&mut self.entries, self.size, entry)
+        self.index.put(alloc, self.size, entry)
     }
 
     pub fn entry_count(&self) -> u64
         ensures count { result ≡ length self.now.entries }
         ensures sound { IsSound self.now }
     {
-        self.entries.len() as u64
+        self.index.len() as u64
     }
 
     /// Whether there is an entry for a question, expired or not.
     pub fn has(&self, query: &Query) -> bool
         ensures { result ≡ list_any (is_for query.now) self.now.entries }
     {
-        self.entries.iter().any(|e| e.is_for(query))
+        self.index.has(query)
     }
 }
 
 impl TryClone for ResponseCache {
     fn try_clone(&self, alloc: Global) -> Result<Self, NoMemory> {
         let config = self.config.try_clone(alloc)?;
-        let entries = try_clone_all(alloc, &self.entries)?;
+        let (index, _next) = self.index.renumbered(alloc)?;
         Ok(ResponseCache {
             size: self.size,
             config,
-            entries,
+            index,
         })
     }
 }

@@ -1,8 +1,7 @@
 //! What is kept under a question.
-ghost use Rattle.std.specs.Prelude.{◌≡◌, find, IfOk};
-ghost use Rattle.std.specs.Option.{option_copied};
+ghost use Rattle.std.specs.Prelude.{◌≡◌, IfOk};
 ghost use Rattle.dns_core.specs.Name.{same_names};
-ghost use Rattle.resolver_cache.specs.Entry.{is_for, is_current, current_for};
+ghost use Rattle.resolver_cache.specs.Entry.{is_for, is_current};
 
 use dns_core::{Message, Name, NetError, NoMemory, Query, TryClone};
 use std::alloc::Global;
@@ -47,25 +46,6 @@ impl Entry {
         ensures { result ≡ is_current now self.now }
     {
         now <= self.expiry
-    }
-}
-
-/// The entry for a question, expired or not.
-fn entry_for<'e>(entries: &'e [Entry], query: &Query) -> Option<&'e Entry>
-    ensures { option_copied result ≡ find (is_for query.now) entries.now }
-{
-    entries.iter().find(|e| e.is_for(query))
-}
-
-/// The entry for a question, where it is current.
-pub(crate) fn current_for<'e>(entries: &'e [Entry], query: &Query, now: u64) -> Option<&'e Entry>
-    ensures { option_copied result ≡ current_for query.now now entries.now }
-{
-    let found = entry_for(entries, query)?;
-    if found.is_current(now) {
-        Some(found)
-    } else {
-        None
     }
 }
 

@@ -8,12 +8,13 @@
 mod bounds;
 mod cache;
 mod entry;
+mod index;
 mod laws;
 mod life;
 mod lowering;
-mod placing;
 mod reading;
 mod threads;
+mod writings;
 
 pub use bounds::ReversedTtl;
 pub use cache::ResponseCache;

@@ -7,3 +7,4 @@ pub mod Deciding
 pub mod Finishing
 pub mod Plans
 pub mod Moving
+pub mod Apart

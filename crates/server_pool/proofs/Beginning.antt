@@ -9,7 +9,8 @@ use Rattle.server_pool.specs.declared.rounds.Sending.{Sending}
 use Rattle.server_pool.specs.declared.rounds.Phase.{Phase}
 use Rattle.server_pool.specs.declared.rounds.Phase.TheVariants.{Asking}
 use Rattle.server_pool.specs.declared.rounds.Rounds.{Rounds}
-use Rattle.server_pool.specs.Rounds.{Goes, StandsIn, PhaseStands, HeardEnd, heard_at, ends_of, entries_of, listed, ended_by_of, RoundsStand, IsDecidedAt, DecidesAt, IsFed, IsEndOf, HasEnded, StandsAtEnd, StandsStill}
+use Rattle.server_pool.specs.Rounds.{Goes, StandsIn, PhaseStands, HeardEnd, heard_at, ends_of, entries_of, listed, RoundsStand, IsDecidedAt, DecidesAt, IsFed, IsEndOf, HasEnded, StandsAtEnd, StandsStill}
+use Rattle.retry_rules.specs.Closing.{ended_by_of}
 use Rattle.std.proofs.lemmas.List.{map-append}
 use Rattle.std.proofs.lemmas.List.Elements.{filter_map-append}
 use Rattle.server_core.specs.Order.{entry_of}

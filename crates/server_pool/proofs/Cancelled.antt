@@ -7,13 +7,11 @@ use Rattle.std.proofs.lemmas.Option.{slice_get_within}
 use Rattle.server_core.specs.Hearing.{changed_at, changed_place}
 use Rattle.server_core.specs.Servers.{Server, place_of, server_of}
 use Rattle.server_core.proofs.Changing.{changed_length}
-use Rattle.server_pool.specs.Cancelling.{after_cancelled, address_of, is_at, is_apart, cancelled, cancelled_table, settled_table}
+use Rattle.retry_rules.proofs.Apart.{address_in}
+use Rattle.server_pool.specs.Cancelling.{cancelled, cancelled_table, settled_table}
+use Rattle.retry_rules.specs.Cancelling.{after_cancelled, address_of, is_at, is_apart}
 use Rattle.server_pool.specs.declared.rounds.Sending.{Sending}
 use Rattle.server_pool.specs.declared.rounds.Rounds.{Rounds}
-
--- the address of a server, if there is one
-abbrev pub address_in : Option Server → Option IpAddr
-address_in o = elim o [ None ↦ None | Some server ↦ Some server.config.ip ]
 
 -- a record leaves the addresses as they were
 address_at : (winner now n : ℕ) (table : List Server) (m : ℕ) → address_in (slice_get (changed_place (after_cancelled winner now) n table) m) ≡ address_in (slice_get table m)
@@ -69,16 +67,3 @@ pub removed_set : {X : Type 0} (xs : List X) (i : ℕ) (x : X) → remove (set x
 removed_set [] i x = refl
 removed_set (y ∷ xs) zero x = refl
 removed_set {X = X} (y ∷ xs) (suc i) x = ap (λ (l : List X). y ∷ l) (removed_set xs i x)
-
-pub apart_at : (a : ℕ → Option IpAddr) (among : List ℕ) (n : ℕ) (ip : IpAddr) → a n ≡ Some ip → is_apart a among n ≡ not (list_any (λ m. is_at ip (a m)) among)
-apart_at a among n ip h = ap (λ (o : Option IpAddr). elim o as (λ _. Bool) [ None ↦ false | Some ip ↦ not (list_any (λ m. is_at ip (a m)) among) ]) h
-
--- one that is apart is there
-pub apart_within : (table : List Server) (among : List ℕ) (n : ℕ) → is_apart (address_of table) among n ≡ true → place_of n < length table
-apart_within table among n h = by_server (server_of table n) refl h
-  where
-    by_server : (o : Option Server) → server_of table n ≡ o
-        → elim (elim o as (λ _. Option IpAddr) [ None ↦ None | Some server ↦ Some server.config.ip ]) as (λ _. Bool) [ None ↦ false | Some ip ↦ not (list_any (λ m. is_at ip (address_of table m)) among) ] ≡ true
-        → place_of n < length table
-    by_server None e h = cc
-    by_server (Some s) e h = slice_get_within table (place_of n) s e

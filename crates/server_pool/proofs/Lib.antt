@@ -1,11 +1,6 @@
 pub mod OpenOrders
 pub mod Sendings
 pub mod Beginning
-pub mod Growing
-pub mod Patience
-mod Keys
-mod Slots
-mod Carried
 pub mod Beside
 pub mod Narrowed
 pub mod ByAddress

@@ -21,7 +21,8 @@ use Rattle.server_pool.specs.OpenLookup.{polls_at, StandsTelling, LookupStands, 
 use Rattle.server_pool.specs.Orders.{opens, HasSameOrdersBut, TookOutcome, TakesBy}
 use Rattle.server_pool.specs.PoolSteps.{HasStepped, IsFedBy}
 use Rattle.std.specs.List.{All}
-use Rattle.server_pool.specs.Rounds.{HeardEnd, ended_by_of, heard_at, RoundsStand, IsOpenAt, StandsBy, StandsStill, StandsAtEnd, HasEnded}
+use Rattle.server_pool.specs.Rounds.{HeardEnd, heard_at, RoundsStand, IsOpenAt, StandsBy, StandsStill, StandsAtEnd, HasEnded}
+use Rattle.retry_rules.specs.Closing.{ended_by_of}
 use Rattle.server_pool.specs.SharedStands.{HasLookup}
 use Rattle.server_pool.proofs.OpenLookups.{awake_polls, nap_own, no_nap, none_there, same_one, open_found, untold_stands}
 

@@ -5,7 +5,8 @@ use Rattle.server_core.specs.Hearing.{changed_at}
 use Rattle.server_core.specs.Sending.{after_step, after_want}
 use Rattle.server_core.specs.declared.server_send.Stage.{Stage}
 use Rattle.server_core.proofs.Configured.{configs_kept, step_configured, want_configured}
-use Rattle.server_pool.specs.Cancelling.{after_cancelled, cancelled, settled_table}
+use Rattle.server_pool.specs.Cancelling.{cancelled, settled_table}
+use Rattle.retry_rules.specs.Cancelling.{after_cancelled}
 use Rattle.server_pool.specs.Shared.{configs}
 use Rattle.server_pool.specs.declared.rounds.Sending.{Sending}
 use Rattle.server_pool.specs.declared.rounds.Rounds.{Rounds}

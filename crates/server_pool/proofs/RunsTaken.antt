@@ -24,7 +24,8 @@ use Rattle.server_core.specs.declared.server_send.ServerSend.{ServerSend}
 use Rattle.server_core.specs.declared.server_send.Stage.{Stage}
 use Rattle.server_core.specs.declared.server_send.Stage.TheVariants as stage
 use Rattle.server_pool.specs.OpenLookup.{IsAsleep, StandsTelling, after_polls, nap_after}
-use Rattle.server_pool.specs.Rounds.{HeardEnd, heard_at, ends_of, RoundsStand, StandsIn, IsDecidedAt, DecidesAt, IsSameLookup, ended_by_of, heard_table, first_send, TakesInTime, TakesBusy, GoesOnFrom, SettlesAt, HasTaken, StandsAtEnd, StandsBy}
+use Rattle.server_pool.specs.Rounds.{HeardEnd, heard_at, ends_of, RoundsStand, StandsIn, IsDecidedAt, DecidesAt, IsSameLookup, heard_table, first_send, TakesInTime, TakesBusy, GoesOnFrom, SettlesAt, HasTaken, StandsAtEnd, StandsBy}
+use Rattle.retry_rules.specs.Closing.{ended_by_of}
 use Rattle.server_pool.specs.Running.{answer_of, request_of, IsDone, IsGoing, GoesTo, Runs, IsFor, IsOpenTo, AreReached, heard_after, RunsTaken, RunsSlept}
 use Rattle.retry_rules.specs.declared.candidate.Candidate.{Candidate}
 use Rattle.server_pool.specs.declared.open_lookup.Nap.{Nap}

@@ -16,7 +16,8 @@ use Rattle.server_pool.specs.declared.rounds.Sending.{Sending}
 use Rattle.server_pool.specs.declared.rounds.Rounds.{Rounds}
 use Rattle.retry_rules.specs.Agenda.{Plan, PlanStands, among, own, may_sleep, same_candidate, rules_of, class_of_sent}
 use Rattle.server_core.specs.Order.{entry_of}
-use Rattle.server_pool.specs.Rounds.{under_way, ended_by_of, IsFed, IsStillAt, IsOpenAt}
+use Rattle.server_pool.specs.Rounds.{under_way, IsFed, IsStillAt, IsOpenAt}
+use Rattle.retry_rules.specs.Closing.{ended_by_of}
 use Rattle.retry_rules.proofs.Standing.{or_left}
 use Rattle.retry_rules.proofs.Plans.{same_self}
 use Rattle.retry_rules.proofs.Moving.{stands_moved, first_last, picked_first}

@@ -30,7 +30,8 @@ use Rattle.server_pool.specs.NextStep.{is_idle, IsTaken, Steps, StepsBy, StepsAt
 use Rattle.server_pool.specs.NextStep.BeginsRound.{due, woken}
 use Rattle.server_pool.specs.NextStep.HasGone.{heard, began}
 use Rattle.retry_rules.specs.Agenda.{Plan}
-use Rattle.server_pool.specs.Cancelling.{ends_by_message, settled_table}
+use Rattle.server_pool.specs.Cancelling.{settled_table}
+use Rattle.retry_rules.specs.Cancelling.{ends_by_message}
 use Rattle.server_pool.proofs.Beginning.{decides_on}
 use Rattle.retry_rules.proofs.Standing.{or_left}
 use Rattle.server_pool.proofs.Sendings.{get_set}

@@ -1,11 +1,6 @@
 pub mod Cancelling
 pub mod Orders
 pub mod Rounds
-pub mod Key
-pub mod Fits
-pub mod Carrying
-pub mod Patience
-pub mod Stands
 pub mod NextStep
 pub mod OpenLookup
 pub mod Candidates

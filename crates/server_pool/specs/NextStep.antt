@@ -21,7 +21,8 @@ use Rattle.server_pool.specs.declared.next_step.Doing.TheVariants as doing
 use Rattle.server_pool.specs.declared.next_step.RoundStep.{RoundStep}
 use Rattle.server_pool.specs.declared.next_step.RoundStep.TheVariants as given
 use Rattle.server_pool.specs.Rounds.{HeardEnd, ends_of, RoundsStand, IsAnswered, DecidesAt, IsEndOf, TakesRound, TakesBusy, TakesInTime, Drops, IsSameRound}
-use Rattle.server_pool.specs.Cancelling.{ends_by_message, settled_table}
+use Rattle.server_pool.specs.Cancelling.{settled_table}
+use Rattle.retry_rules.specs.Cancelling.{ends_by_message}
 
 -- no order of it is open
 abbrev pub is_idle : Sending → Bool

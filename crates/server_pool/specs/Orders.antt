@@ -9,7 +9,7 @@ use Rattle.server_core.specs.declared.order.After.{After}
 use Rattle.server_core.specs.declared.order.Order.{Order}
 use Rattle.server_core.specs.declared.order.Outcome.{Outcome}
 use Rattle.server_core.specs.declared.server_send.ServerSend.{ServerSend}
-use Rattle.server_pool.specs.Rounds.{ended_by_of}
+use Rattle.retry_rules.specs.Closing.{ended_by_of}
 use Rattle.server_pool.specs.declared.next_step.RoundStep.{RoundStep}
 use Rattle.server_pool.specs.declared.next_step.RoundStep.TheVariants as given
 use Rattle.server_pool.specs.declared.rounds.Sending.{Sending}

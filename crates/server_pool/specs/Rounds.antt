@@ -19,7 +19,9 @@ use Rattle.server_core.specs.declared.order.Outcome.{Outcome}
 use Rattle.server_core.specs.declared.server_send.ServerSend.{ServerSend}
 use Rattle.server_core.specs.declared.server_send.Stage.{Stage}
 use Rattle.server_core.specs.declared.server_send.Stage.TheVariants as stage
-use Rattle.server_pool.specs.Cancelling.{ends_by_message, settled_table}
+use Rattle.server_pool.specs.Cancelling.{settled_table}
+use Rattle.retry_rules.specs.Closing.{ended_by_of}
+use Rattle.retry_rules.specs.Cancelling.{ends_by_message}
 use Rattle.retry_rules.specs.Agenda.{Plan, may_ask, rules_of, class_of_sent, end_at, may_sleep, sleep_time, PlanStands}
 
 -- the servers of the sends that have not ended
@@ -99,15 +101,6 @@ pub record IsNewRound (now : ℕ) (r : Rounds) : Type 0 where
 abbrev pub listed : Option ℕ → List ℕ
 listed None = []
 listed (Some n) = n ∷ []
-
--- the entry by which a send ended that stands so, if it did
-abbrev pub ended_by_of : Stage → ℕ → Option ℕ
-ended_by_of stage.Ready entry = None
-ended_by_of (stage.Opening protocol order polls) entry = None
-ended_by_of (stage.Opened protocol conn) entry = None
-ended_by_of (stage.Asking asked polls) entry = None
-ended_by_of (stage.Ended result) entry = Some entry
-ended_by_of stage.Over entry = None
 
 -- nothing is under way or waits, and it may sleep
 pub record CanWake (r : Rounds) : Type 0 where

@@ -1,14 +1,10 @@
-//! A pool of servers: its lookups with their rounds, what they share, and how what is ordered for a
-//! pool is carried out over a provider. The rules by which servers are asked again are those of
-//! `retry_rules`.
+//! A pool of servers: its lookups with their rounds, and what they share. The rules by which servers are
+//! asked again are those of `retry_rules`; what is ordered for a pool is carried out by `order_carrier`.
 #![tactic(auto)]
 
 mod by_number;
 mod cancelling;
 mod candidates;
-mod carrier;
-mod giving_up;
-mod key;
 mod new_pool;
 mod next_step;
 mod open_lookup;
@@ -17,11 +13,10 @@ mod pool_laws;
 mod pool_lookup;
 mod pool_shared;
 mod rounds;
-mod slot;
 mod threads;
 
-pub use carrier::Carrier;
 pub use next_step::RoundStep;
+pub use order_carrier::{Carrier, carriers_cross_threads};
 pub use pool::NameServerPool;
 pub use pool_laws::a_pool_expires_after_its_ttl;
 pub use pool_lookup::PoolLookup;
@@ -31,4 +26,4 @@ pub use retry_rules::{
     filtered, most_specific, ordered, sort_servers_by_query_statistics,
     the_earlier_negative_is_kept, the_kept_error_is_what_is_left,
 };
-pub use threads::{carriers_cross_threads, pools_cross_threads};
+pub use threads::pools_cross_threads;

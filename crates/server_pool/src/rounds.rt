@@ -13,12 +13,14 @@ ghost use Rattle.retry_rules.specs.Ordering.{side_by_side};
 ghost use Rattle.server_pool.specs.Orders.{opens, HasSameOrders, HasSameOrdersBut, TakesBy};
 ghost use Rattle.server_pool.specs.Running.{Runs};
 ghost use Rattle.server_pool.specs.Shared.{configs};
-ghost use Rattle.server_pool.specs.Rounds.{Goes, PhaseStands, RoundsStand, HeardEnd, listed, ended_by_of, IsDecidedAt, DecidesAt, IsSameRound, IsNewRound, SettlesAt, HasTaken, IsSameLookup, MayBeLate, IsFed, IsOpenAt, IsStillAt, IsEndOf, HasEnded, StandsAtEnd, StandsBy, StandsStill, wakes_at, RestsFrom, BeginsWith, work, steps_left, first_send, Takes, TakesRound, TakesBusy, heard_table};
+ghost use Rattle.server_pool.specs.Rounds.{Goes, PhaseStands, RoundsStand, HeardEnd, listed, IsDecidedAt, DecidesAt, IsSameRound, IsNewRound, SettlesAt, HasTaken, IsSameLookup, MayBeLate, IsFed, IsOpenAt, IsStillAt, IsEndOf, HasEnded, StandsAtEnd, StandsBy, StandsStill, wakes_at, RestsFrom, BeginsWith, work, steps_left, first_send, Takes, TakesRound, TakesBusy, heard_table};
+ghost use Rattle.retry_rules.specs.Closing.{ended_by_of};
 
-use crate::cancelling::ends_by_message;
 use dns_core::{DnsRequest, Message, NetError, NoMemory, TryClone};
 use resolver_settings::ResolverOpts;
-use retry_rules::{Agenda, Candidate, Hearing, side_by_side};
+use retry_rules::{
+    Agenda, Candidate, Hearing, ended_by_of, ends_by_message, is_late, side_by_side, wakes_at,
+};
 use server_core::{
     After, ConnectionPolicy, Outcome, PoolContext, ServerSend, ServerTable, Stage, Tick,
 };
@@ -120,16 +122,6 @@ fn remove_ended(
     ended.push_reserved(server);
 }
 
-/// By which entry a send ended that stands so after the outcome that the entry says, if it did.
-fn ended_by_of(stage: &Stage, entry: u64) -> Option<u64>
-    ensures { result ≡ ended_by_of stage.now entry }
-{
-    match stage {
-        Stage::Ended(_) => Some(entry),
-        _ => None,
-    }
-}
-
 impl Sending {
     /// Takes the outcome of its open order, and keeps by which entry it ended, if it did.
     fn put(
@@ -165,7 +157,7 @@ impl Rounds {
     fn is_late(&self, now: u64) -> bool
         ensures { result ≡ nat_le (self.now.start + self.now.timeout) now }
     {
-        self.start <= now && self.timeout <= now - self.start
+        is_late(self.start, self.timeout, now)
     }
 
     /// Sends to one more server, if one is left. Where memory is wanting, nothing has changed.
@@ -238,8 +230,7 @@ impl Rounds {
         requires { self.now.agenda.sleeps ≤ 4 }
         ensures { result ≡ min (wakes_at self.now now) (2 ^ 64 - 1) }
     {
-        let deadline = self.start.saturating_add(self.timeout);
-        deadline.min(now.saturating_add(self.agenda.sleep_time()))
+        wakes_at(self.start, self.timeout, self.agenda.sleep_time(), now)
     }
 
     /// Where no send is under way and no server is left: the lookup sleeps, or the error that is kept

@@ -1,21 +1,20 @@
 //! What has come of a scenario so far.
 ghost use Rattle.std.specs.Prelude.{◌≡◌, Some, None, OnOk, IfOk, if◌then◌else◌};
-ghost use Rattle.recursor_text.specs.declared.reading.lines.Form.TheVariants as form;
-ghost use Rattle.recursor_text.specs.Fields.{Gives};
+ghost use Rattle.line_forms.specs.declared.lines.Form.TheVariants as form;
+ghost use Rattle.text_words.specs.Fields.{Gives};
 ghost use Rattle.recursor_text.specs.Spelling.{last_moment};
 ghost use Rattle.recursor_text.specs.Unbuilt.{place_of};
 ghost use Rattle.recursor_text.specs.Steps.{Steps, may_head, may_root, may_option, may_wait, may_tell, may_reply, may_ask, may_turn, may_end, is_ended, start, put, settle, add, taken, scenario_of, is_settled, rule_of};
 
-use super::lines::{Form, form_line};
-use super::option_form::{OptionLine, last_rank, options_with};
-use super::record_lines::record_line;
-use super::rules::{Counts, OpenRule};
-use super::words::{LineError, pass};
 use crate::scenario::{Scenario, Upstream};
 use dns_core::{Ips, Items, NoMemory, Question, Record, TryClone, Turn};
+use line_forms::{
+    Counts, Form, OpenRule, OptionLine, form_line, last_rank, options_with, record_line,
+};
 use recursor_world::{Script, ScriptLine};
 use std::alloc::Global;
 use std::net::IpAddr;
+use text_words::{LineError, pass};
 
 /// How many roots, questions and turns a scenario may have.
 const MOST_ROOTS: usize = 64;

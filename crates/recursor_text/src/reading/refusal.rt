@@ -1,15 +1,14 @@
 //! Lines that are not taken: which of them the format has, though they are not read yet.
 ghost use Rattle.std.specs.Prelude.{◌≡◌, Option, IfOk};
-ghost use Rattle.recursor_text.specs.Fields.{Gives, GivesFields, checked};
+ghost use Rattle.text_words.specs.Fields.{Gives, GivesFields, checked};
 ghost use Rattle.recursor_text.specs.Unbuilt.{is_protocol, is_dnssec, told_line, refuse_line, connect_line, reply_line, question_line, ipv4_data, ipv6_data, name_data, soa_data, signature_data, bytes_data, data_line, stands, record_line, is_at_options, is_at_told, is_at_rules, is_at_questions, rule_line, late_line, other_line, line_at, refusal_at};
 
-use super::codes::record_type;
 use super::draft::{Place, Refusal, Stage};
-use super::lines::{answered, connected, delay};
 use super::option_lines::option_line;
-use super::words::{LineError, Words, pass};
 use dns_core::NoMemory;
+use line_forms::{answered, connected, delay};
 use std::alloc::Global;
+use text_words::{LineError, Words, pass, record_type};
 
 // ---- words
 

@@ -4,11 +4,10 @@ ghost use Rattle.recursor_text.specs.Reading.{GivesScenario, finish, fails_at, c
 ghost use Rattle.recursor_text.specs.Unbuilt.{refusal_at};
 
 use super::draft::{Draft, Place, Refusal};
-use super::pieces::cut;
 use super::refusal::refusal;
-use super::words::LineError;
 use crate::scenario::{Cause, Scenario, ScenarioError};
 use std::alloc::Global;
+use text_words::{LineError, cut};
 
 /// How many bytes a text may have.
 const MOST: usize = 16_777_216;

@@ -1,10 +1,10 @@
 use Rattle.std.proofs.Common.{◌≡◌, ◌≤◌, ◌∙◌, [], Contains, arith, subst, max}
 use Rattle.std.proofs.lemmas.Result.{IfOk-weaker}
-use Rattle.server_pool.specs.Carrying.{TellsThat}
+use Rattle.order_carrier.specs.Carrying.{TellsThat}
 use Rattle.recursor_core.specs.Standing.{RepliesHold, last_moment, run_moments}
-use Rattle.recursor_core.specs.declared.setting.Setting.{Setting}
+use Rattle.recursor_setting.specs.declared.setting.Setting.{Setting}
 use Rattle.recursor_core.specs.Replies.{terms_with}
-use Rattle.server_pool.proofs.Patience.{IsPatient-trans}
+use Rattle.order_carrier.proofs.Patience.{IsPatient-trans}
 use Rattle.recursor_core.proofs.Playing.{plays_wait, replies_hold}
 use Rattle.recursor_core.proofs.Timed.{run_first, run_turns, run_last, contains_max, contains_moment}
 use Rattle.recursor_core.proofs.Moments.{over_refl, over_one, over_trans}

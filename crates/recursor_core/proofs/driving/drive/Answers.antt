@@ -1,10 +1,10 @@
 use Rattle.std.proofs.Common.{◌<◌, ◌∙◌, ℕ, length, IfOk, sym, subst}
-use Rattle.server_pool.specs.Carrying.{TellsThat}
+use Rattle.order_carrier.specs.Carrying.{TellsThat}
 use Rattle.recursor_core.specs.Standing.{Standing, run_terms, run_moments, RepliesHold, IsPast}
 use Rattle.recursor_core.proofs.Moments.{rises_over}
 use Rattle.recursor_core.specs.Replies.{terms_with}
-use Rattle.recursor_core.specs.Setting.{with_patience}
-use Rattle.recursor_core.specs.declared.setting.Setting.{Setting}
+use Rattle.recursor_setting.specs.Setting.{with_patience}
+use Rattle.recursor_setting.specs.declared.setting.Setting.{Setting}
 use Rattle.recursor_core.proofs.Standing.{rests_holds, holds_rests}
 use Rattle.recursor_core.proofs.driving.drive.Goals as goal
 

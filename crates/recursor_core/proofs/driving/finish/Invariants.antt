@@ -2,8 +2,8 @@ use Rattle.std.proofs.Common.{◌≡◌, ◌⊎◌, ℕ, max, List, Contains, ve
 use Rattle.dns_core.specs.declared.log.LogEntry.{LogEntry}
 use Rattle.dns_core.specs.declared.request.Question.{Question}
 use Rattle.dns_core.specs.declared.request.Turn.{Turn}
-use Rattle.server_pool.specs.Carrying.{Grown}
-use Rattle.server_pool.specs.Patience.{IsPatient}
+use Rattle.order_carrier.specs.Carrying.{Grown}
+use Rattle.order_carrier.specs.Patience.{IsPatient}
 use Rattle.recursor_core.specs.Standing.{Holds, PlaysHold, run_moments}
 use Rattle.recursor_core.specs.Turns.{work}
 use Rattle.recursor_core.proofs.driving.finish.Given as goal

@@ -1,8 +1,8 @@
 use Rattle.std.proofs.Common.{◌≡◌, ◌≤◌, ◌+◌, ◌-◌, ◌∷◌, ℕ, Contains, arith, max, subst, sym}
-use Rattle.server_pool.proofs.Patience.{IsPatient-trans}
+use Rattle.order_carrier.proofs.Patience.{IsPatient-trans}
 use Rattle.recursor_core.proofs.Standing.{holds_derived, moment_later}
 use Rattle.recursor_core.proofs.Playing.{plays_skip, plays_turn}
-use Rattle.server_pool.specs.Carrying.{TellsThat}
+use Rattle.order_carrier.specs.Carrying.{TellsThat}
 use Rattle.recursor_core.specs.Standing.{run_moments, IsPast}
 use Rattle.recursor_core.proofs.Timed.{contains_max, contains_moment}
 use Rattle.recursor_core.proofs.Moments.{over_refl, over_one, over_trans}

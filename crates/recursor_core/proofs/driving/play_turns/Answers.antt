@@ -5,7 +5,7 @@ use Rattle.dns_core.specs.declared.request.Turn.{Turn}
 use Rattle.recursor_core.specs.Standing.{PlaysHold, run_moments}
 use Rattle.recursor_core.proofs.Timed.{run_turns}
 use Rattle.recursor_core.proofs.Moments.{over_trans}
-use Rattle.server_pool.proofs.Patience.{IsPatient-trans}
+use Rattle.order_carrier.proofs.Patience.{IsPatient-trans}
 use Rattle.recursor_core.proofs.driving.play_turns.Goals as goal
 
 pub loop-turn-preserved : goal.loop-turn-preserved

@@ -1,6 +1,6 @@
 use Rattle.std.proofs.Common.{◌≡◌, ◌≤◌, ℕ, max, List, All, Contains, drop, vec_len}
 use Rattle.dns_core.specs.declared.log.LogEntry.{LogEntry}
-use Rattle.server_pool.specs.Patience.{IsPatient}
+use Rattle.order_carrier.specs.Patience.{IsPatient}
 use Rattle.recursor_core.specs.Standing.{Holds, PlaysHold, run_moments, GrownOver}
 use Rattle.recursor_core.proofs.driving.play_turns.Given as goal
 

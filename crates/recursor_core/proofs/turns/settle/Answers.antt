@@ -1,6 +1,6 @@
 use Rattle.std.proofs.Common.{IfOk, subst}
 use Rattle.recursor_core.specs.Standing.{TurnedTold}
-use Rattle.recursor_core.specs.declared.setting.Setting.{Setting}
+use Rattle.recursor_setting.specs.declared.setting.Setting.{Setting}
 use Rattle.recursor_core.specs.Replies.{terms_with}
 use Rattle.recursor_core.proofs.Standing.{holds_put}
 use Rattle.recursor_core.proofs.turns.settle.Goals as goal

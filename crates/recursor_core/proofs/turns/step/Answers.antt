@@ -3,7 +3,7 @@ use Rattle.recursor_core.specs.Machine.{begun_at, rank, StepFalls}
 use Rattle.recursor_core.specs.Derived.{terms_of}
 use Rattle.recursor_core.specs.Standing.{ReplyTold, TurnedTold}
 use Rattle.recursor_core.specs.declared.machine.Step.{Step}
-use Rattle.recursor_core.specs.declared.setting.Setting.{Setting}
+use Rattle.recursor_setting.specs.declared.setting.Setting.{Setting}
 use Rattle.recursor_core.specs.Replies.{terms_with}
 use Rattle.recursor_core.proofs.Standing.{holds_derived, step_goes, step_replies, turn_falls}
 use Rattle.recursor_core.proofs.turns.step.Goals as goal

@@ -2,7 +2,7 @@ use Rattle.std.proofs.Common.{◌<◌, arith, subst}
 use Rattle.recursor_core.specs.Machine.{begun_at, rank}
 use Rattle.recursor_core.specs.Derived.{terms_of}
 use Rattle.recursor_core.specs.Standing.{ReplyTold}
-use Rattle.recursor_core.specs.declared.setting.Setting.{Setting}
+use Rattle.recursor_setting.specs.declared.setting.Setting.{Setting}
 use Rattle.recursor_core.specs.Replies.{terms_with}
 use Rattle.recursor_core.proofs.Standing.{moves_trans, ReplyTold-later}
 use Rattle.recursor_core.proofs.turns.turn.Goals as goal

@@ -3,7 +3,7 @@ use Rattle.recursor_core.specs.Derived.{terms_of}
 use Rattle.recursor_core.specs.Pools.{PoolsHold}
 use Rattle.recursor_core.specs.Remembered.{CacheHolds}
 use Rattle.recursor_core.specs.Replies.{terms_with}
-use Rattle.recursor_core.specs.declared.setting.Setting.{Setting}
+use Rattle.recursor_setting.specs.declared.setting.Setting.{Setting}
 use Rattle.recursor_core.proofs.Kept.{same-log}
 use Rattle.recursor_core.proofs.Remembering.{cache-on}
 use Rattle.recursor_core.proofs.machine.RecursorCore.clear.Goals as goal

@@ -1,7 +1,7 @@
 use Rattle.std.proofs.Common.{◌+◌, arith, sym, subst}
 use Rattle.std.proofs.lemmas.Result.{IfOk-from_err}
 use Rattle.server_core.specs.declared.order.Order.{Order}
-use Rattle.server_pool.specs.Fits.{GoesToServer}
+use Rattle.order_carrier.specs.Fits.{GoesToServer}
 use Rattle.recursor_core.specs.Derived.{terms_of}
 use Rattle.recursor_core.specs.Replies.{given_of}
 use Rattle.recursor_core.proofs.Cores.{goes-err}

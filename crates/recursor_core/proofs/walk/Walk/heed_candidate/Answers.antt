@@ -6,7 +6,7 @@ use Rattle.recursor_core.specs.Causes.{ErrorHolds}
 use Rattle.recursor_core.specs.Counted.{Stands}
 use Rattle.recursor_core.specs.Replies.{given_of}
 use Rattle.recursor_core.specs.Tried.{machine_timer}
-use Rattle.recursor_core.specs.Walk.{made_negative}
+use Rattle.recursor_walk.specs.Answer.{made_negative}
 use Rattle.recursor_core.proofs.Denials.{made-on-the-way, denied}
 use Rattle.recursor_core.proofs.Walks.{candidate-asked, candidate-on-the-way}
 use Rattle.recursor_core.proofs.walk.Walk.heed_candidate.Goals as goal

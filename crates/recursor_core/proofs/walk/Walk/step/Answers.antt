@@ -2,7 +2,8 @@ use Rattle.std.proofs.Common.{ℕ, ◌≤◌, ◌+◌, ◌*◌, ◌^◌, length}
 use Rattle.std.proofs.lemmas.Result.{on_err_weaker}
 use Rattle.recursor_core.specs.Lookup.{steps, polls_left}
 use Rattle.recursor_core.specs.Lookup as lookup
-use Rattle.recursor_core.specs.Walk.{lookups_after, rank}
+use Rattle.recursor_walk.specs.Stage.{lookups_after}
+use Rattle.recursor_core.specs.Walk.{rank}
 use Rattle.recursor_core.specs.declared.lookup.Lookup.{Lookup}
 use Rattle.recursor_core.specs.declared.walk.Walk.{Walk}
 use Rattle.recursor_core.proofs.Ranks.{lifted_most}

@@ -2,7 +2,8 @@ use Rattle.std.proofs.Common.{◌≡◌, ◌∙◌, ℕ, List, ap, subst, sym, i
 use Rattle.resolution.specs.Lookups.{Answered}
 use Rattle.server_core.specs.declared.policy.ConnectionPolicy.{ConnectionPolicy}
 use Rattle.retry_rules.specs.Agenda.{Plan}
-use Rattle.server_pool.specs.Cancelling.{ends_by_message, settled_table}
+use Rattle.server_pool.specs.Cancelling.{settled_table}
+use Rattle.retry_rules.specs.Cancelling.{ends_by_message}
 use Rattle.server_pool.specs.Rounds.{heard_at, ends_of, entries_of, listed, IsEndOf, SettlesAt, Drops, IsStill}
 use Rattle.server_pool.proofs.Beginning.{goes_now, stands_more, more_is_some, on_err_always, at_some_end}
 use Rattle.server_pool.proofs.Stepping.{some_at}

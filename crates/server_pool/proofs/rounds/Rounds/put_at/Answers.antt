@@ -1,7 +1,8 @@
 use Rattle.std.proofs.Common.{◌∙◌, Ok}
 use Rattle.server_pool.proofs.Beginning.{open_end, goes_now, asks_on, at_entry, fed_on, on_err_always}
 use Rattle.server_core.specs.Order.{entry_of}
-use Rattle.server_pool.specs.Rounds.{ends_of, ended_by_of, SettlesAt}
+use Rattle.server_pool.specs.Rounds.{ends_of, SettlesAt}
+use Rattle.retry_rules.specs.Closing.{ended_by_of}
 use Rattle.std.proofs.Common.{List, Option, subst}
 use Rattle.resolution.specs.Lookups.{Answered}
 use Rattle.server_core.specs.Servers.{Server}

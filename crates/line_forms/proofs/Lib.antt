@@ -1,0 +1,4 @@
+pub mod LineLaws
+pub mod OptionLaws
+pub mod RecordLaws
+pub mod TableLaws

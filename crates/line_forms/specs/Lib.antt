@@ -1,0 +1,4 @@
+pub mod Lines
+pub mod OptionForm
+pub mod RecordLines
+pub mod Spelling

@@ -1,0 +1,56 @@
+-- What each line of a record says.
+use Rattle.std.specs.Prelude.{◌≡◌, ℕ, List, ◌==◌, Bool, true, false, Option, Some, None, if◌then◌else◌, refl}
+use Rattle.dns_core.specs.Name.{DomainName}
+use Rattle.dns_core.specs.Record.{is_typed}
+use Rattle.dns_core.specs.declared.codes.RecordType.{RecordType}
+use Rattle.dns_core.specs.declared.codes.DnsClass.{DnsClass}
+use Rattle.dns_core.specs.declared.record.RData.{RData}
+use Rattle.dns_core.specs.declared.record.RData.TheVariants.{A, AAAA, NS, SOA, Opaque}
+use Rattle.dns_core.specs.declared.record.Record.{Record}
+use Rattle.dns_core.specs.declared.record.Soa.{Soa}
+use Rattle.text_words.specs.Addresses.{ipv6_of}
+use Rattle.text_words.specs.Codes.{type_of, class_of, is_record_type}
+use Rattle.text_words.specs.Fields.{Fields, field, kept, both, whole, wide_field}
+use Rattle.text_words.specs.Hex.{bytes_of}
+use Rattle.text_words.specs.Names.{full_name}
+use Rattle.text_words.specs.Numbers.{◌>>=◌, ipv4_of}
+use Rattle.text_words.specs.Pieces.{pieces}
+
+-- what stands before the data
+unfoldable pub record_head : Fields (DomainName × (ℕ × (DnsClass × RecordType)))
+record_head = both (field full_name) (both wide_field (both (field class_of) (field (kept is_record_type type_of))))
+
+abbrev pub soa_parts : Type 0
+soa_parts = DomainName × (DomainName × (ℕ × (ℕ × (ℕ × (ℕ × ℕ)))))
+
+abbrev pub soa_fields : Fields soa_parts
+soa_fields = both (field full_name) (both (field full_name) (both wide_field (both wide_field (both wide_field (both wide_field wide_field)))))
+
+abbrev pub soa_from : soa_parts → Soa
+soa_from x = record { mname = x.0; rname = x.1.0; serial = x.1.1.0; refresh = x.1.1.1.0; retry = x.1.1.1.1.0; expire = x.1.1.1.1.1.0; minimum = x.1.1.1.1.1.1 }
+
+unfoldable pub soa_of : List (List ℕ) → Option RData
+soa_of = whole soa_fields (λ x. SOA (soa_from x))
+
+-- the data of a type; each that has no form of its own has bytes
+unfoldable pub data_of : RecordType → List (List ℕ) → Option RData
+data_of t ws =
+    if t.code == 1 then whole (field ipv4_of) A ws
+    else if t.code == 2 then whole (field full_name) NS ws
+    else if t.code == 6 then soa_of ws
+    else if t.code == 28 then whole (field ipv6_of) AAAA ws
+    else whole (field bytes_of) Opaque ws
+
+-- a record, where the test whether its type is that of its data came out so
+abbrev pub record_from : DomainName → ℕ → DnsClass → (t : RecordType) → (x : RData) → (b : Bool) → is_typed t x ≡ b → Option Record
+record_from n life c t x true typed = Some (record { name = n; ttl = life; dns_class = c; record_type = t; rdata = x; typed = typed })
+record_from n life c t x false typed = None
+
+abbrev pub record_of_data : DomainName × (ℕ × (DnsClass × RecordType)) → RData → Option Record
+record_of_data h x = record_from h.0 h.1.0 h.1.1.0 h.1.1.1 x (is_typed h.1.1.1 x) refl
+
+unfoldable pub records_of : List (List ℕ) → Option Record
+records_of ws = record_head ws >>= λ h. data_of h.0.1.1.1 h.1 >>= record_of_data h.0
+
+abbrev pub record_of : List ℕ → Option Record
+record_of line = records_of (pieces 32 line)

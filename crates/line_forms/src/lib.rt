@@ -1,0 +1,12 @@
+//! What each line of a scenario says: the options, the records, and every other kind of line.
+#![tactic(auto)]
+
+mod lines;
+mod option_form;
+mod record_lines;
+mod rules;
+
+pub use lines::{Form, answered, connected, delay, form_line};
+pub use option_form::{Bounds, OptionLine, last_rank, options_with};
+pub use record_lines::record_line;
+pub use rules::{Counts, MessageHead, OpenRule};

@@ -1,0 +1,64 @@
+-- Keys of orders that compare as equal.
+use Rattle.std.proofs.Common.{Bool, true, false, ◌≡◌, ◌&&◌, ℕ, refl, sym, ap}
+use Rattle.std.specs.Cmp.{nat_cmp_is}
+use Rattle.std.specs.Ordering.{nat_cmp, is_eq, ordering_then}
+use Rattle.std.specs.Prelude.{◌≢◌}
+use Rattle.std.specs.FinMap.{nat_cmp-IsAntisymmetric}
+use Rattle.std.specs.declared.cmp.Ordering.{Ordering}
+use Rattle.std.specs.declared.cmp.Ordering.TheVariants.{Less, Equal, Greater}
+use Rattle.order_carrier.specs.Key.{same_key}
+use Rattle.order_carrier.specs.declared.key.Form.{Form}
+use Rattle.order_carrier.specs.declared.key.Form.TheVariants as form
+use Rattle.order_carrier.specs.declared.key.OrderKey.{OrderKey}
+
+-- two comparisons that come to equal
+then_is : (o last : Ordering) → is_eq (ordering_then o last) ≡ true → (o ≡ Equal) × (last ≡ Equal)
+then_is Less last h = cc
+then_is Equal Less h = cc
+then_is Equal Equal h = (refl, refl)
+then_is Equal Greater h = cc
+then_is Greater last h = cc
+
+abbrev key : ℕ → Form → OrderKey
+key n f = record { number = n; form = f }
+
+-- keys of one form
+same_form : (n m : ℕ) (f : Form) → is_eq (ordering_then (nat_cmp n m) Equal) ≡ true → key m f ≡ key n f
+same_form n m f h = ap (λ (k : ℕ). key k f) (sym (nat_cmp-IsAntisymmetric n m (then_is (nat_cmp n m) Equal h).0))
+
+parts_are : (n m : ℕ) (f g : Form) → same_key (key n f) (key m g) ≡ true → key m g ≡ key n f
+parts_are n m form.Open form.Open h = same_form n m form.Open h
+parts_are n m form.Open form.Ask h = let k = (then_is (nat_cmp n m) Less h).1 in cc
+parts_are n m form.Open form.Sleep h = let k = (then_is (nat_cmp n m) Less h).1 in cc
+parts_are n m form.Ask form.Open h = let k = (then_is (nat_cmp n m) Greater h).1 in cc
+parts_are n m form.Ask form.Ask h = same_form n m form.Ask h
+parts_are n m form.Ask form.Sleep h = let k = (then_is (nat_cmp n m) Less h).1 in cc
+parts_are n m form.Sleep form.Open h = let k = (then_is (nat_cmp n m) Greater h).1 in cc
+parts_are n m form.Sleep form.Ask h = let k = (then_is (nat_cmp n m) Greater h).1 in cc
+parts_are n m form.Sleep form.Sleep h = same_form n m form.Sleep h
+
+-- keys that compare as equal are so
+pub key_is : (a b : OrderKey) → same_key a b ≡ true → b ≡ a
+key_is a b h = parts_are a.number b.number a.form b.form h
+
+parts_same : (n : ℕ) (f : Form) → same_key (key n f) (key n f) ≡ true
+parts_same n form.Open = ap (λ (o : Ordering). is_eq (ordering_then o Equal)) (sym (nat_cmp_is n n Equal refl))
+parts_same n form.Ask = ap (λ (o : Ordering). is_eq (ordering_then o Equal)) (sym (nat_cmp_is n n Equal refl))
+parts_same n form.Sleep = ap (λ (o : Ordering). is_eq (ordering_then o Equal)) (sym (nat_cmp_is n n Equal refl))
+
+-- a key is the same as itself
+pub key_same : (a : OrderKey) → same_key a a ≡ true
+key_same a = parts_same a.number a.form
+
+-- and another is not
+pub key_other : (a b : OrderKey) → b ≢ a → same_key a b ≡ false
+key_other a b differ = by (same_key a b) refl
+  where
+    by : (c : Bool) → same_key a b ≡ c → same_key a b ≡ false
+    by false is = is
+    by true is = absurd (differ (key_is a b is))
+
+-- where the test is made, a key is the one that was changed
+pub place_is : (a : Bool) (key n : OrderKey) → (a && same_key key n) ≡ true → n ≡ key
+place_is true key n h = key_is key n h
+place_is false key n h = cc

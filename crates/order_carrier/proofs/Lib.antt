@@ -1,0 +1,5 @@
+pub mod Growing
+pub mod Patience
+mod Keys
+mod Slots
+mod Carried

@@ -1,0 +1,5 @@
+pub mod Key
+pub mod Fits
+pub mod Carrying
+pub mod Patience
+pub mod Stands

@@ -1,0 +1,16 @@
+//! A carrier may go to another thread, and be shared among threads, where its parameters may.
+
+use crate::carrier::Carrier;
+use dns_core::ConnectionProvider;
+
+fn crosses<T: Send + Sync>() {}
+
+/// A carrier crosses threads with its provider, the connections and what is under way.
+pub fn carriers_cross_threads<P: ConnectionProvider + Send + Sync>()
+where
+    P::Conn: Send + Sync,
+    P::FutureConn: Send + Sync,
+    P::Exchange: Send + Sync,
+{
+    crosses::<Carrier<P>>();
+}

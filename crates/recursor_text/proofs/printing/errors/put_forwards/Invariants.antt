@@ -1,6 +1,0 @@
-use Rattle.std.proofs.Common.{◌≡◌, ◌++◌, take, flat_map}
-use Rattle.recursor_text.specs.Errors.{forward_text}
-use Rattle.recursor_text.proofs.printing.errors.put_forwards.Given as goal
-
-abbrev pub invariant-loop-forward : goal.invariant-loop-forward
-invariant-loop-forward l = l.out.items ≡ l.fn.out.items ++ flat_map forward_text (take l.forward-index l.forwards)

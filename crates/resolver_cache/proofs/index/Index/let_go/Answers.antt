@@ -1,0 +1,17 @@
+use Rattle.std.proofs.Common.{◌∙◌, ℕ, List, sym, subst, refl}
+use Rattle.resolver_cache.specs.declared.entry.Entry.{Entry}
+use Rattle.resolver_cache.specs.Index.{ArePlaced}
+use Rattle.resolver_cache.proofs.ByNumber.{none_gone}
+use Rattle.resolver_cache.proofs.Placed.{placed_gone, placed_still}
+use Rattle.resolver_cache.proofs.index.Index.let_go.Goals as goal
+
+pub returns-in-Some-clause-placed : goal.returns-in-Some-clause-placed
+returns-in-Some-clause-placed c =
+    let es = c.args.self.now.writings in
+    subst (λ (l : List (ℕ × Entry)). ArePlaced l c.displace.new.places) (sym c.in-Some.ensures.left)
+    (placed_gone es c.args.self.now.places c.displace.new.places c.args.number c.in-Some.gone c.requires.placed c.requires.single (sym c.in-Some.ensures.gone) c.displace.ensures)
+
+pub returns-in-None-clause-placed : goal.returns-in-None-clause-placed
+returns-in-None-clause-placed c =
+    let es = c.args.self.now.writings in
+    placed_still es _ c.args.self.now.places c.args.self.now.places c.requires.placed (c.in-None.ensures.left ∙ none_gone es c.args.number (sym c.in-None.ensures.gone)) (λ q. refl)

@@ -1,0 +1,16 @@
+//! What the words of a line stand for: numbers, addresses, networks, names, types, classes, response
+//! codes and bytes, each in its one spelling; and how a line is cut into its words.
+#![tactic(auto)]
+
+mod addresses;
+mod codes;
+mod hex;
+mod networks;
+mod number_lists;
+mod numbers;
+mod pieces;
+mod words;
+
+pub use codes::{is_asked_type, is_record_type, record_type};
+pub use pieces::cut;
+pub use words::{LineError, Words, pass};

@@ -1,0 +1,6 @@
+use Rattle.std.proofs.Common.{◌≡◌, ◌++◌, take}
+use Rattle.text_words.specs.Texts.{record_lines}
+use Rattle.transcript_printer.proofs.records.put_records.Given as goal
+
+abbrev pub invariant-loop-entry : goal.invariant-loop-entry
+invariant-loop-entry l = l.out.items ≡ l.fn.out.items ++ record_lines (take l.entry-index l.records)

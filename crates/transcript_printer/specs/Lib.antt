@@ -1,0 +1,4 @@
+pub mod Appending
+pub mod Errors
+pub mod Log
+pub mod Transcript
