@@ -7,17 +7,22 @@
 //! - `small TIMES`, `small-unkept TIMES`, `dns TIMES`, `dns-unkept TIMES`: the question of a world, so
 //!   often, with a cache or with one that keeps nothing;
 //! - `way ZONES UNUSED TIMES`: a question that goes down so many zones, so often, beside so many rules
-//!   that it does not come to.
+//!   that it does not come to;
+//! - `kept ENTRIES CALL TIMES`: a cache of responses with so many entries, and so often a call on a question
+//!   that is there: `get`, `put`, or `make`, where a question and an answer are made for nothing;
+//! - `held ANSWERS`: so many of the same answers without a cache.
 #![tactic(auto)]
 
 mod access;
 mod driving;
 mod failure;
+mod kept;
 mod scripts;
 mod ways;
 mod worlds;
 
 use failure::Failure;
+use kept::{Call, Calls};
 use std::alloc::Global;
 use std::env::{self, Env};
 use ways::Way;
@@ -29,10 +34,12 @@ enum Run {
     Access { sets: u32, times: u32 },
     World { world: World, times: u32 },
     Way { way: Way, times: u32 },
+    Kept(Calls),
+    Held { answers: u32 },
 }
 
 /// What goes where no words name a run.
-const EACH: [Run; 8] = [
+const EACH: [Run; 12] = [
     Run::Access { sets: 1, times: 1 },
     Run::Access { sets: 2, times: 2 },
     Run::World {
@@ -65,6 +72,22 @@ const EACH: [Run; 8] = [
         },
         times: 3,
     },
+    Run::Kept(Calls {
+        entries: 100,
+        call: Call::Make,
+        times: 3,
+    }),
+    Run::Kept(Calls {
+        entries: 100,
+        call: Call::Get,
+        times: 3,
+    }),
+    Run::Kept(Calls {
+        entries: 100,
+        call: Call::Put,
+        times: 3,
+    }),
+    Run::Held { answers: 100 },
 ];
 
 /// The world of this name.
@@ -78,7 +101,32 @@ fn world_of(name: &str) -> Option<World> {
     }
 }
 
-/// The run that these words name.
+/// The call of this name.
+fn call_of(name: &str) -> Option<Call> {
+    match name {
+        "make" => Some(Call::Make),
+        "get" => Some(Call::Get),
+        "put" => Some(Call::Put),
+        _ => None,
+    }
+}
+
+/// The run on the cache of responses that these words name.
+fn kept_of(words: &[String]) -> Option<Run> {
+    match words {
+        [word, answers] if word.as_str() == "held" => Some(Run::Held {
+            answers: answers.parse().ok()?,
+        }),
+        [word, entries, call, times] if word.as_str() == "kept" => Some(Run::Kept(Calls {
+            entries: entries.parse().ok()?,
+            call: call_of(call)?,
+            times: times.parse().ok()?,
+        })),
+        _ => None,
+    }
+}
+
+/// The run that these words name, of another kind.
 fn run_of(words: &[String]) -> Option<Run> {
     match words {
         [name, times] => Some(Run::World {
@@ -115,6 +163,15 @@ fn go<R: Print>(rt: &R, alloc: Global, run: Run) -> Result<(), Failure> {
             let Way { zones, unused } = way;
             println!(rt; "way {zones} {unused} {times}: {answers} are answered")?;
         }
+        Run::Kept(calls) => {
+            let (found, count) = calls.go(alloc)?;
+            let (entries, call, times) = (calls.entries, calls.call.text(), calls.times);
+            println!(rt; "kept {entries} {call} {times}: {found} are found of {count}")?;
+        }
+        Run::Held { answers } => {
+            let held = kept::hold(alloc, answers)?;
+            println!(rt; "held {answers}: {held} are held")?;
+        }
     }
     Ok(())
 }
@@ -135,7 +192,7 @@ fn main(rt: HostRuntime) -> Result<(), Failure> {
         }
         return Ok(());
     }
-    match run_of(&words) {
+    match kept_of(&words).or(run_of(&words)) {
         Some(run) => go(&rt, rt.alloc(), run),
         None => Err(Failure::Words),
     }
