@@ -1,4 +1,6 @@
 //! What a lookup has still to ask, end by end.
+ghost use Rattle.call_tests.specs.Agenda.{IsWithin};
+ghost use Rattle.retry_rules.specs.Agenda.{HasRoom};
 
 use crate::message_samples::{Sight, denial, message, query, seen};
 use dns_core::{IoKind, Message, NameError, NetError};
@@ -78,18 +80,15 @@ impl Sight<Option<End>> for Hearing {
             Hearing::GoesOn => None,
             Hearing::Answers(Ok(_)) => Some(End::Answer),
             Hearing::Answers(Err(error)) => Some(error.sight()),
-            Hearing::Wanting(_) => Some(End::Other),
         }
     }
 }
 
 /// The send to a server ends so.
-fn hears(
-    alloc: Global,
-    agenda: &mut Agenda,
-    asked: Candidate,
-    end: End,
-) -> Result<Seen, NameError> {
+fn hears(alloc: Global, agenda: &mut Agenda, asked: Candidate, end: End) -> Result<Seen, NameError>
+    requires { HasRoom agenda.old }
+    ensures { IsWithin agenda.new }
+{
     let query = query(alloc, "a.")?;
     let outcome = outcome(alloc, end)?;
     match seen(agenda.hear(asked, outcome, &query)) {
@@ -98,14 +97,21 @@ fn hears(
     }
 }
 
-fn asks(alloc: Global, agenda: &mut Agenda, end: End) -> Result<Seen, NameError> {
+#[tactic(auto, using(crate::proofs::Rooms::room_taken))]
+fn asks(alloc: Global, agenda: &mut Agenda, end: End) -> Result<Seen, NameError>
+    requires { IsWithin agenda.old }
+    ensures { IsWithin agenda.new }
+{
     match agenda.take() {
         Some(next) => hears(alloc, agenda, next, end),
         None => Ok(Seen::NoneWaiting),
     }
 }
 
-fn sleeps(agenda: &mut Agenda) -> Seen {
+fn sleeps(agenda: &mut Agenda) -> Seen
+    requires { IsWithin agenda.old }
+    ensures { IsWithin agenda.new }
+{
     if !agenda.has_none_waiting() || !agenda.may_sleep() {
         return Seen::MayNot;
     }
@@ -114,14 +120,20 @@ fn sleeps(agenda: &mut Agenda) -> Seen {
     Seen::Slept(time)
 }
 
-fn gives_up(agenda: &mut Agenda) -> Seen {
+fn gives_up(agenda: &mut Agenda) -> Seen
+    requires { IsWithin agenda.old }
+    ensures { IsWithin agenda.new }
+{
     if !agenda.has_none_waiting() || agenda.may_sleep() {
         return Seen::MayNot;
     }
     Seen::GaveUp(seen(agenda.give_up()))
 }
 
-fn see(alloc: Global, agenda: &mut Agenda, call: Call) -> Result<Seen, NameError> {
+fn see(alloc: Global, agenda: &mut Agenda, call: Call) -> Result<Seen, NameError>
+    requires { IsWithin agenda.old }
+    ensures { IsWithin agenda.new }
+{
     match call {
         Call::Ask(end) => asks(alloc, agenda, end),
         Call::Sleep => Ok(sleeps(agenda)),
@@ -136,7 +148,9 @@ fn is_same(call: Call, found: Seen, wanted: Seen) -> Result<(), Fail> {
     Err(Fail::new(format_args!("{call:?}: {found:?}, not {wanted:?}")))
 }
 
-fn runs(alloc: Global, agenda: &mut Agenda, steps: &[(Call, Seen)]) -> Result<(), Fail> {
+fn runs(alloc: Global, agenda: &mut Agenda, steps: &[(Call, Seen)]) -> Result<(), Fail>
+    requires { IsWithin agenda.old }
+{
     for (call, wanted) in steps {
         let found = see(alloc, agenda, *call)?;
         is_same(*call, found, *wanted)?;

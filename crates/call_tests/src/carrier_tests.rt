@@ -7,9 +7,9 @@ use dns_core::{
     ConnectOptions, ConnectionConfig, ConnectionProvider, DnsRequest, DnsRequestOptions, Items,
     Name, NameError, Ports, Protocol, ProtocolConfig, RecordType,
 };
+use order_carrier::Carrier;
 use recursor_world::{Script, ScriptLine, ScriptUpstream};
 use server_core::{Order, Outcome};
-use server_pool::Carrier;
 use std::alloc::Global;
 use std::marker::Model;
 use std::test::Fail;
@@ -46,8 +46,9 @@ const LATE: Ask = Ask { name: "b.", ..SOON };
 enum Call {
     Carry(u64, What),
     GiveUp(u64),
-    Polls(u64, What),
+    Sent(u64, What),
     IsUnderWay(u64, What),
+    IsFree(u64),
     CountEntries,
 }
 
@@ -55,14 +56,14 @@ enum Call {
 #[derive(Clone, Copy, Debug, PartialEq, Eq)]
 enum Seen {
     Nothing,
-    Pending(u64),
+    Pending(u64, u64),
     Connected(u64),
     Told(u64, u64),
     Failed(u64, u64),
-    GaveUp(u64, u64, u32),
     Slept,
-    Polls(u32),
+    Sent(Option<u64>),
     UnderWay(bool),
+    Free(bool),
     Entries(usize),
 }
 
@@ -70,11 +71,10 @@ impl Sight<Seen> for Option<Outcome> {
     fn sight(&self) -> Seen {
         match self {
             None => Seen::Nothing,
-            Some(Outcome::Pending { entry }) => Seen::Pending(*entry),
+            Some(Outcome::Pending { entry, of }) => Seen::Pending(*entry, *of),
             Some(Outcome::Connected { entry, .. }) => Seen::Connected(*entry),
             Some(Outcome::Told { entry, sent, .. }) => Seen::Told(*entry, sent.of),
             Some(Outcome::Failed { entry, sent, .. }) => Seen::Failed(*entry, sent.of),
-            Some(Outcome::GaveUp { entry, sent, polls }) => Seen::GaveUp(*entry, sent.of, *polls),
             Some(Outcome::Slept) => Seen::Slept,
         }
     }
@@ -155,12 +155,17 @@ impl<P: ConnectionProvider> Course<P> {
     }
 
     fn give_up(&mut self, number: u64, now: u64) -> Seen {
-        seen(self.carrier.give_up(number, now))
+        self.carrier.give_up(number, now);
+        Seen::Nothing
     }
 
-    fn polls(&self, alloc: Global, number: u64, what: What) -> Result<Seen, NameError> {
+    /// By which entry was sent what is under way.
+    fn sent(&self, alloc: Global, number: u64, what: What) -> Result<Seen, NameError> {
         let order = order(alloc, what)?;
-        Ok(Seen::Polls(self.carrier.polls(number, &order)))
+        match self.carrier.sent(number, &order) {
+            Some(sent) => Ok(Seen::Sent(Some(sent.of))),
+            None => Ok(Seen::Sent(None)),
+        }
     }
 
     fn is_under_way(&self, alloc: Global, number: u64, what: What) -> Result<Seen, NameError> {
@@ -178,8 +183,9 @@ fn see(
     match call {
         Call::Carry(number, what) => course.carry(alloc, number, what, now),
         Call::GiveUp(number) => Ok(course.give_up(number, now)),
-        Call::Polls(number, what) => course.polls(alloc, number, what),
+        Call::Sent(number, what) => course.sent(alloc, number, what),
         Call::IsUnderWay(number, what) => course.is_under_way(alloc, number, what),
+        Call::IsFree(number) => Ok(Seen::Free(course.carrier.is_free(number))),
         Call::CountEntries => Ok(Seen::Entries(course.carrier.provider().log().len())),
     }
 }
@@ -279,7 +285,7 @@ const SLEEP: What = What::Sleep(10);
 const ONCE: [(u64, Call, Seen); 6] = [
     (5, Call::Carry(1, OPEN), Seen::Connected(2)),
     (6, Call::Carry(1, OPEN), Seen::Nothing),
-    (7, Call::Carry(2, ASK), Seen::Pending(4)),
+    (7, Call::Carry(2, ASK), Seen::Pending(4, 3)),
     (8, Call::Carry(2, ASK), Seen::Told(5, 3)),
     (9, Call::Carry(2, ASK), Seen::Nothing),
     (9, Call::CountEntries, Seen::Entries(5)),
@@ -289,7 +295,7 @@ const ONCE: [(u64, Call, Seen); 6] = [
 /// case. An order of another form goes on beside it.
 const DIFFERENT: [(u64, Call, Seen); 6] = [
     (5, Call::Carry(1, OPEN), Seen::Connected(2)),
-    (5, Call::Carry(2, ASK), Seen::Pending(4)),
+    (5, Call::Carry(2, ASK), Seen::Pending(4, 3)),
     (5, Call::Carry(2, IN_CAPITALS), Seen::Nothing),
     (5, Call::IsUnderWay(2, IN_CAPITALS), Seen::UnderWay(false)),
     (5, Call::Carry(2, What::Open(2)), Seen::Connected(6)),
@@ -303,41 +309,49 @@ const ONLY_OVER: [(u64, Call, Seen); 6] = [
     (5, Call::Carry(2, OVER_TCP), Seen::Nothing),
     (5, Call::Carry(2, UNMADE), Seen::Nothing),
     (5, Call::CountEntries, Seen::Entries(2)),
-    (5, Call::Carry(2, ASK), Seen::Pending(4)),
+    (5, Call::Carry(2, ASK), Seen::Pending(4, 3)),
 ];
 
 /// A sleep ends at its moment.
 const ASLEEP: [(u64, Call, Seen); 5] = [
-    (9, Call::Carry(1, SLEEP), Seen::Pending(0)),
+    (9, Call::Carry(1, SLEEP), Seen::Pending(0, 0)),
     (9, Call::IsUnderWay(1, SLEEP), Seen::UnderWay(true)),
     (10, Call::Carry(1, SLEEP), Seen::Slept),
     (11, Call::Carry(1, SLEEP), Seen::Nothing),
     (11, Call::CountEntries, Seen::Entries(0)),
 ];
 
-/// What is given up has no other outcome.
-const GIVEN_UP: [(u64, Call, Seen); 9] = [
+/// What is given up has no outcome.
+const GIVEN_UP: [(u64, Call, Seen); 13] = [
     (5, Call::Carry(1, OPEN), Seen::Connected(2)),
-    (5, Call::Carry(2, ASK_LATE), Seen::Pending(4)),
-    (5, Call::Carry(2, ASK_LATE), Seen::Pending(5)),
-    (5, Call::Polls(2, ASK_LATE), Seen::Polls(2)),
-    (6, Call::GiveUp(2), Seen::GaveUp(6, 3, 2)),
+    (5, Call::IsFree(2), Seen::Free(true)),
+    (5, Call::Carry(2, ASK_LATE), Seen::Pending(4, 3)),
+    (5, Call::Carry(2, ASK_LATE), Seen::Pending(5, 3)),
+    (5, Call::Sent(2, ASK_LATE), Seen::Sent(Some(3))),
+    (5, Call::IsFree(2), Seen::Free(false)),
+    (6, Call::GiveUp(2), Seen::Nothing),
+    (6, Call::CountEntries, Seen::Entries(6)),
     (7, Call::GiveUp(2), Seen::Nothing),
     (7, Call::Carry(2, ASK_LATE), Seen::Nothing),
     (7, Call::IsUnderWay(2, ASK_LATE), Seen::UnderWay(false)),
-    (7, Call::Polls(2, ASK_LATE), Seen::Polls(0)),
+    (7, Call::Sent(2, ASK_LATE), Seen::Sent(None)),
+    (7, Call::CountEntries, Seen::Entries(6)),
 ];
 
 /// Of one number an opening is given up first, and a sleep last.
-const IN_TURN: [(u64, Call, Seen); 9] = [
+const IN_TURN: [(u64, Call, Seen); 13] = [
     (5, Call::Carry(1, OPEN), Seen::Connected(2)),
-    (5, Call::Carry(2, What::Sleep(9)), Seen::Pending(0)),
-    (5, Call::Carry(2, ASK_LATE), Seen::Pending(4)),
-    (5, Call::Carry(2, What::Open(3)), Seen::Pending(6)),
-    (6, Call::GiveUp(2), Seen::GaveUp(7, 5, 1)),
-    (6, Call::GiveUp(2), Seen::GaveUp(8, 3, 1)),
-    (6, Call::GiveUp(2), Seen::Slept),
+    (5, Call::Carry(2, What::Sleep(9)), Seen::Pending(0, 0)),
+    (5, Call::Sent(2, What::Sleep(9)), Seen::Sent(None)),
+    (5, Call::Carry(2, ASK_LATE), Seen::Pending(4, 3)),
+    (5, Call::Carry(2, What::Open(3)), Seen::Pending(6, 5)),
     (6, Call::GiveUp(2), Seen::Nothing),
+    (6, Call::IsUnderWay(2, What::Open(3)), Seen::UnderWay(false)),
+    (6, Call::IsUnderWay(2, ASK_LATE), Seen::UnderWay(true)),
+    (6, Call::GiveUp(2), Seen::Nothing),
+    (6, Call::IsUnderWay(2, What::Sleep(9)), Seen::UnderWay(true)),
+    (6, Call::GiveUp(2), Seen::Nothing),
+    (6, Call::CountEntries, Seen::Entries(8)),
     (9, Call::Carry(2, What::Sleep(9)), Seen::Nothing),
 ];
 

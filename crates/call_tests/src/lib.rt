@@ -29,4 +29,6 @@ mod recursor_tests;
 #[cfg(test)]
 mod serving_tests;
 #[cfg(test)]
+mod sharing_tests;
+#[cfg(test)]
 mod text_tests;

@@ -26,6 +26,7 @@ pub enum Seen {
 /// What comes of an order.
 #[derive(Clone, Copy, Debug)]
 pub enum What {
+    Pending,
     Connected,
     Slept,
     Busy,
@@ -100,6 +101,7 @@ fn told(alloc: Global, entry: u64, truncation: bool) -> Result<Outcome, NameErro
 
 fn outcome(alloc: Global, what: What, entry: u64) -> Result<Outcome, NameError> {
     match what {
+        What::Pending => Ok(Outcome::Pending { entry, of: 1 }),
         What::Connected => Ok(Outcome::Connected {
             entry,
             sent: sent(),

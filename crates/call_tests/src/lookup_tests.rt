@@ -48,12 +48,25 @@ const ANSWERED: [(u64, Call, Seen); 7] = [
     (7, Call::Answer, Seen::Answers),
 ];
 
+/// An order ends at the last poll that patience allows, by the entry after that of the poll.
+const GIVEN_UP: [(u64, Call, Seen); 8] = [
+    (5, Call::Next, Seen::Opens(1, Protocol::Udp)),
+    (6, Call::Put(1, What::Pending), Seen::Has(After::Kept)),
+    (7, Call::Put(1, What::Pending), Seen::Has(After::Kept)),
+    (8, Call::Open, Seen::Numbers(1, Some(1), None)),
+    (8, Call::Put(1, What::Pending), Seen::Has(After::GiveUp)),
+    (8, Call::Put(1, What::Pending), Seen::Has(After::Late)),
+    (9, Call::Next, Seen::Fails),
+    (9, Call::Ends, Seen::Numbers(1, Some(11), None)),
+];
+
 #[test]
 fn a_lookup_goes_from_order_to_order_to_its_answer(rt: HostRuntime) -> Result<(), Fail> {
     let alloc = rt.alloc();
     goes(alloc, &BUSY)?;
     goes(alloc, &CUT)?;
-    goes(alloc, &ANSWERED)
+    goes(alloc, &ANSWERED)?;
+    goes(alloc, &GIVEN_UP)
 }
 
 /// A lookup names the servers of its pool in their order. Its open orders are those that were given

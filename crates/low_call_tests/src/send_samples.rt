@@ -53,7 +53,6 @@ pub enum What {
     Busy,
     Timeout,
     Mismatch,
-    GaveUp,
     Slept,
 }
 
@@ -161,7 +160,7 @@ fn told(message: Message) -> Outcome {
 
 fn outcome(alloc: Global, what: What) -> Result<Outcome, NameError> {
     match what {
-        What::Pending => Ok(Outcome::Pending { entry: 2 }),
+        What::Pending => Ok(Outcome::Pending { entry: 2, of: 1 }),
         What::Connected => Ok(Outcome::Connected {
             entry: 2,
             sent: sent(),
@@ -175,11 +174,6 @@ fn outcome(alloc: Global, what: What) -> Result<Outcome, NameError> {
         What::Busy => Ok(failed(NetError::Busy)),
         What::Timeout => Ok(failed(NetError::Timeout)),
         What::Mismatch => Ok(failed(NetError::QueryCaseMismatch)),
-        What::GaveUp => Ok(Outcome::GaveUp {
-            entry: 2,
-            sent: sent(),
-            polls: 3,
-        }),
         What::Slept => Ok(Outcome::Slept),
     }
 }
@@ -364,10 +358,28 @@ fn kept_after(alloc: Global, what: What) -> Result<Option<Kept>, NameError> {
     kept_of(alloc, Course::over(alloc, Reached::Known, false)?, what)
 }
 
-pub fn keeps(alloc: Global, what: What, wanted: Kept) -> Result<(), Fail> {
-    let found = kept_after(alloc, what)?;
+fn is_kept(what: What, found: Option<Kept>, wanted: Kept) -> Result<(), Fail> {
     if found == Some(wanted) {
         return Ok(());
     }
     Err(Fail::new(format_args!("{what:?}: {found:?}, not {wanted:?}")))
+}
+
+pub fn keeps(alloc: Global, what: What, wanted: Kept) -> Result<(), Fail> {
+    is_kept(what, kept_after(alloc, what)?, wanted)
+}
+
+/// Three polls of the question find nothing.
+fn polled<C: Stepped>(alloc: Global, mut course: C) -> Result<Option<Kept>, NameError> {
+    course.see(alloc, Call::Next, 3_000_000)?;
+    course.see(alloc, Call::Put(What::Pending), 3_001_000)?;
+    course.see(alloc, Call::Put(What::Pending), 3_002_000)?;
+    course.see(alloc, Call::Put(What::Pending), 3_002_000)?;
+    Ok(course.kept(3_002_000))
+}
+
+/// What is kept after the last poll of a question that patience allows.
+pub fn keeps_given_up(alloc: Global, wanted: Kept) -> Result<(), Fail> {
+    let found = polled(alloc, Course::over(alloc, Reached::Known, false)?)?;
+    is_kept(What::Pending, found, wanted)
 }

@@ -1,6 +1,6 @@
 //! Sends step by step, and what is kept of their outcomes.
 
-use crate::send_samples::{Call, End, Kept, Seen, What, goes, keeps};
+use crate::send_samples::{Call, End, Kept, Seen, What, goes, keeps, keeps_given_up};
 use crate::server_samples::Reached;
 use dns_core::Protocol;
 use server_core::{After, Status};
@@ -96,7 +96,7 @@ const REFUSED: [(u64, Call, Seen); 6] = [
 
 /// An order is given up at the last poll that patience allows. The polls of the question count anew
 /// after those of the opening.
-const GIVEN_UP: [(u64, Call, Seen); 11] = [
+const GIVEN_UP: [(u64, Call, Seen); 10] = [
     (7, Call::Next, OPENS),
     (8, Call::Put(What::Pending), KEPT),
     (9, Call::Put(What::Pending), KEPT),
@@ -106,8 +106,7 @@ const GIVEN_UP: [(u64, Call, Seen); 11] = [
     (13, Call::Put(What::Pending), KEPT),
     (14, Call::Next, Seen::Waits),
     (15, Call::Put(What::Pending), Seen::Has(After::GiveUp)),
-    (16, Call::Put(What::GaveUp), ENDED),
-    (17, Call::Next, Seen::Ends(End::Timeout)),
+    (16, Call::Next, Seen::Ends(End::Timeout)),
 ];
 
 /// A sleep is no order of a send.
@@ -204,6 +203,6 @@ fn an_outcome_counts_by_its_time_as_a_failure_or_not_at_all(rt: HostRuntime) -> 
     keeps(alloc, What::Busy, FAILURE)?;
     keeps(alloc, What::Closed, FAILURE)?;
     keeps(alloc, What::Timeout, FAILURE)?;
-    keeps(alloc, What::GaveUp, FAILURE)?;
+    keeps_given_up(alloc, FAILURE)?;
     keeps(alloc, What::Mismatch, UNCHANGED)
 }

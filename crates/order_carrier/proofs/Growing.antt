@@ -1,20 +1,21 @@
--- How a log grows by an entry.
-use Rattle.std.proofs.Common.{◌≢◌, ◌==◌, Bool, true, false, cond, ◌≡◌, ◌≤◌, ◌<◌, ◌+◌, ◌-◌, ◌^◌, ◌⊎◌, ⊎_elim, inl, inr, ℕ, List, [], ◌∷◌, ◌++◌, length, Option, Some, None, refl, sym, ◌∙◌, ap, subst, arith, zero, suc, length-append, add-one, min, slice_get}
-use Rattle.std.specs.Cmp.{nat_eq_equiv}
-use Rattle.std.specs.declared.net.ip_addr.IpAddr.{IpAddr}
-use Rattle.std.proofs.lemmas.Bool.{eqb-true}
+-- A log grows by the entries that a call appends, each at its moment.
+use Rattle.std.proofs.Common.{◌≡◌, ◌≤◌, ◌<◌, ◌+◌, ◌⊎◌, ⊎_elim, inl, inr, ℕ, zero, suc, List, [], ◌∷◌, ◌++◌, length, Option, Some, None, refl, sym, ◌∙◌, ap, subst, arith, length-append, add-one, slice_get}
 use Rattle.std.proofs.lemmas.Option.{same_Some}
-use Rattle.dns_core.specs.Log.{Log, Extends, log_of, added, Numbered}
+use Rattle.dns_core.specs.Log.{Log, Extends, log_of, added}
 use Rattle.dns_core.specs.declared.log.LogEntry.{LogEntry}
-use Rattle.dns_core.specs.declared.log.LogEntry.TheVariants.{Opened, Asked, Waited, Told, GaveUp}
-use Rattle.dns_core.specs.declared.message.Query.{Query}
-use Rattle.resolution.specs.Given.{Given}
+use Rattle.dns_core.specs.declared.net_error.NetError.{NetError}
 use Rattle.resolution.specs.Telling.{Logged, moment_of}
-use Rattle.resolution.specs.Asking.{IsServer, IsServerFor, AsksServers}
-use Rattle.resolution.proofs.Keeping.{Serves-extend}
-use Rattle.resolution.specs.Ending.{waits, is_wait_for}
-use Rattle.resolution.proofs.FailuresKept.{waits-extend}
-use Rattle.order_carrier.specs.Carrying.{TellsThat, Counted, Grown}
+use Rattle.server_core.specs.declared.order.Order.{Order}
+use Rattle.server_core.specs.declared.order.Order.TheVariants.{Open, Ask, Sleep}
+use Rattle.server_core.specs.declared.order.Outcome.{Outcome}
+use Rattle.server_core.specs.declared.order.Sent.{Sent}
+use Rattle.order_carrier.specs.Did.{Did, State, Carried, start_entry, poll_entry, appended, sent_in}
+use Rattle.order_carrier.specs.Did.Did.{Barred, LacksMemory, Refused, Started, Polled}
+use Rattle.order_carrier.specs.GivingUp.{GivenUp, give_up_entry}
+use Rattle.order_carrier.specs.Growing.{Counted, with_entries, Grown}
+use Rattle.order_carrier.specs.declared.key.OrderKey.{OrderKey}
+use Rattle.order_carrier.specs.declared.polling.Heard.{Heard}
+use Rattle.order_carrier.specs.declared.polling.Heard.TheVariants.{Waiting, OutOfMemory, Connected, Answered, Failed, Resting, Slept}
 
 -- a log extends itself
 pub Extends-refl : (log : Log) → Extends log log
@@ -35,7 +36,7 @@ slice_get-end : {X : Type 0} (xs : List X) (x : X) → slice_get (xs ++ x ∷ []
 slice_get-end [] x = refl
 slice_get-end (y ∷ xs) x = slice_get-end xs x
 
--- a log with one entry more
+-- a log with one entry more extends it
 pub Extends-added : (es : List LogEntry) (e : LogEntry) → Extends (log_of es) (log_of (es ++ e ∷ []))
 Extends-added es e = record { later = omega (arith, length-append es (e ∷ [])); kept = kept_at es e }
   where
@@ -62,36 +63,36 @@ entry_cases es e n f h = by_number n h.is
     by_number zero is = cc
     by_number (suc n) is = ⊎_elim (λ old. inl (record { below = omega (arith, old.0); is = old.1 })) (λ p. inr (omega (arith, p.0), p.1)) (in_list es n is)
 
--- a log with one entry more was told before
+-- A log with one entry more was told before.
 pub record Longer (e : LogEntry) (told : Option (List LogEntry)) (es : List LogEntry) : Type 0 where
   pub before : List LogEntry
   pub was : told ≡ Some before
   pub is : es ≡ before ++ e ∷ []
 
--- the log to which it was appended
+-- the log to which an entry was appended
 pub Longer-from_added : (e : LogEntry) (told : Option (List LogEntry)) (es : List LogEntry) → added e told ≡ Some es → Longer e told es
 Longer-from_added e None es h = cc
 Longer-from_added e (Some before) es h = record { before = before; was = refl; is = sym (same_Some _ _ h) }
 
--- the number that the next entry gets, where a log is told
-pub numbered_is : (n : ℕ) (told : Option (List LogEntry)) (es : List LogEntry) → Numbered n told → told ≡ Some es → n ≡ length es + 1
-numbered_is n told es h e = rw e at h
+-- the count of a log with one entry more
+pub Counted-added : (e : LogEntry) (old : Option (List LogEntry)) (n : ℕ) → Counted old n → Counted (added e old) (n + 1)
+Counted-added e old n counted es told =
+    let l = Longer-from_added e old es told in
+    omega (arith, ap (length {A = LogEntry}) l.is, length-append l.before (e ∷ []), counted l.before l.was)
 
--- the count of a log with one entry more, as far as it goes
-pub Counted-added : (e : LogEntry) (old new : Option (List LogEntry)) (n m : ℕ)
-    → new ≡ added e old → m ≡ min (n + 1) (2 ^ 64 - 1) → (n + 1 < 2 ^ 64 → Counted old n) → m + 1 < 2 ^ 64 → Counted new m
-Counted-added e old new n m grew counts counted below es told =
-    let l = Longer-from_added e old es (sym grew ∙ told) in
-    let one_more : m ≡ n + 1 = omega arith in
-    let was = counted (omega arith) l.before l.was in
-    rw l.is (omega (arith, length-append l.before (e ∷ []), was, one_more))
+-- the count of a log with these entries more
+pub Counted-with : (more : List LogEntry) (old : Option (List LogEntry)) (n : ℕ) → Counted old n → Counted (with_entries more old) (n + length more)
+Counted-with [] old n counted es told = omega (arith, counted es told)
+Counted-with (e ∷ more) old n counted es told = omega (arith, Counted-with more (added e old) (n + 1) (Counted-added e old n counted) es told)
 
--- the moment of an entry is this one, where it has one
+-- ---- moments
+
+-- The moment of an entry is this one, where it has one.
 abbrev pub IsAt : ℕ → Option ℕ → Type 0
 IsAt now (Some moment) = moment ≡ now
 IsAt now None = Unit {0}
 
--- so it is the moment, where there is one
+-- the moment of an entry that has one
 IsAt-is : (now moment : ℕ) (o : Option ℕ) → IsAt now o → o ≡ Some moment → moment ≡ now
 IsAt-is now moment (Some m) h e = sym (same_Some _ _ e) ∙ h
 IsAt-is now moment None h e = cc
@@ -127,9 +128,9 @@ Grown-trans now a b c x y es t =
     }
 
 -- an entry of the moment, or of none, was appended
-pub Grown-added : (now : ℕ) (e : LogEntry) (old new : Option (List LogEntry)) → new ≡ added e old → IsAt now (moment_of e) → Grown now old new
-Grown-added now e old new grew at es told =
-    let l = Longer-from_added e old es (sym grew ∙ told) in
+pub Grown-added : (now : ℕ) (e : LogEntry) (old : Option (List LogEntry)) → IsAt now (moment_of e) → Grown now old (added e old)
+Grown-added now e old at es told =
+    let l = Longer-from_added e old es told in
     record {
       before = l.before;
       was = l.was;
@@ -140,89 +141,58 @@ Grown-added now e old new grew at es told =
           (entry_cases l.before e i f (subst (λ (x : List LogEntry). Logged (log_of x) i f) l.is logged));
     }
 
--- a call that failed appended an entry, but for want of memory
-pub Grown-unless : (b : Bool) (now : ℕ) (e : LogEntry) (old new : Option (List LogEntry))
-    → new ≡ cond b old (added e old) → IsAt now (moment_of e) → Grown now old new
-Grown-unless true now e old new grew at = subst (Grown now old) (sym grew) (Grown-refl now old)
-Grown-unless false now e old new grew at = Grown-added now e old new grew at
+-- Each of these entries is of the moment, or of none.
+abbrev pub AreAt : ℕ → List LogEntry → Type 0
+AreAt now [] = Unit {0}
+AreAt now (e ∷ more) = IsAt now (moment_of e) × AreAt now more
 
--- what an entry adds to how often a number was waited for
-abbrev pub once : Bool → ℕ
-once b = cond b 1 0
+-- such entries were appended
+pub Grown-with : (now : ℕ) (more : List LogEntry) (old new : Option (List LogEntry)) → AreAt now more → new ≡ with_entries more old → Grown now old new
+Grown-with now [] old new at grew = subst (Grown now old) (sym grew) (Grown-refl now old)
+Grown-with now (e ∷ more) old new at grew =
+    Grown-trans now old (added e old) new (Grown-added now e old at.0) (Grown-with now more (added e old) new at.1 grew)
 
--- a newest entry adds one where it says so
-pub waits-added : (es : List LogEntry) (e : LogEntry) (of : ℕ)
-    → waits (log_of (es ++ e ∷ [])) of (log_of (es ++ e ∷ [])).next ≡ waits (log_of es) of (log_of es).next + once (is_wait_for of (Some e))
-waits-added es e of =
-    let new = log_of (es ++ e ∷ []) in
-    let x = Extends-added es e in
-    let next : new.next ≡ suc (length es + 1) = omega (arith, length-append es (e ∷ [])) in
-    let one : once (is_wait_for of (new.entry (length es + 1))) ≡ once (is_wait_for of (Some e)) =
-    ap (λ (e : Option LogEntry). once (is_wait_for of e)) ((Logged-newest es e).is) in
-    let before : waits new of (length es + 1) ≡ waits (log_of es) of (length es + 1) = waits-extend (log_of es) new x of (length es + 1) (omega arith) in
-    ap (waits new of) next ∙ ap (λ (k : ℕ). waits new of (length es + 1) + k) one ∙ ap (λ (k : ℕ). k + once (is_wait_for of (Some e))) before
+-- ---- the laws
 
--- once more with a newest entry that says so
-pub waits-newest : (es : List LogEntry) (of : ℕ)
-    → waits (log_of (es ++ Waited of ∷ [])) of (log_of (es ++ Waited of ∷ [])).next ≡ waits (log_of es) of (log_of es).next + 1
-waits-newest es of = waits-added es (Waited of) of ∙ ap (λ (b : Bool). waits (log_of es) of (log_of es).next + once b) (nat_eq_equiv.refl of)
+-- the entry of a poll is of its moment
+pub poll_at : (now : ℕ) (heard : Heard) → AreAt now (poll_entry now heard)
+poll_at now (Waiting of) = (tt, tt)
+poll_at now OutOfMemory = tt
+poll_at now (Connected sent) = (refl, tt)
+poll_at now (Answered sent message) = (refl, tt)
+poll_at now (Failed sent error) = (refl, tt)
+poll_at now Resting = tt
+poll_at now Slept = tt
 
--- as often as before with one that does not
-pub waits-other : (es : List LogEntry) (e : LogEntry) (of : ℕ) → is_wait_for of (Some e) ≡ false
-    → waits (log_of (es ++ e ∷ [])) of (log_of (es ++ e ∷ [])).next ≡ waits (log_of es) of (log_of es).next
-waits-other es e of other = omega (arith, waits-added es e of, ap once other)
+-- so is the entry of a start, before the ones that follow it
+start_at : (now : ℕ) (refusal : Option NetError) (order : Order) (more : List LogEntry) → AreAt now more → AreAt now (start_entry now refusal order ++ more)
+start_at now refusal (Open ip config) more at = (refl, at)
+start_at now refusal (Ask conn ip protocol request) more at = (refl, at)
+start_at now refusal (Sleep until) more at = at
 
--- an entry that waits for another does not wait for this one
-pub waits_for_another : (k of : ℕ) → k ≢ of → is_wait_for of (Some (Waited k)) ≡ false
-waits_for_another k of differ = by (k == of) refl
+-- and alone
+start_at_alone : (now : ℕ) (refusal : Option NetError) (order : Order) → AreAt now (start_entry now refusal order)
+start_at_alone now refusal (Open ip config) = (refl, tt)
+start_at_alone now refusal (Ask conn ip protocol request) = (refl, tt)
+start_at_alone now refusal (Sleep until) = tt
+
+-- what a call appends is of its moment
+appended_at : (now : ℕ) (order : Order) (d : Did) → AreAt now (appended now order d)
+appended_at now order Barred = tt
+appended_at now order LacksMemory = tt
+appended_at now order (Refused sent error) = start_at_alone now (Some error) order
+appended_at now order (Started heard) = start_at now None order (poll_entry now heard) (poll_at now heard)
+appended_at now order (Polled heard) = poll_at now heard
+
+-- a call grows the log by entries of its moment
+pub carried-grown : {P : Type 0} (key : OrderKey) (order : Order) (now : ℕ) (old new : State P) (result : Option (Option Outcome)) → Carried key order now old new result → Grown now old.log new.log
+carried-grown key order now old new result c = Grown-with now (appended now order c.did) old.log new.log (appended_at now order c.did) c.log
+
+-- so does a give-up
+pub given_up-grown : {P : Type 0} (key : OrderKey) (now : ℕ) (old new : State P) → GivenUp key now old new → Grown now old.log new.log
+given_up-grown key now old new g =
+    Grown-with now (give_up_entry now (sent_in (old.stands key))) old.log new.log (entry_at (sent_in (old.stands key))) g.log
   where
-    by : (b : Bool) → (k == of) ≡ b → (k == of) ≡ false
-    by false is = is
-    by true is = absurd (differ (eqb-true k of is))
-
--- an entry that opens or asks goes to a server
-abbrev pub GoesRight : Given → Log → LogEntry → Type 0
-GoesRight given log (Opened ip protocol moment refused) = IsServer given log log.next ip
-GoesRight given log (Asked ip protocol q moment refused) = IsServerFor given log log.next ip q
-GoesRight given log (Waited of) = Unit {0}
-GoesRight given log (Told of moment outcome) = Unit {0}
-GoesRight given log (GaveUp of moment) = Unit {0}
-
--- a server is one by a longer log
-IsServer-extend : (given : Given) (old new : Log) → Extends old new → (n : ℕ) (ip : IpAddr) → IsServer given old n ip → IsServer given new n ip
-IsServer-extend given old new x n ip h = record { zone = h.zone; serves = Serves-extend given given.patience old new x h.serves }
-
--- so is one for a question
-IsServerFor-extend : (given : Given) (old new : Log) → Extends old new → (n : ℕ) (ip : IpAddr) (q : Query)
-    → IsServerFor given old n ip q → IsServerFor given new n ip q
-IsServerFor-extend given old new x n ip q h = record { zone = h.zone; above = h.above; serves = Serves-extend given given.patience old new x h.serves }
-
--- a log that asks only servers does so with one entry more that goes to one
-AsksServers-append : (given : Given) (es : List LogEntry) (e : LogEntry)
-    → GoesRight given (log_of es) e → AsksServers given (log_of es) → AsksServers given (log_of (es ++ e ∷ []))
-AsksServers-append given es e right h =
-    let x = Extends-added es e in
-    record {
-      opened = λ n ip protocol moment refused at. ⊎_elim
-          (λ old. IsServer-extend given (log_of es) (log_of (es ++ e ∷ [])) x n ip (h.opened n ip protocol moment refused old))
-          (λ new. IsServer-extend given (log_of es) (log_of (es ++ e ∷ [])) x n ip (rw (new.0) (subst (GoesRight given (log_of es)) new.1 right)))
-          (entry_cases es e n (Opened ip protocol moment refused) at);
-      asked = λ n ip protocol q moment refused at. ⊎_elim
-          (λ old. IsServerFor-extend given (log_of es) (log_of (es ++ e ∷ [])) x n ip q (h.asked n ip protocol q moment refused old))
-          (λ new. IsServerFor-extend given (log_of es) (log_of (es ++ e ∷ [])) x n ip q (rw (new.0) (subst (GoesRight given (log_of es)) new.1 right)))
-          (entry_cases es e n (Asked ip protocol q moment refused) at);
-    }
-
--- the same where the log is told
-pub AsksServers-added : (given : Given) (e : LogEntry) (old new : Option (List LogEntry)) → new ≡ added e old → TellsThat old (λ log. GoesRight given log e)
-    → TellsThat old (AsksServers given) → TellsThat new (AsksServers given)
-AsksServers-added given e old new grew right asks es told =
-    let l = Longer-from_added e old es (sym grew ∙ told) in
-    rw l.is (AsksServers-append given l.before e (right l.before l.was) (asks l.before l.was))
-
--- the same after a call that failed
-pub AsksServers-unless : (b : Bool) (given : Given) (e : LogEntry) (old new : Option (List LogEntry))
-    → new ≡ cond b old (added e old) → TellsThat old (λ log. GoesRight given log e)
-    → TellsThat old (AsksServers given) → TellsThat new (AsksServers given)
-AsksServers-unless true given e old new grew right asks es told = asks es (sym grew ∙ told)
-AsksServers-unless false given e old new grew right asks es told = AsksServers-added given e old new grew right asks es told
+    entry_at : (sent : Option Sent) → AreAt now (give_up_entry now sent)
+    entry_at None = tt
+    entry_at (Some sent) = (refl, tt)

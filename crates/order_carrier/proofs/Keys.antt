@@ -1,5 +1,6 @@
--- Keys of orders that compare as equal.
-use Rattle.std.proofs.Common.{Bool, true, false, ◌≡◌, ◌&&◌, ℕ, refl, sym, ap}
+-- Keys of orders that compare as equal, and what a map has after one was put there.
+use Rattle.std.proofs.Common.{Bool, true, false, cond, ◌≡◌, ◌⊎◌, inl, inr, ℕ, Some, refl, sym, ◌∙◌, ap}
+use Rattle.std.specs.BTreeMap.{BTreeMap}
 use Rattle.std.specs.Cmp.{nat_cmp_is}
 use Rattle.std.specs.Ordering.{nat_cmp, is_eq, ordering_then}
 use Rattle.std.specs.Prelude.{◌≢◌}
@@ -7,6 +8,7 @@ use Rattle.std.specs.FinMap.{nat_cmp-IsAntisymmetric}
 use Rattle.std.specs.declared.cmp.Ordering.{Ordering}
 use Rattle.std.specs.declared.cmp.Ordering.TheVariants.{Less, Equal, Greater}
 use Rattle.order_carrier.specs.Key.{same_key}
+use Rattle.order_carrier.specs.Stand.{slot_at, IsPutAt, IsSameElsewhere}
 use Rattle.order_carrier.specs.declared.key.Form.{Form}
 use Rattle.order_carrier.specs.declared.key.Form.TheVariants as form
 use Rattle.order_carrier.specs.declared.key.OrderKey.{OrderKey}
@@ -19,14 +21,14 @@ then_is Equal Equal h = (refl, refl)
 then_is Equal Greater h = cc
 then_is Greater last h = cc
 
-abbrev key : ℕ → Form → OrderKey
-key n f = record { number = n; form = f }
+abbrev keyed : ℕ → Form → OrderKey
+keyed n f = record { number = n; form = f }
 
 -- keys of one form
-same_form : (n m : ℕ) (f : Form) → is_eq (ordering_then (nat_cmp n m) Equal) ≡ true → key m f ≡ key n f
-same_form n m f h = ap (λ (k : ℕ). key k f) (sym (nat_cmp-IsAntisymmetric n m (then_is (nat_cmp n m) Equal h).0))
+same_form : (n m : ℕ) (f : Form) → is_eq (ordering_then (nat_cmp n m) Equal) ≡ true → keyed m f ≡ keyed n f
+same_form n m f h = ap (λ (k : ℕ). keyed k f) (sym (nat_cmp-IsAntisymmetric n m (then_is (nat_cmp n m) Equal h).0))
 
-parts_are : (n m : ℕ) (f g : Form) → same_key (key n f) (key m g) ≡ true → key m g ≡ key n f
+parts_are : (n m : ℕ) (f g : Form) → same_key (keyed n f) (keyed m g) ≡ true → keyed m g ≡ keyed n f
 parts_are n m form.Open form.Open h = same_form n m form.Open h
 parts_are n m form.Open form.Ask h = let k = (then_is (nat_cmp n m) Less h).1 in cc
 parts_are n m form.Open form.Sleep h = let k = (then_is (nat_cmp n m) Less h).1 in cc
@@ -41,7 +43,7 @@ parts_are n m form.Sleep form.Sleep h = same_form n m form.Sleep h
 pub key_is : (a b : OrderKey) → same_key a b ≡ true → b ≡ a
 key_is a b h = parts_are a.number b.number a.form b.form h
 
-parts_same : (n : ℕ) (f : Form) → same_key (key n f) (key n f) ≡ true
+parts_same : (n : ℕ) (f : Form) → same_key (keyed n f) (keyed n f) ≡ true
 parts_same n form.Open = ap (λ (o : Ordering). is_eq (ordering_then o Equal)) (sym (nat_cmp_is n n Equal refl))
 parts_same n form.Ask = ap (λ (o : Ordering). is_eq (ordering_then o Equal)) (sym (nat_cmp_is n n Equal refl))
 parts_same n form.Sleep = ap (λ (o : Ordering). is_eq (ordering_then o Equal)) (sym (nat_cmp_is n n Equal refl))
@@ -50,7 +52,15 @@ parts_same n form.Sleep = ap (λ (o : Ordering). is_eq (ordering_then o Equal)) 
 pub key_same : (a : OrderKey) → same_key a a ≡ true
 key_same a = parts_same a.number a.form
 
--- and another is not
+-- a key is this one or another
+pub key_cases : (a b : OrderKey) → (b ≡ a) ⊎ (b ≢ a)
+key_cases a b = by (same_key a b) refl
+  where
+    by : (c : Bool) → same_key a b ≡ c → (b ≡ a) ⊎ (b ≢ a)
+    by true is = inl (key_is a b is)
+    by false is = inr (λ same. let k = key_same a in let other = ap (same_key a) same in cc)
+
+-- and another is not the same
 pub key_other : (a b : OrderKey) → b ≢ a → same_key a b ≡ false
 key_other a b differ = by (same_key a b) refl
   where
@@ -58,7 +68,19 @@ key_other a b differ = by (same_key a b) refl
     by false is = is
     by true is = absurd (differ (key_is a b is))
 
--- where the test is made, a key is the one that was changed
-pub place_is : (a : Bool) (key n : OrderKey) → (a && same_key key n) ≡ true → n ≡ key
-place_is true key n h = key_is key n h
-place_is false key n h = cc
+module _ {S : Type 0} (key : OrderKey) (value : S) (old new : BTreeMap OrderKey S) (put : IsPutAt key value old new) where
+  -- what was put stands there
+  pub at-put : slot_at new key ≡ Some value
+  at-put = put key ∙ ap (λ (b : Bool). cond b (Some value) (slot_at old key)) (key_same key)
+
+  -- and what stood elsewhere stands there still
+  pub elsewhere-put : IsSameElsewhere key old new
+  elsewhere-put k differ = put k ∙ ap (λ (b : Bool). cond b (Some value) (slot_at old k)) (key_other key k differ)
+
+-- what does not change is the same elsewhere
+pub elsewhere-refl : {S : Type 0} (key : OrderKey) (slots : BTreeMap OrderKey S) → IsSameElsewhere key slots slots
+elsewhere-refl key slots k differ = refl
+
+-- two changes under one key are one
+pub elsewhere-trans : {S : Type 0} (key : OrderKey) (a b c : BTreeMap OrderKey S) → IsSameElsewhere key a b → IsSameElsewhere key b c → IsSameElsewhere key a c
+elsewhere-trans key a b c x y k differ = y k differ ∙ x k differ

@@ -1,5 +1,13 @@
 pub mod Growing
-pub mod Patience
-mod Keys
+pub mod Keys
+pub mod Asking
+pub mod Begun
+pub mod Outcomes
+pub mod Waiting
+pub mod Closing
+pub mod Holding
 mod Slots
-mod Carried
+mod Steps
+mod Polls
+mod Calls
+mod Taking

@@ -1,9 +1,6 @@
 -- What came of an order, by a log.
 use Rattle.std.specs.Prelude.{◌≡◌, ℕ, ◌<◌, ◌≤◌, true, false, Option, Some, None}
-use Rattle.std.specs.declared.net.ip_addr.IpAddr.{IpAddr}
-use Rattle.dns_core.specs.Connection.{Peer, protocol_of}
 use Rattle.dns_core.specs.Log.{Log}
-use Rattle.dns_core.specs.declared.message.Query.{Query}
 use Rattle.dns_core.specs.declared.connection.Protocol.{Protocol}
 use Rattle.dns_core.specs.declared.net_error.NetError.{NetError}
 use Rattle.dns_core.specs.declared.log.LogEntry.{LogEntry}
@@ -12,13 +9,13 @@ use Rattle.dns_core.specs.declared.log.ToldOutcome.TheVariants as said
 use Rattle.resolution.specs.Given.{Given}
 use Rattle.resolution.specs.Telling.{Logged}
 use Rattle.resolution.specs.Asking.{IsServer, IsServerFor}
-use Rattle.resolution.specs.Ending.{waits}
 use Rattle.server_core.specs.Order.{entry_of}
 use Rattle.server_core.specs.declared.order.Order.{Order}
 use Rattle.server_core.specs.declared.order.Order.TheVariants.{Open, Ask, Sleep}
 use Rattle.server_core.specs.declared.order.Sent.{Sent}
 use Rattle.server_core.specs.declared.order.Outcome.{Outcome}
-use Rattle.server_core.specs.declared.order.Outcome.TheVariants.{Pending, Connected, Told, Failed, GaveUp, Slept}
+use Rattle.server_core.specs.declared.order.Outcome.TheVariants.{Pending, Connected, Told, Failed, Slept}
+use Rattle.order_carrier.specs.Awaited.{IsSentFor}
 
 -- the entry of what was sent: an opening, or a question
 abbrev pub entry_for : Sent → Protocol → Option NetError → LogEntry
@@ -26,27 +23,6 @@ entry_for s protocol refusal = elim s.query [
   | None ↦ line.Opened s.ip protocol s.moment refusal
   | Some q ↦ line.Asked s.ip protocol q s.moment refusal
 ]
-
--- an address, and a question for it or a connection to it
-pub record Aim : Type 0 where
-  pub ip : IpAddr
-  pub query : Option Query
-
--- to which address an order goes, and with which question; a sleep goes to none
-abbrev pub aim_of : Order → Option Aim
-aim_of (Open ip config) = Some (record { ip = ip; query = None })
-aim_of (Ask conn ip protocol request) = Some (record { ip = ip; query = Some request.query })
-aim_of (Sleep until) = None
-
--- whom a connection reaches that an order opens
-abbrev pub opened_by : Order → Option Peer
-opened_by (Open ip config) = Some (record { ip = ip; protocol = protocol_of config.protocol })
-opened_by (Ask conn ip protocol request) = None
-opened_by (Sleep until) = None
-
--- It was sent for the order: to its address, and with its question, where it has one.
-abbrev pub IsSentFor : Order → Sent → Type 0
-IsSentFor order s = aim_of order ≡ Some (record { ip = s.ip; query = s.query })
 
 -- It was sent by its entry, or refused.
 pub record IsSent (log : Log) (s : Sent) (refusal : Option NetError) : Type 0 where
@@ -67,18 +43,43 @@ pub record WasRefused (log : Log) (now : ℕ) (s : Sent) (entry : ℕ) (error : 
 
 -- What came of an order is what the entry of its number says, at the moment.
 abbrev pub OutcomeIs : Log → ℕ → Outcome → Type 0
-OutcomeIs log now (Pending entry) = Unit {0}
+OutcomeIs log now (Pending entry of) = Unit {0}
 OutcomeIs log now (Connected entry s) = Closes log s entry (line.Told s.of now said.Connected)
 OutcomeIs log now (Told entry s message) = Closes log s entry (line.Told s.of now (said.Message message)) × (s.query ≡ Some message.query)
 OutcomeIs log now (Failed entry s true error) = WasRefused log now s entry error
 OutcomeIs log now (Failed entry s false error) = Closes log s entry (line.Told s.of now (said.Error error))
-OutcomeIs log now (GaveUp entry s polls) = Closes log s entry (line.GaveUp s.of now) × (polls ≤ waits log s.of entry)
 OutcomeIs log now Slept = Unit {0}
 
 -- The log has the outcome of an order, at the moment.
 pub record Fits (log : Log) (now : ℕ) (outcome : Outcome) : Type 0 where
   pub within : entry_of outcome < log.next
   pub is : OutcomeIs log now outcome
+
+-- The entry says that a poll of what entry `of` sent for the order found nothing.
+pub record WaitsStill (log : Log) (order : Order) (entry of : ℕ) : Type 0 where
+  pub sent : Sent
+  pub sends : IsSentFor order (Some sent)
+  pub by_entry : sent.of ≡ of
+  pub waits : Closes log sent entry (line.Waited of)
+
+-- What was sent for an order is waited for, as the entry says; a sleep rests before its moment, and no entry says so.
+abbrev pub IsPendingOf : Log → ℕ → Order → ℕ → ℕ → Type 0
+IsPendingOf log now (Open ip config) entry of = WaitsStill log (Open ip config) entry of
+IsPendingOf log now (Ask conn ip protocol request) entry of = WaitsStill log (Ask conn ip protocol request) entry of
+IsPendingOf log now (Sleep until) entry of = (entry ≡ 0) × (of ≡ 0) × (now < until)
+
+-- The outcome is one of the order: of its form, and of what was sent to its address, with its question, where it has one.
+abbrev pub IsOf : Log → ℕ → Order → Outcome → Type 0
+IsOf log now order (Pending entry of) = IsPendingOf log now order entry of
+IsOf log now order (Connected entry s) = IsSentFor order (Some s) × (s.query ≡ None)
+IsOf log now order (Told entry s message) = IsSentFor order (Some s) × (s.query ≡ Some message.query)
+IsOf log now order (Failed entry s refused error) = IsSentFor order (Some s)
+IsOf log now order Slept = (until : ℕ) × (order ≡ Sleep until) × (until ≤ now)
+
+-- The outcome is one of the order, and the log has it, at the moment.
+pub record IsOutcome (log : Log) (now : ℕ) (order : Order) (outcome : Outcome) : Type 0 where
+  pub fits : Fits log now outcome
+  pub of_order : IsOf log now order outcome
 
 -- An order goes to a server by what was told below n; a question to one of a zone at or above its name.
 abbrev pub GoesToServer : Given → Log → ℕ → Order → Type 0

@@ -8,6 +8,7 @@ use Rattle.order_carrier.specs.declared.key.Form.{Form}
 use Rattle.order_carrier.specs.declared.key.Form.TheVariants as form
 use Rattle.order_carrier.specs.declared.key.OrderKey.{OrderKey}
 
+-- the form of an order
 abbrev pub form_of : Order → Form
 form_of (Open ip config) = form.Open
 form_of (Ask conn ip protocol request) = form.Ask
@@ -17,6 +18,6 @@ form_of (Sleep until) = form.Sleep
 abbrev pub key_of : ℕ → Order → OrderKey
 key_of number order = record { number = number; form = form_of order }
 
--- the same number and the same form
+-- whether two keys have the same number and the same form
 abbrev pub same_key : OrderKey → OrderKey → Bool
 same_key a b = is_eq (key_order.ghosts.cmp a b)

@@ -1,5 +1,13 @@
 pub mod Key
+pub mod Awaited
+pub mod Growing
 pub mod Fits
+pub mod Did
+pub mod Stand
+pub mod Calling
+pub mod Closing
 pub mod Carrying
+pub mod GivingUp
+pub mod Sent
+pub mod Starts
 pub mod Patience
-pub mod Stands

@@ -1,41 +1,52 @@
 //! Gives up what a carrier has under way.
-ghost use Rattle.std.specs.Prelude.{◌≡◌, ◌<◌, ◌+◌, ◌-◌, ◌^◌, ℕ, IsSome, List, Some, None, IfSome, min};
+ghost use Rattle.std.specs.Prelude.{◌≡◌, IsSome, List, Some, None, is_some};
 ghost use Rattle.dns_core.specs.declared.log.LogEntry.{LogEntry};
-ghost use Rattle.resolution.specs.Given.{Given};
-ghost use Rattle.resolution.specs.Asking.{AsksServers};
-ghost use Rattle.order_carrier.specs.Fits.{Fits};
-ghost use Rattle.order_carrier.specs.Carrying.{TellsThat, Grown, CarrierHolds};
-ghost use Rattle.order_carrier.specs.Patience.{IsPatient};
-ghost use Rattle.order_carrier.specs.Stands.{is_under_way, stand_at, IsSameElsewhere, open_key, IsGivenUp};
-ghost use Rattle.order_carrier.specs.Stands.Stand.{UnderWay, Over};
+ghost use Rattle.order_carrier.specs.Did.{order_in};
+ghost use Rattle.order_carrier.specs.Awaited.{sent_of, IsNamed};
+ghost use Rattle.order_carrier.specs.GivingUp.{open_key, give_up_entry, GivesUp};
+ghost use Rattle.order_carrier.specs.Growing.{with_entries};
+ghost use Rattle.order_carrier.specs.Stand.{slot_at, stand_at, IsSlotNamed};
+ghost use Rattle.order_carrier.specs.Carrying.{CarrierHolds};
 ghost use Rattle.order_carrier.specs.declared.key.OrderKey.{OrderKey as Key};
-ghost use Rattle.server_core.specs.declared.order.Order.{Order as Ordered};
 
+use crate::awaited::Awaited;
 use crate::carrier::Carrier;
 use crate::key::{Form, OrderKey};
-use crate::slot::{Asking, Opening, Slot};
+use crate::slot::Slot;
+use crate::under_way::UnderWay;
 use dns_core::ConnectionProvider;
-use server_core::{Outcome, Sent};
+
+/// Gives up what is waited for: an entry says so, where one sent it.
+fn give_up_awaited<P: ConnectionProvider>(
+    provider: &mut P,
+    awaited: Awaited<P::FutureConn, P::Exchange>,
+    now: u64,
+)
+    requires { IsNamed P.ConnectionProvider (P.log provider.old) awaited }
+    ensures vouches { (es : List LogEntry) → P.vouches provider.new es → P.vouches provider.old es }
+    ensures log { P.log provider.new ≡ with_entries (give_up_entry now (sent_of awaited)) (P.log provider.old) }
+    ensures quiet { sent_of awaited ≡ None → provider.new ≡ provider.old }
+{
+    match awaited {
+        Awaited::Connection { future, sent: _ } => provider.give_up_connection(future, now),
+        Awaited::Answer { exchange, sent: _ } => provider.give_up(exchange, now),
+        Awaited::Moment { until: _ } => {}
+    }
+}
 
 impl<P: ConnectionProvider> Carrier<P> {
-    /// The outcome of a give-up, where it has a number.
-    fn gave_up(&mut self, sent: Sent, polls: u32) -> Option<Outcome>
-        ensures some { IfSome result (λ outcome. (outcome ≡ Outcome.GaveUp self.new.entries sent polls) × (self.old.entries + 5 < 2 ^ 64)) }
-        ensures numbers { self.old.entries + 5 < 2 ^ 64 → IsSome result }
-        ensures counts { self.new.entries ≡ min (self.old.entries + 1) (2 ^ 64 - 1) }
-        ensures same { (self.new.provider ≡ self.old.provider) × (self.new.slots ≡ self.old.slots) }
+    fn is_open(&self, key: OrderKey) -> bool
+        ensures { result ≡ is_some (order_in (stand_at self.now.slots key)) }
     {
-        let has_numbers = self.has_numbers();
-        let entry = self.count();
-        if !has_numbers {
-            return None;
+        match self.slots.get(&key) {
+            Some(Slot::UnderWay(_)) => true,
+            None | Some(Slot::Fresh | Slot::Made(_) | Slot::Over) => false,
         }
-        Some(Outcome::GaveUp { entry, sent, polls })
     }
 
     /// Under which form an order of a number is under way.
     fn open_key(&self, number: u64) -> Option<OrderKey>
-        ensures { result ≡ open_key self.now.slots number }
+        ensures { result ≡ open_key (stand_at self.now.slots) number }
     {
         let opening = OrderKey {
             number,
@@ -49,88 +60,46 @@ impl<P: ConnectionProvider> Carrier<P> {
             number,
             form: Form::Sleep,
         };
-        if self.has_open(opening) {
+        if self.is_open(opening) {
             Some(opening)
-        } else if self.has_open(ask) {
+        } else if self.is_open(ask) {
             Some(ask)
-        } else if self.has_open(sleep) {
+        } else if self.is_open(sleep) {
             Some(sleep)
         } else {
             None
         }
     }
 
-    fn has_open(&self, key: OrderKey) -> bool
-        ensures { result ≡ is_under_way (stand_at self.now.slots key) }
-    {
-        matches!(
-            self.slots.get(&key),
-            Some(Slot::Opening(_) | Slot::Asking(_) | Slot::Sleeping { .. })
-        )
-    }
-
     /// Gives up what is under way under a key.
-    fn give_up_at(&mut self, key: OrderKey, now: u64) -> Option<Outcome>
-        requires holds { CarrierHolds P.ConnectionProvider self.old }
+    fn give_up_at(&mut self, key: OrderKey, now: u64)
+        requires open { IsSome (order_in (stand_at self.old.slots key)) }
+        requires named { IsSlotNamed P.ConnectionProvider (P.log self.old.provider) (slot_at self.old.slots key) }
         ensures vouches { (es : List LogEntry) → P.vouches self.new.provider es → P.vouches self.old.provider es }
-        ensures holds { CarrierHolds P.ConnectionProvider self.new }
-        ensures grown { Grown now (P.log self.old.provider) (P.log self.new.provider) }
-        ensures patient { (most : ℕ) → IsPatient most (P.log self.old.provider) (P.log self.new.provider) }
-        ensures fits { IfSome result (λ outcome. TellsThat (P.log self.new.provider) (λ log. Fits log now outcome)) }
-        ensures asks { (given : Given) → TellsThat (P.log self.old.provider) (AsksServers given) → TellsThat (P.log self.new.provider) (AsksServers given) }
-        ensures given_up { (order : Ordered) → stand_at self.old.slots key ≡ UnderWay order → (stand_at self.new.slots key ≡ Over) × IfSome result (IsGivenUp order) }
-        ensures some { (order : Ordered) → stand_at self.old.slots key ≡ UnderWay order → self.old.entries + 5 < 2 ^ 64 → IsSome result }
-        ensures others { IsSameElsewhere key self.old.slots self.new.slots }
+        ensures gives_up { GivesUp key now self.old self.new }
     {
-        match self.take(key) {
-            Slot::Opening(opening) => {
-                let Opening {
-                    order: _,
-                    protocol: _,
-                    future,
-                    sent,
-                    polls,
-                } = opening;
-                self.provider.give_up_connection(future, now);
-                self.gave_up(sent, polls)
-            }
-            Slot::Asking(asking) => {
-                let Asking {
-                    order: _,
-                    exchange,
-                    sent,
-                    polls,
-                } = asking;
-                self.provider.give_up(exchange, now);
-                self.gave_up(sent, polls)
-            }
-            Slot::Sleeping { .. } => Some(Outcome::Slept),
-            Slot::Fresh | Slot::Made(_) | Slot::Over => None,
-        }
+        let Slot::UnderWay(under_way) = self.take(key) else {
+            unreachable!()
+        };
+        let UnderWay { order: _, awaited } = under_way;
+        self.count_sent(&awaited);
+        give_up_awaited(&mut self.provider, awaited, now);
     }
 
     /// Gives up the order of a number that is under way: an opening before an ask, and that before a
-    /// sleep. Where none is under way nothing changes. A sleep that is given up has ended. An order
-    /// whose give-up has no number any more is given up, and has no outcome.
-    pub fn give_up(&mut self, number: u64, now: u64) -> Option<Outcome>
-        requires holds { CarrierHolds P.ConnectionProvider self.old }
+    /// sleep. By what was sent an entry says so; a sleep is over without one. Where none is under way
+    /// nothing changes.
+    pub fn give_up(&mut self, number: u64, now: u64)
+        requires { CarrierHolds P.ConnectionProvider self.old }
         ensures vouches { (es : List LogEntry) → P.vouches self.new.provider es → P.vouches self.old.provider es }
+
+        // The order that is under way is over, and every other one stands as before.
+        ensures gives_up { (key : Key) → open_key (stand_at self.old.slots) number ≡ Some key → GivesUp key now self.old self.new }
+        ensures none { open_key (stand_at self.old.slots) number ≡ None → self.new ≡ self.old }
         ensures holds { CarrierHolds P.ConnectionProvider self.new }
-        ensures grown { Grown now (P.log self.old.provider) (P.log self.new.provider) }
-        ensures patient { (most : ℕ) → IsPatient most (P.log self.old.provider) (P.log self.new.provider) }
-        ensures fits { IfSome result (λ outcome. TellsThat (P.log self.new.provider) (λ log. Fits log now outcome)) }
-        ensures asks { (given : Given) → TellsThat (P.log self.old.provider) (AsksServers given) → TellsThat (P.log self.new.provider) (AsksServers given) }
-
-        // The order that is under way is over, and its outcome is that it was given up.
-        ensures given_up { (key : Key) (order : Ordered) → open_key self.old.slots number ≡ Some key → stand_at self.old.slots key ≡ UnderWay order
-            → (stand_at self.new.slots key ≡ Over) × IfSome result (IsGivenUp order) }
-        ensures some { IsSome (open_key self.old.slots number) → self.old.entries + 5 < 2 ^ 64 → IsSome result }
-
-        // Every other one stands as it did; where none is under way nothing changes.
-        ensures others { (key : Key) → open_key self.old.slots number ≡ Some key → IsSameElsewhere key self.old.slots self.new.slots }
-        ensures none { open_key self.old.slots number ≡ None → (result ≡ None) × (self.new ≡ self.old) }
     {
-        let key = self.open_key(number)?;
-        self.give_up_at(key, now)
+        if let Some(key) = self.open_key(number) {
+            self.give_up_at(key, now);
+        }
     }
 }

@@ -1,12 +1,20 @@
-//! Carries out over a provider what is ordered: an order is known by its number and its form, and each
-//! of its outcomes is what an entry of the provider's log tells of it.
+//! Carries orders out over a provider: starts each once, polls it until its outcome comes, and hands
+//! that out once, with the number of the log entry that says it. What a call did is one value, and the
+//! entries that it appended, what it handed out and where the order stands after it follow from that
+//! (`specs/Did.antt`).
 #![tactic(auto)]
 
+mod awaited;
+mod calling;
 mod carrier;
 mod giving_up;
 mod key;
+mod polling;
+mod sent;
 mod slot;
+mod starting;
 mod threads;
+mod under_way;
 
 pub use carrier::Carrier;
 pub use threads::carriers_cross_threads;

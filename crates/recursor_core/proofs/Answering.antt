@@ -1,6 +1,6 @@
 -- What a lookup that was answered came to, as the log shows it.
-use Rattle.std.proofs.Common.{◌≡◌, ℕ, suc, ◌≤◌, ◌<◌, Bool, true, false, not, ◌||◌, cond, List, [], ◌∷◌, ◌++◌, map, find, length, Contains, Option, Some, None, IfSome, IsSomeAnd, Result, Ok, Err, inl, refl, sym, ap, subst, ◌∙◌, arith}
-use Rattle.std.specs.Prelude.{IsTrue, nat_le, option_map, ◌==◌, if◌then◌else◌}
+use Rattle.std.proofs.Common.{◌≡◌, ℕ, suc, ◌≤◌, ◌<◌, Bool, true, false, not, ◌||◌, cond, List, [], ◌∷◌, ◌++◌, map, find, length, Contains, Option, Some, None, IfSome, IsSomeAnd, Result, Ok, Err, ◌⊎◌, inl, inr, refl, sym, ap, subst, ◌∙◌, arith}
+use Rattle.std.specs.Prelude.{IsTrue, nat_le, option_and_then, ◌==◌, if◌then◌else◌}
 use Rattle.std.specs.List.{list_any, list_all, last_or, before_first, after_first, filter_map, AllByRecursion}
 use Rattle.std.specs.List.Sorted.{IsPermutation}
 use Rattle.std.proofs.lemmas.Bool.{and_parts, leb-true}
@@ -19,14 +19,14 @@ use Rattle.dns_core.specs.declared.net_error.NetError.{NetError}
 use Rattle.dns_core.specs.declared.net_error.NetError.TheVariants as net
 use Rattle.dns_core.specs.declared.net_error.DnsError.{DnsError}
 use Rattle.dns_core.specs.declared.net_error.DnsError.TheVariants as dns
-use Rattle.resolver_settings.specs.Access.{Access, denies}
+use Rattle.resolver_settings.specs.Access.{denies}
 use Rattle.dns_core.specs.Classifying.{no_records}
 use Rattle.resolution.specs.Class.{class_of, class_of_error, has_no_data_for, is_foreign}
 use Rattle.resolution.specs.Records.{records}
 use Rattle.resolution.specs.Verdict.{is_all_denied, without_denied}
 use Rattle.resolution.specs.Given.{Given}
 use Rattle.resolution.specs.Serving.{Heard}
-use Rattle.resolution.specs.Lookups.{Answered, class_of_answer, End, Rules, is_retryable, answer_of, negative_of, is_timed_out, least_bad, class_of_end, turns, the_turn, but_turn, retries, none_is_final, all_were_tried, what_is_left, IsDecided, PoolRun}
+use Rattle.resolution.specs.Lookups.{Answered, class_of_answer, End, Rules, is_retryable, answer_of, negative_of, is_timed_out, least_bad, class_of_end, turns, the_turn, but_turn, retries, none_is_final, all_were_tried, what_is_left, IsDecided, PoolRun, IsBounded}
 use Rattle.resolution.specs.Lookups.PoolRun.{decided, spent, late}
 use Rattle.resolution.specs.Ending.{by_address, EndSends}
 use Rattle.resolution.specs.Ending.EndSends.{no_send, and_send}
@@ -34,15 +34,18 @@ use Rattle.resolution.specs.declared.class.Class.{Class}
 use Rattle.resolution.specs.declared.class.Class.TheVariants.{Error, Code, Truncated, Negative, Foreign, Positive}
 use Rattle.resolution.proofs.Caseless.{both}
 use Rattle.retry_rules.specs.Agenda.{rules_of, class_of_sent}
-use Rattle.retry_rules.specs.AnswerFilter.{denied_by, foreign_class, nothing_left}
-use Rattle.server_pool.specs.Rounds.{HeardEnd, ends_of, entries_of}
-use Rattle.server_pool.specs.OpenLookup.{left_of}
-use Rattle.server_pool.specs.Lookups.{told_of as lookup_told}
-use Rattle.server_pool.specs.Running.{request_of, start_of, ends_at, IsDone, Runs}
-use Rattle.server_pool.specs.Running.{answer_of as lookup_answer}
+use Rattle.retry_rules.specs.AnswerFilter.{foreign_class, nothing_left}
+use Rattle.retry_lookup.specs.Asked.{answer_in, answer_of as answer_of_state}
+use Rattle.retry_lookup.specs.Hearing.{left_of}
+use Rattle.retry_lookup.specs.Holds.{HeardEnd, ends_of, entries_of, IsRun, IsAt as IsAt_state, out_of_memory}
+use Rattle.retry_lookup.specs.Lookup.{LookupState, question_of}
+use Rattle.retry_lookup.specs.declared.lookup.State.{State}
+use Rattle.retry_lookup.specs.declared.lookup.State.TheVariants.{Asking, BackingOff, Decided}
+use Rattle.server_pool.specs.Lookups.{closed_by}
 use Rattle.server_pool.specs.Shared.{lookup_at}
 use Rattle.server_pool.specs.declared.open_lookup.OpenLookup.{OpenLookup}
 use Rattle.retry_rules.specs.declared.candidate.Candidate.{Candidate}
+use Rattle.retry_rules.proofs.Plans.{same_self, same_is}
 use Rattle.retry_rules.proofs.Turning.{but_none}
 use Rattle.server_pool.specs.ByAddress.{at_address}
 use Rattle.server_pool.proofs.ByAddress.{IsTrustedBeyondUdp, run_by_address}
@@ -56,6 +59,7 @@ use Rattle.recursor_core.specs.Asked.{AskedAs}
 use Rattle.recursor_core.specs.Derived.{left_of_class, IsTold, AskHolds}
 use Rattle.recursor_core.specs.declared.pools.Pools.{Pools}
 use Rattle.recursor_core.specs.declared.pools.Sought.{Sought}
+use Rattle.recursor_core.proofs.Bounding.{bounded-images, bounded-permuted}
 use Rattle.recursor_core.proofs.Denials.{answer-whole}
 use Rattle.recursor_core.proofs.Earlier.{run-later}
 
@@ -290,22 +294,34 @@ not_false false h = refl
 
 -- ---- a lookup that was answered
 
-ends-from : (pool : List Candidate) (heard : List HeardEnd) → AllByRecursion (λ h. Contains pool h.end.server) heard → AllByRecursion (λ e. Contains pool e.server) (ends_of heard)
-ends-from pool [] a = tt
-ends-from pool (h ∷ heard) a = (a.0, ends-from pool heard a.1)
+ends-from : (servers : List Candidate) (heard : List HeardEnd) → AllByRecursion (λ h. Contains servers h.end.server) heard → AllByRecursion (λ e. Contains servers e.server) (ends_of heard)
+ends-from servers [] a = tt
+ends-from servers (h ∷ heard) a = (a.0, ends-from servers heard a.1)
+
+-- each address has few ends, as each candidate has
+bounded-of : (terms : Terms) (greatest moment : ℕ) (log : Log) (pools : Pools) (n : ℕ) (s : Sought) (h : SoughtHolds terms greatest moment log pools n s) → IsBounded (by_address 5000000) (class_of_answer s.query) h.ips h.ends
+bounded-of terms greatest moment log pools n s h =
+    let l = h.shared_by.lookup in
+    let at_time = subst (λ (t : ℕ). IsBounded (rules_of t) (class_of_sent (question_of l)) l.servers (ends_of h.heard)) h.time h.stands.keeps.each in
+    let asked = subst (λ (q : Query). IsBounded (rules_of 5000000) (class_of_sent q) l.servers (ends_of h.heard)) h.asks at_time in
+    let from = ends-from l.servers h.heard h.stands.keeps.from_pool in
+    let by_ip = bounded-images (rules_of 5000000) (by_address 5000000) (class_of_sent s.query) (class_of_answer s.query) (at_address h.ip_of) same_self same_is l.servers from h.beside asked in
+    bounded-permuted (by_address 5000000) (class_of_answer s.query) h.ends (map (at_address h.ip_of) l.servers) h.ips (IsPermutation-sym h.ips (map (at_address h.ip_of) l.servers) h.whole) by_ip
 
 -- by addresses, in the order of the list, no later than the moment
-run-of : (terms : Terms) (greatest moment : ℕ) (log : Log) (pools : Pools) (n : ℕ) (s : Sought) (h : SoughtHolds terms greatest moment log pools n s) (answer : Answered)
-    → IsDone h.pool h.heard moment h.lookup answer → PoolRun (by_address 5000000) (class_of_answer s.query) h.ips h.ends answer s.start moment
-run-of terms greatest moment log pools n s h answer done =
-    let at_time = subst (λ (t : ℕ). PoolRun (rules_of t) (class_of_sent (request_of h.lookup).query) h.pool (ends_of h.heard) answer (start_of h.lookup) done.at) h.time done.run in
-    let asked = subst (λ (q : Query). PoolRun (rules_of 5000000) (class_of_sent q) h.pool (ends_of h.heard) answer (start_of h.lookup) done.at) h.asks at_time in
-    let run = subst (λ (t : ℕ). PoolRun (rules_of 5000000) (class_of_sent s.query) h.pool (ends_of h.heard) answer t done.at) h.starts asked in
-    let plain = recursion_from_All IsTrustedBeyondUdp h.pool
-    (All-weaker (λ c. IsAt pools.shared.table (h.ip_of c.server) c) IsTrustedBeyondUdp (λ c at. record { beyond_udp = at.beyond_udp; trusted = at.trusted }) h.pool h.known) in
-    let from = ends-from h.pool h.heard (recursion_from_All (λ e. Contains h.pool e.end.server) h.heard h.stands.from_pool) in
-    let by_ip = run_by_address 5000000 h.ip_of h.pool (class_of_sent s.query) (class_of_answer s.query) plain from h.beside run in
-    run-later done.at moment done.early (PoolRun-permuted (map (at_address h.ip_of) h.pool) h.ips (IsPermutation-sym h.ips (map (at_address h.ip_of) h.pool) h.whole) by_ip)
+run-of : (terms : Terms) (greatest moment : ℕ) (log : Log) (pools : Pools) (n : ℕ) (s : Sought) (h : SoughtHolds terms greatest moment log pools n s) (answer : Answered) (at : ℕ) → at ≤ moment
+    → PoolRun (rules_of h.shared_by.lookup.timeout) (class_of_sent (question_of h.shared_by.lookup)) h.shared_by.lookup.servers (ends_of h.heard) answer h.shared_by.lookup.start at
+    → PoolRun (by_address 5000000) (class_of_answer s.query) h.ips h.ends answer s.start moment
+run-of terms greatest moment log pools n s h answer at early ran =
+    let l = h.shared_by.lookup in
+    let at_time = subst (λ (t : ℕ). PoolRun (rules_of t) (class_of_sent (question_of l)) l.servers (ends_of h.heard) answer l.start at) h.time ran in
+    let asked = subst (λ (q : Query). PoolRun (rules_of 5000000) (class_of_sent q) l.servers (ends_of h.heard) answer l.start at) h.asks at_time in
+    let run = subst (λ (t : ℕ). PoolRun (rules_of 5000000) (class_of_sent s.query) l.servers (ends_of h.heard) answer t at) h.starts asked in
+    let plain = recursion_from_All IsTrustedBeyondUdp l.servers
+    (All-weaker (λ c. IsAt pools.shared.table (h.ip_of c.server) c) IsTrustedBeyondUdp (λ c at. record { beyond_udp = at.beyond_udp; trusted = at.trusted }) l.servers h.known) in
+    let from = ends-from l.servers h.heard h.stands.keeps.from_pool in
+    let by_ip = run_by_address 5000000 h.ip_of l.servers (class_of_sent s.query) (class_of_answer s.query) plain from h.beside run in
+    run-later at moment early (PoolRun-permuted (map (at_address h.ip_of) l.servers) h.ips (IsPermutation-sym h.ips (map (at_address h.ip_of) l.servers) h.whole) by_ip)
 
 module _ (terms : Terms) (greatest moment : ℕ) (log : Log) (pools : Pools) (n : ℕ) (s : Sought) (h : SoughtHolds terms greatest moment log pools n s) (begun : ℕ) (since : begun ≤ s.start) where
   abbrev g : List ℕ
@@ -334,6 +350,7 @@ module _ (terms : Terms) (greatest moment : ℕ) (log : Log) (pools : Pools) (n 
         rises = t.rises;
         logged = t.logged;
         run = run;
+        bounded = bounded-of terms greatest moment log pools n s h;
         since = t.since;
         till = t.till;
         asked = omega (arith, since, past);
@@ -431,34 +448,43 @@ module _ (terms : Terms) (greatest moment : ℕ) (log : Log) (pools : Pools) (n 
   answered-by answer (late l) = ended answer net.Timeout l.answers refl (late-some h.ends l.some) (late l)
 
   -- What a lookup came to that was answered.
-  pub answered : (answer : Answered) → IsDone h.pool h.heard moment h.lookup answer → Comes answer
-  answered answer done = answered-by answer (run-of terms greatest moment log pools n s h answer done)
+  pub answered : (answer : Answered) → Run answer → Comes answer
+  answered answer run = answered-by answer run
 
 -- ---- as it is read
 
--- what is of a value that is there
-mapped : {X Y : Type 0} (f : X → Y) (o : Option X) (y : Y) → Some y ≡ option_map f o → (x : X) × (o ≡ Some x) × (f x ≡ y)
-mapped f None y is = cc
-mapped f (Some x) y is = (x, refl, sym (same_Some _ _ is))
+-- A step no later than the moment answered it so, by its ends.
+pub record WasAnswered (denied : IpAddr → Bool) (heard : List HeardEnd) (moment : ℕ) (told : Answered) (l : LookupState) : Type 0 where
+  pub at : ℕ
+  pub early : at ≤ moment
+  pub run : IsRun denied heard told at l
 
-done-of : (pool : List Candidate) (heard : List HeardEnd) (moment : ℕ) (l : OpenLookup) (a : Answered) → lookup_answer l ≡ Some a → Runs pool heard moment l → IsDone pool heard moment l a
-done-of pool heard moment l a is h = subst (λ (o : Option Answered). IfSome o (IsDone pool heard moment l)) is h.answered
+was-answered : (denied : IpAddr → Bool) (heard : List HeardEnd) (moment : ℕ) (told : Answered) (l : LookupState) → answer_in l.state ≡ Some told → out_of_memory told ≡ false → IsAt_state denied heard l.state l
+    → ((answer : Answered) (at : ℕ) → l.state ≡ Decided answer at → at ≤ moment) → WasAnswered denied heard moment told l
+was-answered denied heard moment told l is kept at decided_at = by l.state refl is at
+  where
+    run-so : (answer : Answered) (at : ℕ) → l.state ≡ Decided answer at → answer ≡ told → IsRun denied heard answer at l ⊎ IsTrue (out_of_memory answer) → WasAnswered denied heard moment told l
+    run-so answer at was same (inl run) = record { at = at; early = decided_at answer at was; run = subst (λ (a : Answered). IsRun denied heard a at l) same run }
+    run-so answer at was same (inr out) = let wrong : true ≡ false = sym out ∙ ap out_of_memory same ∙ kept in cc
+
+    by : (s : State) → l.state ≡ s → answer_in s ≡ Some told → IsAt_state denied heard s l → WasAnswered denied heard moment told l
+    by Asking was e k = cc
+    by (BackingOff until order polls) was e k = cc
+    by (Decided answer at) was e k = run-so answer at was (same_Some _ _ e) k
 
 -- What a lookup came to, as it is read for a question at the servers of a zone.
 pub answer-holds : (terms : Terms) (greatest moment : ℕ) (log : Log) (pools : Pools) (n : ℕ) (q : Query) (zone : DomainName) (begun at : ℕ) (told : Answered) (ends : List ℕ)
-    → PoolsHold terms greatest moment log pools → Seeks pools n q zone begun at
-    → ((l : OpenLookup) → lookup_at pools.shared n ≡ Some l → Some told ≡ option_map (lookup_told pools.shared l) (lookup_answer l))
-    → ((l : OpenLookup) → lookup_at pools.shared n ≡ Some l → ends ≡ ends_at l)
-    → AskHolds terms greatest moment begun log zone q ends (answered_by (last_of ends) at told)
-answer-holds terms greatest moment log pools n q zone begun at told ends holds k answers entries =
+    → PoolsHold terms greatest moment log pools → Seeks pools n q zone begun at → Some told ≡ option_and_then (λ (l : OpenLookup). answer_of_state l.lookup) (lookup_at pools.shared n) → out_of_memory told ≡ false
+    → ends ≡ closed_by (lookup_at pools.shared n) → AskHolds terms greatest moment begun log zone q ends (answered_by (last_of ends) at told)
+answer-holds terms greatest moment log pools n q zone begun at told ends holds k answers kept entries =
     let s = k.sought in
     let h = holds.lookups n s k.is in
-    let a = mapped (lookup_told pools.shared h.lookup) (lookup_answer h.lookup) told (answers h.lookup h.there) in
-    let came = answered terms greatest moment log pools n s h begun k.since a.0 (done-of h.pool h.heard moment h.lookup a.0 a.1 h.stands) in
-    let read : left_of s.query (denies terms.answer_filter) a.0 ≡ told =
-    ap (λ (p : Query). left_of p (denies terms.answer_filter) a.0) (sym h.asks)
-    ∙ ap (λ (f : Option Access). left_of (request_of h.lookup).query (denied_by f) a.0) (sym holds.servers.filter) ∙ a.2 in
-    let by : entries_of h.heard ≡ ends = sym (entries h.lookup h.there ∙ h.stands.entries) in
+    let l = h.shared_by.lookup in
+    let is : answer_in l.state ≡ Some told = sym (answers ∙ ap (option_and_then (λ (l : OpenLookup). answer_of_state l.lookup)) h.there) in
+    let a = was-answered (denies terms.answer_filter) h.heard moment told l is kept h.stands.at h.decided in
+    let came = answered terms greatest moment log pools n s h begun k.since a.run.whole (run-of terms greatest moment log pools n s h a.run.whole a.at a.early a.run.run) in
+    let read : left_of s.query (denies terms.answer_filter) a.run.whole ≡ told = ap (λ (p : Query). left_of p (denies terms.answer_filter) a.run.whole) (sym h.asks) ∙ sym a.run.left in
+    let by : entries_of h.heard ≡ ends = sym (entries ∙ ap closed_by h.there ∙ h.stands.keeps.entries) in
     let as_told = subst (λ (t : Answered). AskHolds terms greatest moment begun log s.zone s.query (entries_of h.heard) (answered_by (last_of (entries_of h.heard)) s.at t)) read came in
     let as_read = subst (λ (g : List ℕ). AskHolds terms greatest moment begun log s.zone s.query g (answered_by (last_of g) s.at told)) by as_told in
     let at_last = subst (λ (m : ℕ). AskHolds terms greatest moment begun log s.zone s.query ends (answered_by (last_of ends) m told)) k.last as_read in

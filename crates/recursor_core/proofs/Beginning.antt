@@ -1,11 +1,12 @@
 -- What holds of a lookup that begins at the servers of a zone.
-use Rattle.std.proofs.Common.{◌≡◌, ℕ, ◌+◌, ◌<◌, Bool, true, false, cond, List, [], ◌∷◌, map, filter, length, All, Option, Some, None, refl, sym, ap, subst, ◌∙◌, arith}
+use Rattle.std.proofs.Common.{◌≡◌, ℕ, ◌+◌, ◌<◌, ◌≤◌, ◌⊎◌, inl, inr, Bool, true, false, cond, List, [], ◌∷◌, map, filter, take, drop, length, All, Option, Some, None, refl, sym, ap, subst, ◌∙◌, arith}
 use Rattle.std.specs.Prelude.{IsTrue, option_map}
 use Rattle.std.specs.List.{AllZip, list_any, AllByRecursion}
 use Rattle.std.specs.List.Sorted.{IsPermutation}
 use Rattle.std.proofs.lemmas.Option.{same_Some, none-some}
 use Rattle.std.proofs.lemmas.List.Elements.{All-weaker, All-from_recursion, recursion_from_All}
-use Rattle.std.proofs.lemmas.List.Sorted.{IsPermutation-map, All-permutation}
+use Rattle.std.proofs.lemmas.List.{take-append-drop}
+use Rattle.std.proofs.lemmas.List.Sorted.{IsPermutation-append_comm, IsPermutation-refl, IsPermutation-map, All-permutation}
 use Rattle.std.specs.declared.net.ip_addr.IpAddr.{IpAddr}
 use Rattle.dns_core.specs.Name.{DomainName}
 use Rattle.dns_core.specs.Log.{Log}
@@ -17,8 +18,22 @@ use Rattle.server_core.specs.Servers.{Server, server_of}
 use Rattle.server_core.specs.Policy.{allows_config}
 use Rattle.server_core.specs.declared.policy.ConnectionPolicy.{ConnectionPolicy}
 use Rattle.server_pool.specs.Candidates.{is_reached, candidate_of, candidates}
-use Rattle.server_pool.specs.Lookups.{Begins}
-use Rattle.server_pool.specs.Running.{Runs, AreReached}
+use Rattle.resolver_settings.specs.declared.options.ResolverOpts.{ResolverOpts}
+use Rattle.resolver_settings.specs.declared.options.ServerOrderingStrategy.{ServerOrderingStrategy}
+use Rattle.resolver_settings.specs.declared.options.ServerOrderingStrategy.TheVariants.{QueryStatistics, UserProvidedOrder, RoundRobin}
+use Rattle.resolver_settings.specs.Access.{denies}
+use Rattle.retry_rules.specs.Ordering.{IsByDelay, IsOrdered, from_place, place_of_turn, side_by_side}
+use Rattle.retry_lookup.specs.Holds.{HoldsBy}
+use Rattle.retry_lookup.specs.Lookup.{LookupState, BegunWith, begun_with, fresh}
+use Rattle.retry_lookup.specs.Rounds.{begun}
+use Rattle.retry_lookup.proofs.Begun.{round_same}
+use Rattle.retry_lookup.proofs.Laws.{begun_by}
+use Rattle.retry_lookup.proofs.Moments.{started_moment}
+use Rattle.retry_lookup.specs.declared.lookup.State.TheVariants.{Asking, Decided}
+use Rattle.resolution.specs.Lookups.{Answered}
+use Rattle.server_pool.specs.Sending.{HasBegun}
+use Rattle.server_pool.specs.Shared.{lookup_at, turn_at, configs}
+use Rattle.server_pool.specs.declared.open_lookup.OpenLookup.{OpenLookup}
 use Rattle.retry_rules.specs.declared.candidate.Candidate.{Candidate}
 use Rattle.server_pool.specs.ByAddress.Beside.{no_more}
 use Rattle.server_pool.specs.ByAddress.{at_address}
@@ -101,16 +116,23 @@ module _ (table : List Server) where
     candidates-met [] a = tt
     candidates-met (k ∷ ks) a = (candidate-met (address-of k) k a.0, candidates-met ks a.1)
 
--- those that are at their addresses are as the table has them, and reached beyond UDP
-pub are-reached : (table : List Server) (ip_of : ℕ → IpAddr) (pool : List Candidate) → All (λ c. IsAt table (ip_of c.server) c) pool → AreReached table pool
-are-reached table ip_of pool known =
-    All-weaker (λ c. IsAt table (ip_of c.server) c) (λ c. (c ≡ candidate_of table c.server) × (c.beyond_udp ≡ true)) (λ c at. (same c at, at.beyond_udp)) pool known
+-- ---- their order
+
+-- in any order there are the same servers
+pub ordered-same : (options : ResolverOpts) (table : List Server) (now turn : ℕ) (given asked : List ℕ) → IsOrdered options table now turn given asked → IsPermutation given asked
+ordered-same options table now turn given asked h = by_strategy options.server_ordering_strategy h
   where
-    same : (c : Candidate) → IsAt table (ip_of c.server) c → c ≡ candidate_of table c.server
-    same c at =
-        let there = candidate-met table (ip_of c.server) c.server at.config in
-        ap (λ (b : Bool). let d : Candidate = record { server = c.server; beyond_udp = b; trusted = c.trusted } in d) (at.beyond_udp ∙ sym there.beyond_udp)
-        ∙ ap (λ (b : Bool). let d : Candidate = record { server = c.server; beyond_udp = is_reached (record { disable_udp = true }) table c.server; trusted = b } in d) (at.trusted ∙ sym there.trusted)
+    turned : (place : ℕ) → IsPermutation given (from_place place given)
+    turned place = subst (λ (xs : List ℕ). IsPermutation xs (from_place place given)) (take-append-drop place given) (IsPermutation-append_comm (take place given) (drop place given))
+
+    by_strategy : (s : ServerOrderingStrategy) → elim s as (λ v. Type 0) [
+      | QueryStatistics ↦ IsByDelay table now given asked
+      | UserProvidedOrder ↦ asked ≡ given
+      | RoundRobin ↦ asked ≡ from_place (place_of_turn (side_by_side options) turn (length given)) given
+    ] → IsPermutation given asked
+    by_strategy QueryStatistics x = x.permutation
+    by_strategy UserProvidedOrder x = subst (λ (xs : List ℕ). IsPermutation given xs) (sym x) (IsPermutation-refl given)
+    by_strategy RoundRobin x = subst (λ (xs : List ℕ). IsPermutation given xs) (sym x) (turned _)
 
 -- ---- the lookup
 
@@ -120,46 +142,57 @@ first-of [] some = absurd (omega (arith, some))
 first-of (ip ∷ ips) some = ip
 
 -- What a lookup seeks that has just begun.
-pub begun-holds : (terms : Terms) (greatest now : ℕ) (log : Log) (zone : DomainName) (ips : List IpAddr) (numbers : List ℕ) (request : DnsRequest) (old new : Pools) (n : ℕ)
+pub begun-holds : (terms : Terms) (greatest now : ℕ) (log : Log) (zone : DomainName) (ips : List IpAddr) (numbers : List ℕ) (request : DnsRequest) (old new : Pools) (pool n : ℕ)
     → IsTrue (is_above zone (walk request.query)) → ArePool terms log (greatest + 1) zone ips → ServersHold terms old → AllZip (IsMet old) ips numbers
-    → Begins numbers request now old.shared new.shared n
+    → (b : HasBegun pool numbers request now old.shared new.shared n) → (l : OpenLookup) → lookup_at new.shared n ≡ Some l → l.lookup ≡ b.lookup
+    → configs new.shared.table ≡ configs old.shared.table
     → SoughtHolds terms greatest now log new n (record { query = request.query; zone = zone; start = now; given = None; first = None; at = now })
-begun-holds terms greatest now log zone ips numbers request old new n above servers holds met b =
+begun-holds terms greatest now log zone ips numbers request old new pool n above servers holds met b l there is same =
     let table = old.shared.table in
+    let options = old.shared.context.options in
+    let ordered = b.begins.ordered in
+    let permutation = ordered-same options table now (turn_at old.shared pool) numbers ordered b.begins.in_order in
     let other = first-of ips servers.some in
     let ip_of = address-of table other in
     let all = all-met table other ips numbers met in
-    let there = recursion_from_All (IsThere table other) b.ordered (All-permutation (IsThere table other) numbers b.ordered b.permutation (All-from_recursion (IsThere table other) numbers all.1)) in
-    let pool = map (candidate_of table) b.ordered in
-    let whole : candidates table b.ordered ≡ pool = ap (map (candidate_of table)) (all-reached table other b.ordered there) in
+    let met_each = recursion_from_All (IsThere table other) ordered (All-permutation (IsThere table other) numbers ordered permutation (All-from_recursion (IsThere table other) numbers all.1)) in
+    let cs = map (candidate_of table) ordered in
+    let whole : candidates table ordered ≡ cs = ap (map (candidate_of table)) (all-reached table other ordered met_each) in
+    let state : l.lookup ≡ begun request cs (side_by_side options) options.timeout now =
+    is ∙ b.begins.is ∙ ap (λ (xs : List Candidate). begun request xs (side_by_side options) options.timeout now) whole in
+    let with_all : begun_with l.lookup ≡ begun_with (fresh request cs (side_by_side options) options.timeout now) =
+    ap begun_with state ∙ round_same now (fresh request cs (side_by_side options) options.timeout now) in
     let config : (c : Candidate) → IsAt table (ip_of c.server) c → IsAt new.shared.table (ip_of c.server) c =
-    λ c at. record { config = config-same table new.shared.table c.server (server_at (ip_of c.server)) b.rest.servers.configs at.config; beyond_udp = at.beyond_udp; trusted = at.trusted } in
+    λ c at. record { config = config-same table new.shared.table c.server (server_at (ip_of c.server)) same at.config; beyond_udp = at.beyond_udp; trusted = at.trusted } in
+    let at_all : l.lookup.servers ≡ cs = ap (λ (x : BegunWith). x.servers) with_all in
     record {
-      lookup = b.lookup;
-      there = b.there;
-      asks = ap (λ (r : DnsRequest). r.query) b.asks;
-      starts = b.start;
-      time = b.timeout ∙ holds.timeout;
+      shared_by = l;
+      there = there;
+      asks = ap (λ (x : BegunWith). x.request.query) with_all;
+      starts = ap (λ (x : BegunWith). x.start) with_all;
+      time = ap (λ (x : BegunWith). x.timeout) with_all ∙ holds.timeout;
       past = omega arith;
       above = above;
       ips = ips;
       listed = servers.listed;
       some = servers.some;
       serve = servers.serve;
-      pool = pool;
       ip_of = ip_of;
-      known = All-from_recursion (λ c. IsAt new.shared.table (ip_of c.server) c) pool
-          (each config pool (candidates-met table other b.ordered there));
-      whole = subst (λ (xs : List IpAddr). IsPermutation xs (map (at_address ip_of) pool)) all.0
-          (subst (λ (xs : List IpAddr). IsPermutation (map ip_of numbers) xs) (sym (addresses-of table other b.ordered)) (IsPermutation-map ip_of numbers b.ordered b.permutation));
+      known = subst (λ (xs : List Candidate). All (λ c. IsAt new.shared.table (ip_of c.server) c) xs) (sym at_all)
+          (All-weaker (λ c. IsAt table (ip_of c.server) c) (λ c. IsAt new.shared.table (ip_of c.server) c) config cs
+          (All-from_recursion (λ c. IsAt table (ip_of c.server) c) cs (candidates-met table other ordered met_each)));
+      whole = subst (λ (xs : List Candidate). IsPermutation ips (map (at_address ip_of) xs)) (sym at_all)
+          (subst (λ (xs : List IpAddr). IsPermutation xs (map (at_address ip_of) cs)) all.0
+          (subst (λ (xs : List IpAddr). IsPermutation (map ip_of numbers) xs) (sym (addresses-of table other ordered)) (IsPermutation-map ip_of numbers ordered permutation)));
       heard = [];
-      stands = subst (λ (cs : List Candidate). Runs cs [] now b.lookup) whole b.stands;
+      stands = subst (HoldsBy (denies terms.answer_filter) []) (sym state) (begun_by (denies terms.answer_filter) request cs (side_by_side options) options.timeout now (omega arith));
+      decided = λ answer at was. decided-now answer at (started_moment now (fresh request cs (side_by_side options) options.timeout now) answer at (sym (ap (λ (x : LookupState). x.state) state) ∙ was));
       ends = [];
       beside = no_more;
       tried = record { moments = []; logged = no_send; heard = tt; rises = tt; early = refl; began = tt; since = refl; till = refl; last = λ m is. absurd (none-some m is) };
       given = tt;
     }
   where
-    each : {P Q : Candidate → Type 0} → ((c : Candidate) → P c → Q c) → (cs : List Candidate) → AllByRecursion P cs → AllByRecursion Q cs
-    each f [] a = tt
-    each f (c ∷ cs) a = (f c a.0, each f cs a.1)
+    decided-now : (answer : Answered) (at : ℕ) → (at ≡ now) ⊎ (Asking ≡ Decided answer at) → at ≤ now
+    decided-now answer at (inl is) = omega (arith, is)
+    decided-now answer at (inr is) = cc

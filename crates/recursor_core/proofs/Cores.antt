@@ -116,7 +116,7 @@ derived-is core log setting greatest moment cache pools rs a b c d p e bound som
 }
 
 -- on want of memory no step is added
-pub goes-err : (old new : RecursorCore) (result : Result Progress NoMemory) → IsErr result → ((p : ℕ) → rank p new ≤ rank p old) → GoesOn old new result
+pub goes-err : (old new : RecursorCore) (result : Result Progress NoMemory) → IsErr result → rank new ≤ rank old → GoesOn old new result
 goes-err old new (Ok p) e h = cc
 goes-err old new (Err e) is h = h
 

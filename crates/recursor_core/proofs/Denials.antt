@@ -55,7 +55,7 @@ use Rattle.recursor_core.specs.Causes.IsDenied.{told as denial_told, made as den
 use Rattle.recursor_core.specs.Causes.IsReferred.{referred}
 use Rattle.recursor_core.specs.Counted.{Stands, Answers, IsCurrentVerdict}
 use Rattle.recursor_core.specs.Asked.{AskedAs}
-use Rattle.recursor_core.specs.SameTold.{SameIfAny, SameReferrals, SameNegative, SameVerdict, ShowsAsked, IsShown, IsMadeFor, IsNothingLeft, nothing_left_for}
+use Rattle.recursor_core.specs.SameTold.{SameIfAny, SameReferrals, SameNegative, SameVerdict, ShowsAsked, IsShown, IsMadeFor, nothing_left_for}
 use Rattle.recursor_walk.specs.Answer.{told_data, told_negative, made_negative, ends_walk, outcome_of}
 use Rattle.recursor_core.specs.Derived.{left_of_class, IsTold, WalkComes}
 use Rattle.recursor_types.specs.declared.error.RecursorError.{RecursorError}

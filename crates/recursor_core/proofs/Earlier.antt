@@ -123,6 +123,7 @@ module _ (given : Given) (log : Log) (early late : ℕ) (le : early ≤ late) (k
         rises = f.rises;
         logged = f.logged;
         run = run-later _ _ t.1 f.run;
+        bounded = f.bounded;
         since = f.since;
         till = below-greater f.now t.0 t.1 f.moments f.till;
         asked = let a = f.asked in let l = t.1 in omega arith;

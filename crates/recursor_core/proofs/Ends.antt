@@ -1,11 +1,14 @@
 -- What a send of a lookup ended with, as the log shows it.
-use Rattle.std.proofs.Common.{◌≡◌, ℕ, ◌+◌, ◌≤◌, Bool, true, false, Option, Some, None, Ok, Err, refl, sym, ap, subst, ◌∙◌, arith}
-use Rattle.std.specs.Prelude.{IsTrue}
+use Rattle.std.proofs.Common.{◌≡◌, ℕ, ◌+◌, ◌-◌, ◌^◌, ◌≤◌, min, Bool, true, false, cond, Option, Some, None, Result, Ok, Err, refl, sym, ap, subst, ◌∙◌, arith}
+use Rattle.std.specs.Prelude.{IsTrue, if◌then◌else◌}
+use Rattle.std.proofs.lemmas.Bool.{leb-true}
 use Rattle.std.proofs.lemmas.Option.{same_Some, none-some}
 use Rattle.std.specs.declared.net.ip_addr.IpAddr.{IpAddr}
 use Rattle.dns_core.specs.Name.{DomainName}
 use Rattle.dns_core.specs.Log.{Log}
 use Rattle.dns_core.specs.Classifying.{classify_of}
+use Rattle.dns_core.specs.declared.connection.Protocol.{Protocol}
+use Rattle.dns_core.specs.declared.errors.NoMemory.{NoMemory}
 use Rattle.dns_core.specs.declared.message.Query.{Query}
 use Rattle.dns_core.specs.declared.message.Message.{Message}
 use Rattle.dns_core.specs.declared.net_error.NetError.{NetError}
@@ -17,25 +20,27 @@ use Rattle.dns_core.specs.declared.log.ToldOutcome.TheVariants as said
 use Rattle.resolution.specs.Names.{is_above, walk}
 use Rattle.resolution.specs.Class.{class_of_error}
 use Rattle.resolution.specs.Lookups.{Answered, class_of_answer}
-use Rattle.resolution.specs.Ending.{EndsSend}
+use Rattle.resolution.specs.Ending.{waits, EndsSend}
 use Rattle.resolution.specs.Ending.EndsSend.{answered}
 use Rattle.resolution.specs.Serving.{Serves, Heard}
 use Rattle.resolution.specs.Serving.Heard.{heard}
 use Rattle.resolution.proofs.Keeping.{Serves-later}
-use Rattle.server_core.specs.Order.{entry_of}
-use Rattle.server_core.specs.Sending.{asked_of, opening_of, end_of, result_of, is_tried_again, Comes, IsConnected, IsHeard, IsLost}
+use Rattle.server_core.specs.Sending.{is_open, asked_of, opening_of, pendings, end_of, is_last_poll, after_put, is_tried_again, after_error, after_opening, response_end, result_of, lost, polled, polled_once, taken, come_to}
+use Rattle.server_core.specs.declared.order.After.{After}
+use Rattle.server_core.specs.declared.order.After.TheVariants as after
 use Rattle.server_core.specs.declared.order.Sent.{Sent}
 use Rattle.server_core.specs.declared.order.Outcome.{Outcome}
-use Rattle.server_core.specs.declared.order.Outcome.TheVariants.{Pending, Connected, Told, Failed, GaveUp, Slept}
+use Rattle.server_core.specs.declared.order.Outcome.TheVariants.{Pending, Connected, Told, Failed, Slept}
 use Rattle.server_core.specs.declared.server_send.Asked.{Asked}
 use Rattle.server_core.specs.declared.server_send.Stage.{Stage}
 use Rattle.server_core.specs.declared.server_send.Stage.TheVariants as stage
 use Rattle.server_core.specs.declared.server_send.ServerSend.{ServerSend}
 use Rattle.retry_rules.specs.Agenda.{class_of_sent}
+use Rattle.retry_lookup.specs.Hearing.{closing_entry}
+use Rattle.retry_lookup.specs.Running.{IsFor as IsAt_stage}
 use Rattle.order_carrier.specs.Fits.{Closes, OutcomeIs}
-use Rattle.server_pool.specs.Running.{IsFor as IsAt_stage}
 use Rattle.server_pool.proofs.ByAddress.{told_class_itself}
-use Rattle.recursor_core.specs.Order.{IsFor}
+use Rattle.recursor_core.specs.Order.{IsFor, WaitsBy, IsGivenUpIn, is_given_up, LogGoesOnIf, LogGoesOn, last_entry}
 use Rattle.recursor_core.specs.Asked.{AskedAs}
 use Rattle.recursor_core.specs.Replies.{Terms, given_of}
 use Rattle.recursor_core.specs.Tried.{is_response, told_of}
@@ -72,35 +77,79 @@ error-denial (net.ForeignClassRecord n c t) h = cc
 error-denial (net.Msg text) h = cc
 error-denial net.NoMemory h = cc
 
--- whether it is tried again or not
-abbrev lost_by : Bool → ServerSend → NetError → ServerSend → Type 0
-lost_by again s error next = elim again [
-  | true ↦ (next.stage ≡ stage.Ready) × (next.retried ≡ true)
-  | false ↦ (next.stage ≡ stage.Ended (Err error)) × (next.retried ≡ s.retried)
-]
+-- ---- how an outcome ends a send
 
 -- what an order that was lost leaves
-lost-end : (s next : ServerSend) (asked : Option Asked) (error : NetError) (result : Answered) → IsLost s asked error next → end_of next.stage ≡ Some result → Err error ≡ result
-lost-end s next None error result lost is = same_Some _ _ (sym (ap end_of lost.0) ∙ is)
-lost-end s next (Some asked) error result lost is = by (is_tried_again s.retried asked error) lost
+lost-by : (o : Option Asked) (error : NetError) (s : ServerSend) (result : Answered) → end_of (after_error o error s).stage ≡ Some result → Err error ≡ result
+lost-by None error s result is = same_Some _ _ is
+lost-by (Some asked) error s result is = by (is_tried_again s.retried asked error) is
   where
-    by : (again : Bool) → lost_by again s error next → Err error ≡ result
-    by true l = absurd (none-some result (sym (ap end_of l.0) ∙ is))
-    by false l = same_Some _ _ (sym (ap end_of l.0) ∙ is)
+    by : (again : Bool) → end_of (cond again (record s { retried = true; stage = stage.Ready }) (record s { stage = stage.Ended (Err error) })).stage ≡ Some result → Err error ≡ result
+    by true h = cc
+    by false h = same_Some _ _ h
 
--- an order that is still open has not ended
-open-ends : (s next : Stage) (result : Answered) → asked_of next ≡ asked_of s → opening_of next ≡ opening_of s → (asks : Bool) → IsAt_stage asks s → end_of next ≡ Some result → ⊥
-open-ends s stage.Ready result a o asks for is = cc
-open-ends s (stage.Opening protocol order polls) result a o asks for is = cc
-open-ends s (stage.Opened protocol conn) result a o asks for is = cc
-open-ends s (stage.Asking asked polls) result a o asks for is = cc
-open-ends s stage.Over result a o asks for is = cc
-open-ends stage.Ready (stage.Ended r) result a o asks for is = absurd for
-open-ends (stage.Opening protocol order polls) (stage.Ended r) result a o asks for is = cc
-open-ends (stage.Opened protocol conn) (stage.Ended r) result a o asks for is = absurd for
-open-ends (stage.Asking asked polls) (stage.Ended r) result a o asks for is = cc
-open-ends (stage.Ended e) (stage.Ended r) result a o asks for is = absurd for
-open-ends stage.Over (stage.Ended r) result a o asks for is = absurd for
+lost-end : (error : NetError) (s : ServerSend) (result : Answered) → end_of (lost error s).stage ≡ Some result → Err error ≡ result
+lost-end error s result is = lost-by (asked_of s.stage) error s result is
+
+-- a poll before the last one ends nothing
+pub once-open : (at : Stage) → is_open at ≡ true → end_of (polled_once at) ≡ None
+once-open stage.Ready opened = cc
+once-open (stage.Opening protocol order polls) opened = refl
+once-open (stage.Opened protocol conn) opened = cc
+once-open (stage.Asking asked polls) opened = refl
+once-open (stage.Ended result) opened = cc
+once-open stage.Over opened = cc
+
+-- the last poll ends it with a timeout
+pub polled-end : (patience : ℕ) (s : ServerSend) (result : Answered) → is_open s.stage ≡ true → end_of (polled patience s).stage ≡ Some result → (is_last_poll patience s.stage ≡ true) × (Err net.Timeout ≡ result)
+polled-end patience s result opened is = by (is_last_poll patience s.stage) refl is
+  where
+    by : (b : Bool) → is_last_poll patience s.stage ≡ b → end_of (cond b (lost net.Timeout s) (record s { stage = polled_once s.stage })).stage ≡ Some result
+        → (is_last_poll patience s.stage ≡ true) × (Err net.Timeout ≡ result)
+    by true e h = (e, lost-end net.Timeout s result h)
+    by false e h = absurd (none-some result (sym (once-open s.stage opened) ∙ h))
+
+-- an order to open or to ask is open
+pub is-open : (asks : Bool) (at : Stage) → IsAt_stage asks at → is_open at ≡ true
+is-open asks stage.Ready for = absurd for
+is-open asks (stage.Opening protocol order polls) for = refl
+is-open asks (stage.Opened protocol conn) for = absurd for
+is-open asks (stage.Asking asked polls) for = refl
+is-open asks (stage.Ended r) for = absurd for
+is-open asks stage.Over for = absurd for
+
+-- what it comes to is what the outcome makes of it
+pub come-open : (patience : ℕ) (o : Outcome) (s : ServerSend) → is_open s.stage ≡ true → come_to patience o s ≡ taken patience o s
+come-open patience o s opened = ap (λ (b : Bool). cond b (taken patience o s) s) opened
+
+-- one that opens has an opening
+opening-there : (at : Stage) → IsAt_stage false at → (x : Protocol × ℕ) × (opening_of at ≡ Some x)
+opening-there stage.Ready for = absurd for
+opening-there (stage.Opening protocol order polls) for = ((protocol, order), refl)
+opening-there (stage.Opened protocol conn) for = absurd for
+opening-there (stage.Asking asked polls) for = cc
+opening-there (stage.Ended r) for = absurd for
+opening-there stage.Over for = absurd for
+
+-- and one that asks a question
+asked-there : (at : Stage) → IsAt_stage true at → (x : Asked) × (asked_of at ≡ Some x)
+asked-there stage.Ready for = absurd for
+asked-there (stage.Opening protocol order polls) for = cc
+asked-there (stage.Opened protocol conn) for = absurd for
+asked-there (stage.Asking asked polls) for = (asked, refl)
+asked-there (stage.Ended r) for = absurd for
+asked-there stage.Over for = absurd for
+
+connected-goes_on : (s : ServerSend) (result : Answered) → IsAt_stage false s.stage → end_of (after_opening (opening_of s.stage) s).stage ≡ Some result → ⊥
+connected-goes_on s result for is =
+    let x = opening-there s.stage for in
+    none-some result (subst (λ (o : Option (Protocol × ℕ)). end_of (after_opening o s).stage ≡ Some result) x.1 is)
+
+-- ---- what the order of it came to
+
+-- that it was done, as it is told
+abbrev pub done-so : After → Result After NoMemory
+done-so did = Ok did
 
 module _ (terms : Terms) (log : Log) (now since : ℕ) (zone : DomainName) (q : Query) (ip : IpAddr) (serves : Serves (given_of terms) log (since + 1) ip zone) (above : IsTrue (is_above zone (walk q))) where
   -- what was told of a question was told of it as it was asked
@@ -174,52 +223,83 @@ module _ (terms : Terms) (log : Log) (now since : ℕ) (zone : DomainName) (q : 
             denial-heard entry sent error (subst (λ (b : Bool). IsSentOver b ip q since sent) m.0 over) (subst (λ (b : Bool). OutcomeIs log now (Failed entry sent b error)) m.1 fits);
       }
 
-  gave_up-end : (asks : Bool) (entry : ℕ) (sent : Sent) (polls : ℕ) → terms.patience ≤ polls → IsSentOver asks ip q since sent → OutcomeIs log now (GaveUp entry sent polls)
-      → IsEndedBy terms log now entry zone q ip (Err net.Timeout)
-  gave_up-end asks entry sent polls enough over fits =
-      let lost = lost-gave_up (given_of terms) log now entry sent polls enough fits in record {
+  gave_up-end : (asks : Bool) (entry : ℕ) (sent : Sent) (told : Log) → terms.patience ≤ waits log sent.of (entry + 1) → IsSentOver asks ip q since sent → Closes told sent entry (line.Waited sent.of)
+      → IsGivenUpIn sent.of entry now told log → IsEndedBy terms log now (entry + 1) zone q ip (Err net.Timeout)
+  gave_up-end asks entry sent told enough over waited up =
+      let lost = lost-gave_up (given_of terms) told log now entry sent enough waited up in record {
         outcome = Err net.Timeout;
         class = refl;
-        ends = subst (λ (x : IpAddr). EndsSend (given_of terms) log q entry (record { server = x; outcome = Err net.Timeout }) now) (sent-to asks ip q since sent over)
+        ends = subst (λ (x : IpAddr). EndsSend (given_of terms) log q (entry + 1) (record { server = x; outcome = Err net.Timeout }) now) (sent-to asks ip q since sent over)
             (lost.ends q (sent-for asks ip q since sent over));
         heard = λ response. cc;
       }
 
-  -- What a send ended with by an outcome of its order.
-  pub ended-by : (patience start : ℕ) (first : Option IpAddr) (ended asks : Bool) (s next : ServerSend) (o : Outcome) (result : Answered) → terms.patience ≤ patience
-      → IsAt_stage asks s.stage → MayTake patience start q first ended since asks ip o → OutcomeIs log now o → Comes s o next → end_of next.stage ≡ Some result
-      → IsEndedBy terms log now (entry_of o) zone q ip result × (sent_to o ≡ Some ip)
-  ended-by patience start first ended asks s next (Pending entry) result enough for may fits comes is = absurd (open-ends s.stage next.stage result comes.asked comes.opening asks for is)
-  ended-by patience start first ended asks s next (Connected entry sent) result enough for may fits comes is =
-      absurd (by s.stage (subst (λ (b : Bool). IsAt_stage b s.stage) may.0 for) comes)
-    where
-      by : (at : Stage) → IsAt_stage false at → IsConnected s (opening_of at) next → ⊥
-      by stage.Ready f c = absurd f
-      by (stage.Opening protocol order polls) f c = none-some result (sym (ap end_of c.0) ∙ is)
-      by (stage.Opened protocol conn) f c = absurd f
-      by (stage.Asking asked polls) f c = cc
-      by (stage.Ended r) f c = absurd f
-      by stage.Over f c = absurd f
-  ended-by patience start first ended asks s next (Told entry sent message) result enough for may fits comes is = (
-    subst (λ (r : Answered). IsEndedBy terms log now entry zone q ip r) (by s.stage (subst (λ (b : Bool). IsAt_stage b s.stage) may.0 for) comes)
-        (told-end entry sent message (subst (λ (b : Bool). IsSentOver b ip q since sent) may.0 may.1.over) fits),
-    ap Some (sent-to asks ip q since sent may.1.over),
-  )
-    where
-      by : (at : Stage) → IsAt_stage true at → IsHeard s (asked_of at) (classify_of message) next → result_of (classify_of message) ≡ result
-      by stage.Ready f c = absurd f
-      by (stage.Opening protocol order polls) f c = cc
-      by (stage.Opened protocol conn) f c = absurd f
-      by (stage.Asking asked polls) f c = same_Some _ _ (sym (ap end_of c.0) ∙ is)
-      by (stage.Ended r) f c = absurd f
-      by stage.Over f c = absurd f
-  ended-by patience start first ended asks s next (Failed entry sent refused error) result enough for may fits comes is = (
-    subst (λ (r : Answered). IsEndedBy terms log now entry zone q ip r) (lost-end s next (asked_of s.stage) error result comes is) (failed-end asks entry sent refused error may.0 may.1.over fits),
-    ap Some (sent-to asks ip q since sent may.1.over),
-  )
-  ended-by patience start first ended asks s next (GaveUp entry sent polls) result enough for may fits comes is = (
-    subst (λ (r : Answered). IsEndedBy terms log now entry zone q ip r) (lost-end s next (asked_of s.stage) net.Timeout result comes is)
-        (gave_up-end asks entry sent polls (let least = may.0 in omega (arith, enough, least)) may.1.over fits),
-    ap Some (sent-to asks ip q since sent may.1.over),
-  )
-  ended-by patience start first ended asks s next Slept result enough for may fits comes is = absurd may
+  module _ (patience start : ℕ) (first : Option IpAddr) (ended asks : Bool) (before : Option ℕ) (s : ServerSend) (told : Log) (did : After) (result : Answered) (patient : terms.patience ≤ patience)
+      (for : IsAt_stage asks s.stage) where
+    opened : is_open s.stage ≡ true
+    opened = is-open asks s.stage for
+
+    taken-end : (o : Outcome) → end_of (come_to patience o s).stage ≡ Some result → end_of (taken patience o s).stage ≡ Some result
+    taken-end o is = sym (ap (λ (x : ServerSend). end_of x.stage) (come-open patience o s opened)) ∙ is
+
+    -- a poll that found nothing was the last one
+    gives-up : (entry of : ℕ) → did ≡ after_put patience s.stage (Pending entry of) → is_last_poll patience s.stage ≡ true → did ≡ after.GiveUp
+    gives-up entry of is last =
+        is ∙ ap (λ (b : Bool). if b then (if is_last_poll patience s.stage then after.GiveUp else after.Kept) else after.Late) opened
+        ∙ ap (λ (b : Bool). if b then after.GiveUp else after.Kept) last
+
+    up-in : (entry of : ℕ) (w : Sent) → did ≡ after.GiveUp → LogGoesOn now (Some w) (Pending entry of) (done-so did) told log → IsGivenUpIn w.of entry now told log
+    up-in entry of w is goes = subst (λ (d : After). LogGoesOnIf (is_given_up (done-so d)) now (Some w) (Pending entry of) told log) is goes
+
+    pending-end : (w : Option Sent) (entry of : ℕ) → MayTake start q first ended since before asks ip w (Pending entry of) → WaitsBy told w (Pending entry of)
+        → LogGoesOn now w (Pending entry of) (done-so did) told log → did ≡ after_put patience s.stage (Pending entry of) → pendings s.stage + 1 ≤ waits log of (entry + 1)
+        → end_of (come_to patience (Pending entry of) s).stage ≡ Some result → IsEndedBy terms log now (closing_entry (Pending entry of)) zone q ip result × (sent_to w (Pending entry of) ≡ Some ip)
+    pending-end None entry of may by goes is enough end = absurd may
+    pending-end (Some w) entry of may by goes is enough end =
+        let p = polled-end patience s result opened (taken-end (Pending entry of) end) in
+        let up = up-in entry of w (gives-up entry of is p.0) goes in
+        let most : patience ≤ pendings s.stage + 1 = leb-true patience (pendings s.stage + 1) p.0 in
+        let many : terms.patience ≤ waits log w.of (entry + 1) = subst (λ (k : ℕ). terms.patience ≤ waits log k (entry + 1)) (sym may.0) (omega (arith, patient, most, enough)) in
+        let waited : Closes told w entry (line.Waited w.of) = subst (λ (k : ℕ). Closes told w entry (line.Waited k)) (sym may.0) (by may.0) in
+        let numbered = up.numbered in
+        let closing : entry + 1 ≡ min (entry + 1) (2 ^ 64 - 1) = omega (arith, numbered) in (
+          subst (λ (r : Answered). IsEndedBy terms log now (min (entry + 1) (2 ^ 64 - 1)) zone q ip r) p.1
+              (subst (λ (k : ℕ). IsEndedBy terms log now k zone q ip (Err net.Timeout)) closing (gave_up-end asks entry w told many may.2.over waited up)),
+          ap (λ (x : IpAddr). Some x) (sent-to asks ip q since w may.2.over),
+        )
+
+    -- What a send ended with by an outcome of its order.
+    pub ended-by : (w : Option Sent) (o : Outcome) → MayTake start q first ended since before asks ip w o → OutcomeIs log now o → WaitsBy told w o → LogGoesOn now w o (done-so did) told log
+        → did ≡ after_put patience s.stage o → ((entry of : ℕ) → o ≡ Pending entry of → pendings s.stage + 1 ≤ waits log of (entry + 1)) → end_of (come_to patience o s).stage ≡ Some result
+        → IsEndedBy terms log now (closing_entry o) zone q ip result × (sent_to w o ≡ Some ip)
+    ended-by w (Pending entry of) may fits by goes is enough end = pending-end w entry of may by goes is (enough entry of refl) end
+    ended-by w (Connected entry sent) may fits by goes is enough end =
+        absurd (connected-goes_on s result (subst (λ (b : Bool). IsAt_stage b s.stage) may.0 for) (taken-end (Connected entry sent) end))
+    ended-by w (Told entry sent message) may fits by goes is enough end =
+        let x = asked-there s.stage (subst (λ (b : Bool). IsAt_stage b s.stage) may.0 for) in
+        let told_end : response_end (asked_of s.stage) (classify_of message) ≡ result = same_Some _ _ (taken-end (Told entry sent message) end) in
+        let result_is : result_of (classify_of message) ≡ result = sym (ap (λ (o : Option Asked). response_end o (classify_of message)) x.1) ∙ told_end in (
+          subst (λ (r : Answered). IsEndedBy terms log now entry zone q ip r) result_is
+              (told-end entry sent message (subst (λ (b : Bool). IsSentOver b ip q since sent) may.0 may.1.over) fits),
+          ap (λ (x : IpAddr). Some x) (sent-to asks ip q since sent may.1.over),
+        )
+    ended-by w (Failed entry sent refused error) may fits by goes is enough end = (
+      subst (λ (r : Answered). IsEndedBy terms log now entry zone q ip r) (lost-end error s result (taken-end (Failed entry sent refused error) end)) (failed-end asks entry sent refused error may.0 may.1.over fits),
+      ap (λ (x : IpAddr). Some x) (sent-to asks ip q since sent may.1.over),
+    )
+    ended-by w Slept may fits by goes is enough end = absurd may
+
+    -- an outcome that is no poll ends its order
+    ended-is : did ≡ (if is_open s.stage then after.Ended else after.Late) → did ≡ after.Ended
+    ended-is is = is ∙ ap (λ (b : Bool). if b then after.Ended else after.Late) opened
+
+    -- The entry by which it ended is the last one that is put.
+    pub ended-last : (w : Option Sent) (o : Outcome) → MayTake start q first ended since before asks ip w o → did ≡ after_put patience s.stage o → end_of (come_to patience o s).stage ≡ Some result
+        → last_entry (done-so did) w o ≡ closing_entry o
+    ended-last None (Pending entry of) may is end = absurd may
+    ended-last (Some w) (Pending entry of) may is end =
+        ap (λ (d : After). last_entry (done-so d) (Some w) (Pending entry of)) (gives-up entry of is (polled-end patience s result opened (taken-end (Pending entry of) end)).0)
+    ended-last w (Connected entry sent) may is end = ap (λ (d : After). last_entry (done-so d) w (Connected entry sent)) (ended-is is)
+    ended-last w (Told entry sent message) may is end = ap (λ (d : After). last_entry (done-so d) w (Told entry sent message)) (ended-is is)
+    ended-last w (Failed entry sent refused error) may is end = ap (λ (d : After). last_entry (done-so d) w (Failed entry sent refused error)) (ended-is is)
+    ended-last w Slept may is end = absurd may

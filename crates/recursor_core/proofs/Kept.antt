@@ -1,7 +1,6 @@
 -- What was derived from a log is derived from a longer one, and after later entries.
-use Rattle.std.proofs.Common.{◌≤◌, ◌+◌, ℕ, List, All, None, Result, Ok, Err, refl, arith}
+use Rattle.std.proofs.Common.{◌≤◌, ◌+◌, ℕ, List, All, Result, Ok, Err, refl, arith}
 use Rattle.std.proofs.lemmas.List.Elements.{All-weaker}
-use Rattle.std.specs.declared.net.ip_addr.IpAddr.{IpAddr}
 use Rattle.dns_core.specs.Name.{DomainName}
 use Rattle.dns_core.specs.Log.{Log, Extends}
 use Rattle.dns_core.specs.declared.message.Query.{Query}
@@ -12,11 +11,9 @@ use Rattle.dns_core.specs.declared.request.Question.{Question}
 use Rattle.std.specs.Prelude.{Bool}
 use Rattle.resolution.specs.Names.{question as question_for}
 use Rattle.resolution.specs.Answering.{Base}
-use Rattle.resolution.specs.Lookups.{End, Answered}
-use Rattle.resolution.specs.Ending.{EndSends, Finished}
 use Rattle.resolution.specs.declared.verdict.Verdict.{Verdict}
 use Rattle.resolution.proofs.Keeping.{Base-extend, Answer-extend}
-use Rattle.resolution.proofs.FailuresKept.{Finished-extend, NoCut-extend, Walked-extend, Glueless-extend}
+use Rattle.resolution.proofs.FailuresKept.{NoCut-extend, Walked-extend, Glueless-extend}
 use Rattle.resolution.specs.Walking.{Walked}
 use Rattle.recursor_core.specs.Causes.{IsDenied, IsReferred, HasFailed, HasNoAddress, HasTimedOut, HasNoServer, ErrorHolds}
 use Rattle.recursor_core.specs.Causes.IsDenied.{told as denial_told, made as denial_made, told_on_the_way, made_on_the_way}
@@ -27,7 +24,7 @@ use Rattle.recursor_types.specs.declared.error.WalkCause.TheVariants as why
 use Rattle.recursor_types.specs.declared.error.RecursorError.{RecursorError}
 use Rattle.recursor_types.specs.declared.error.RecursorError.TheVariants as error
 use Rattle.recursor_core.specs.Replies.{Terms, given_of, IsToldAnswer, OutcomeHolds, ReplyHolds}
-use Rattle.recursor_core.specs.Tried.{IsTimed, machine_timer}
+use Rattle.recursor_core.specs.Tried.{machine_timer}
 use Rattle.recursor_core.specs.Derived.{Passed, WayHolds, StateHolds, ResolutionHolds, terms_of, Derived}
 use Rattle.recursor_types.specs.declared.reply.Reply.{Reply}
 use Rattle.recursor_core.specs.declared.walk.Walk.{Walk}
@@ -36,7 +33,7 @@ use Rattle.recursor_core.specs.declared.resolving.State.TheVariants.{New, Under,
 use Rattle.recursor_core.specs.declared.resolving.Resolution.{Resolution}
 use Rattle.recursor_core.specs.declared.machine.RecursorCore.{RecursorCore}
 use Rattle.recursor_core.proofs.Asked.{asked-kept}
-use Rattle.recursor_core.proofs.KeptPools.{began-kept, pool-kept, lookup-kept, pools-kept}
+use Rattle.recursor_core.proofs.KeptPools.{finished-kept, pool-kept, lookup-kept, pools-kept}
 use Rattle.recursor_core.proofs.Remembering.{cache-kept}
 
 -- a log has what it has
@@ -44,23 +41,6 @@ pub same-log : (log : Log) → Extends log log
 same-log log = record { later = omega arith; kept = λ n h. refl }
 
 module _ (terms : Terms) (log longer : Log) (x : Extends log longer) (m m' : ℕ) (later : m ≤ m') where
-  -- the moments of a lookup are known by the longer log too
-  timed-kept : (t0 : ℕ) (q : Query) (ips : List IpAddr) (g moments : List ℕ) (ends : List (End IpAddr)) (start now : ℕ)
-      → EndSends (given_of terms) log q ips g ends moments → IsTimed m log t0 q g ends start now → IsTimed m' longer t0 q g ends start now
-  timed-kept t0 q ips g moments ends start now s t = record {
-    some = t.some;
-    began = began-kept log longer x q 0 0 None g ends start (omega arith) t.began;
-    since = t.since;
-    answered = let a = t.answered in omega arith;
-  }
-
-  -- a lookup that ended has ended by the longer log
-  finished-kept : (t0 : ℕ) (q : Query) (zone : DomainName) (g : List ℕ) (result : Answered)
-      → Finished (given_of terms) (machine_timer m log t0) log t0 q zone g result
-      → Finished (given_of terms) (machine_timer m' longer t0) longer t0 q zone g result
-  finished-kept t0 q zone g result f =
-      Finished-extend (given_of terms) terms.patience (omega arith) log longer x (machine_timer m log t0) (machine_timer m' longer t0) (timed-kept t0) (λ e. e) f
-
   -- a walk down to a zone
   walks-kept : (q : Query) (zone : DomainName) → Walked (given_of terms) log q zone → Walked (given_of terms) longer q zone
   walks-kept q zone w = Walked-extend (given_of terms) terms.patience (omega arith) log longer x q zone w
@@ -117,7 +97,7 @@ module _ (terms : Terms) (log longer : Log) (x : Extends log longer) (m m' : ℕ
       → HasFailed (given_of terms) (machine_timer m log t0) log t0 q g e → HasFailed (given_of terms) (machine_timer m' longer t0) longer t0 q g e
   failed-kept t0 q g e h = record {
     zone = h.zone;
-    ended = finished-kept t0 q h.zone g (Err e) h.ended;
+    ended = finished-kept terms log longer x m m' later t0 q h.zone g (Err e) h.ended;
     walked = Walked-extend (given_of terms) terms.patience (omega arith) log longer x q h.zone h.walked;
   }
 

@@ -12,15 +12,14 @@ use Rattle.resolution.specs.Lookups.{Answered, End}
 use Rattle.resolution.specs.Serving.{Serves}
 use Rattle.resolution.specs.Ending.{Listed, EndSends}
 use Rattle.resolution.proofs.Keeping.{Logged-extend, Serves-extend, Serves-later, Heard-extend}
-use Rattle.resolution.proofs.FailuresKept.{EndSends-extend, Listed-extend, Finished-extend}
+use Rattle.resolution.proofs.FailuresKept.{waits-extend, EndSends-extend, Listed-extend, Finished-extend}
 use Rattle.resolution.proofs.Caseless.{both}
-use Rattle.server_pool.specs.Rounds.{HeardEnd}
-use Rattle.server_pool.specs.Running.{answer_of, IsDone, Runs}
+use Rattle.server_core.specs.Sending.{pendings}
+use Rattle.retry_lookup.specs.Lookup.{LookupState}
 use Rattle.retry_rules.specs.declared.candidate.Candidate.{Candidate}
-use Rattle.server_pool.specs.declared.open_lookup.OpenLookup.{OpenLookup}
 use Rattle.recursor_core.specs.Replies.{Terms, given_of}
 use Rattle.recursor_core.specs.Tried.{BeganBy, Began, AreHeard, Tried, IsTimed, machine_timer, Concluded}
-use Rattle.recursor_core.specs.Pools.{AreServers, IsSentTo, GivenHolds, SoughtHolds, PoolsHold}
+use Rattle.recursor_core.specs.Pools.{AreServers, IsWaitedFor, IsSentTo, GivenHolds, SoughtHolds, PoolsHold}
 use Rattle.recursor_core.specs.Derived.{ArePool, AskHolds, LookupHolds}
 use Rattle.recursor_core.specs.declared.pools.Aim.{Aim}
 use Rattle.recursor_core.specs.declared.pools.Aim.TheVariants as aim
@@ -42,22 +41,18 @@ list_all-weaker p q f (x ∷ xs) h = let h2 = and_parts (p x) (list_all p xs) h 
 pub below-greater : (g g' : ℕ) → g ≤ g' → (ns : List ℕ) → IsTrue (list_all (λ n. nat_le n g) ns) → IsTrue (list_all (λ n. nat_le n g') ns)
 below-greater g g' le ns h = list_all-weaker (λ n. nat_le n g) (λ n. nat_le n g') (λ n k. le-leb n g' (let b = leb-true n g k in omega arith)) ns h
 
--- a lookup stands so at a later moment, too
-done_later : (pool : List Candidate) (heard : List HeardEnd) (m m' : ℕ) (l : OpenLookup) (o : Option Answered) → m ≤ m' → IfSome o (IsDone pool heard m l) → IfSome o (IsDone pool heard m' l)
-done_later pool heard m m' l None later h = tt
-done_later pool heard m m' l (Some a) later h = record { at = h.at; early = let e = h.early in omega arith; run = h.run }
-
-pub stands-later : (pool : List Candidate) (heard : List HeardEnd) (m m' : ℕ) (l : OpenLookup) → m ≤ m' → Runs pool heard m l → Runs pool heard m' l
-stands-later pool heard m m' l later h = record {
-  stands = h.stands;
-  entries = h.entries;
-  by_entries = h.by_entries;
-  from_pool = h.from_pool;
-  going = h.going;
-  answered = done_later pool heard m m' l (answer_of l) later h.answered;
-}
-
 module _ (log longer : Log) (x : Extends log longer) where
+  -- what was waited for so often was so by the longer log
+  pub waited-kept : (g g' : ℕ) (polled : Option ℕ) (polls : ℕ) → g ≤ g' → IsWaitedFor g log polled polls → IsWaitedFor g' longer polled polls
+  waited-kept g g' None polls le h = h
+  waited-kept g g' (Some of) polls le h =
+      let later = x.later in
+      let early = h.early in
+      let within = h.within in
+      let enough = h.enough in
+      let same = waits-extend log longer x of h.below within in
+      record { below = h.below; early = omega (arith, early, le); within = omega (arith, within, later); enough = omega (arith, enough, same) }
+
   -- a send that began has begun by the longer log
   pub began_by-kept : (q : Query) (server : IpAddr) (n m start : ℕ) → n ≤ m → BeganBy log q server n start → BeganBy longer q server m start
   began_by-kept q server n m start le b = record {
@@ -129,25 +124,26 @@ module _ (terms : Terms) (log longer : Log) (x : Extends log longer) where
   }
 
   -- an order that is open
-  sent-kept : (g g' : ℕ) (pools : Pools) (n : ℕ) (zone : DomainName) (pool : List Candidate) (l : OpenLookup) (number since : ℕ) (asks : Bool) (ip : IpAddr) → g ≤ g'
-      → IsSentTo terms g log pools n zone pool l number since asks ip → IsSentTo terms g' longer pools n zone pool l number since asks ip
-  sent-kept g g' pools n zone pool l number since asks ip le h = record {
+  sent-kept : (g g' : ℕ) (pools : Pools) (n : ℕ) (zone : DomainName) (pool : List Candidate) (l : LookupState) (given : Given) (asks : Bool) (ip : IpAddr) → g ≤ g'
+      → IsSentTo terms g log pools n zone pool l given asks ip → IsSentTo terms g' longer pools n zone pool l given asks ip
+  sent-kept g g' pools n zone pool l given asks ip le h = record {
     of = h.of;
     candidate = h.candidate;
     from_pool = h.from_pool;
     at = h.at;
     open_to = h.open_to;
     past = let p = h.past in omega arith;
-    serves = serves-kept (since + 1) (since + 1) ip zone (omega arith) h.serves;
+    serves = serves-kept (given.since + 1) (given.since + 1) ip zone (omega arith) h.serves;
+    polled = waited-kept log longer x g g' given.polled (pendings h.open_to.attempt.send.stage) le h.polled;
   }
 
-  given-kept : (g g' : ℕ) (pools : Pools) (n : ℕ) (zone : DomainName) (pool : List Candidate) (l : OpenLookup) (given : Given) (a : Aim) → g ≤ g'
+  given-kept : (g g' : ℕ) (pools : Pools) (n : ℕ) (zone : DomainName) (pool : List Candidate) (l : LookupState) (given : Given) (a : Aim) → g ≤ g'
       → GivenHolds terms g log pools n zone pool l given a → GivenHolds terms g' longer pools n zone pool l given a
-  given-kept g g' pools n zone pool l given (aim.Open ip) le h = sent-kept g g' pools n zone pool l given.number given.since false ip le h
-  given-kept g g' pools n zone pool l given (aim.Ask ip) le h = sent-kept g g' pools n zone pool l given.number given.since true ip le h
+  given-kept g g' pools n zone pool l given (aim.Open ip) le h = sent-kept g g' pools n zone pool l given false ip le h
+  given-kept g g' pools n zone pool l given (aim.Ask ip) le h = sent-kept g g' pools n zone pool l given true ip le h
   given-kept g g' pools n zone pool l given aim.Sleep le h = h
 
-  given_some : (g g' : ℕ) (pools : Pools) (n : ℕ) (zone : DomainName) (pool : List Candidate) (l : OpenLookup) (given : Option Given) → g ≤ g'
+  given_some : (g g' : ℕ) (pools : Pools) (n : ℕ) (zone : DomainName) (pool : List Candidate) (l : LookupState) (given : Option Given) → g ≤ g'
       → IfSome given (λ o. GivenHolds terms g log pools n zone pool l o o.aim) → IfSome given (λ o. GivenHolds terms g' longer pools n zone pool l o o.aim)
   given_some g g' pools n zone pool l None le h = tt
   given_some g g' pools n zone pool l (Some o) le h = given-kept g g' pools n zone pool l o o.aim le h
@@ -156,7 +152,7 @@ module _ (terms : Terms) (log longer : Log) (x : Extends log longer) where
   pub sought-kept : (g g' moment moment' : ℕ) (pools : Pools) (n : ℕ) (s : Sought) → g ≤ g' → moment ≤ moment'
       → SoughtHolds terms g moment log pools n s → SoughtHolds terms g' moment' longer pools n s
   sought-kept g g' moment moment' pools n s le later h = record {
-    lookup = h.lookup;
+    shared_by = h.shared_by;
     there = h.there;
     asks = h.asks;
     starts = h.starts;
@@ -167,22 +163,23 @@ module _ (terms : Terms) (log longer : Log) (x : Extends log longer) where
     listed = listed-kept s.zone h.ips h.listed;
     some = h.some;
     serve = servers-kept (g + 1) (g' + 1) s.zone h.ips (omega arith) h.serve;
-    pool = h.pool;
     ip_of = h.ip_of;
     known = h.known;
     whole = h.whole;
     heard = h.heard;
-    stands = stands-later h.pool h.heard moment moment' h.lookup later h.stands;
+    stands = h.stands;
+    decided = λ answer at is. (let early = h.decided answer at is in omega (arith, early, later));
     ends = h.ends;
     beside = h.beside;
     tried = tried-kept g g' moment moment' s.zone s.query h.ips s.start s.first _ h.ends s.at le later h.tried;
-    given = given_some g g' pools n s.zone h.pool h.lookup s.given le h.given;
+    given = given_some g g' pools n s.zone h.shared_by.lookup.servers h.shared_by.lookup s.given le h.given;
   }
 
   -- the pools
   pub pools-kept : (g g' moment moment' : ℕ) (pools : Pools) → g ≤ g' → moment ≤ moment' → PoolsHold terms g moment log pools → PoolsHold terms g' moment' longer pools
   pools-kept g g' moment moment' pools le later h = record {
     servers = h.servers;
+    numbered = h.numbered;
     lookups = λ n s at. sought-kept g g' moment moment' pools n s le later (h.lookups n s at);
   }
 

@@ -90,7 +90,7 @@ module _ (terms : Terms) (ip : IpAddr) (server : Server) (n : ℕ) (old new : Po
 
 -- nothing has changed
 pub grown-refl : (pools : Pools) → IsGrown pools pools
-grown-refl pools = record { more = []; table = sym (append-nil pools.shared.table); context = refl; lookups = refl; orders = refl; sought = refl }
+grown-refl pools = record { more = []; table = sym (append-nil pools.shared.table); context = refl; lookups = refl; orders = refl; sent = refl; pools = refl; given = refl; sought = refl }
 
 -- what grew twice has grown
 pub grown-trans : (a b c : Pools) → IsGrown a b → IsGrown b c → IsGrown a c
@@ -100,6 +100,9 @@ grown-trans a b c g h = record {
   context = h.context ∙ g.context;
   lookups = h.lookups ∙ g.lookups;
   orders = h.orders ∙ g.orders;
+  sent = h.sent ∙ g.sent;
+  pools = h.pools ∙ g.pools;
+  given = h.given ∙ g.given;
   sought = h.sought ∙ g.sought;
 }
 

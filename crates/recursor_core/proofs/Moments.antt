@@ -1,10 +1,10 @@
 -- A log that grows in a run grows by entries of its moments, which do not fall.
-use Rattle.std.proofs.Common.{◌≡◌, ◌≤◌, ◌<◌, ℕ, List, Contains, Option, ⊎_elim, arith}
+use Rattle.std.proofs.Common.{◌≡◌, ◌≤◌, ℕ, List, Contains, Option, ⊎_elim, arith}
 use Rattle.dns_core.specs.Log.{log_of}
 use Rattle.dns_core.specs.declared.log.LogEntry.{LogEntry}
-use Rattle.resolution.specs.Telling.{Logged, moment_of, MomentsRise}
-use Rattle.order_carrier.specs.Carrying.{TellsThat, Grown}
-use Rattle.recursor_core.specs.Standing.{IsPast, LongerOver, GrownOver}
+use Rattle.resolution.specs.Telling.{MomentsRise}
+use Rattle.order_carrier.specs.Growing.{TellsThat, Grown}
+use Rattle.recursor_core.specs.Standing.{IsPast, GrownOver}
 use Rattle.recursor_core.proofs.Standing.{Extends-refl, Extends-trans, entry_sides}
 
 -- a log that stays as it is has grown by nothing

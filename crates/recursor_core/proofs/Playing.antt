@@ -12,12 +12,11 @@ use Rattle.dns_core.specs.declared.request.Turn.{Turn}
 use Rattle.dns_core.specs.declared.provider.ConnectionProvider.{Ghosts}
 use Rattle.recursor_core.specs.Replies.{Terms, terms_with, Timer, ReplyHolds}
 use Rattle.recursor_core.specs.Tried.{machine_timer}
-use Rattle.order_carrier.specs.Carrying.{TellsThat, Grown}
+use Rattle.order_carrier.specs.Growing.{TellsThat, Grown}
 use Rattle.recursor_core.specs.Derived.{terms_of}
 use Rattle.recursor_core.specs.Machine.{Begun, begun_at}
 use Rattle.recursor_core.specs.Standing.{Moves, ReplyTold, first_moment, last_moment, begin_moment, run_moments, run_timer, PlayHolds, PlaysHold, RepliesHold}
 use Rattle.recursor_core.specs.Turns.{Begins, BeginsIf, BeginsAt, IsRefused, ReplyOf}
-use Rattle.server_core.specs.declared.order.Order.{Order}
 use Rattle.recursor_setting.specs.declared.setting.Setting.{Setting}
 use Rattle.order_carrier.specs.declared.carrier.Carrier.{Carrier}
 use Rattle.recursor_types.specs.declared.error.RecursorError.TheVariants as error
@@ -108,7 +107,7 @@ pub begins_else : (question : Option Question) (now : ℕ) (core : RecursorCore)
 begins_else None now core old ne = refl
 begins_else (Some x) now core None ne = refl
 begins_else (Some x) now core (Some played.Waiting) ne = absurd (ne refl)
-begins_else (Some x) now core (Some (played.Begun r o)) ne = refl
+begins_else (Some x) now core (Some (played.Begun r)) ne = refl
 begins_else (Some x) now core (Some (played.Answered a)) ne = refl
 begins_else (Some x) now core (Some played.Unanswered) ne = refl
 
@@ -129,7 +128,7 @@ play_on : (now : ℕ) (core new : RecursorCore) (told later : Option (List LogEn
     → (p ≡ played.Waiting → first_moment rest q ≡ first_moment left q)
     → PlayHolds core told start turns rest q question p → PlayHolds new later start turns left q question p
 play_on now core new told later start turns rest left q question played.Waiting setting begun grown same h = h ∙ same refl
-play_on now core new told later start turns rest left q question (played.Begun r o) setting begun grown same h =
+play_on now core new told later start turns rest left q question (played.Begun r) setting begun grown same h =
     record { begun = h.begun; is = begun r h.begun h.is; question = h.question; late = h.late }
 play_on now core new told later start turns rest left q question (played.Answered reply) setting begun grown same h =
     record {
@@ -150,14 +149,14 @@ begin_here : (core new : RecursorCore) (told : Option (List LogEntry)) (start : 
     → PlayHolds new told start turns left q question p
 begin_here core new told start turns rest left q now question None p setting begun due begins h = cc
 begin_here core new told start turns rest left q now question (Some played.Waiting) played.Waiting setting begun due begins h = absurd begins
-begin_here core new told start turns rest left q now question (Some played.Waiting) (played.Begun r o) setting begun due begins h =
+begin_here core new told start turns rest left q now question (Some played.Waiting) (played.Begun r) setting begun due begins h =
     record { begun = record { question = question; moment = now }; is = begins; question = refl; late = due (h played.Waiting refl) }
 begin_here core new told start turns rest left q now question (Some played.Waiting) (played.Answered reply) setting begun due begins h =
     record { now = start; in_run = run_first start turns; holds = λ es t. refused_holds (terms_of new) (machine_timer start) (log_of es) (begin_moment start turns q) question reply.value begins }
 begin_here core new told start turns rest left q now question (Some played.Waiting) played.Unanswered setting begun due begins h = tt
-begin_here core new told start turns rest left q now question (Some (played.Begun r o)) p setting begun due begins h =
+begin_here core new told start turns rest left q now question (Some (played.Begun r)) p setting begun due begins h =
     subst (λ (x : Played). PlayHolds new told start turns left q question x) (sym (same_Some _ _ begins))
-    (play_on now core new told told start turns rest left q question (played.Begun r o) setting begun (Grown-refl now told) (λ e. cc) (h (played.Begun r o) refl))
+    (play_on now core new told told start turns rest left q question (played.Begun r) setting begun (Grown-refl now told) (λ e. cc) (h (played.Begun r) refl))
 begin_here core new told start turns rest left q now question (Some (played.Answered reply)) p setting begun due begins h =
     subst (λ (x : Played). PlayHolds new told start turns left q question x) (sym (same_Some _ _ begins))
     (play_on now core new told told start turns rest left q question (played.Answered reply) setting begun (Grown-refl now told) (λ e. cc)
@@ -195,17 +194,17 @@ module _ {P C F E : Type 0} (p : Ghosts P C F E) (patience now : ℕ) (core new 
       (λ e. refl) (h q question play asks at)
 
   -- one has its reply
-  pub plays_answered : (start : ℕ) (turns rest : List Turn) (questions : List Question) (plays : List Played) (q r : ℕ) (order : Option (Box Order)) (reply : Box Reply)
-      → slice_get plays q ≡ Some (played.Begun r order) → Contains (run_moments start turns) now → ReplyTold (terms_of core) now (p.log later.provider) (begun_at core r) reply.value
+  pub plays_answered : (start : ℕ) (turns rest : List Turn) (questions : List Question) (plays : List Played) (q r : ℕ) (reply : Box Reply)
+      → slice_get plays q ≡ Some (played.Begun r) → Contains (run_moments start turns) now → ReplyTold (terms_of core) now (p.log later.provider) (begun_at core r) reply.value
       → PlaysHold core (p.log c.provider) start turns rest questions plays
       → PlaysHold new (p.log later.provider) start turns rest questions (set plays q (played.Answered reply))
-  plays_answered start turns rest questions plays q r order reply at here told h k question play asks play_k = ⊎_elim
+  plays_answered start turns rest questions plays q r reply at here told h k question play asks play_k = ⊎_elim
       (λ (same : k ≡ q).
       let told_now = p.log later.provider in
       let asks_q : slice_get questions q ≡ Some question = subst (λ i. slice_get questions i ≡ Some question) same asks in
       let is : play ≡ played.Answered reply = same_Some _ _ (sym play_k ∙
       (ap (slice_get (set plays q (played.Answered reply))) same ∙ slice_get-set_same plays q (played.Answered reply) (slice_get_within plays q _ at))) in
-      let f = h q question (played.Begun r order) asks_q at in
+      let f = h q question (played.Begun r) asks_q at in
       let b = f.begun in
       let holds : TellsThat told_now (λ log. ReplyHolds (terms_of core) (machine_timer now) log b.moment b.question reply.value) = rw f.is at told in
       let given : PlayHolds new told_now start turns rest q question (played.Answered reply) = record {
@@ -222,32 +221,17 @@ module _ {P C F E : Type 0} (p : Ghosts P C F E) (patience now : ℕ) (core new 
       (same_or_not k q)
 
   -- memory was wanting for one
-  pub plays_unanswered : (start : ℕ) (turns rest : List Turn) (questions : List Question) (plays : List Played) (q r : ℕ) (order : Option (Box Order))
-      → slice_get plays q ≡ Some (played.Begun r order)
+  pub plays_unanswered : (start : ℕ) (turns rest : List Turn) (questions : List Question) (plays : List Played) (q r : ℕ)
+      → slice_get plays q ≡ Some (played.Begun r)
       → PlaysHold core (p.log c.provider) start turns rest questions plays
       → PlaysHold new (p.log later.provider) start turns rest questions (set plays q played.Unanswered)
-  plays_unanswered start turns rest questions plays q r order at h k question play asks play_k = ⊎_elim
+  plays_unanswered start turns rest questions plays q r at h k question play asks play_k = ⊎_elim
       (λ (same : k ≡ q).
       let is : play ≡ played.Unanswered = same_Some _ _ (sym play_k ∙
       (ap (slice_get (set plays q played.Unanswered)) same ∙ slice_get-set_same plays q played.Unanswered (slice_get_within plays q _ at))) in
       subst (λ (x : Played). PlayHolds new (p.log later.provider) start turns rest k question x) (sym is) tt)
       (λ ne. plays_moved start turns rest questions plays h k question play asks (sym (slice_get-set_other plays q k played.Unanswered ne) ∙ play_k))
       (same_or_not k q)
-
--- the order that is kept for a question changes nothing
-pub plays_ordered : (core : RecursorCore) (told : Option (List LogEntry)) (start : ℕ) (turns rest : List Turn) (questions : List Question)
-    (plays : List Played) (q r : ℕ) (old new : Option (Box Order)) → slice_get plays q ≡ Some (played.Begun r old)
-    → PlaysHold core told start turns rest questions plays → PlaysHold core told start turns rest questions (set plays q (played.Begun r new))
-plays_ordered core told start turns rest questions plays q r old new at h k question play asks play_k = ⊎_elim
-    (λ (same : k ≡ q).
-    let asks_q : slice_get questions q ≡ Some question = subst (λ i. slice_get questions i ≡ Some question) same asks in
-    let is : play ≡ played.Begun r new = same_Some _ _ (sym play_k ∙
-    (ap (slice_get (set plays q (played.Begun r new))) same ∙ slice_get-set_same plays q (played.Begun r new) (slice_get_within plays q _ at))) in
-    let given : PlayHolds core told start turns rest q question (played.Begun r new) = h q question (played.Begun r old) asks_q at in
-    subst (λ i. PlayHolds core told start turns rest i question play) (sym same)
-    (subst (λ (x : Played). PlayHolds core told start turns rest q question x) (sym is) given))
-    (λ ne. h k question play asks (sym (slice_get-set_other plays q k (played.Begun r new) ne) ∙ play_k))
-    (same_or_not k q)
 
 -- the reply that a question is given at last
 reply_of_play : (core : RecursorCore) (told : Option (List LogEntry)) (start : ℕ) (turns rest : List Turn) (q : ℕ) (question : Question)
@@ -259,7 +243,7 @@ reply_of_play core told start turns rest q question None reply es t of h =
     memory_holds (terms_of core) (run_timer start turns) (log_of es) (begin_moment start turns q) question reply of.0 of.1
 reply_of_play core told start turns rest q question (Some played.Waiting) reply es t of h =
     memory_holds (terms_of core) (run_timer start turns) (log_of es) (begin_moment start turns q) question reply of.0 of.1
-reply_of_play core told start turns rest q question (Some (played.Begun r o)) reply es t of h =
+reply_of_play core told start turns rest q question (Some (played.Begun r)) reply es t of h =
     memory_holds (terms_of core) (run_timer start turns) (log_of es) (begin_moment start turns q) question reply of.0 of.1
 reply_of_play core told start turns rest q question (Some (played.Answered a)) reply es t of h =
     subst (λ (x : Reply). ReplyHolds (terms_of core) (run_timer start turns) (log_of es) (begin_moment start turns q) question x) (sym of)

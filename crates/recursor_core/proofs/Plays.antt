@@ -1,9 +1,8 @@
 -- A question that is answered is under way no more.
-use Rattle.std.proofs.Common.{◌≡◌, ◌<◌, ℕ, zero, suc, List, [], ◌∷◌, length, get_or, Option, Some, arith, ap, slice_get}
+use Rattle.std.proofs.Common.{◌≡◌, ◌<◌, ℕ, zero, suc, List, [], ◌∷◌, length, get_or, Some, arith, ap, slice_get}
 use Rattle.std.specs.Global.{Box}
 use Rattle.std.proofs.Math.ListN.{set}
 use Rattle.std.proofs.lemmas.List.Sums.{sum_by-set}
-use Rattle.server_core.specs.declared.order.Order.{Order}
 use Rattle.recursor_core.specs.Turns.{open_play, open_plays}
 use Rattle.recursor_types.specs.declared.reply.Reply.{Reply}
 use Rattle.recursor_core.specs.declared.turns.Played.{Played}
@@ -22,28 +21,19 @@ within (x ∷ xs) zero p h = omega arith
 within (x ∷ xs) (suc q) p h = let inner = within xs q p h in omega arith
 
 -- where a question that is under way is answered, one fewer is under way
-pub answered_falls : (xs : List Played) (q r : ℕ) (order : Option (Box Order)) (reply : Box Reply) → slice_get xs q ≡ Some (played.Begun r order)
+pub answered_falls : (xs : List Played) (q r : ℕ) (reply : Box Reply) → slice_get xs q ≡ Some (played.Begun r)
     → open_plays (set xs q (played.Answered reply)) < open_plays xs
-answered_falls xs q r order reply h =
-    let was = found xs q (played.Begun r order) (played.Begun r order) h in
-    let moved = sum_by-set open_play xs q (played.Answered reply) (played.Begun r order) (within xs q _ h) in
+answered_falls xs q r reply h =
+    let was = found xs q (played.Begun r) (played.Begun r) h in
+    let moved = sum_by-set open_play xs q (played.Answered reply) (played.Begun r) (within xs q _ h) in
     let one = ap open_play was in
     omega (arith, moved, one)
 
 -- so it is where it stays without an answer
-pub unanswered_falls : (xs : List Played) (q r : ℕ) (order : Option (Box Order)) → slice_get xs q ≡ Some (played.Begun r order)
+pub unanswered_falls : (xs : List Played) (q r : ℕ) → slice_get xs q ≡ Some (played.Begun r)
     → open_plays (set xs q played.Unanswered) < open_plays xs
-unanswered_falls xs q r order h =
-    let was = found xs q (played.Begun r order) (played.Begun r order) h in
-    let moved = sum_by-set open_play xs q played.Unanswered (played.Begun r order) (within xs q _ h) in
-    let one = ap open_play was in
-    omega (arith, moved, one)
-
--- with another order kept for it a question is under way still
-pub ordered_same : (xs : List Played) (q r : ℕ) (old new : Option (Box Order)) → slice_get xs q ≡ Some (played.Begun r old)
-    → open_plays (set xs q (played.Begun r new)) ≡ open_plays xs
-ordered_same xs q r old new h =
-    let was = found xs q (played.Begun r old) (played.Begun r old) h in
-    let moved = sum_by-set open_play xs q (played.Begun r new) (played.Begun r old) (within xs q _ h) in
+unanswered_falls xs q r h =
+    let was = found xs q (played.Begun r) (played.Begun r) h in
+    let moved = sum_by-set open_play xs q played.Unanswered (played.Begun r) (within xs q _ h) in
     let one = ap open_play was in
     omega (arith, moved, one)

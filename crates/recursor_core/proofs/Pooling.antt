@@ -1,5 +1,5 @@
 -- What holds of the lookups after a step of one of them.
-use Rattle.std.proofs.Common.{◌≡◌, ◌≢◌, ℕ, zero, suc, Bool, true, false, List, [], ◌∷◌, ◌++◌, Option, Some, None, IfSome, sym, ap, subst, ◌∙◌, ⊎_elim}
+use Rattle.std.proofs.Common.{◌≡◌, ◌≢◌, ℕ, zero, suc, Bool, true, false, List, [], ◌∷◌, ◌++◌, Option, Some, None, IfSome, sym, ap, subst, ◌∙◌, ⊎_elim, arith}
 use Rattle.std.specs.Prelude.{slice_get, option_map}
 use Rattle.std.proofs.lemmas.Bool.{cases_eq}
 use Rattle.std.proofs.lemmas.Option.{slice_get-map, none-some}
@@ -10,16 +10,18 @@ use Rattle.dns_core.specs.Log.{Log}
 use Rattle.resolver_settings.specs.NameServer.{NameServer}
 use Rattle.server_core.specs.Context.{Context}
 use Rattle.server_core.specs.Servers.{Server, place_of}
+use Rattle.retry_lookup.specs.Lookup.{LookupState}
 use Rattle.server_pool.specs.Shared.{Shared, lookup_at, lookup_of, configs, SameBut}
 use Rattle.retry_rules.specs.declared.candidate.Candidate.{Candidate}
 use Rattle.server_pool.specs.declared.open_lookup.OpenLookup.{OpenLookup}
 use Rattle.recursor_core.specs.Replies.{Terms}
-use Rattle.recursor_core.specs.Pools.{config_at, number_of, sought_at, server_at, IsAt, IsSentTo, GivenHolds, ServersHold, SoughtHolds, PoolsHold, IsGrown, SamePools, HasForgotten, HasKept, HasLeft}
+use Rattle.recursor_core.specs.Pools.{config_at, number_of, sought_at, server_at, IsAt, IsSentTo, GivenHolds, ServersHold, SoughtHolds, AreNumbered, PoolsHold, IsGrown, SamePools, HasForgotten, HasKept, HasLeft}
 use Rattle.recursor_core.specs.declared.pools.Aim.{Aim}
 use Rattle.recursor_core.specs.declared.pools.Aim.TheVariants as aim
 use Rattle.recursor_core.specs.declared.pools.Given.{Given}
 use Rattle.recursor_core.specs.declared.pools.Sought.{Sought}
 use Rattle.recursor_core.specs.declared.pools.Pools.{Pools}
+use Rattle.recursor_core.proofs.Sharing.{numbered-same, left-rest, left-numbered}
 
 -- The lookup of the number, its orders and how each server is reached are as they were.
 pub record IsCarried (n : ℕ) (old new : Pools) : Type 0 where
@@ -74,25 +76,26 @@ module _ (terms : Terms) (greatest : ℕ) (log : Log) where
   at-carried : (n : ℕ) (old new : Pools) (x : IsCarried n old new) (ip : IpAddr) (c : Candidate) → IsAt old.shared.table ip c → IsAt new.shared.table ip c
   at-carried n old new x ip c at = record { config = x.reached c.server (server_at ip) at.config; beyond_udp = at.beyond_udp; trusted = at.trusted }
 
-  sent-carried : (n : ℕ) (old new : Pools) → IsCarried n old new → (zone : DomainName) (pool : List Candidate) (l : OpenLookup) (number since : ℕ) (asks : Bool) (ip : IpAddr)
-      → IsSentTo terms greatest log old n zone pool l number since asks ip → IsSentTo terms greatest log new n zone pool l number since asks ip
-  sent-carried n old new x zone pool l number since asks ip h = record {
-    of = x.orders number h.of;
+  sent-carried : (n : ℕ) (old new : Pools) → IsCarried n old new → (zone : DomainName) (pool : List Candidate) (l : LookupState) (g : Given) (asks : Bool) (ip : IpAddr)
+      → IsSentTo terms greatest log old n zone pool l g asks ip → IsSentTo terms greatest log new n zone pool l g asks ip
+  sent-carried n old new x zone pool l g asks ip h = record {
+    of = x.orders g.number h.of;
     candidate = h.candidate;
     from_pool = h.from_pool;
     at = at-carried n old new x ip h.candidate h.at;
     open_to = h.open_to;
     past = h.past;
     serves = h.serves;
+    polled = h.polled;
   }
 
-  given-carried : (n : ℕ) (old new : Pools) → IsCarried n old new → (zone : DomainName) (pool : List Candidate) (l : OpenLookup) (g : Given) (a : Aim)
+  given-carried : (n : ℕ) (old new : Pools) → IsCarried n old new → (zone : DomainName) (pool : List Candidate) (l : LookupState) (g : Given) (a : Aim)
       → GivenHolds terms greatest log old n zone pool l g a → GivenHolds terms greatest log new n zone pool l g a
-  given-carried n old new x zone pool l g (aim.Open ip) h = sent-carried n old new x zone pool l g.number g.since false ip h
-  given-carried n old new x zone pool l g (aim.Ask ip) h = sent-carried n old new x zone pool l g.number g.since true ip h
+  given-carried n old new x zone pool l g (aim.Open ip) h = sent-carried n old new x zone pool l g false ip h
+  given-carried n old new x zone pool l g (aim.Ask ip) h = sent-carried n old new x zone pool l g true ip h
   given-carried n old new x zone pool l g aim.Sleep h = (x.orders g.number h.0, h.1)
 
-  given-some : (n : ℕ) (old new : Pools) → IsCarried n old new → (zone : DomainName) (pool : List Candidate) (l : OpenLookup) (o : Option Given)
+  given-some : (n : ℕ) (old new : Pools) → IsCarried n old new → (zone : DomainName) (pool : List Candidate) (l : LookupState) (o : Option Given)
       → IfSome o (λ g. GivenHolds terms greatest log old n zone pool l g g.aim) → IfSome o (λ g. GivenHolds terms greatest log new n zone pool l g g.aim)
   given-some n old new x zone pool l None h = tt
   given-some n old new x zone pool l (Some g) h = given-carried n old new x zone pool l g g.aim h
@@ -100,8 +103,8 @@ module _ (terms : Terms) (greatest : ℕ) (log : Log) where
   -- what is sought by a lookup that is as it was
   pub sought-carried : (moment n : ℕ) (old new : Pools) (s : Sought) → IsCarried n old new → SoughtHolds terms greatest moment log old n s → SoughtHolds terms greatest moment log new n s
   sought-carried moment n old new s x h = record {
-    lookup = h.lookup;
-    there = x.there h.lookup h.there;
+    shared_by = h.shared_by;
+    there = x.there h.shared_by h.there;
     asks = h.asks;
     starts = h.starts;
     time = h.time;
@@ -111,16 +114,16 @@ module _ (terms : Terms) (greatest : ℕ) (log : Log) where
     listed = h.listed;
     some = h.some;
     serve = h.serve;
-    pool = h.pool;
     ip_of = h.ip_of;
-    known = All-weaker (λ c. IsAt old.shared.table (h.ip_of c.server) c) (λ c. IsAt new.shared.table (h.ip_of c.server) c) (λ c at. at-carried n old new x (h.ip_of c.server) c at) h.pool h.known;
+    known = All-weaker (λ c. IsAt old.shared.table (h.ip_of c.server) c) (λ c. IsAt new.shared.table (h.ip_of c.server) c) (λ c at. at-carried n old new x (h.ip_of c.server) c at) h.shared_by.lookup.servers h.known;
     whole = h.whole;
     heard = h.heard;
     stands = h.stands;
+    decided = h.decided;
     ends = h.ends;
     beside = h.beside;
     tried = h.tried;
-    given = given-some n old new x s.zone h.pool h.lookup s.given h.given;
+    given = given-some n old new x s.zone h.shared_by.lookup.servers h.shared_by.lookup s.given h.given;
   }
 
 -- ---- the servers
@@ -143,7 +146,8 @@ servers-same terms old new s = servers-with terms old new s.numbers (ap (λ (sha
 
 servers-left : (terms : Terms) (n : ℕ) (old new : Pools) → HasLeft n old new → ServersHold terms old → ServersHold terms new
 servers-left terms n old new left =
-    servers-with terms old new left.numbers left.rest.servers.context (λ k config is. config-same old.shared.table new.shared.table k config left.rest.servers.configs is)
+    let rest = left-rest n old.shared new.shared left.left in
+    servers-with terms old new left.numbers rest.servers.context (λ k config is. config-same old.shared.table new.shared.table k config rest.servers.configs is)
 
 -- ---- all of them
 
@@ -153,6 +157,7 @@ module _ (terms : Terms) (greatest moment : ℕ) (log : Log) where
       → ((s : Sought) → sought_at new n ≡ Some s → SoughtHolds terms greatest moment log new n s) → PoolsHold terms greatest moment log old → PoolsHold terms greatest moment log new
   pools-one n old new same others one h = record {
     servers = servers-same terms old new same h.servers;
+    numbered = subst AreNumbered (sym same.shared) h.numbered;
     lookups = λ m s is. ⊎_elim
         (λ at. subst (λ (k : ℕ). SoughtHolds terms greatest moment log new k s) (sym at) (one s (subst (λ (k : ℕ). sought_at new k ≡ Some s) at is)))
         (λ other. sought-carried terms greatest log moment m old new s (carried-same m old new same) (h.lookups m s (sym (others m other) ∙ is)))
@@ -173,16 +178,18 @@ module _ (terms : Terms) (greatest moment : ℕ) (log : Log) where
   pub pools-left : (n : ℕ) (old new : Pools) → HasLeft n old new → sought_at old n ≡ None → PoolsHold terms greatest moment log old → PoolsHold terms greatest moment log new
   pools-left n old new left none h = record {
     servers = servers-left terms n old new left h.servers;
+    numbered = left-numbered n old.shared new.shared left.left left.last h.numbered;
     lookups = λ m s is.
         let before : sought_at old m ≡ Some s = sym (left.sought m) ∙ is in
         let other : m ≢ n = λ at. none-some s (sym none ∙ subst (λ (k : ℕ). sought_at old k ≡ Some s) at before) in
-        sought-carried terms greatest log moment m old new s (carried-beside m n old new other left.rest) (h.lookups m s before);
+        sought-carried terms greatest log moment m old new s (carried-beside m n old new other (left-rest n old.shared new.shared left.left)) (h.lookups m s before);
   }
 
   -- servers came behind the others
   pub pools-grown : (old new : Pools) → IsGrown old new → ServersHold terms new → PoolsHold terms greatest moment log old → PoolsHold terms greatest moment log new
   pools-grown old new g servers h = record {
     servers = servers;
+    numbered = numbered-same old.shared new.shared g.lookups g.sent (let same = g.pools in omega (arith, same)) h.numbered;
     lookups = λ m s is.
         sought-carried terms greatest log moment m old new s (carried-grown m old new g) (h.lookups m s (sym (ap (λ sought. sought_at (record old { sought = sought }) m) g.sought) ∙ is));
   }

@@ -1,28 +1,32 @@
 -- What was sent, and what came of it, by a log.
-use Rattle.std.proofs.Common.{◌≡◌, ◌≤◌, ℕ, Bool, true, false, Option, Some, None, Err, IsTrue, refl, subst, arith}
+use Rattle.std.proofs.Common.{◌≡◌, ◌≤◌, ◌+◌, ℕ, Bool, true, false, Option, Some, None, Err, IsTrue, refl, subst, arith}
 use Rattle.std.specs.Prelude.{◌==◌, ◌&&◌}
 use Rattle.std.specs.Cmp.{nat_eq_equiv}
 use Rattle.dns_core.specs.Name.{same_names}
 use Rattle.dns_core.specs.NameLaws.{same_names_equiv}
-use Rattle.dns_core.specs.Log.{Log}
+use Rattle.dns_core.specs.Log.{Log, Extends}
 use Rattle.dns_core.specs.declared.message.Query.{Query}
 use Rattle.dns_core.specs.declared.connection.Protocol.{Protocol}
 use Rattle.dns_core.specs.declared.net_error.NetError.{NetError}
 use Rattle.dns_core.specs.declared.net_error.NetError.TheVariants as net
+use Rattle.dns_core.specs.declared.log.LogEntry.{LogEntry}
 use Rattle.dns_core.specs.declared.log.LogEntry.TheVariants as line
 use Rattle.dns_core.specs.declared.log.ToldOutcome.TheVariants as said
 use Rattle.resolution.specs.Names.{same_query}
 use Rattle.resolution.specs.Given.{Given}
 use Rattle.resolution.specs.Telling.{Logged, moment_of}
-use Rattle.resolution.specs.Ending.{is_begun, EndsSend}
+use Rattle.resolution.specs.Ending.{waits, is_begun, EndsSend}
 use Rattle.resolution.specs.Ending.EndsSend.{open_refused, ask_refused, open_failed, ask_failed, given_up}
 use Rattle.resolution.specs.Timing.{is_send}
 use Rattle.resolution.proofs.Caseless.{both}
+use Rattle.resolution.proofs.Keeping.{Logged-extend}
 use Rattle.resolution.proofs.Addresses.{same_ip-itself}
-use Rattle.order_carrier.specs.Fits.{entry_for, IsSent, OutcomeIs}
-use Rattle.recursor_core.specs.Order.{IsFor, IsLost}
+use Rattle.order_carrier.specs.Fits.{entry_for, IsSent, Closes, OutcomeIs}
+use Rattle.order_carrier.proofs.Holding.{IsSent-extend}
+use Rattle.recursor_core.specs.Order.{IsFor, IsLost, WaitsBy, IsGivenUpIn}
 use Rattle.recursor_core.specs.Tried.{BeganBy}
 use Rattle.server_core.specs.declared.order.Sent.{Sent}
+use Rattle.server_core.specs.declared.order.Outcome.{Outcome}
 use Rattle.server_core.specs.declared.order.Outcome.TheVariants as outcome
 
 -- ---- what was sent
@@ -115,14 +119,16 @@ lost-failed given log now entry s false error h = record {
 }
 
 -- what was given up, after as many polls as patience allows, is lost to a timeout
-pub lost-gave_up : (given : Given) (log : Log) (now entry : ℕ) (s : Sent) (polls : ℕ) → given.patience ≤ polls
-    → OutcomeIs log now (outcome.GaveUp entry s polls) → IsLost given log now entry s net.Timeout
-lost-gave_up given log now entry s polls enough h = record {
-  refusal = None;
-  sent = h.0.sent;
-  before = let b = h.0.before in omega arith;
-  ends = λ q is. given_up h.0.logged h.0.sent.logged (is_begun-entry q s h.0.sent.protocol is) (let w = h.1 in omega arith);
-}
+pub lost-gave_up : (given : Given) (told log : Log) (now entry : ℕ) (s : Sent) → given.patience ≤ waits log s.of (entry + 1) → Closes told s entry (line.Waited s.of)
+    → IsGivenUpIn s.of entry now told log → IsLost given log now (entry + 1) s net.Timeout
+lost-gave_up given told log now entry s enough waited up =
+    let sent = IsSent-extend told log up.extends s None waited.sent in
+    record {
+      refusal = None;
+      sent = sent;
+      before = let b = waited.before in omega (arith, b);
+      ends = λ q is. given_up up.logged sent.logged (is_begun-entry q s sent.protocol is) enough;
+    }
 
 -- what was sent so began a send
 pub began-sent : (log : Log) (q : Query) (s : Sent) (refusal : Option NetError) (last : ℕ) → IsSent log s refusal → IsFor s.query q
@@ -135,3 +141,26 @@ began-sent log q s refusal last sent is before = record {
   at = moment-entry s sent.protocol refusal;
   early = before;
 }
+
+-- ---- by a longer log
+
+pub closes-extend : (old new : Log) → Extends old new → (s : Sent) (entry : ℕ) (e : LogEntry) → Closes old s entry e → Closes new s entry e
+closes-extend old new x s entry e h = record { sent = IsSent-extend old new x s None h.sent; logged = Logged-extend old new x entry e h.logged; before = h.before }
+
+-- what came of an order came of it
+pub outcome-extend : (old new : Log) → Extends old new → (now : ℕ) (o : Outcome) → OutcomeIs old now o → OutcomeIs new now o
+outcome-extend old new x now (outcome.Pending entry of) h = tt
+outcome-extend old new x now (outcome.Connected entry s) h = closes-extend old new x s entry (line.Told s.of now said.Connected) h
+outcome-extend old new x now (outcome.Told entry s message) h = (closes-extend old new x s entry (line.Told s.of now (said.Message message)) h.0, h.1)
+outcome-extend old new x now (outcome.Failed entry s true error) h = record { sent = IsSent-extend old new x s (Some error) h.sent; at = h.at; then = h.then }
+outcome-extend old new x now (outcome.Failed entry s false error) h = closes-extend old new x s entry (line.Told s.of now (said.Error error)) h
+outcome-extend old new x now outcome.Slept h = tt
+
+-- and a poll is in it
+pub waits-extend_by : (old new : Log) → Extends old new → (w : Option Sent) (o : Outcome) → WaitsBy old w o → WaitsBy new w o
+waits-extend_by old new x None o h = tt
+waits-extend_by old new x (Some s) (outcome.Pending entry of) h = λ is. closes-extend old new x s entry (line.Waited of) (h is)
+waits-extend_by old new x (Some s) (outcome.Connected entry sent) h = tt
+waits-extend_by old new x (Some s) (outcome.Told entry sent message) h = tt
+waits-extend_by old new x (Some s) (outcome.Failed entry sent refused error) h = tt
+waits-extend_by old new x (Some s) outcome.Slept h = tt

@@ -1,20 +1,22 @@
 -- What holds of the machine and its provider goes on holding at each step of the two.
-use Rattle.std.proofs.Common.{◌≡◌, ◌≤◌, ◌<◌, ◌+◌, ◌∙◌, ◌⊎◌, ⊎_elim, inl, inr, ℕ, zero, suc, List, [], length, All, Option, Some, None, Result, Ok, Err, OnOk, IfOk, refl, sym, ap, subst, arith, min, max}
+use Rattle.std.proofs.Common.{◌≡◌, ◌≤◌, ◌<◌, ◌+◌, ◌∙◌, ◌⊎◌, ◌++◌, ⊎_elim, inl, inr, ℕ, zero, suc, Bool, true, false, List, [], ◌∷◌, length, All, Option, Some, None, Result, Ok, Err, OnOk, IfOk, refl, sym, ap, subst, arith, min, max, if◌then◌else◌}
+use Rattle.std.proofs.Math.Nat.{mul-le-mul_left}
 use Rattle.std.specs.Global.{Box}
 use Rattle.dns_core.specs.Log.{Log, Extends, log_of}
 use Rattle.std.specs.declared.net.ip_addr.IpAddr.{IpAddr}
 use Rattle.dns_core.specs.declared.log.LogEntry.{LogEntry}
-use Rattle.dns_core.specs.declared.log.LogEntry.TheVariants.{Opened, Asked}
+use Rattle.dns_core.specs.declared.log.LogEntry.TheVariants.{Opened, Asked, GaveUp}
 use Rattle.dns_core.specs.declared.request.Question.{Question}
 use Rattle.dns_core.specs.declared.provider.ConnectionProvider.{Ghosts}
 use Rattle.resolution.specs.Given.{Given, with_patience}
 use Rattle.resolution.specs.Telling.{Logged, MomentsRise}
 use Rattle.resolution.specs.Asking.{AsksServers}
 use Rattle.resolution.proofs.Keeping.{Serves-later, Serves-extend}
-use Rattle.order_carrier.specs.Fits.{Fits, GoesToServer}
+use Rattle.order_carrier.specs.Fits.{GoesToServer}
+use Rattle.order_carrier.specs.GivingUp.{give_up_entry}
 use Rattle.recursor_core.specs.Replies.{Terms, terms_with, given_of, ReplyHolds}
 use Rattle.recursor_core.specs.Tried.{machine_timer}
-use Rattle.order_carrier.specs.Carrying.{TellsThat, Grown, CarrierHolds}
+use Rattle.order_carrier.specs.Growing.{TellsThat, Grown, with_entries}
 use Rattle.recursor_core.specs.Pools.{PoolsHold}
 use Rattle.recursor_core.specs.Derived.{terms_of, Derived}
 use Rattle.order_carrier.specs.Patience.{IsPatient}
@@ -23,7 +25,11 @@ use Rattle.recursor_core.specs.Remembered.{EntryHolds, CacheHolds}
 use Rattle.recursor_setting.specs.Setting.{with_patience as setting_with}
 use Rattle.recursor_core.specs.Machine.{Begun, begun_at, ReplyGiven, StepGives, IsNewCore}
 use Rattle.recursor_core.specs.Standing.{IsPast, Holds, Rests, Moves, ReplyTold}
-use Rattle.recursor_core.specs.Turns.{TurnFalls}
+use Rattle.recursor_core.specs.Order.{TellsOutcome, is_given_up, IsGivenUpIn, LogGoesOnIf, LogGoesOn}
+use Rattle.recursor_core.specs.Runner.{RunnerHolds, RunnerMoves, polls_left, sent_by, IsLast, HasTold}
+use Rattle.recursor_core.specs.Turns.{due_of, TurnFalls}
+use Rattle.recursor_core.specs.declared.runner.Runner.{Runner}
+use Rattle.recursor_core.specs.declared.runner.Running.{Running}
 use Rattle.recursor_types.specs.declared.options.RecursorOptions.{RecursorOptions}
 use Rattle.recursor_setting.specs.declared.setting.Setting.{Setting}
 use Rattle.order_carrier.specs.declared.carrier.Carrier.{Carrier}
@@ -35,9 +41,14 @@ use Rattle.recursor_core.specs.declared.turns.Turned.TheVariants as turned
 use Rattle.dns_core.specs.declared.errors.NoMemory.{NoMemory}
 use Rattle.server_core.specs.declared.order.Order.{Order}
 use Rattle.server_core.specs.declared.order.Order.TheVariants.{Open, Ask, Sleep}
+use Rattle.server_core.specs.declared.order.After.{After}
 use Rattle.server_core.specs.declared.order.Outcome.{Outcome}
+use Rattle.server_core.specs.declared.order.Outcome.TheVariants.{Pending, Connected, Told, Failed, Slept}
+use Rattle.server_core.specs.declared.order.Sent.{Sent}
+use Rattle.server_core.specs.declared.order.Tick.{Tick}
 use Rattle.recursor_types.specs.declared.reply.Reply.{Reply}
-use Rattle.order_carrier.proofs.Patience.{IsPatient-refl, IsPatient-trans}
+use Rattle.order_carrier.proofs.Growing.{Longer-from_added, Extends-added, Logged-newest}
+use Rattle.order_carrier.proofs.Waiting.{IsPatient-trans, WaitsFor-refl, patient-none}
 use Rattle.recursor_core.proofs.Kept.{Derived-extends, ReplyHolds-extends}
 
 -- ---- growing logs
@@ -191,43 +202,110 @@ unlogged (suc n) e h = let is : None ≡ Some e = h.is in cc
 
 -- ---- steps
 
+-- so does it where less is left, whatever it came to
+pub turn_same : (new old : ℕ) (result : Result Turned NoMemory) → new < old → IfOk result (TurnFalls new old)
+turn_same new old (Ok t) h = turned_falls new (new + 1) old t (omega arith) (omega (arith, h))
+turn_same new old (Err e) h = tt
+
+-- whatever it came to
+pub on_ok_below : {T : Type 0} (result : Result T NoMemory) (new mid old : ℕ) → new ≤ mid → mid < old → OnOk result (new < old)
+on_ok_below (Ok t) new mid old h le = omega arith
+on_ok_below (Err e) new mid old h le = tt
+
+-- one step less outweighs all polls
+pub due_falls : (most a b x y : ℕ) → a < b → x ≤ most → due_of most a x < due_of most b y
+due_falls most a b x y h l = let next : a + 1 ≤ b = omega arith in let m = mul-le-mul_left (most + 1) next in omega (arith, m)
+
+pub due_keeps : (most a b x y : ℕ) → a ≤ b → x ≤ y → due_of most a x ≤ due_of most b y
+due_keeps most a b x y h l = let m = mul-le-mul_left (most + 1) h in omega (arith, m)
+
+-- a poll less is less to do, too
+pub due_polled : (most a b x y : ℕ) → a ≤ b → x < y → due_of most a x < due_of most b y
+due_polled most a b x y h l = let m = mul-le-mul_left (most + 1) h in omega (arith, m)
+
+-- no more polls are left than patience allows
+pub polls_few : (patience : ℕ) (running : Option Running) → polls_left patience running ≤ max 1 patience
+polls_few patience None = omega arith
+polls_few patience (Some running) = omega arith
+
+-- a log that stays as it is waits for nothing
+IsPatient-refl : (most : ℕ) (told : Option (List LogEntry)) → IsPatient most told told
+IsPatient-refl most told = patient-none most told told (WaitsFor-refl told)
+
+-- what was given up after an outcome is in the log from then on
+pub record IsSettledBy (given_up : Bool) (now : ℕ) (waits : Option Sent) (o : Outcome) (old : Option (List LogEntry)) (es : List LogEntry) : Type 0 where
+  pub before : List LogEntry
+  pub was : old ≡ Some before
+  pub on : LogGoesOnIf given_up now waits o (log_of before) (log_of es)
+
+-- the log after an outcome whose order is given up, or is not
+abbrev pub settled_log : Bool → ℕ → Option Sent → Option (List LogEntry) → Option (List LogEntry)
+settled_log given_up now waits told = if given_up then with_entries (give_up_entry now waits) told else told
+
+settled_by : (given_up : Bool) (now : ℕ) (waits : Option Sent) (o : Outcome) (old new : Option (List LogEntry)) → new ≡ settled_log given_up now waits old → TellsThat old (HasTold now waits o)
+    → (es : List LogEntry) → new ≡ Some es → IsSettledBy given_up now waits o old es
+settled_by false now waits o old new is told es t = record { before = es; was = sym is ∙ t; on = refl }
+settled_by true now None o old new is told es t = record { before = es; was = sym is ∙ t; on = refl }
+settled_by true now (Some s) o old new is told es t =
+    let l = Longer-from_added (GaveUp s.of now) old es (sym is ∙ t) in
+    let h = told l.before l.was in
+    record { before = l.before; was = l.was; on = by_outcome o l.before l.is h.last }
+  where
+    by_outcome : (o : Outcome) (before : List LogEntry) → es ≡ before ++ GaveUp s.of now ∷ [] → IsLast (log_of before) (Some s) o → LogGoesOnIf true now (Some s) o (log_of before) (log_of es)
+    by_outcome (Pending entry of) before is last =
+        let after = before ++ GaveUp s.of now ∷ [] in
+        let place : length before + 1 ≡ entry + 1 = sym last.1 in
+        let logged = subst (λ (n : ℕ). Logged (log_of after) n (GaveUp s.of now)) place (Logged-newest before (GaveUp s.of now)) in
+        subst (λ (xs : List LogEntry). IsGivenUpIn s.of entry now (log_of before) (log_of xs)) (sym is)
+        (record { extends = Extends-added before (GaveUp s.of now); logged = logged; numbered = last.2 })
+    by_outcome (Connected entry sent) before is last = absurd last
+    by_outcome (Told entry sent message) before is last = absurd last
+    by_outcome (Failed entry sent refused error) before is last = absurd last
+    by_outcome Slept before is last = absurd last
+
 module _ {P C F E : Type 0} (p : Ghosts P C F E) where
   -- a step of the machine alone
-  pub holds_derived : (patience : ℕ) (core new : RecursorCore) (c : Carrier P C F E p) → new.setting ≡ core.setting → core.moment ≤ new.moment
-      → ((log : Log) → Derived core log → Derived new log) → Holds p patience core c → Holds p patience new c
-  holds_derived patience core new c setting later derived h = record {
-    carrier = h.carrier;
+  pub holds_derived : (patience : ℕ) (core new : RecursorCore) (r : Runner P C F E p) → new.setting ≡ core.setting → core.moment ≤ new.moment
+      → ((log : Log) → Derived core log → Derived new log) → Holds p patience core r → Holds p patience new r
+  holds_derived patience core new r setting later derived h = record {
+    runner = h.runner;
     patient = subst (λ (held : Setting). held.patience ≤ patience) (sym setting) h.patient;
     derived = λ es t. derived (log_of es) (h.derived es t);
-    asks = subst (λ (held : Setting). TellsThat (p.log c.provider) (AsksServers (given_of (terms_with held)))) (sym setting) h.asks;
-    past = IsPast-later core.moment new.moment (p.log c.provider) later h.past;
-  }
-
-  -- the machine is fed what the provider told
-  pub holds_put : (patience : ℕ) (core new : RecursorCore) (c : Carrier P C F E p) (now : ℕ) (outcome : Outcome) → new.setting ≡ core.setting → new.moment ≡ now
-      → ((log longer : Log) → core.setting.patience ≤ patience → core.moment ≤ now → Derived core log → Extends log longer → Fits longer now outcome → Derived new longer)
-      → TellsThat (p.log c.provider) (λ log. Fits log now outcome) → core.moment ≡ now → Holds p patience core c → Holds p patience new c
-  holds_put patience core new c now outcome setting moment derived fits at h = record {
-    carrier = h.carrier;
-    patient = subst (λ (held : Setting). held.patience ≤ patience) (sym setting) h.patient;
-    derived = λ es t. derived (log_of es) (log_of es) h.patient (omega arith) (h.derived es t) (Extends-refl (log_of es)) (fits es t);
-    asks = subst (λ (held : Setting). TellsThat (p.log c.provider) (AsksServers (given_of (terms_with held)))) (sym setting) h.asks;
-    past = IsPast-later core.moment new.moment (p.log c.provider) (omega arith) h.past;
+    asks = subst (λ (held : Setting). TellsThat (p.log r.carrier.provider) (AsksServers (given_of (terms_with held)))) (sym setting) h.asks;
+    past = IsPast-later core.moment new.moment (p.log r.carrier.provider) later h.past;
   }
 
   -- a step of the provider alone, at the moment of the machine
-  pub holds_grown : (patience : ℕ) (core : RecursorCore) (c new : Carrier P C F E p) (now : ℕ) → core.moment ≡ now → CarrierHolds p new
-      → Grown now (p.log c.provider) (p.log new.provider)
-      → (TellsThat (p.log c.provider) (AsksServers (given_of (terms_of core)))
-      → TellsThat (p.log new.provider) (AsksServers (given_of (terms_of core))))
-      → Holds p patience core c → Holds p patience core new
-  holds_grown patience core c new now at carrier grown asks h = record {
-    carrier = carrier;
-    patient = h.patient;
-    derived = Derived-grown now core (p.log c.provider) (p.log new.provider) grown h.derived;
-    asks = asks h.asks;
-    past = subst (λ m. TellsThat (p.log new.provider) (IsPast m)) (sym at)
-        (IsPast-grown now (p.log c.provider) (p.log new.provider) grown (subst (λ m. TellsThat (p.log c.provider) (IsPast m)) at h.past));
+  pub holds_grown : (patience : ℕ) (core : RecursorCore) (r new : Runner P C F E p) (now : ℕ) (goes : Given → Type 0) → core.moment ≡ now → RunnerHolds p new
+      → RunnerMoves patience now goes (p.log r.carrier.provider) (p.log new.carrier.provider) → goes (given_of (terms_of core)) → Holds p patience core r → Holds p patience core new
+  holds_grown patience core r new now goes at runner moves right h =
+      let old_log = p.log r.carrier.provider in
+      let new_log = p.log new.carrier.provider in
+      record {
+        runner = runner;
+        patient = h.patient;
+        derived = Derived-grown now core old_log new_log moves.grown h.derived;
+        asks = moves.asks (given_of (terms_of core)) right h.asks;
+        past = subst (λ m. TellsThat new_log (IsPast m)) (sym at) (IsPast-grown now old_log new_log moves.grown (subst (λ m. TellsThat old_log (IsPast m)) at h.past));
+      }
+
+  -- The machine is fed what the provider told, and its order is given up, or is not.
+  pub holds_settled : (tick : Tick) (core new : RecursorCore) (r later : Runner P C F E p) (o : Outcome) (result : Result After NoMemory) → new.setting ≡ core.setting → new.moment ≡ tick.now
+      → core.moment ≡ tick.now
+      → ((log told longer : Log) → core.setting.patience ≤ tick.patience → Derived core log → TellsOutcome core.moment log tick (sent_by r) o told
+      → LogGoesOn tick.now (sent_by r) o result told longer → Derived new longer)
+      → p.log later.carrier.provider ≡ settled_log (is_given_up result) tick.now (sent_by r) (p.log r.carrier.provider)
+      → TellsThat (p.log r.carrier.provider) (HasTold tick.now (sent_by r) o) → Holds p tick.patience core r → Holds p tick.patience core later → Holds p tick.patience new later
+  holds_settled tick core new r later o result setting moment at derived log told h k = record {
+    runner = k.runner;
+    patient = subst (λ (held : Setting). held.patience ≤ tick.patience) (sym setting) k.patient;
+    derived = λ es t.
+        let by = settled_by (is_given_up result) tick.now (sent_by r) o (p.log r.carrier.provider) (p.log later.carrier.provider) log told es t in
+        let heard = told by.before by.was in
+        derived (log_of by.before) (log_of by.before) (log_of es) h.patient (h.derived by.before by.was)
+        (record { later = omega arith; extends = Extends-refl (log_of by.before); fits = heard.fits; waits_by = heard.waits_by }) by.on;
+    asks = subst (λ (held : Setting). TellsThat (p.log later.carrier.provider) (AsksServers (given_of (terms_with held)))) (sym setting) k.asks;
+    past = IsPast-later core.moment new.moment (p.log later.carrier.provider) (omega arith) k.past;
   }
 
   -- two steps are one
@@ -251,31 +329,31 @@ module _ {P C F E : Type 0} (p : Ghosts P C F E) where
   }
 
   -- a step of the provider alone
-  pub moves_grown : (patience now : ℕ) (core : RecursorCore) (c new : Carrier P C F E p) → Grown now (p.log c.provider) (p.log new.provider)
-      → IsPatient (max 1 patience) (p.log c.provider) (p.log new.provider) → Moves p patience now core core c new
-  moves_grown patience now core c new grown patient = record { setting = refl; begun = λ k b e. e; grown = grown; patient = patient }
+  pub moves_grown : (patience now : ℕ) (goes : Given → Type 0) (core : RecursorCore) (c new : Carrier P C F E p) → RunnerMoves patience now goes (p.log c.provider) (p.log new.provider)
+      → Moves p patience now core core c new
+  moves_grown patience now goes core c new moves = record { setting = refl; begun = λ k b e. e; grown = moves.grown; patient = moves.patient }
 
   -- a machine at rest begins a run: its questions are left, and its patience may be less
-  pub rests_holds : (patience : ℕ) (core new : RecursorCore) (c : Carrier P C F E p) → new.setting ≡ setting_with core.setting patience
+  pub rests_holds : (patience : ℕ) (core new : RecursorCore) (r : Runner P C F E p) → new.setting ≡ setting_with core.setting patience
       → new.moment ≡ core.moment
       → ((log : Log) → core.greatest < log.next → 0 < length core.setting.roots → CacheHolds (terms_of core) core.greatest log core.cache
       → PoolsHold (terms_of core) core.greatest core.moment log core.pools → Derived new log)
-      → Rests p core c → Holds p patience new c
-  rests_holds patience core new c setting moment derived h = record {
-    carrier = h.carrier;
+      → Rests p core r → Holds p patience new r
+  rests_holds patience core new r setting moment derived h = record {
+    runner = h.runner;
     patient = subst (λ (held : Setting). held.patience ≤ patience) (sym setting) (omega arith);
     derived = λ es t. derived (log_of es) (h.bound es t) h.some (h.cache es t) (h.pools es t);
-    asks = subst (λ (held : Setting). TellsThat (p.log c.provider) (AsksServers (given_of (terms_with held)))) (sym setting)
+    asks = subst (λ (held : Setting). TellsThat (p.log r.carrier.provider) (AsksServers (given_of (terms_with held)))) (sym setting)
         (λ es t. AsksServers-patience (given_of (terms_of core)) (min core.setting.patience patience) (log_of es) (h.asks es t));
-    past = subst (λ m. TellsThat (p.log c.provider) (IsPast m)) (sym moment) h.past;
+    past = subst (λ m. TellsThat (p.log r.carrier.provider) (IsPast m)) (sym moment) h.past;
   }
 
   -- and after it the machine is at rest again
-  pub holds_rests : (patience : ℕ) (core : RecursorCore) (c : Carrier P C F E p) → 0 < length core.setting.roots → TellsThat (p.log c.provider) MomentsRise
-      → Holds p patience core c → Rests p core c
-  holds_rests patience core c some rises h = record {
+  pub holds_rests : (patience : ℕ) (core : RecursorCore) (r : Runner P C F E p) → 0 < length core.setting.roots → TellsThat (p.log r.carrier.provider) MomentsRise
+      → Holds p patience core r → Rests p core r
+  holds_rests patience core r some rises h = record {
     some = some;
-    carrier = h.carrier;
+    runner = h.runner;
     bound = λ es t. (h.derived es t).bound;
     cache = λ es t. (h.derived es t).cache;
     pools = λ es t. (h.derived es t).pools;
@@ -285,11 +363,11 @@ module _ {P C F E : Type 0} (p : Ghosts P C F E) where
   }
 
   -- a new machine over a provider whose log is empty is at rest
-  pub new_rests : (roots : List IpAddr) (options : RecursorOptions) (core : RecursorCore) (c : Carrier P C F E p) → IsNewCore roots options core
-      → 0 < length roots → CarrierHolds p c → ((es : List LogEntry) → p.log c.provider ≡ Some es → es ≡ []) → Rests p core c
-  new_rests roots options core c new some holds empty = record {
+  pub new_rests : (roots : List IpAddr) (options : RecursorOptions) (core : RecursorCore) (r : Runner P C F E p) → IsNewCore roots options core
+      → 0 < length roots → RunnerHolds p r → ((es : List LogEntry) → p.log r.carrier.provider ≡ Some es → es ≡ []) → Rests p core r
+  new_rests roots options core r new some holds empty = record {
     some = subst (λ (held : Setting). 0 < length held.roots) (sym new.setting) some;
-    carrier = holds;
+    runner = holds;
     bound = λ es t. let zero = new.greatest in omega arith;
     cache = λ es t. record {
       lives = ap (λ (kept : Cached). kept.config) new.cache ∙ sym (ap (λ (held : Setting). held.lives) new.setting);

@@ -14,11 +14,12 @@ use Rattle.resolution.specs.Ending.{EndsSend, EndSends, Rise}
 use Rattle.resolution.specs.Ending.EndSends.{no_send, and_send}
 use Rattle.resolution.proofs.Caseless.{both}
 use Rattle.server_core.specs.declared.order.Outcome.{Outcome}
-use Rattle.server_core.specs.declared.order.Outcome.TheVariants.{Pending, Connected, Told, Failed, GaveUp, Slept}
+use Rattle.server_core.specs.declared.order.Outcome.TheVariants.{Pending, Connected, Told, Failed, Slept}
 use Rattle.server_core.specs.declared.order.Sent.{Sent}
 use Rattle.server_core.specs.Order.{entry_of}
 use Rattle.order_carrier.specs.Fits.{IsSent, OutcomeIs}
 use Rattle.dns_core.specs.declared.net_error.NetError.{NetError}
+use Rattle.recursor_core.specs.Order.{WaitsBy}
 use Rattle.recursor_core.specs.Replies.{Terms, given_of}
 use Rattle.recursor_core.specs.Tried.{BeganBy, Began, AreHeard, Tried}
 use Rattle.recursor_core.specs.Pools.{IsOf, MayTake, sent_to, either}
@@ -93,21 +94,22 @@ sent-began log q start greatest last since (Some to) asks ip sent refusal logged
     began_by-kept log log (record { later = omega arith; kept = λ n h. refl }) q sent.ip greatest last start later (subst (λ (to : IpAddr). BeganBy log q to greatest start) (sym of.begins) known)
 
 -- where it went, where an outcome says so
-pub outcome-began : (log : Log) (q : Query) (start greatest since patience now : ℕ) (first : Option IpAddr) (asks : Bool) (ip : IpAddr) (o : Outcome)
-    → IfSome first (λ to. BeganBy log q to greatest start) → greatest ≤ entry_of o → MayTake patience start q first false since asks ip o → OutcomeIs log now o
-    → IfSome (sent_to o) (λ to. BeganBy log q to (entry_of o) start)
-outcome-began log q start greatest since patience now first asks ip (Pending entry) known le may fits = tt
-outcome-began log q start greatest since patience now first asks ip (Connected entry sent) known le may fits =
-    sent-began log q start greatest entry since first asks ip sent None fits.sent (let b = fits.before in omega arith) le may.1 known
-outcome-began log q start greatest since patience now first asks ip (Told entry sent message) known le may fits =
-    sent-began log q start greatest entry since first asks ip sent None fits.0.sent (let b = fits.0.before in omega arith) le may.1 known
-outcome-began log q start greatest since patience now first asks ip (Failed entry sent true error) known le may fits =
-    sent-began log q start greatest entry since first asks ip sent (Some error) fits.sent (let b = fits.at in omega arith) le may.1 known
-outcome-began log q start greatest since patience now first asks ip (Failed entry sent false error) known le may fits =
-    sent-began log q start greatest entry since first asks ip sent None fits.sent (let b = fits.before in omega arith) le may.1 known
-outcome-began log q start greatest since patience now first asks ip (GaveUp entry sent polls) known le may fits =
-    sent-began log q start greatest entry since first asks ip sent None fits.0.sent (let b = fits.0.before in omega arith) le may.1 known
-outcome-began log q start greatest since patience now first asks ip Slept known le may fits = absurd may
+pub outcome-began : (log : Log) (q : Query) (start greatest last since now : ℕ) (first : Option IpAddr) (polled : Option ℕ) (asks : Bool) (ip : IpAddr) (w : Option Sent) (o : Outcome)
+    → IfSome first (λ to. BeganBy log q to greatest start) → greatest ≤ last → entry_of o ≤ last → MayTake start q first false since polled asks ip w o → OutcomeIs log now o → WaitsBy log w o
+    → IfSome (sent_to w o) (λ to. BeganBy log q to last start)
+outcome-began log q start greatest last since now first polled asks ip None (Pending entry of) known le under may fits by = tt
+outcome-began log q start greatest last since now first polled asks ip (Some w) (Pending entry of) known le under may fits by =
+    let waited = by may.0 in
+    sent-began log q start greatest last since first asks ip w None waited.sent (let b = waited.before in omega (arith, b, under)) le may.2 known
+outcome-began log q start greatest last since now first polled asks ip w (Connected entry sent) known le under may fits by =
+    sent-began log q start greatest last since first asks ip sent None fits.sent (let b = fits.before in omega (arith, b, under)) le may.1 known
+outcome-began log q start greatest last since now first polled asks ip w (Told entry sent message) known le under may fits by =
+    sent-began log q start greatest last since first asks ip sent None fits.0.sent (let b = fits.0.before in omega (arith, b, under)) le may.1 known
+outcome-began log q start greatest last since now first polled asks ip w (Failed entry sent true error) known le under may fits by =
+    sent-began log q start greatest last since first asks ip sent (Some error) fits.sent (let b = fits.at in omega (arith, b, under)) le may.1 known
+outcome-began log q start greatest last since now first polled asks ip w (Failed entry sent false error) known le under may fits by =
+    sent-began log q start greatest last since first asks ip sent None fits.sent (let b = fits.before in omega (arith, b, under)) le may.1 known
+outcome-began log q start greatest last since now first polled asks ip w Slept known le under may fits by = absurd may
 
 -- the first address that is known then
 first-known : (log : Log) (q : Query) (start greatest last : ℕ) (first other : Option IpAddr) → greatest ≤ last

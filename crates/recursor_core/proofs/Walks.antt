@@ -169,6 +169,7 @@ module _ (terms : Terms) (greatest : ℕ) (log : Log) (q : Query) (w : Walk) (he
         rises = f.rises;
         logged = f.logged;
         run = f.run;
+        bounded = f.bounded;
         since = f.since;
         till = f.till;
         asked = omega arith;

@@ -1,5 +1,5 @@
 -- Why a question is answered with an error.
-use Rattle.std.specs.Prelude.{◌≡◌, ℕ, Bool, true, false, ◌==◌, IsTrue, List, [], ◌∷◌, Some, None, Contains}
+use Rattle.std.specs.Prelude.{◌≡◌, ℕ, Bool, true, false, IsTrue, List, [], ◌∷◌, Some, None, Contains}
 use Rattle.dns_core.specs.Name.{DomainName}
 use Rattle.dns_core.specs.Log.{Log}
 use Rattle.dns_core.specs.declared.message.Query.{Query}
@@ -17,7 +17,6 @@ use Rattle.resolution.specs.Walking.{Walked}
 use Rattle.resolution.specs.Failing.{Glueless, ends_walk}
 use Rattle.resolution.specs.declared.verdict.Verdict.TheVariants.{Neg, Made}
 use Rattle.resolution.specs.declared.verdict.Cause.{Cause}
-use Rattle.resolution.specs.declared.verdict.Cause.TheVariants.{Filter, Zone}
 use Rattle.recursor_walk.specs.Answer.{told_data, made_data}
 use Rattle.recursor_core.specs.Asked.{AskedAs}
 use Rattle.recursor_core.specs.SameTold.{SameDenial, SameReferrals, IsMadeFor}

@@ -29,6 +29,7 @@ use Rattle.recursor_core.specs.Lookup.{last_of, answered_by}
 use Rattle.recursor_core.specs.Pools.{AreServers, PoolsHold}
 use Rattle.recursor_core.specs.Remembered.{CacheHolds}
 use Rattle.recursor_core.specs.declared.pools.Answer.{Answer}
+use Rattle.recursor_core.specs.declared.pools.Pools.{Pools}
 use Rattle.recursor_core.specs.declared.lookup.Ask.{Ask}
 use Rattle.recursor_core.specs.declared.lookup.Ask.TheVariants as ask
 use Rattle.recursor_core.specs.declared.lookup.Lookup.{Lookup}
@@ -99,6 +100,10 @@ pub record LookupHolds (terms : Terms) (greatest moment t0 : ℕ) (log : Log) (z
   pub above : IsTrue (is_above zone (walk l.query))
   pub ask : AskHolds terms greatest moment t0 log zone l.query l.ends l.ask
 
+-- So it is with it and with the pools, after an outcome.
+abbrev pub TakenHolds : Terms → ℕ → ℕ → ℕ → Log → DomainName → Lookup → Pools → Type 0
+TakenHolds terms greatest moment t0 log zone l pools = LookupHolds terms greatest moment t0 log zone l × PoolsHold terms greatest moment log pools
+
 -- A response was told by a server of the zone; or the lookup failed by these entries.
 abbrev pub FoundHolds : Terms → ℕ → ℕ → ℕ → Log → DomainName → Query → List ℕ → Found → Type 0
 FoundHolds terms greatest moment t0 log zone q g (found.Told entry at class) = IsTold terms greatest t0 log zone q entry at class
@@ -140,6 +145,10 @@ pub record WalkHolds (terms : Terms) (greatest moment t0 : ℕ) (log : Log) (q :
   pub way : WayHolds terms greatest log q w
   pub lookup : LookupHolds terms greatest moment t0 log w.zone w.lookup
 
+-- so it is with it and with the pools, after an outcome
+abbrev pub WalkTaken : Terms → ℕ → ℕ → ℕ → Log → Query → Walk → Pools → Type 0
+WalkTaken terms greatest moment t0 log q w pools = WalkHolds terms greatest moment t0 log q w × PoolsHold terms greatest moment log pools
+
 -- it goes on, or has its reply
 abbrev pub WalkComes : Terms → ℕ → ℕ → ℕ → Log → Question → Walk → Option (Box Reply) → Type 0
 WalkComes terms greatest moment t0 log question w None = WalkHolds terms greatest moment t0 log question.query w
@@ -156,6 +165,10 @@ StateHolds terms greatest moment t0 log question state.Ended = Unit {0}
 pub record ResolutionHolds (terms : Terms) (greatest moment : ℕ) (log : Log) (r : Resolution) : Type 0 where
   pub begun : r.begun ≤ moment
   pub state : StateHolds terms greatest moment r.begun log r.question r.state
+
+-- so it is with it and with the pools, after an outcome
+abbrev pub ResolutionTaken : Terms → ℕ → ℕ → Log → Resolution → Pools → Type 0
+ResolutionTaken terms greatest moment log r pools = ResolutionHolds terms greatest moment log r × PoolsHold terms greatest moment log pools
 
 -- what it is set to
 abbrev pub terms_of : RecursorCore → Terms

@@ -2,6 +2,7 @@ pub mod Lookup
 pub mod Walk
 pub mod Resolving
 pub mod Order
+pub mod Runner
 pub mod SameTold
 pub mod Causes
 pub mod Replies

@@ -1,5 +1,5 @@
 -- Where a lookup stands, and how much of it is left.
-use Rattle.std.specs.Prelude.{ℕ, ◌≡◌, ◌<◌, ◌+◌, ◌-◌, ◌*◌, ◌^◌, List, Option, Some, None, Ok, Err}
+use Rattle.std.specs.Prelude.{ℕ, ◌+◌, ◌^◌, List, Option, Some, None, Ok, Err}
 use Rattle.std.specs.List.{last_or}
 use Rattle.dns_core.specs.declared.net_error.NetError.{NetError}
 use Rattle.dns_core.specs.declared.net_error.NetError.TheVariants as net
@@ -7,16 +7,16 @@ use Rattle.dns_core.specs.declared.net_error.DnsError.TheVariants as dns
 use Rattle.resolution.specs.Lookups.{Answered}
 use Rattle.server_core.specs.declared.order.After.{After}
 use Rattle.server_core.specs.declared.order.After.TheVariants as after
-use Rattle.recursor_core.specs.declared.lookup.OpenOrder.{OpenOrder}
 use Rattle.recursor_core.specs.declared.lookup.Ask.{Ask}
 use Rattle.recursor_core.specs.declared.lookup.Ask.TheVariants as ask
+use Rattle.recursor_core.specs.declared.lookup.Under.{Under}
 use Rattle.recursor_core.specs.declared.lookup.Want.{Want}
 use Rattle.recursor_core.specs.declared.lookup.Want.TheVariants.{Recall, Begin, Step, Wait, Hear}
 use Rattle.recursor_core.specs.declared.lookup.Lookup.{Lookup}
 
-abbrev pub under_want : Option OpenOrder → Want
+abbrev pub under_want : Option ℕ → Want
 under_want None = Step
-under_want (Some given) = Wait given.number
+under_want (Some order) = Wait order
 
 abbrev pub want_of : Ask → Want
 want_of ask.Fresh = Recall
@@ -40,15 +40,11 @@ abbrev pub answered_by : ℕ → ℕ → Answered → Ask
 answered_by entry at (Ok message) = ask.Told entry at (Ok message)
 answered_by entry at (Err error) = failed_by entry at error
 
-abbrev pub order_steps : Option OpenOrder → ℕ
-order_steps None = 0
-order_steps (Some given) = 1
-
--- how many steps it has before it: two for each order that it may still give
+-- how many steps it has before it: one for each order that it may still give
 abbrev pub ask_steps : Ask → ℕ
 ask_steps ask.Fresh = 2 ^ 66 + 1
 ask_steps ask.Ready = 2 ^ 66
-ask_steps (ask.Under under) = 2 + 2 * under.left + order_steps under.order
+ask_steps (ask.Under under) = 2 + under.left
 ask_steps (ask.Told entry at class) = 1
 ask_steps (ask.Failed error) = 1
 ask_steps ask.Heard = 0
@@ -56,30 +52,10 @@ ask_steps ask.Heard = 0
 abbrev pub steps : Lookup → ℕ
 steps l = ask_steps l.ask
 
-abbrev pub polls_of : ℕ → Option OpenOrder → ℕ
-polls_of patience None = 0
-polls_of patience (Some given) = patience - given.polls
-
--- how many polls patience leaves to its open order
-abbrev pub polls_left : ℕ → Ask → ℕ
-polls_left patience ask.Fresh = 0
-polls_left patience ask.Ready = 0
-polls_left patience (ask.Under under) = polls_of patience under.order
-polls_left patience (ask.Told entry at class) = 0
-polls_left patience (ask.Failed error) = 0
-polls_left patience ask.Heard = 0
-
--- steps, each of which may be as many polls as patience allows
-abbrev pub ask_rank : ℕ → Ask → ℕ
-ask_rank patience a = (patience + 1) * ask_steps a + polls_left patience a
-
-abbrev pub rank : ℕ → Lookup → ℕ
-rank patience l = ask_rank patience l.ask
-
 -- an order of it is open
-abbrev pub IsOpen : Option OpenOrder → Type 0
+abbrev pub IsOpen : Option ℕ → Type 0
 IsOpen None = ⊥
-IsOpen (Some given) = Unit {0}
+IsOpen (Some order) = Unit {0}
 
 abbrev pub IsWaiting : Ask → Type 0
 IsWaiting ask.Fresh = ⊥
@@ -89,9 +65,9 @@ IsWaiting (ask.Told entry at class) = ⊥
 IsWaiting (ask.Failed error) = ⊥
 IsWaiting ask.Heard = ⊥
 
--- The order was polled once more, of which patience allows another, has ended, or stays as it is.
-abbrev pub HasNoted : ℕ → Option OpenOrder → Option OpenOrder → After → Type 0
-HasNoted patience old new after.Kept = (given : OpenOrder) × (old ≡ Some given) × (new ≡ Some (record given { polls = given.polls + 1 })) × (given.polls + 1 < patience)
-HasNoted patience old new after.Ended = (new ≡ None) × IsOpen old
-HasNoted patience old new after.GiveUp = new ≡ old
-HasNoted patience old new after.Late = new ≡ old
+-- no order of it is open once it has ended
+abbrev pub noted : After → Under → Under
+noted after.Kept u = u
+noted after.Ended u = record u { order = None }
+noted after.GiveUp u = record u { order = None }
+noted after.Late u = u

@@ -91,25 +91,25 @@ pub record SameCore (old new : RecursorCore) : Type 0 where
 abbrev pub IsAwaited : RecursorCore → ℕ → Type 0
 IsAwaited core number = (r : ℕ) × (order_at core r ≡ Some number)
 
--- how many steps and polls are before the machine, at most
-abbrev pub rank : ℕ → RecursorCore → ℕ
-rank patience core = sum_by (one.rank patience) core.resolutions.items
+-- how many steps are before the machine, at most
+abbrev pub rank : RecursorCore → ℕ
+rank core = sum_by one.steps core.resolutions.items
 
 abbrev pub StepFalls : RecursorCore → RecursorCore → Step → Type 0
-StepFalls old new (step.Order number order) = (p : ℕ) → rank p new < rank p old
-StepFalls old new (step.Waiting number) = ((p : ℕ) → rank p new ≤ rank p old) × IsAwaited new number
-StepFalls old new (step.Done reply) = (p : ℕ) → rank p new < rank p old
-StepFalls old new step.Ended = (p : ℕ) → rank p new ≤ rank p old
+StepFalls old new (step.Order number order) = rank new < rank old
+StepFalls old new (step.Waiting number) = (rank new ≤ rank old) × IsAwaited new number
+StepFalls old new (step.Done reply) = rank new < rank old
+StepFalls old new step.Ended = rank new ≤ rank old
 
 -- A step leaves less to do, but where an outcome is waited for or nothing is left.
 abbrev pub Steps : RecursorCore → RecursorCore → Result Step NoMemory → Type 0
 Steps old new (Ok s) = StepFalls old new s
-Steps old new (Err e) = (p : ℕ) → rank p new ≤ rank p old
+Steps old new (Err e) = rank new ≤ rank old
 
 abbrev pub GoesOn : RecursorCore → RecursorCore → Result Progress NoMemory → Type 0
-GoesOn old new (Ok progress.Again) = (p : ℕ) → rank p new < rank p old
+GoesOn old new (Ok progress.Again) = rank new < rank old
 GoesOn old new (Ok (progress.Step s)) = StepFalls old new s
-GoesOn old new (Err e) = (p : ℕ) → rank p new ≤ rank p old
+GoesOn old new (Err e) = rank new ≤ rank old
 
 abbrev pub ReplyGiven : Terms → ℕ → Log → Option Begun → Reply → Type 0
 ReplyGiven terms now log None reply = Unit {0}

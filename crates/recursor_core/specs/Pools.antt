@@ -1,5 +1,5 @@
 -- The servers that were met, and the lookups that are under way at pools of them.
-use Rattle.std.specs.Prelude.{◌≡◌, ◌≢◌, ◌⊎◌, ℕ, ◌+◌, ◌≤◌, ◌<◌, ◌++◌, nat_lt, unwrap_or, if◌then◌else◌, Bool, true, false, not, ◌==◌, IsTrue, List, [], ◌∷◌, length, map, option_map, All, Contains, IfSome, Option, Some, None}
+use Rattle.std.specs.Prelude.{◌≡◌, ◌≢◌, ℕ, ◌+◌, ◌≤◌, ◌<◌, ◌++◌, nat_lt, unwrap_or, if◌then◌else◌, Bool, true, false, not, ◌==◌, IsTrue, List, [], ◌∷◌, length, map, option_map, All, Contains, IfSome, Option, Some, None}
 use Rattle.std.specs.BTreeMap as tree
 use Rattle.std.specs.Ordering.{nat_cmp}
 use Rattle.std.specs.List.Sorted.{IsPermutation}
@@ -11,12 +11,14 @@ use Rattle.dns_core.specs.declared.message.Query.{Query}
 use Rattle.dns_core.specs.declared.net_error.NetError.{NetError}
 use Rattle.dns_core.specs.declared.net_error.NetError.TheVariants as net
 use Rattle.dns_core.specs.declared.net_error.DnsError.TheVariants as dns
+use Rattle.resolver_settings.specs.Access.{denies}
 use Rattle.resolver_settings.specs.NameServer.{NameServer, believed, over_udp, over_tcp}
 use Rattle.resolution.specs.Names.{is_above, walk}
 use Rattle.resolution.specs.Serving.{Serves}
-use Rattle.resolution.specs.Lookups.{End, class_of_answer}
-use Rattle.resolution.specs.Ending.{Listed}
+use Rattle.resolution.specs.Lookups.{Answered, End, class_of_answer}
+use Rattle.resolution.specs.Ending.{Listed, waits}
 use Rattle.resolution.specs.Given.{Given as Resolver}
+use Rattle.server_core.specs.Sending.{pendings}
 use Rattle.server_core.specs.Servers.{Server, server_of}
 use Rattle.server_core.specs.Order.{entry_of}
 use Rattle.server_core.specs.declared.order.After.{After}
@@ -25,13 +27,16 @@ use Rattle.server_core.specs.declared.order.Sent.{Sent}
 use Rattle.server_core.specs.declared.order.Order.{Order}
 use Rattle.server_core.specs.declared.order.Order.TheVariants as order
 use Rattle.server_core.specs.declared.order.Outcome.{Outcome}
-use Rattle.server_core.specs.declared.order.Outcome.TheVariants.{Pending, Connected, Told, Failed, GaveUp, Slept}
+use Rattle.server_core.specs.declared.order.Outcome.TheVariants.{Pending, Connected, Told, Failed, Slept}
+use Rattle.retry_lookup.specs.Holds.{HeardEnd, ends_of, entries_of, HoldsBy}
+use Rattle.retry_lookup.specs.Lookup.{LookupState, question_of}
+use Rattle.retry_lookup.specs.Running.{IsOpenTo, IsBackingOffUnder}
+use Rattle.retry_lookup.specs.declared.lookup.State.TheVariants.{Decided}
 use Rattle.retry_rules.specs.Agenda.{class_of_sent}
 use Rattle.server_pool.specs.ByAddress.{SameEnds, at_address}
 use Rattle.order_carrier.specs.Fits.{GoesToServer}
-use Rattle.server_pool.specs.Rounds.{HeardEnd, ends_of, entries_of}
-use Rattle.server_pool.specs.Running.{request_of, start_of, timeout_of, ends_at, Runs, IsOpenTo, IsNapping}
-use Rattle.server_pool.specs.Shared.{lookup_at, lookup_of, SameBut}
+use Rattle.server_pool.specs.Lookups.{is_last, after_leave, closed_by}
+use Rattle.server_pool.specs.Shared.{Shared, lookup_at, lookup_of}
 use Rattle.retry_rules.specs.declared.candidate.Candidate.{Candidate}
 use Rattle.server_pool.specs.declared.open_lookup.OpenLookup.{OpenLookup}
 use Rattle.recursor_core.specs.Replies.{Terms, given_of}
@@ -82,50 +87,74 @@ pub record IsAt (table : List Server) (ip : IpAddr) (c : Candidate) : Type 0 whe
   pub beyond_udp : c.beyond_udp ≡ true
   pub trusted : c.trusted ≡ true
 
--- An order of a send to a server of the pool is open, which serves the zone by what was put before it was given.
-pub record IsSentTo (terms : Terms) (greatest : ℕ) (log : Log) (pools : Pools) (n : ℕ) (zone : DomainName) (pool : List Candidate) (l : OpenLookup)
-    (number since : ℕ) (asks : Bool) (ip : IpAddr) : Type 0 where
-  pub of : lookup_of pools.shared number ≡ Some n
+-- The entry was waited for so often, below a number that is no later than what was put.
+pub record WasWaitedFor (greatest : ℕ) (log : Log) (of polls : ℕ) : Type 0 where
+  pub below : ℕ
+  pub early : below ≤ greatest + 1
+  pub within : below ≤ log.next
+  pub enough : polls ≤ waits log of below
+
+-- So often the entry was waited for, where one is known; before that no poll was put.
+abbrev pub IsWaitedFor : ℕ → Log → Option ℕ → ℕ → Type 0
+IsWaitedFor greatest log None polls = polls ≡ 0
+IsWaitedFor greatest log (Some of) polls = WasWaitedFor greatest log of polls
+
+-- An order of a send to a server of the pool is open, which serves the zone by what was put before it was given, and the log has its polls.
+pub record IsSentTo (terms : Terms) (greatest : ℕ) (log : Log) (pools : Pools) (n : ℕ) (zone : DomainName) (pool : List Candidate) (l : LookupState)
+    (g : Given) (asks : Bool) (ip : IpAddr) : Type 0 where
+  pub of : lookup_of pools.shared g.number ≡ Some n
   pub candidate : Candidate
   pub from_pool : Contains pool candidate
   pub at : IsAt pools.shared.table ip candidate
-  pub open_to : IsOpenTo number candidate asks l
-  pub past : since ≤ greatest
-  pub serves : Serves (given_of terms) log (since + 1) ip zone
+  pub open_to : IsOpenTo g.number candidate asks l
+  pub past : g.since ≤ greatest
+  pub serves : Serves (given_of terms) log (g.since + 1) ip zone
+  pub polled : IsWaitedFor greatest log g.polled (pendings open_to.attempt.send.stage)
 
 -- the order that it gave last is open
-abbrev pub GivenHolds : Terms → ℕ → Log → Pools → ℕ → DomainName → List Candidate → OpenLookup → Given → Aim → Type 0
-GivenHolds terms greatest log pools n zone pool l g (aim.Open ip) = IsSentTo terms greatest log pools n zone pool l g.number g.since false ip
-GivenHolds terms greatest log pools n zone pool l g (aim.Ask ip) = IsSentTo terms greatest log pools n zone pool l g.number g.since true ip
-GivenHolds terms greatest log pools n zone pool l g aim.Sleep = (lookup_of pools.shared g.number ≡ Some n) × IsNapping g.number l
+abbrev pub GivenHolds : Terms → ℕ → Log → Pools → ℕ → DomainName → List Candidate → LookupState → Given → Aim → Type 0
+GivenHolds terms greatest log pools n zone pool l g (aim.Open ip) = IsSentTo terms greatest log pools n zone pool l g false ip
+GivenHolds terms greatest log pools n zone pool l g (aim.Ask ip) = IsSentTo terms greatest log pools n zone pool l g true ip
+GivenHolds terms greatest log pools n zone pool l g aim.Sleep = (lookup_of pools.shared g.number ≡ Some n) × IsBackingOffUnder g.number l
 
 -- The lookup of the number asks what is sought, at all servers of its zone, by what was told; its sends ended as the log shows.
 pub record SoughtHolds (terms : Terms) (greatest moment : ℕ) (log : Log) (pools : Pools) (n : ℕ) (s : Sought) : Type 0 where
-  pub lookup : OpenLookup
-  pub there : lookup_at pools.shared n ≡ Some lookup
-  pub asks : (request_of lookup).query ≡ s.query
-  pub starts : start_of lookup ≡ s.start
-  pub time : timeout_of lookup ≡ 5000000
+  pub shared_by : OpenLookup
+  pub there : lookup_at pools.shared n ≡ Some shared_by
+  pub asks : question_of shared_by.lookup ≡ s.query
+  pub starts : shared_by.lookup.start ≡ s.start
+  pub time : shared_by.lookup.timeout ≡ 5000000
   pub past : s.start ≤ moment
   pub above : IsTrue (is_above s.zone (walk s.query))
   pub ips : List IpAddr
   pub listed : Listed (given_of terms) log s.zone ips
   pub some : 0 < length ips
   pub serve : AreServers terms log (greatest + 1) s.zone ips
-  pub pool : List Candidate
   pub ip_of : ℕ → IpAddr
-  pub known : All (λ c. IsAt pools.shared.table (ip_of c.server) c) pool
-  pub whole : IsPermutation ips (map (at_address ip_of) pool)
+  pub known : All (λ c. IsAt pools.shared.table (ip_of c.server) c) shared_by.lookup.servers
+  pub whole : IsPermutation ips (map (at_address ip_of) shared_by.lookup.servers)
   pub heard : List HeardEnd
-  pub stands : Runs pool heard moment lookup
+  pub stands : HoldsBy (denies terms.answer_filter) heard shared_by.lookup
+  -- a step no later than the moment decided it, if one did
+  pub decided : (answer : Answered) (at : ℕ) → shared_by.lookup.state ≡ Decided answer at → at ≤ moment
   pub ends : List (End IpAddr)
   pub beside : SameEnds (at_address ip_of) (class_of_sent s.query) (class_of_answer s.query) (ends_of heard) ends
   pub tried : Tried terms greatest moment log s.zone s.query ips s.start s.first (entries_of heard) ends s.at
-  pub given : IfSome s.given (λ g. GivenHolds terms greatest log pools n s.zone pool lookup g g.aim)
+  pub given : IfSome s.given (λ g. GivenHolds terms greatest log pools n s.zone shared_by.lookup.servers shared_by.lookup g g.aim)
+
+-- It has one of so many numbers, and is at a pool of one of so many.
+pub record IsNumbered (sent pools n : ℕ) (l : OpenLookup) : Type 0 where
+  pub number : n ≤ sent
+  pub pool : l.pool ≤ pools
+
+-- So are all lookups.
+pub record AreNumbered (shared : Shared) : Type 0 where
+  pub each : (n : ℕ) (l : OpenLookup) → lookup_at shared n ≡ Some l → IsNumbered shared.sent shared.pools n l
 
 -- The servers and the lookups hold.
 pub record PoolsHold (terms : Terms) (greatest moment : ℕ) (log : Log) (pools : Pools) : Type 0 where
   pub servers : ServersHold terms pools
+  pub numbered : AreNumbered pools.shared
   pub lookups : (n : ℕ) (s : Sought) → sought_at pools n ≡ Some s → SoughtHolds terms greatest moment log pools n s
 
 -- ---- outcomes
@@ -151,25 +180,30 @@ pub record IsOf (start : ℕ) (q : Query) (first : Option IpAddr) (ended : Bool)
   pub over : IsSentOver asks ip q since sent
   pub begins : IsFirst start first ended sent
 
--- The outcome is one of an order to open or to ask; a give-up counts where patience allows no more polls, and a denial is that of an ask.
-abbrev pub MayTake : ℕ → ℕ → Query → Option IpAddr → Bool → ℕ → Bool → IpAddr → Outcome → Type 0
-MayTake patience start q first ended since asks ip (Pending entry) = Unit {0}
-MayTake patience start q first ended since asks ip (Connected entry sent) = (asks ≡ false) × IsOf start q first ended since asks ip sent
-MayTake patience start q first ended since asks ip (Told entry sent message) = (asks ≡ true) × IsOf start q first ended since asks ip sent
-MayTake patience start q first ended since asks ip (Failed entry sent refused error) =
+-- a poll waits for what those before it waited for
+abbrev pub IsStill : Option ℕ → ℕ → Type 0
+IsStill None of = Unit {0}
+IsStill (Some before) of = before ≡ of
+
+-- A poll that found nothing is one of an order to open or to ask, by what it waits for.
+abbrev pub MayWait : ℕ → Query → Option IpAddr → Bool → ℕ → Option ℕ → Bool → IpAddr → Option Sent → ℕ → Type 0
+MayWait start q first ended since polled asks ip None of = ⊥
+MayWait start q first ended since polled asks ip (Some s) of = (s.of ≡ of) × IsStill polled of × IsOf start q first ended since asks ip s
+
+-- The outcome is one of an order to open or to ask; a denial is that of an ask.
+abbrev pub MayTake : ℕ → Query → Option IpAddr → Bool → ℕ → Option ℕ → Bool → IpAddr → Option Sent → Outcome → Type 0
+MayTake start q first ended since polled asks ip waits (Pending entry of) = MayWait start q first ended since polled asks ip waits of
+MayTake start q first ended since polled asks ip waits (Connected entry sent) = (asks ≡ false) × IsOf start q first ended since asks ip sent
+MayTake start q first ended since polled asks ip waits (Told entry sent message) = (asks ≡ true) × IsOf start q first ended since asks ip sent
+MayTake start q first ended since polled asks ip waits (Failed entry sent refused error) =
     (IsTrue (is_denial error) → (asks ≡ true) × (refused ≡ false)) × IsOf start q first ended since asks ip sent
-MayTake patience start q first ended since asks ip (GaveUp entry sent polls) = (patience ≤ polls) × IsOf start q first ended since asks ip sent
-MayTake patience start q first ended since asks ip Slept = ⊥
+MayTake start q first ended since polled asks ip waits Slept = ⊥
 
 -- so it is with what was ordered last; a sleep may end by any outcome
-abbrev pub MayTakeBy : ℕ → Sought → Bool → Given → Aim → Outcome → Type 0
-MayTakeBy patience s ended g (aim.Open ip) o = (entry_of o ≢ 0) × MayTake patience s.start s.query s.first ended g.since false ip o
-MayTakeBy patience s ended g (aim.Ask ip) o = (entry_of o ≢ 0) × MayTake patience s.start s.query s.first ended g.since true ip o
-MayTakeBy patience s ended g aim.Sleep o = Unit {0}
-
--- an entry is later than all that were put before, or there is none
-abbrev pub IsNext : ℕ → ℕ → Type 0
-IsNext greatest entry = (greatest < entry) ⊎ (entry ≡ 0)
+abbrev pub MayTakeBy : Sought → Bool → Given → Aim → Option Sent → Outcome → Type 0
+MayTakeBy s ended g (aim.Open ip) waits o = (entry_of o ≢ 0) × MayTake s.start s.query s.first ended g.since g.polled false ip waits o
+MayTakeBy s ended g (aim.Ask ip) waits o = (entry_of o ≢ 0) × MayTake s.start s.query s.first ended g.since g.polled true ip waits o
+MayTakeBy s ended g aim.Sleep waits o = Unit {0}
 
 -- ---- steps
 
@@ -184,6 +218,9 @@ pub record IsGrown (old new : Pools) : Type 0 where
   pub context : new.shared.context ≡ old.shared.context
   pub lookups : new.shared.lookups ≡ old.shared.lookups
   pub orders : new.shared.orders ≡ old.shared.orders
+  pub sent : new.shared.sent ≡ old.shared.sent
+  pub pools : new.shared.pools ≡ old.shared.pools
+  pub given : new.shared.given ≡ old.shared.given
   pub sought : new.sought ≡ old.sought
 
 -- nothing but what is sought has changed
@@ -209,9 +246,10 @@ pub record HasKept (n : ℕ) (s : Sought) (old new : Pools) : Type 0 where
   pub is : sought_at new n ≡ Some s
   pub others : (m : ℕ) → m ≢ n → sought_at new m ≡ sought_at old m
 
--- Nothing but the lookup of the number has changed.
+-- One waits less for the lookup of the number, and nothing else has changed.
 pub record HasLeft (n : ℕ) (old new : Pools) : Type 0 where
-  pub rest : SameBut n old.shared new.shared
+  pub left : new.shared ≡ record old.shared { lookups = after_leave n old.shared.lookups }
+  pub last : is_last n old.shared.lookups ≡ true → lookup_at new.shared n ≡ None
   pub numbers : new.numbers ≡ old.numbers
   pub sought : (m : ℕ) → sought_at new m ≡ sought_at old m
 
@@ -229,20 +267,27 @@ aim_of (order.Open ip config) = aim.Open ip
 aim_of (order.Ask conn ip protocol request) = aim.Ask ip
 aim_of (order.Sleep until) = aim.Sleep
 
--- to which address what came of an order was sent, where the outcome says so
-abbrev pub sent_to : Outcome → Option IpAddr
-sent_to (Pending entry) = None
-sent_to (Connected entry sent) = Some sent.ip
-sent_to (Told entry sent message) = Some sent.ip
-sent_to (Failed entry sent refused error) = Some sent.ip
-sent_to (GaveUp entry sent polls) = Some sent.ip
-sent_to Slept = None
+-- to which address what came of an order was sent, or what it waits for, where that is known
+abbrev pub sent_to : Option Sent → Outcome → Option IpAddr
+sent_to waits (Pending entry of) = option_map (λ (s : Sent). s.ip) waits
+sent_to waits (Connected entry sent) = Some sent.ip
+sent_to waits (Told entry sent message) = Some sent.ip
+sent_to waits (Failed entry sent refused error) = Some sent.ip
+sent_to waits Slept = None
 
 -- so it is with an order; a sleep is sent nowhere
-abbrev pub first_of : Aim → Outcome → Option IpAddr
-first_of aim.Sleep o = None
-first_of (aim.Open ip) o = sent_to o
-first_of (aim.Ask ip) o = sent_to o
+abbrev pub first_of : Aim → Option Sent → Outcome → Option IpAddr
+first_of aim.Sleep waits o = None
+first_of (aim.Open ip) waits o = sent_to waits o
+first_of (aim.Ask ip) waits o = sent_to waits o
+
+-- the entry that sent what a poll waits for, if the outcome is one that found nothing
+abbrev pub polled_by : Outcome → Option ℕ
+polled_by (Pending entry of) = Some of
+polled_by (Connected entry sent) = None
+polled_by (Told entry sent message) = None
+polled_by (Failed entry sent refused error) = None
+polled_by Slept = None
 
 -- an order goes to a server by what was told below n
 abbrev pub StepGoes : Resolver → Log → ℕ → Option (ℕ × Order) → Type 0
@@ -250,25 +295,25 @@ StepGoes given log n None = Unit {0}
 StepGoes given log n (Some step) = GoesToServer given log n step.1
 
 -- The outcome is one of the open order of the lookup.
-pub record IsGivenFor (pools : Pools) (n : ℕ) (o : Outcome) (patience : ℕ) (g : Given) : Type 0 where
+pub record IsGivenFor (pools : Pools) (n : ℕ) (waits : Option Sent) (o : Outcome) (g : Given) : Type 0 where
   pub sought : Sought
   pub is : sought_at pools n ≡ Some sought
   pub given : sought.given ≡ Some g
   pub ended : Bool
-  pub none : (l : OpenLookup) → lookup_at pools.shared n ≡ Some l → ended ≡ not (length (ends_at l) == 0)
-  pub may : MayTakeBy patience sought ended g g.aim o
+  pub none : ended ≡ not (length (closed_by (lookup_at pools.shared n)) == 0)
+  pub may : MayTakeBy sought ended g g.aim waits o
 
--- an order stays open where it is kept, or is to be given up
+-- an order stays open where it is kept
 abbrev pub given_after : Given → After → Option Given
 given_after g after.Kept = Some g
-given_after g after.GiveUp = Some g
+given_after g after.GiveUp = None
 given_after g after.Ended = None
 given_after g after.Late = None
 
 -- What is sought is noted with what an outcome did; the moment is that of a new end.
 pub record NotesOutcome (n : ℕ) (g : Given) (first : Option IpAddr) (before : ℕ) (did : After) (now : ℕ) (old new : Pools) : Type 0 where
   pub ended : Bool
-  pub more : (l : OpenLookup) → lookup_at old.shared n ≡ Some l → ended ≡ nat_lt before (length (ends_at l))
+  pub more : ended ≡ nat_lt before (length (closed_by (lookup_at old.shared n)))
   pub noted : HasNoted n (noted (given_after g did) first (if ended then Some now else None)) old new
 
 -- The lookup is for the question at servers of the zone, since no earlier than the moment; its last end was at the other.

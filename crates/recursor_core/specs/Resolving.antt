@@ -1,5 +1,5 @@
 -- What a resolution needs, and how much of it is left.
-use Rattle.std.specs.Prelude.{◌≡◌, ℕ, ◌+◌, ◌*◌, IsTrue, Option, Some, None, Result, Ok, Err}
+use Rattle.std.specs.Prelude.{◌≡◌, ℕ, IsTrue, Option, Some, None, Result, Ok, Err}
 use Rattle.std.specs.Global.{Box}
 use Rattle.dns_core.specs.declared.message.Query.{Query}
 use Rattle.dns_core.specs.declared.request.DnsRequest.{DnsRequest}
@@ -48,16 +48,6 @@ state_steps q Ended = 0
 -- how many steps it has before it
 abbrev pub steps : Resolution → ℕ
 steps r = state_steps r.question.query r.state
-
-abbrev pub state_polls : ℕ → State → ℕ
-state_polls patience New = 0
-state_polls patience (Under w) = lookup.polls_left patience w.value.lookup.ask
-state_polls patience (Done reply) = 0
-state_polls patience Ended = 0
-
--- steps, each of which may be as many polls as patience allows
-abbrev pub rank : ℕ → Resolution → ℕ
-rank patience r = (patience + 1) * steps r + state_polls patience r.state
 
 -- the question that it asks now
 abbrev pub asked_of : State → Option Query

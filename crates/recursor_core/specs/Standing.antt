@@ -14,11 +14,13 @@ use Rattle.resolution.specs.Asking.{AsksServers}
 use Rattle.resolution.specs.Timing.{known_to_drive}
 use Rattle.recursor_core.specs.Replies.{Terms, Timer, given_of, ReplyHolds}
 use Rattle.recursor_core.specs.Tried.{machine_timer}
-use Rattle.order_carrier.specs.Carrying.{TellsThat, Grown, CarrierHolds}
+use Rattle.order_carrier.specs.Growing.{TellsThat, Grown}
 use Rattle.recursor_core.specs.Derived.{terms_of, Derived}
 use Rattle.order_carrier.specs.Patience.{IsPatient}
 use Rattle.recursor_core.specs.Pools.{PoolsHold}
 use Rattle.recursor_core.specs.Remembered.{CacheHolds}
+use Rattle.recursor_core.specs.Runner.{RunnerHolds}
+use Rattle.recursor_core.specs.declared.runner.Runner.{Runner}
 use Rattle.recursor_core.specs.Machine.{Begun, begun_at}
 use Rattle.order_carrier.specs.declared.carrier.Carrier.{Carrier}
 use Rattle.recursor_core.specs.declared.machine.RecursorCore.{RecursorCore}
@@ -65,23 +67,23 @@ GrownOver moments from old new = (es : List LogEntry) → new ≡ Some es → Lo
 
 -- What the machine keeps is derived from the provider's log, and only servers were asked, none later than its moment. Its least
 -- patience is no greater than this one.
-pub record Holds {P C F E : Type 0} (p : Ghosts P C F E) (patience : ℕ) (core : RecursorCore) (c : Carrier P C F E p) : Type 0 where
-  pub carrier : CarrierHolds p c
+pub record Holds {P C F E : Type 0} (p : Ghosts P C F E) (patience : ℕ) (core : RecursorCore) (r : Runner P C F E p) : Type 0 where
+  pub runner : RunnerHolds p r
   pub patient : core.setting.patience ≤ patience
-  pub derived : TellsThat (p.log c.provider) (Derived core)
-  pub asks : TellsThat (p.log c.provider) (AsksServers (given_of (terms_of core)))
-  pub past : TellsThat (p.log c.provider) (IsPast core.moment)
+  pub derived : TellsThat (p.log r.carrier.provider) (Derived core)
+  pub asks : TellsThat (p.log r.carrier.provider) (AsksServers (given_of (terms_of core)))
+  pub past : TellsThat (p.log r.carrier.provider) (IsPast core.moment)
 
 -- So it is between two runs, once the questions of the last one are left.
-pub record Rests {P C F E : Type 0} (p : Ghosts P C F E) (core : RecursorCore) (c : Carrier P C F E p) : Type 0 where
+pub record Rests {P C F E : Type 0} (p : Ghosts P C F E) (core : RecursorCore) (r : Runner P C F E p) : Type 0 where
   pub some : 0 < length core.setting.roots
-  pub carrier : CarrierHolds p c
-  pub bound : TellsThat (p.log c.provider) (λ log. core.greatest < log.next)
-  pub cache : TellsThat (p.log c.provider) (λ log. CacheHolds (terms_of core) core.greatest log core.cache)
-  pub pools : TellsThat (p.log c.provider) (λ log. PoolsHold (terms_of core) core.greatest core.moment log core.pools)
-  pub asks : TellsThat (p.log c.provider) (AsksServers (given_of (terms_of core)))
-  pub past : TellsThat (p.log c.provider) (IsPast core.moment)
-  pub rises : TellsThat (p.log c.provider) MomentsRise
+  pub runner : RunnerHolds p r
+  pub bound : TellsThat (p.log r.carrier.provider) (λ log. core.greatest < log.next)
+  pub cache : TellsThat (p.log r.carrier.provider) (λ log. CacheHolds (terms_of core) core.greatest log core.cache)
+  pub pools : TellsThat (p.log r.carrier.provider) (λ log. PoolsHold (terms_of core) core.greatest core.moment log core.pools)
+  pub asks : TellsThat (p.log r.carrier.provider) (AsksServers (given_of (terms_of core)))
+  pub past : TellsThat (p.log r.carrier.provider) (IsPast core.moment)
+  pub rises : TellsThat (p.log r.carrier.provider) MomentsRise
 
 -- What it is set to and the questions are as before, and the log has only grown, by entries of the moment, none of which waits for an entry beyond patience.
 pub record Moves {P C F E : Type 0} (p : Ghosts P C F E) (patience now : ℕ) (core new_core : RecursorCore) (c new : Carrier P C F E p) : Type 0 where
@@ -140,7 +142,7 @@ pub record AnsweredAt (terms : Terms) (told : Option (List LogEntry)) (moments :
 -- for one that is not answered memory was wanting.
 abbrev pub PlayHolds : RecursorCore → Option (List LogEntry) → ℕ → List Turn → List Turn → ℕ → Question → Played → Type 0
 PlayHolds core told start turns rest q question played.Waiting = first_moment turns q ≡ first_moment rest q
-PlayHolds core told start turns rest q question (played.Begun r order) = IsBegunFrom core r question (begin_moment start turns q)
+PlayHolds core told start turns rest q question (played.Begun r) = IsBegunFrom core r question (begin_moment start turns q)
 PlayHolds core told start turns rest q question (played.Answered reply) =
     AnsweredAt (terms_of core) told (run_moments start turns) (begin_moment start turns q) question reply.value
 PlayHolds core told start turns rest q question played.Unanswered = Unit {0}

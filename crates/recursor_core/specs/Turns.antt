@@ -1,10 +1,11 @@
 -- How much is left of the questions of a run.
-use Rattle.std.specs.Prelude.{◌≡◌, ◌≤◌, ◌<◌, ◌+◌, ℕ, List, [], Option, Some, None, Err, slice_get, sum_by, ◌⊎◌, Bool, true, false}
-use Rattle.std.specs.Global.{Box}
+use Rattle.std.specs.Prelude.{◌≡◌, ◌≤◌, ◌<◌, ◌+◌, ◌*◌, ℕ, max, List, [], Option, Some, None, Err, slice_get, sum_by, ◌⊎◌, Bool, true, false}
+use Rattle.dns_core.specs.declared.provider.ConnectionProvider.{Ghosts}
 use Rattle.dns_core.specs.declared.request.Question.{Question}
-use Rattle.server_core.specs.declared.order.Order.{Order}
 use Rattle.recursor_core.specs.Machine as machine
 use Rattle.recursor_core.specs.Machine.{rank}
+use Rattle.recursor_core.specs.Runner.{polls_left}
+use Rattle.recursor_core.specs.declared.runner.Runner.{Runner}
 use Rattle.recursor_types.specs.declared.error.MessageKind.TheVariants as kind
 use Rattle.recursor_types.specs.declared.error.RecursorError.TheVariants as error
 use Rattle.recursor_types.specs.declared.reply.Reply.{Reply}
@@ -25,13 +26,13 @@ TurnFalls new old turned.Ended = new ≤ old
 abbrev pub is_waiting : Option Played → Bool
 is_waiting None = false
 is_waiting (Some played.Waiting) = true
-is_waiting (Some (played.Begun r order)) = false
+is_waiting (Some (played.Begun r)) = false
 is_waiting (Some (played.Answered reply)) = false
 is_waiting (Some played.Unanswered) = false
 
 abbrev pub open_play : Played → ℕ
 open_play played.Waiting = 0
-open_play (played.Begun r order) = 1
+open_play (played.Begun r) = 1
 open_play (played.Answered reply) = 0
 open_play played.Unanswered = 0
 
@@ -39,17 +40,24 @@ open_play played.Unanswered = 0
 abbrev pub open_plays : List Played → ℕ
 open_plays plays = sum_by open_play plays
 
+-- how many steps and polls are before the machine, at most: each step may be as many polls as patience allows
+abbrev pub due_of : ℕ → ℕ → ℕ → ℕ
+due_of most steps polls = (most + 1) * steps + polls
+
+abbrev pub due : {P C F E : Type 0} {p : Ghosts P C F E} → ℕ → RecursorCore → Runner P C F E p → ℕ
+due patience core r = due_of (max 1 patience) (rank core) (polls_left patience r.running)
+
 -- what is left of the questions under way
-abbrev pub work : ℕ → RecursorCore → List Played → ℕ
-work patience core plays = rank patience core + open_plays plays
+abbrev pub work : {P C F E : Type 0} {p : Ghosts P C F E} → ℕ → RecursorCore → Runner P C F E p → List Played → ℕ
+work patience core r plays = due patience core r + open_plays plays
 
 -- the question at a place is under way
 abbrev pub IsBegunAt : List Played → ℕ → Type 0
-IsBegunAt plays q = (r : ℕ) × (order : Option (Box Order)) × (slice_get plays q ≡ Some (played.Begun r order))
+IsBegunAt plays q = (r : ℕ) × (slice_get plays q ≡ Some (played.Begun r))
 
 abbrev pub IsUnderWay : List Played → ℕ → Option ℕ → Type 0
 IsUnderWay plays q None = Unit {0}
-IsUnderWay plays q (Some r) = (order : Option (Box Order)) × (slice_get plays q ≡ Some (played.Begun r order))
+IsUnderWay plays q (Some r) = slice_get plays q ≡ Some (played.Begun r)
 
 -- The reply refuses the question, whose name is not fully qualified; or memory is wanting.
 abbrev pub IsRefused : Question → Reply → Type 0
@@ -59,7 +67,7 @@ IsRefused question reply =
 -- A question as it begins: under way, or refused.
 abbrev pub Begins : Question → ℕ → RecursorCore → Played → Type 0
 Begins question now core played.Waiting = ⊥
-Begins question now core (played.Begun r order) = machine.IsBegunAt core r question now
+Begins question now core (played.Begun r) = machine.IsBegunAt core r question now
 Begins question now core (played.Answered reply) = IsRefused question reply.value
 Begins question now core played.Unanswered = Unit {0}
 

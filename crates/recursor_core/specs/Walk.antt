@@ -15,10 +15,6 @@ use Rattle.recursor_core.specs.declared.walk.Walk.{Walk}
 abbrev pub steps : Walk → ℕ
 steps w = 2 + lookups_after (length w.name.labels) w.stage * 2 ^ 70 + lookup.steps w.lookup
 
--- steps, each of which may be as many polls as patience allows
-abbrev pub rank : ℕ → Walk → ℕ
-rank patience w = (patience + 1) * steps w + lookup.polls_left patience w.lookup.ask
-
 -- more steps than the walk of a question has
 abbrev pub begin_steps : Query → ℕ
 begin_steps q = 2 + (length (name_walked q).labels + 1) * 2 ^ 70

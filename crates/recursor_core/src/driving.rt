@@ -5,7 +5,7 @@ ghost use Rattle.dns_core.specs.declared.log.LogEntry.{LogEntry};
 ghost use Rattle.dns_core.specs.declared.request.Turn.{Turn};
 ghost use Rattle.resolution.specs.Asking.{AsksServers};
 ghost use Rattle.recursor_core.specs.Replies.{given_of};
-ghost use Rattle.order_carrier.specs.Carrying.{TellsThat, Grown};
+ghost use Rattle.order_carrier.specs.Growing.{TellsThat, Grown};
 ghost use Rattle.order_carrier.specs.Patience.{IsPatient};
 ghost use Rattle.recursor_core.specs.Derived.{terms_of, Derived};
 ghost use Rattle.recursor_core.specs.Machine.{Begun, begun_at};
@@ -17,11 +17,11 @@ ghost use Rattle.dns_core.specs.declared.request.Question.{Question};
 
 use crate::machine::RecursorCore;
 use crate::recursor::Recursor;
+use crate::runner::Runner;
 use crate::turns::{Played, begun, play, take_reply};
 use dns_core::{ConnectionProvider, NoMemory, Question, Turn};
 use recursor_types::Reply;
 use server_core::Tick;
-use server_pool::Carrier;
 use std::alloc::Global;
 
 /// Begins a question that has not begun.
@@ -54,25 +54,25 @@ fn begin_one(
 fn finish<P: ConnectionProvider>(
     alloc: Global,
     core: &mut RecursorCore,
-    carrier: &mut Carrier<P>,
+    runner: &mut Runner<P>,
     plays: &mut Vec<Played>,
     q: usize,
     tick: Tick,
 )
-    requires holds { Holds P.ConnectionProvider tick.patience core.old carrier.old }
+    requires holds { Holds P.ConnectionProvider tick.patience core.old runner.old }
     requires moment { core.old.moment ≤ tick.now }
-    ensures vouches { (es : List LogEntry) → P.vouches carrier.new.provider es → P.vouches carrier.old.provider es }
-    ensures holds { Holds P.ConnectionProvider tick.patience core.new carrier.new }
+    ensures vouches { (es : List LogEntry) → P.vouches runner.new.carrier.provider es → P.vouches runner.old.carrier.provider es }
+    ensures holds { Holds P.ConnectionProvider tick.patience core.new runner.new }
     ensures setting { core.new.setting ≡ core.old.setting }
-    ensures patient { IsPatient (max 1 tick.patience) (P.log carrier.old.provider) (P.log carrier.new.provider) }
+    ensures patient { IsPatient (max 1 tick.patience) (P.log runner.old.carrier.provider) (P.log runner.new.carrier.provider) }
     ensures moment { (core.new.moment ≡ core.old.moment) ⊎ (core.new.moment ≡ tick.now) }
-    ensures grown { Grown tick.now (P.log carrier.old.provider) (P.log carrier.new.provider) }
-    ensures plays { (start : ℕ) (turns rest : List Turn) (questions : List Question) → Contains (run_moments start turns) tick.now → PlaysHold core.old (P.log carrier.old.provider) start turns rest questions plays.old.items
-        → PlaysHold core.new (P.log carrier.new.provider) start turns rest questions plays.new.items }
+    ensures grown { Grown tick.now (P.log runner.old.carrier.provider) (P.log runner.new.carrier.provider) }
+    ensures plays { (start : ℕ) (turns rest : List Turn) (questions : List Question) → Contains (run_moments start turns) tick.now → PlaysHold core.old (P.log runner.old.carrier.provider) start turns rest questions plays.old.items
+        → PlaysHold core.new (P.log runner.new.carrier.provider) start turns rest questions plays.new.items }
     ensures count { vec_len plays.new ≡ vec_len plays.old }
 {
     'turns: loop {
-        if !play(alloc, core, carrier, plays, q, tick) {
+        if !play(alloc, core, runner, plays, q, tick) {
             return;
         }
     }
@@ -90,28 +90,28 @@ fn is_waiting(plays: &[Played], q: usize) -> bool
 fn make_way<P: ConnectionProvider>(
     alloc: Global,
     core: &mut RecursorCore,
-    carrier: &mut Carrier<P>,
+    runner: &mut Runner<P>,
     plays: &mut Vec<Played>,
     current: usize,
     q: usize,
     patience: u32,
 ) -> usize
-    requires { Holds P.ConnectionProvider patience core.old carrier.old }
-    ensures vouches { (es : List LogEntry) → P.vouches carrier.new.provider es → P.vouches carrier.old.provider es }
-    ensures holds { Holds P.ConnectionProvider patience core.new carrier.new }
+    requires { Holds P.ConnectionProvider patience core.old runner.old }
+    ensures vouches { (es : List LogEntry) → P.vouches runner.new.carrier.provider es → P.vouches runner.old.carrier.provider es }
+    ensures holds { Holds P.ConnectionProvider patience core.new runner.new }
     ensures setting { core.new.setting ≡ core.old.setting }
-    ensures patient { IsPatient (max 1 patience) (P.log carrier.old.provider) (P.log carrier.new.provider) }
+    ensures patient { IsPatient (max 1 patience) (P.log runner.old.carrier.provider) (P.log runner.new.carrier.provider) }
     ensures moment { core.new.moment ≡ core.old.moment }
-    ensures grown { Grown core.old.moment (P.log carrier.old.provider) (P.log carrier.new.provider) }
-    ensures plays { (start : ℕ) (turns rest : List Turn) (questions : List Question) → Contains (run_moments start turns) core.old.moment → PlaysHold core.old (P.log carrier.old.provider) start turns rest questions plays.old.items
-        → PlaysHold core.new (P.log carrier.new.provider) start turns rest questions plays.new.items }
+    ensures grown { Grown core.old.moment (P.log runner.old.carrier.provider) (P.log runner.new.carrier.provider) }
+    ensures plays { (start : ℕ) (turns rest : List Turn) (questions : List Question) → Contains (run_moments start turns) core.old.moment → PlaysHold core.old (P.log runner.old.carrier.provider) start turns rest questions plays.old.items
+        → PlaysHold core.new (P.log runner.new.carrier.provider) start turns rest questions plays.new.items }
     ensures count { vec_len plays.new ≡ vec_len plays.old }
 {
     if !is_waiting(plays.as_slice(), q) {
         return current;
     }
     let now = core.moment();
-    finish(alloc, core, carrier, plays, current, Tick { now, patience });
+    finish(alloc, core, runner, plays, current, Tick { now, patience });
     q
 }
 
@@ -121,33 +121,33 @@ fn make_way<P: ConnectionProvider>(
 fn play_turn<P: ConnectionProvider>(
     alloc: Global,
     core: &mut RecursorCore,
-    carrier: &mut Carrier<P>,
+    runner: &mut Runner<P>,
     questions: &[Question],
     plays: &mut Vec<Played>,
     current: usize,
     turn: &Turn,
     patience: u32,
 ) -> usize
-    requires { Holds P.ConnectionProvider patience core.old carrier.old }
-    ensures vouches { (es : List LogEntry) → P.vouches carrier.new.provider es → P.vouches carrier.old.provider es }
-    ensures holds { Holds P.ConnectionProvider patience core.new carrier.new }
+    requires { Holds P.ConnectionProvider patience core.old runner.old }
+    ensures vouches { (es : List LogEntry) → P.vouches runner.new.carrier.provider es → P.vouches runner.old.carrier.provider es }
+    ensures holds { Holds P.ConnectionProvider patience core.new runner.new }
     ensures setting { core.new.setting ≡ core.old.setting }
-    ensures patient { IsPatient (max 1 patience) (P.log carrier.old.provider) (P.log carrier.new.provider) }
+    ensures patient { IsPatient (max 1 patience) (P.log runner.old.carrier.provider) (P.log runner.new.carrier.provider) }
     ensures moment { core.old.moment ≤ core.new.moment }
     ensures timely { (moments : List ℕ) → Contains moments core.old.moment → Contains moments turn.now.moment → Contains moments core.new.moment }
-    ensures grown { (moments : List ℕ) → Contains moments core.old.moment → Contains moments turn.now.moment → GrownOver moments core.old.moment (P.log carrier.old.provider) (P.log carrier.new.provider) }
-    ensures plays { (start : ℕ) (turns rest : List Turn) → start ≤ core.old.moment → Contains (run_moments start turns) core.old.moment → Contains (run_moments start turns) turn.now.moment → PlaysHold core.old (P.log carrier.old.provider) start turns (turn.now ∷ rest) questions.now plays.old.items
-        → PlaysHold core.new (P.log carrier.new.provider) start turns rest questions.now plays.new.items }
+    ensures grown { (moments : List ℕ) → Contains moments core.old.moment → Contains moments turn.now.moment → GrownOver moments core.old.moment (P.log runner.old.carrier.provider) (P.log runner.new.carrier.provider) }
+    ensures plays { (start : ℕ) (turns rest : List Turn) → start ≤ core.old.moment → Contains (run_moments start turns) core.old.moment → Contains (run_moments start turns) turn.now.moment → PlaysHold core.old (P.log runner.old.carrier.provider) start turns (turn.now ∷ rest) questions.now plays.old.items
+        → PlaysHold core.new (P.log runner.new.carrier.provider) start turns rest questions.now plays.new.items }
     ensures count { vec_len plays.new ≡ vec_len plays.old }
 {
     if turn.question == 0 {
         return current;
     }
     let q = (turn.question - 1) as usize;
-    let next = make_way(alloc, core, carrier, plays, current, q, patience);
+    let next = make_way(alloc, core, runner, plays, current, q, patience);
     let now = turn.moment.max(core.moment());
     begin_one(alloc, core, questions, plays, q, now);
-    let _played = play(alloc, core, carrier, plays, q, Tick { now, patience });
+    let _played = play(alloc, core, runner, plays, q, Tick { now, patience });
     next
 }
 
@@ -155,28 +155,28 @@ fn play_turn<P: ConnectionProvider>(
 fn play_turns<P: ConnectionProvider>(
     alloc: Global,
     core: &mut RecursorCore,
-    carrier: &mut Carrier<P>,
+    runner: &mut Runner<P>,
     questions: &[Question],
     plays: &mut Vec<Played>,
     turns: &[Turn],
     patience: u32,
 ) -> usize
-    requires { Holds P.ConnectionProvider patience core.old carrier.old }
-    ensures vouches { (es : List LogEntry) → P.vouches carrier.new.provider es → P.vouches carrier.old.provider es }
-    ensures holds { Holds P.ConnectionProvider patience core.new carrier.new }
+    requires { Holds P.ConnectionProvider patience core.old runner.old }
+    ensures vouches { (es : List LogEntry) → P.vouches runner.new.carrier.provider es → P.vouches runner.old.carrier.provider es }
+    ensures holds { Holds P.ConnectionProvider patience core.new runner.new }
     ensures setting { core.new.setting ≡ core.old.setting }
-    ensures patient { IsPatient (max 1 patience) (P.log carrier.old.provider) (P.log carrier.new.provider) }
+    ensures patient { IsPatient (max 1 patience) (P.log runner.old.carrier.provider) (P.log runner.new.carrier.provider) }
     ensures moment { core.old.moment ≤ core.new.moment }
     ensures timely { (moments : List ℕ) → Contains moments core.old.moment → All (λ t. Contains moments t.moment) turns.now → Contains moments core.new.moment }
-    ensures grown { (moments : List ℕ) → Contains moments core.old.moment → All (λ t. Contains moments t.moment) turns.now → GrownOver moments core.old.moment (P.log carrier.old.provider) (P.log carrier.new.provider) }
-    ensures plays { (start : ℕ) → start ≤ core.old.moment → Contains (run_moments start turns.now) core.old.moment → PlaysHold core.old (P.log carrier.old.provider) start turns.now turns.now questions.now plays.old.items
-        → PlaysHold core.new (P.log carrier.new.provider) start turns.now [] questions.now plays.new.items }
+    ensures grown { (moments : List ℕ) → Contains moments core.old.moment → All (λ t. Contains moments t.moment) turns.now → GrownOver moments core.old.moment (P.log runner.old.carrier.provider) (P.log runner.new.carrier.provider) }
+    ensures plays { (start : ℕ) → start ≤ core.old.moment → Contains (run_moments start turns.now) core.old.moment → PlaysHold core.old (P.log runner.old.carrier.provider) start turns.now turns.now questions.now plays.old.items
+        → PlaysHold core.new (P.log runner.new.carrier.provider) start turns.now [] questions.now plays.new.items }
     ensures count { vec_len plays.new ≡ vec_len plays.old }
 {
     let mut current = 0;
     for turn in turns {
         current = play_turn(
-            alloc, core, carrier, questions, plays, current, turn, patience,
+            alloc, core, runner, questions, plays, current, turn, patience,
         );
     }
     current
@@ -186,53 +186,53 @@ fn play_turns<P: ConnectionProvider>(
 fn play_one<P: ConnectionProvider>(
     alloc: Global,
     core: &mut RecursorCore,
-    carrier: &mut Carrier<P>,
+    runner: &mut Runner<P>,
     questions: &[Question],
     plays: &mut Vec<Played>,
     q: usize,
     tick: Tick,
 )
-    requires holds { Holds P.ConnectionProvider tick.patience core.old carrier.old }
+    requires holds { Holds P.ConnectionProvider tick.patience core.old runner.old }
     requires moment { core.old.moment ≤ tick.now }
-    ensures vouches { (es : List LogEntry) → P.vouches carrier.new.provider es → P.vouches carrier.old.provider es }
-    ensures holds { Holds P.ConnectionProvider tick.patience core.new carrier.new }
+    ensures vouches { (es : List LogEntry) → P.vouches runner.new.carrier.provider es → P.vouches runner.old.carrier.provider es }
+    ensures holds { Holds P.ConnectionProvider tick.patience core.new runner.new }
     ensures setting { core.new.setting ≡ core.old.setting }
-    ensures patient { IsPatient (max 1 tick.patience) (P.log carrier.old.provider) (P.log carrier.new.provider) }
+    ensures patient { IsPatient (max 1 tick.patience) (P.log runner.old.carrier.provider) (P.log runner.new.carrier.provider) }
     ensures moment { (core.new.moment ≡ core.old.moment) ⊎ (core.new.moment ≡ tick.now) }
-    ensures grown { Grown tick.now (P.log carrier.old.provider) (P.log carrier.new.provider) }
+    ensures grown { Grown tick.now (P.log runner.old.carrier.provider) (P.log runner.new.carrier.provider) }
     ensures plays { (start : ℕ) (turns : List Turn) → start ≤ tick.now → last_moment start turns ≤ tick.now → Contains (run_moments start turns) tick.now
-        → PlaysHold core.old (P.log carrier.old.provider) start turns [] questions.now plays.old.items
-        → PlaysHold core.new (P.log carrier.new.provider) start turns [] questions.now plays.new.items }
+        → PlaysHold core.old (P.log runner.old.carrier.provider) start turns [] questions.now plays.old.items
+        → PlaysHold core.new (P.log runner.new.carrier.provider) start turns [] questions.now plays.new.items }
     ensures count { vec_len plays.new ≡ vec_len plays.old }
 {
     begin_one(alloc, core, questions, plays, q, tick.now);
-    finish(alloc, core, carrier, plays, q, tick);
+    finish(alloc, core, runner, plays, q, tick);
 }
 
 /// The questions that have not begun, in order.
 fn play_rest<P: ConnectionProvider>(
     alloc: Global,
     core: &mut RecursorCore,
-    carrier: &mut Carrier<P>,
+    runner: &mut Runner<P>,
     questions: &[Question],
     plays: &mut Vec<Played>,
     tick: Tick,
 )
-    requires holds { Holds P.ConnectionProvider tick.patience core.old carrier.old }
+    requires holds { Holds P.ConnectionProvider tick.patience core.old runner.old }
     requires moment { core.old.moment ≤ tick.now }
-    ensures vouches { (es : List LogEntry) → P.vouches carrier.new.provider es → P.vouches carrier.old.provider es }
-    ensures holds { Holds P.ConnectionProvider tick.patience core.new carrier.new }
+    ensures vouches { (es : List LogEntry) → P.vouches runner.new.carrier.provider es → P.vouches runner.old.carrier.provider es }
+    ensures holds { Holds P.ConnectionProvider tick.patience core.new runner.new }
     ensures setting { core.new.setting ≡ core.old.setting }
-    ensures patient { IsPatient (max 1 tick.patience) (P.log carrier.old.provider) (P.log carrier.new.provider) }
+    ensures patient { IsPatient (max 1 tick.patience) (P.log runner.old.carrier.provider) (P.log runner.new.carrier.provider) }
     ensures moment { (core.new.moment ≡ core.old.moment) ⊎ (core.new.moment ≡ tick.now) }
-    ensures grown { Grown tick.now (P.log carrier.old.provider) (P.log carrier.new.provider) }
+    ensures grown { Grown tick.now (P.log runner.old.carrier.provider) (P.log runner.new.carrier.provider) }
     ensures plays { (start : ℕ) (turns : List Turn) → start ≤ tick.now → last_moment start turns ≤ tick.now → Contains (run_moments start turns) tick.now
-        → PlaysHold core.old (P.log carrier.old.provider) start turns [] questions.now plays.old.items
-        → PlaysHold core.new (P.log carrier.new.provider) start turns [] questions.now plays.new.items }
+        → PlaysHold core.old (P.log runner.old.carrier.provider) start turns [] questions.now plays.old.items
+        → PlaysHold core.new (P.log runner.new.carrier.provider) start turns [] questions.now plays.new.items }
     ensures count { vec_len plays.new ≡ vec_len plays.old }
 {
     for q in 0..questions.len() {
-        play_one(alloc, core, carrier, questions, plays, q, tick);
+        play_one(alloc, core, runner, questions, plays, q, tick);
     }
 }
 
@@ -273,30 +273,30 @@ fn last_moment(start: u64, turns: &[Turn]) -> u64
 fn answer<P: ConnectionProvider>(
     alloc: Global,
     core: &mut RecursorCore,
-    carrier: &mut Carrier<P>,
+    runner: &mut Runner<P>,
     questions: &[Question],
     turns: &[Turn],
     patience: u32,
 ) -> Result<Vec<Reply>, NoMemory>
-    requires { Holds P.ConnectionProvider patience core.old carrier.old }
-    ensures vouches { (es : List LogEntry) → P.vouches carrier.new.provider es → P.vouches carrier.old.provider es }
-    ensures holds { Holds P.ConnectionProvider patience core.new carrier.new }
+    requires { Holds P.ConnectionProvider patience core.old runner.old }
+    ensures vouches { (es : List LogEntry) → P.vouches runner.new.carrier.provider es → P.vouches runner.old.carrier.provider es }
+    ensures holds { Holds P.ConnectionProvider patience core.new runner.new }
     ensures setting { core.new.setting ≡ core.old.setting }
-    ensures patient { IsPatient (max 1 patience) (P.log carrier.old.provider) (P.log carrier.new.provider) }
+    ensures patient { IsPatient (max 1 patience) (P.log runner.old.carrier.provider) (P.log runner.new.carrier.provider) }
     ensures moment { core.old.moment ≤ core.new.moment }
     ensures timely { Contains (run_moments core.old.moment turns.now) core.new.moment }
-    ensures grown { GrownOver (run_moments core.old.moment turns.now) core.old.moment (P.log carrier.old.provider) (P.log carrier.new.provider) }
+    ensures grown { GrownOver (run_moments core.old.moment turns.now) core.old.moment (P.log runner.old.carrier.provider) (P.log runner.new.carrier.provider) }
     ensures answered { IfOk result (λ replies. vec_len replies ≡ length questions.now) }
-    ensures replies { IfOk result (λ replies. TellsThat (P.log carrier.new.provider) (λ log.
+    ensures replies { IfOk result (λ replies. TellsThat (P.log runner.new.carrier.provider) (λ log.
         RepliesHold (terms_of core.old) log core.old.moment turns.now questions.now replies.items)) }
 {
     let mut plays = waiting(alloc, questions)?;
     let last = last_moment(core.moment(), turns);
-    let current = play_turns(alloc, core, carrier, questions, &mut plays, turns, patience);
+    let current = play_turns(alloc, core, runner, questions, &mut plays, turns, patience);
     let now = last.max(core.moment());
     let tick = Tick { now, patience };
-    finish(alloc, core, carrier, &mut plays, current, tick);
-    play_rest(alloc, core, carrier, questions, &mut plays, tick);
+    finish(alloc, core, runner, &mut plays, current, tick);
+    play_rest(alloc, core, runner, questions, &mut plays, tick);
     replies(alloc, &mut plays)
 }
 
@@ -351,7 +351,7 @@ pub fn drive<P: ConnectionProvider>(
     ensures vouches { (es : List LogEntry) → P.vouches recursor.new.provider es → P.vouches recursor.old.provider es }
 {
     let core = &mut recursor.core;
-    let carrier = &mut recursor.carrier;
+    let runner = &mut recursor.runner;
     core.clear(patience);
-    answer(alloc, core, carrier, questions, turns, patience)
+    answer(alloc, core, runner, questions, turns, patience)
 }

@@ -26,15 +26,15 @@ pub fn kept_answer(
     let Some(entry) = cache.current(&question.query, now) else {
         return Ok(None);
     };
-    let Ok(message) = &entry.response else {
+    let Some(message) = entry.message() else {
         return Ok(None);
     };
     if !message.authoritative {
         return Ok(None);
     }
-    let seconds = seconds_between(entry.written, now);
+    let seconds = seconds_between(entry.written(), now);
     let answer = read_message(alloc, message, seconds, question.dnssec_ok)?;
-    let grounds = just(alloc, entry.source)?;
+    let grounds = just(alloc, entry.source())?;
     let reply = Box::new(
         alloc,
         Reply {

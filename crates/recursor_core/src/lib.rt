@@ -9,6 +9,7 @@ mod machine;
 mod pools;
 mod recursor;
 mod resolving;
+mod runner;
 mod threads;
 mod turns;
 mod walk;

@@ -1,37 +1,29 @@
 //! One question put to the servers of a zone.
-ghost use Rattle.std.specs.Prelude.{◌≡◌, ◌≢◌, ◌≤◌, ◌<◌, ◌+◌, ◌*◌, ◌^◌, ℕ, max, None, Some, Ok, IfOk, IfSome, IsSome, OnOk, OnErr, IsTrue, MatchBool};
+ghost use Rattle.std.specs.Prelude.{◌≡◌, ◌≤◌, ◌<◌, ◌+◌, ◌^◌, ℕ, max, None, Ok, IfOk, IfSome, IsSome, OnOk, OnErr, IsTrue, MatchBool, option_copied};
 ghost use Rattle.dns_core.specs.Name.{DomainName};
-ghost use Rattle.dns_core.specs.Log.{Log, Extends};
+ghost use Rattle.dns_core.specs.Log.{Log};
 ghost use Rattle.resolution.specs.Names.{is_above, walk};
-ghost use Rattle.server_core.specs.Order.{entry_of};
-ghost use Rattle.order_carrier.specs.Fits.{Fits};
+ghost use Rattle.recursor_core.specs.Order.{last_entry, IsPut};
 ghost use Rattle.recursor_core.specs.Replies.{Terms, given_of};
-ghost use Rattle.recursor_core.specs.Pools.{PoolsHold, IsNext, StepGoes};
-ghost use Rattle.recursor_core.specs.Lookup.{want_of, answered_by, failed_by, last_of, ask_steps, ask_rank, steps, rank, IsWaiting, HasNoted};
+ghost use Rattle.recursor_core.specs.Pools.{PoolsHold, StepGoes};
+ghost use Rattle.recursor_core.specs.Lookup.{want_of, answered_by, failed_by, last_of, ask_steps, steps, IsWaiting, noted};
 ghost use Rattle.recursor_core.specs.declared.lookup.Ask.TheVariants as ask;
-ghost use Rattle.recursor_core.specs.Derived.{ArePool, LookupHolds, FoundHolds};
+ghost use Rattle.recursor_core.specs.Derived.{ArePool, LookupHolds, TakenHolds, FoundHolds};
 
 use crate::pools::{Answer, Pools};
 use dns_core::{DnsError, DnsRequest, Message, Name, NetError, NoMemory, Numbers, Query};
-use server_core::{After, Order, Outcome, Tick};
+use server_core::{After, Order, Outcome, Sent, Tick};
 use server_pool::PoolLookup;
 use std::alloc::Global;
 use std::mem;
 use std::net::IpAddr;
 
-/// An order that is open, by its number, and how many polls of it found nothing.
-#[derive(Clone, Copy, Debug)]
-pub struct OpenOrder {
-    pub number: u64,
-    pub polls: u32,
-}
-
-/// A lookup that is under way at a pool: its open order, and how many it may still give, which are more
-/// than any lookup gives.
+/// A lookup that is under way at a pool: the number of its open order, and how many it may still give,
+/// which are more than any lookup gives.
 #[derive(Drop, Debug)]
 pub struct Under {
     pub lookup: PoolLookup,
-    pub order: Option<OpenOrder>,
+    pub order: Option<u64>,
     pub left: u64,
 }
 
@@ -126,34 +118,13 @@ fn answered_by(entry: u64, at: u64, told: Result<Message, NetError>) -> Ask
 }
 
 impl Under {
-    /// Takes note of what an outcome did to its open order. One that is to be given up stays as it is.
-    fn note(&mut self, after: After, patience: u32) -> After
-        ensures same { (self.new.lookup ≡ self.old.lookup) × (self.new.left ≡ self.old.left) }
-        ensures noted { HasNoted patience self.old.order self.new.order result }
-        ensures ended { result ≡ After.Ended → after ≡ After.Ended }
+    /// Takes note of what an outcome did to its open order.
+    fn note(&mut self, after: After)
+        ensures { self.new ≡ noted after self.old }
     {
-        let Some(open) = self.order else {
-            return After::Late;
-        };
         match after {
-            After::Kept => {
-                let polls = open.polls.saturating_add(1);
-                if polls < patience {
-                    self.order = Some(OpenOrder {
-                        number: open.number,
-                        polls,
-                    });
-                    After::Kept
-                } else {
-                    After::GiveUp
-                }
-            }
-            After::Ended => {
-                self.order = None;
-                After::Ended
-            }
-            After::GiveUp => After::GiveUp,
-            After::Late => After::Late,
+            After::Ended | After::GiveUp => self.order = None,
+            After::Kept | After::Late => {}
         }
     }
 
@@ -163,18 +134,19 @@ impl Under {
         alloc: Global,
         pools: &mut Pools,
         outcome: Outcome,
+        waits: Option<&Sent>,
         tick: Tick,
     ) -> Result<After, NoMemory>
-        ensures same { (self.new.lookup ≡ self.old.lookup) × (self.new.left ≡ self.old.left) }
-        ensures noted { IfOk result (HasNoted tick.patience self.old.order self.new.order) }
+        ensures noted { IfOk result (λ did. self.new ≡ noted did self.old) }
         ensures err { OnErr result (self.new ≡ self.old) }
-        ensures holds { (terms : Terms) (greatest moment : ℕ) (log longer : Log)
-            → terms.patience ≤ tick.patience → IsNext greatest (entry_of outcome) → moment ≤ tick.now
-            → PoolsHold terms greatest moment log pools.old → Extends log longer → Fits longer tick.now outcome
-            → PoolsHold terms (max greatest (entry_of outcome)) tick.now longer pools.new }
+        ensures holds { (terms : Terms) (greatest moment : ℕ) (log longer : Log) → terms.patience ≤ tick.patience
+            → IsPut greatest moment log tick (option_copied waits.entry) outcome result longer
+            → PoolsHold terms greatest moment log pools.old
+            → PoolsHold terms (max greatest (last_entry result (option_copied waits.entry) outcome)) tick.now longer pools.new }
     {
-        let did = pools.put(alloc, &self.lookup, outcome, tick)?;
-        Ok(self.note(did, tick.patience))
+        let did = pools.put(alloc, &self.lookup, outcome, waits, tick)?;
+        self.note(did);
+        Ok(did)
     }
 
     /// Its next order, with its number; none where the lookup has its answer.
@@ -187,7 +159,7 @@ impl Under {
     ) -> Result<Option<(u64, Order)>, NoMemory>
         requires { self.old.order ≡ None }
         ensures falls { IfOk result (λ given. IfSome given (λ g. ask_steps (ask.Under self.new) < ask_steps (ask.Under self.old))) }
-        ensures keeps { (patience : ℕ) → ask_rank patience (ask.Under self.new) ≤ ask_rank patience (ask.Under self.old) }
+        ensures keeps { ask_steps (ask.Under self.new) ≤ ask_steps (ask.Under self.old) }
         ensures holds { (terms : Terms) (log : Log) → PoolsHold terms since tick.now log pools.old → PoolsHold terms since tick.now log pools.new }
         ensures goes { (terms : Terms) (log : Log) → PoolsHold terms since tick.now log pools.old → IfOk result (StepGoes (given_of terms) log (since + 1)) }
     {
@@ -197,10 +169,7 @@ impl Under {
         let given = pools.next(alloc, &mut self.lookup, since, tick)?;
         if let Some((number, _)) = &given {
             self.left -= 1;
-            self.order = Some(OpenOrder {
-                number: *number,
-                polls: 0,
-            });
+            self.order = Some(*number);
         }
         Ok(given)
     }
@@ -227,8 +196,8 @@ impl Lookup {
         match &self.ask {
             Ask::Fresh => Want::Recall,
             Ask::Ready => Want::Begin,
-            Ask::Under(under) => match &under.order {
-                Some(open) => Want::Wait { order: open.number },
+            Ask::Under(under) => match under.order {
+                Some(order) => Want::Wait { order },
                 None => Want::Step,
             },
             Ask::Told { .. } | Ask::Failed(_) => Want::Hear,
@@ -328,7 +297,7 @@ impl Lookup {
     ) -> Result<Option<(u64, Order)>, NoMemory>
         requires { want_of self.old.ask ≡ Want.Step }
         ensures falls { OnOk result (steps self.new < steps self.old) }
-        ensures keeps { (patience : ℕ) → OnErr result (rank patience self.new ≤ rank patience self.old) }
+        ensures keeps { OnErr result (steps self.new ≤ steps self.old) }
         ensures holds { (terms : Terms) (log : Log) → PoolsHold terms since tick.now log pools.old
             → LookupHolds terms since tick.now begun log zone.now self.old → LookupHolds terms since tick.now begun log zone.now self.new × PoolsHold terms since tick.now log pools.new }
         ensures goes { (terms : Terms) (log : Log) → PoolsHold terms since tick.now log pools.old → IfOk result (StepGoes (given_of terms) log (since + 1)) }
@@ -356,28 +325,28 @@ impl Lookup {
         zone: &Name,
         begun: u64,
         outcome: Outcome,
+        waits: Option<&Sent>,
         tick: Tick,
     ) -> Result<After, NoMemory>
         requires { IsWaiting self.old.ask }
-        ensures falls { IfOk result (λ after. after ≢ After.Late → after ≢ After.GiveUp → rank tick.patience self.new < rank tick.patience self.old) }
-        ensures keeps { rank tick.patience self.new ≤ rank tick.patience self.old }
+        ensures keeps { steps self.new ≤ steps self.old }
         ensures late { result ≡ Ok After.Late → self.new ≡ self.old }
-        ensures holds { (terms : Terms) (greatest moment : ℕ) (log longer : Log)
-            → terms.patience ≤ tick.patience → IsNext greatest (entry_of outcome) → moment ≤ tick.now
-            → PoolsHold terms greatest moment log pools.old → LookupHolds terms greatest moment begun log zone.now self.old → Extends log longer → Fits longer tick.now outcome
-            → LookupHolds terms (max greatest (entry_of outcome)) tick.now begun longer zone.now self.new × PoolsHold terms (max greatest (entry_of outcome)) tick.now longer pools.new }
+        ensures holds { (terms : Terms) (greatest moment : ℕ) (log longer : Log) → terms.patience ≤ tick.patience
+            → IsPut greatest moment log tick (option_copied waits.entry) outcome result longer
+            → PoolsHold terms greatest moment log pools.old → LookupHolds terms greatest moment begun log zone.now self.old
+            → TakenHolds terms (max greatest (last_entry result (option_copied waits.entry) outcome)) tick.now begun longer zone.now self.new pools.new }
         ensures query { self.new.query ≡ self.old.query }
     {
         let Ask::Under(under) = &mut self.ask else {
             return Ok(After::Late);
         };
-        let did = under.put(alloc, pools, outcome, tick)?;
+        let did = under.put(alloc, pools, outcome, waits, tick)?;
         match did {
-            After::Ended => {
+            After::Ended | After::GiveUp => {
                 let _settled = self.settle(alloc, pools, zone, begun)?;
-                Ok(After::Ended)
+                Ok(did)
             }
-            after => Ok(after),
+            After::Kept | After::Late => Ok(did),
         }
     }
 

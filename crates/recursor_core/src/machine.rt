@@ -1,13 +1,13 @@
 //! The machine: it gives orders and is fed their outcomes, and knows neither a provider nor a log.
-ghost use Rattle.std.specs.Prelude.{◌≡◌, ◌≢◌, ◌≤◌, ◌<◌, ◌+◌, ◌⊎◌, ◌↔◌, ℕ, [], true, false, max, length, None, Some, Ok, Err, IfOk, IfSome, IfNone, IfErr, IsSome, OnOk, OnErr, IsTrue};
-ghost use Rattle.dns_core.specs.Log.{Log, Extends};
+ghost use Rattle.std.specs.Prelude.{◌≡◌, ◌≢◌, ◌≤◌, ◌<◌, ◌+◌, ◌⊎◌, ◌↔◌, ℕ, [], true, false, max, length, None, Some, Ok, Err, IfOk, IfSome, IfNone, IfErr, IsSome, OnOk, OnErr, IsTrue, option_copied, if◌then◌else◌};
+ghost use Rattle.dns_core.specs.Log.{Log};
 ghost use Rattle.server_core.specs.Order.{entry_of};
-ghost use Rattle.order_carrier.specs.Fits.{Fits};
+ghost use Rattle.recursor_core.specs.Order.{IsNext, is_given_up, closing_of, last_entry, TellsOutcome, LogGoesOn, IsPut};
 ghost use Rattle.resolver_settings.specs.Ttl.{has_reversed};
 ghost use Rattle.recursor_setting.specs.Asking.{connect_of};
 ghost use Rattle.recursor_setting.specs.Setting.{with_patience};
 ghost use Rattle.recursor_core.specs.declared.lookup.Want.TheVariants as want;
-ghost use Rattle.recursor_core.specs.Pools.{PoolsHold, IsNext};
+ghost use Rattle.recursor_core.specs.Pools.{PoolsHold};
 ghost use Rattle.recursor_core.specs.Remembered.{CacheHolds, remembered};
 ghost use Rattle.recursor_core.specs.Derived.{terms_of, Derived};
 ghost use Rattle.recursor_core.specs.Machine.{need_at, order_at, begun_at, IsRequestAt, rank, GoesOn, Steps, Gives, StepGives, IsAwaited, IsNewError, IsBeginError, IsNewCore, SameCore, LookupGives, IsBegunAt, telling_at, Writes};
@@ -19,7 +19,7 @@ use dns_core::{ConnectOptions, DnsRequest, NoMemory, Question, TryClone};
 use recursor_setting::{Setting, connect_options, request_options};
 use recursor_types::{MessageKind, RecursorError, RecursorOptions, Reply};
 use resolver_cache::ResponseCache;
-use server_core::{After, Order, Outcome, PoolContext, Tick};
+use server_core::{After, Order, Outcome, PoolContext, Sent, Tick};
 use std::alloc::Global;
 use std::net::IpAddr;
 
@@ -62,6 +62,29 @@ fn cache_of(alloc: Global, options: &RecursorOptions) -> Result<ResponseCache, N
         unreachable!()
     };
     Ok(cache)
+}
+
+/// The entry by which an order ends that is given up after an outcome: where it still waits for what was
+/// sent, that is the next one.
+fn closing_of(outcome: &Outcome, waits: Option<&Sent>) -> u64
+    ensures { result ≡ closing_of (option_copied waits.entry) outcome.now }
+{
+    match (outcome, waits) {
+        (Outcome::Pending { entry, .. }, Some(_)) => entry.saturating_add(1),
+        (outcome, _) => outcome.entry(),
+    }
+}
+
+/// The last entry that is put with an outcome. An order is given up by whoever carries it after its last
+/// poll, and for want of memory.
+fn last_entry(after: &Result<After, NoMemory>, entry: u64, closing: u64) -> u64
+    ensures { result ≡ (if is_given_up after.now then closing else entry) }
+{
+    match after {
+        Ok(After::GiveUp) => closing,
+        Ok(After::Kept | After::Ended | After::Late) => entry,
+        Err(NoMemory) => closing,
+    }
 }
 
 impl RecursorCore {
@@ -204,7 +227,7 @@ impl RecursorCore {
     /// Answers a resolution with what the cache has for its question, or begins its walk.
     fn set_out(&mut self, alloc: Global, r: usize) -> Result<(), NoMemory>
         requires { need_at self.old r ≡ Need.SetOut }
-        ensures falls { (p : ℕ) → rank p self.new < rank p self.old }
+        ensures falls { rank self.new < rank self.old }
         ensures derived { (log : Log) → Derived self.old log → Derived self.new log }
         ensures same { SameCore self.old self.new }
     {
@@ -216,7 +239,7 @@ impl RecursorCore {
     /// Goes by what the cache has for the present lookup of a resolution.
     fn recall(&mut self, alloc: Global, r: usize) -> Result<(), NoMemory>
         requires { need_at self.old r ≡ Need.Send want.Recall }
-        ensures falls { (p : ℕ) → rank p self.new < rank p self.old }
+        ensures falls { rank self.new < rank self.old }
         ensures derived { (log : Log) → Derived self.old log → Derived self.new log }
         ensures same { SameCore self.old self.new }
     {
@@ -239,7 +262,7 @@ impl RecursorCore {
 
     fn hear(&mut self, alloc: Global, r: usize) -> Result<(), NoMemory>
         requires { need_at self.old r ≡ Need.Send want.Hear }
-        ensures falls { (p : ℕ) → rank p self.new < rank p self.old }
+        ensures falls { rank self.new < rank self.old }
         ensures derived { (log : Log) → Derived self.old log → Derived self.new log }
         ensures same { SameCore self.old self.new }
     {
@@ -261,8 +284,8 @@ impl RecursorCore {
     fn begin_lookup(&mut self, alloc: Global, r: usize, request: DnsRequest) -> Result<(), NoMemory>
         requires want { need_at self.old r ≡ Need.Send want.Begin }
         requires asks { IsRequestAt request self.old r }
-        ensures falls { (p : ℕ) → OnOk result (rank p self.new < rank p self.old) }
-        ensures keeps { (p : ℕ) → rank p self.new ≤ rank p self.old }
+        ensures falls { OnOk result (rank self.new < rank self.old) }
+        ensures keeps { rank self.new ≤ rank self.old }
         ensures derived { (log : Log) → Derived self.old log → Derived self.new log }
         ensures same { SameCore self.old self.new }
     {
@@ -275,8 +298,8 @@ impl RecursorCore {
     /// has its answer.
     fn step_lookup(&mut self, alloc: Global, r: usize) -> Result<Option<(u64, Order)>, NoMemory>
         requires { need_at self.old r ≡ Need.Send want.Step }
-        ensures falls { (p : ℕ) → OnOk result (rank p self.new < rank p self.old) }
-        ensures keeps { (p : ℕ) → OnErr result (rank p self.new ≤ rank p self.old) }
+        ensures falls { OnOk result (rank self.new < rank self.old) }
+        ensures keeps { OnErr result (rank self.new ≤ rank self.old) }
         ensures derived { (log : Log) → Derived self.old log → Derived self.new log × IfOk result (LookupGives self.old log) }
         ensures same { SameCore self.old self.new }
     {
@@ -288,7 +311,7 @@ impl RecursorCore {
 
     fn take_reply(&mut self, r: usize) -> Option<Box<Reply>>
         requires { need_at self.old r ≡ Need.Reply }
-        ensures falls { (p : ℕ) → rank p self.new < rank p self.old }
+        ensures falls { rank self.new < rank self.old }
         ensures some { IsSome result }
         ensures derived { (log : Log) → Derived self.old log → Derived self.new log × IfSome result (λ reply. StepGives self.old log r (Step.Done reply)) }
         ensures same { SameCore self.old self.new }
@@ -423,19 +446,19 @@ impl RecursorCore {
         alloc: Global,
         r: usize,
         outcome: Outcome,
+        waits: Option<&Sent>,
         tick: Tick,
     ) -> Result<After, NoMemory>
         requires { order_at self.old r ≢ None }
-        ensures falls { IfOk result (λ after. after ≢ After.Late → after ≢ After.GiveUp → rank tick.patience self.new < rank tick.patience self.old) }
-        ensures keeps { rank tick.patience self.new ≤ rank tick.patience self.old }
-        ensures derived { (log longer : Log) → self.old.setting.patience ≤ tick.patience → IsNext self.old.greatest (entry_of outcome) → self.old.moment ≤ tick.now
-            → Derived self.old log → Extends log longer → Fits longer tick.now outcome
-            → Derived (record self.new { greatest = max self.old.greatest (entry_of outcome); moment = tick.now }) longer }
+        ensures keeps { rank self.new ≤ rank self.old }
+        ensures derived { (log longer : Log) → self.old.setting.patience ≤ tick.patience → Derived self.old log
+            → IsPut self.old.greatest self.old.moment log tick (option_copied waits.entry) outcome result longer
+            → Derived (record self.new { greatest = max self.old.greatest (last_entry result (option_copied waits.entry) outcome); moment = tick.now }) longer }
         ensures same { SameCore self.old self.new }
         ensures late { result ≡ Ok After.Late → telling_at self.new r ≡ None }
     {
         let resolution = &mut self.resolutions[r];
-        resolution.take(alloc, &mut self.pools, outcome, tick)
+        resolution.take(alloc, &mut self.pools, outcome, waits, tick)
     }
 
     /// Takes the outcome for the resolution that waits for its order.
@@ -444,22 +467,23 @@ impl RecursorCore {
         alloc: Global,
         r: usize,
         outcome: Outcome,
+        waits: Option<&Sent>,
         tick: Tick,
     ) -> Result<After, NoMemory>
         requires { order_at self.old r ≢ None }
-        ensures falls { IfOk result (λ after. after ≢ After.Late → after ≢ After.GiveUp → rank tick.patience self.new < rank tick.patience self.old) }
-        ensures keeps { rank tick.patience self.new ≤ rank tick.patience self.old }
-        ensures derived { (log longer : Log) → self.old.setting.patience ≤ tick.patience → IsNext self.old.greatest (entry_of outcome) → self.old.moment ≤ tick.now
-            → Derived self.old log → Extends log longer → Fits longer tick.now outcome → Derived self.new longer }
-        ensures setting { self.new.setting ≡ self.old.setting }
-        ensures cache { self.new.cache ≡ self.old.cache }
+        ensures keeps { rank self.new ≤ rank self.old }
+        ensures derived { (log longer : Log) → self.old.setting.patience ≤ tick.patience → Derived self.old log
+            → IsPut self.old.greatest self.old.moment log tick (option_copied waits.entry) outcome result longer → Derived self.new longer }
+        ensures same { (self.new.setting ≡ self.old.setting) × (self.new.cache ≡ self.old.cache) }
         ensures moment { self.old.moment ≡ tick.now → self.new.moment ≡ tick.now }
         ensures begun { (k : ℕ) → begun_at self.new k ≡ begun_at self.old k }
         ensures late { result ≡ Ok After.Late → telling_at self.new r ≡ None }
     {
         let entry = outcome.entry();
-        let after = self.take(alloc, r, outcome, tick);
-        self.greatest = self.greatest.max(entry);
+        let closing = closing_of(&outcome, waits);
+        let after = self.take(alloc, r, outcome, waits, tick);
+        let last = last_entry(&after, entry, closing);
+        self.greatest = self.greatest.max(last);
         self.moment = self.moment.max(tick.now);
         after
     }
@@ -472,22 +496,23 @@ impl RecursorCore {
     }
 
     /// Takes the outcome of an order. One that nobody waits for is late, and changes nothing; so is one
-    /// that does not fit the order, or whose number is not greater than all before; that of a sleep is 0. An order that is to
-    /// be given up goes on until the outcome of the give-up is put. What counts of a message that was
-    /// told is written into the cache; on want of memory for this the outcome is taken all the same, and
-    /// on want of memory to take it its order stays open.
+    /// that does not fit the order, or whose number is not greater than all before; that of a sleep is 0.
+    /// With a poll that found nothing is handed in what it waits for. The last such poll that patience
+    /// allows has ended the order, which is to be given up by whoever carries it; so is one that still is
+    /// under way where memory is wanting. What counts of a message that was told is written into the
+    /// cache; on want of memory for this the outcome is taken all the same.
     pub fn put(
         &mut self,
         alloc: Global,
         number: u64,
         outcome: Outcome,
+        waits: Option<&Sent>,
         tick: Tick,
     ) -> Result<After, NoMemory>
-        ensures falls { IfOk result (λ after. after ≢ After.Late → after ≢ After.GiveUp → rank tick.patience self.new < rank tick.patience self.old) }
-        ensures keeps { rank tick.patience self.new ≤ rank tick.patience self.old }
+        ensures keeps { rank self.new ≤ rank self.old }
         ensures late { (IsAwaited self.old number → ⊥) → result ≡ Ok After.Late }
-        ensures derived { (log longer : Log) → self.old.setting.patience ≤ tick.patience → self.old.moment ≤ tick.now
-            → Derived self.old log → Extends log longer → Fits longer tick.now outcome → Derived self.new longer }
+        ensures derived { (log told longer : Log) → self.old.setting.patience ≤ tick.patience → Derived self.old log
+            → TellsOutcome self.old.moment log tick (option_copied waits.entry) outcome told → LogGoesOn tick.now (option_copied waits.entry) outcome result told longer → Derived self.new longer }
         ensures writes { IfOk result (Writes self.old self.new number) }
         ensures setting { self.new.setting ≡ self.old.setting }
         ensures moment { self.old.moment ≡ tick.now → self.new.moment ≡ tick.now }
@@ -499,14 +524,14 @@ impl RecursorCore {
         let Some(r) = self.waiter(number) else {
             return Ok(After::Late);
         };
-        let after = self.accept(alloc, r, outcome, tick)?;
+        let after = self.accept(alloc, r, outcome, waits, tick)?;
         self.remember(alloc, r)?;
         Ok(after)
     }
 
     /// Ends a resolution without a reply, and answers the order that it waited for.
     pub fn cancel(&mut self, r: usize) -> Option<u64>
-        ensures keeps { (p : ℕ) → rank p self.new ≤ rank p self.old }
+        ensures keeps { rank self.new ≤ rank self.old }
         ensures derived { (log : Log) → Derived self.old log → Derived self.new log }
         ensures same { SameCore self.old self.new }
     {

@@ -1,19 +1,20 @@
 //! The servers that were met, each under its address, the pools of them, and the lookups that are under
 //! way at these.
-ghost use Rattle.std.specs.Prelude.{◌≡◌, ◌≢◌, ◌≤◌, ◌<◌, ◌+◌, ◌==◌, ℕ, [], max, true, false, length, Some, None, Ok, Err, IfOk, IfSome, OnOk, OnErr, IsTrue, All, option_map, if◌then◌else◌};
+ghost use Rattle.std.specs.Prelude.{◌≡◌, ◌≢◌, ◌≤◌, ◌<◌, ◌+◌, ◌==◌, ℕ, [], max, true, false, length, Some, None, Ok, Err, IfOk, IfSome, OnOk, OnErr, IsTrue, All, if◌then◌else◌, option_copied};
 ghost use Rattle.std.specs.List.{AllZip};
 ghost use Rattle.std.specs.declared.net.ip_addr.IpAddr.{IpAddr};
 ghost use Rattle.dns_core.specs.Name.{DomainName};
 ghost use Rattle.dns_core.specs.Log.{Log, Extends};
 ghost use Rattle.dns_core.specs.declared.message.Query.{Query};
-ghost use Rattle.server_core.specs.Order.{entry_of};
 ghost use Rattle.server_core.specs.Servers.{IsFirstDelay};
-ghost use Rattle.order_carrier.specs.Fits.{Fits, GoesToServer};
+ghost use Rattle.order_carrier.specs.Fits.{GoesToServer};
+ghost use Rattle.retry_lookup.specs.Holds.{out_of_memory};
+ghost use Rattle.recursor_core.specs.Order.{last_entry, IsPut};
 ghost use Rattle.recursor_core.specs.Replies.{Terms, given_of};
 ghost use Rattle.recursor_types.specs.Options.{answer_filter_of};
 ghost use Rattle.recursor_setting.specs.Setting.{context_of};
 ghost use Rattle.recursor_setting.specs.Delays.{turn_at, delay_at};
-ghost use Rattle.recursor_core.specs.Pools.{number_of, config_at, first_delay_at, server_at, sought_at, ServersHold, SoughtHolds, PoolsHold, IsSentOver, IsFirst, IsOf, MayTake, MayTakeBy, IsNext, is_denial, IsMet, IsGrown, HasForgotten, HasNoted, HasKept, HasLeft, noted, aim_of, sent_to, first_of, StepGoes, IsGivenFor, NotesOutcome, Seeks};
+ghost use Rattle.recursor_core.specs.Pools.{number_of, config_at, first_delay_at, server_at, sought_at, ServersHold, SoughtHolds, PoolsHold, IsSentOver, IsFirst, IsOf, IsStill, MayTake, MayTakeBy, is_denial, IsMet, IsGrown, HasForgotten, HasNoted, HasKept, HasLeft, noted, aim_of, sent_to, first_of, polled_by, StepGoes, IsGivenFor, NotesOutcome, Seeks};
 ghost use Rattle.recursor_core.specs.Derived.{ArePool, AnswerHolds};
 ghost use Rattle.resolution.specs.Names.{is_above, walk};
 
@@ -37,13 +38,14 @@ pub enum Aim {
     Sleep,
 }
 
-/// An order that is open: its number, what it does, and the greatest number of a log entry that was put
-/// before it was given.
+/// An order that is open: its number, what it does, the greatest number of a log entry that was put
+/// before it was given, and the entry that sent what its polls wait for, once one of them was put.
 #[derive(Clone, Copy, Debug, PartialEq, Eq)]
 pub struct Given {
     pub number: u64,
     pub aim: Aim,
     pub since: u64,
+    pub polled: Option<u64>,
 }
 
 /// What a lookup is for: a question at the servers of a zone, since a moment. `given` is its open order,
@@ -87,6 +89,16 @@ fn is_denial(error: &NetError) -> bool
     matches!(error, NetError::Dns(DnsError::NoRecordsFound(_)))
 }
 
+/// Whether what a lookup was answered is that memory was wanting for it.
+fn is_memory(told: &Result<Message, NetError>) -> bool
+    ensures { result ≡ out_of_memory told.now }
+{
+    match told {
+        Ok(_) => false,
+        Err(error) => error.is_memory(),
+    }
+}
+
 /// Whether two questions are equal, also in the case of their names.
 fn is_identical(left: &Query, right: &Query) -> bool
     ensures { IsTrue result → left.now ≡ right.now }
@@ -107,26 +119,52 @@ fn aim_of(order: &Order) -> Aim
     }
 }
 
-/// To which address what came of an order was sent, where the outcome says so.
-fn sent_to(outcome: &Outcome) -> Option<IpAddr>
-    ensures { result ≡ sent_to outcome.now }
+/// To which address what came of an order was sent, or what it waits for, where that is known.
+fn sent_to(outcome: &Outcome, waits: Option<&Sent>) -> Option<IpAddr>
+    ensures { result ≡ sent_to (option_copied waits.entry) outcome.now }
 {
     match outcome {
         Outcome::Connected { sent, .. } => Some(sent.ip),
         Outcome::Told { sent, .. } => Some(sent.ip),
         Outcome::Failed { sent, .. } => Some(sent.ip),
-        Outcome::GaveUp { sent, .. } => Some(sent.ip),
-        Outcome::Pending { .. } | Outcome::Slept => None,
+        Outcome::Pending { .. } => match waits {
+            Some(sent) => Some(sent.ip),
+            None => None,
+        },
+        Outcome::Slept => None,
     }
 }
 
 /// To which address the first send of a lookup goes, where an outcome of its open order says so.
-fn first_of(given: &Given, outcome: &Outcome) -> Option<IpAddr>
-    ensures { result ≡ first_of given.now.aim outcome.now }
+fn first_of(given: &Given, outcome: &Outcome, waits: Option<&Sent>) -> Option<IpAddr>
+    ensures { result ≡ first_of given.now.aim (option_copied waits.entry) outcome.now }
 {
     match given.aim {
         Aim::Sleep => None,
-        Aim::Open { .. } | Aim::Ask { .. } => sent_to(outcome),
+        Aim::Open { .. } | Aim::Ask { .. } => sent_to(outcome, waits),
+    }
+}
+
+/// The entry that sent what a poll waits for, if the outcome is one that found nothing.
+fn polled_by(outcome: &Outcome) -> Option<u64>
+    ensures { result ≡ polled_by outcome.now }
+{
+    match outcome {
+        Outcome::Pending { of, .. } => Some(*of),
+        Outcome::Connected { .. }
+        | Outcome::Told { .. }
+        | Outcome::Failed { .. }
+        | Outcome::Slept => None,
+    }
+}
+
+/// Whether what a poll waits for is what the polls before it waited for.
+fn is_still(polled: Option<u64>, of: u64) -> bool
+    ensures { IsTrue result → IsStill polled of }
+{
+    match polled {
+        None => true,
+        Some(before) => before == of,
     }
 }
 
@@ -168,47 +206,70 @@ impl Sought {
         self.sends(asks, ip, since, sent) && self.begins(ended, sent)
     }
 
-    /// Whether this is an outcome of its order to open or to ask: a give-up only where patience allows
-    /// no more polls, and a denial only where it was asked for.
+    /// Whether a poll that found nothing is one of its order to open or to ask: it waits for what was
+    /// sent for that order, as those before it did.
+    fn is_polled(
+        &self,
+        ended: bool,
+        asks: bool,
+        ip: IpAddr,
+        given: &Given,
+        of: u64,
+        waits: Option<&Sent>,
+    ) -> bool
+        ensures { IsTrue result → (entry : ℕ) → MayTake self.now.start self.now.query self.now.first ended given.now.since given.now.polled asks ip (option_copied waits.entry) (Outcome.Pending entry of) }
+    {
+        match waits {
+            Some(sent) => {
+                sent.of == of
+                    && is_still(given.polled, of)
+                    && self.is_of(ended, asks, ip, given.since, sent)
+            }
+            None => false,
+        }
+    }
+
+    /// Whether this is an outcome of its order to open or to ask: a denial only where it was asked for.
     fn fits(
         &self,
         ended: bool,
         asks: bool,
         ip: IpAddr,
-        since: u64,
+        given: &Given,
         outcome: &Outcome,
-        patience: u32,
+        waits: Option<&Sent>,
     ) -> bool
-        ensures { IsTrue result → MayTake patience self.now.start self.now.query self.now.first ended since asks ip outcome.now }
+        ensures { IsTrue result → MayTake self.now.start self.now.query self.now.first ended given.now.since given.now.polled asks ip (option_copied waits.entry) outcome.now }
     {
         match outcome {
-            Outcome::Pending { .. } => true,
-            Outcome::Connected { sent, .. } => !asks && self.is_of(ended, asks, ip, since, sent),
-            Outcome::Told { sent, .. } => asks && self.is_of(ended, asks, ip, since, sent),
+            Outcome::Pending { of, .. } => self.is_polled(ended, asks, ip, given, *of, waits),
+            Outcome::Connected { sent, .. } => {
+                !asks && self.is_of(ended, asks, ip, given.since, sent)
+            }
+            Outcome::Told { sent, .. } => asks && self.is_of(ended, asks, ip, given.since, sent),
             Outcome::Failed {
                 sent,
                 refused,
                 error,
                 ..
-            } => (!is_denial(error) || asks && !*refused)
-                && self.is_of(ended, asks, ip, since, sent),
-            Outcome::GaveUp { sent, polls, .. } => {
-                patience <= *polls && self.is_of(ended, asks, ip, since, sent)
+            } => {
+                (!is_denial(error) || asks && !*refused)
+                    && self.is_of(ended, asks, ip, given.since, sent)
             }
             Outcome::Slept => false,
         }
     }
 
     /// Whether this is an outcome of an order that it gave; a sleep may end by any.
-    fn may_take(&self, ended: bool, given: &Given, outcome: &Outcome, patience: u32) -> bool
-        ensures { IsTrue result → MayTakeBy patience self.now ended given.now given.now.aim outcome.now }
+    fn may_take(&self, ended: bool, given: &Given, outcome: &Outcome, waits: Option<&Sent>) -> bool
+        ensures { IsTrue result → MayTakeBy self.now ended given.now given.now.aim (option_copied waits.entry) outcome.now }
     {
         match &given.aim {
             Aim::Open { ip } => {
-                outcome.entry() != 0 && self.fits(ended, false, *ip, given.since, outcome, patience)
+                outcome.entry() != 0 && self.fits(ended, false, *ip, given, outcome, waits)
             }
             Aim::Ask { ip } => {
-                outcome.entry() != 0 && self.fits(ended, true, *ip, given.since, outcome, patience)
+                outcome.entry() != 0 && self.fits(ended, true, *ip, given, outcome, waits)
             }
             Aim::Sleep => true,
         }
@@ -378,7 +439,13 @@ impl Pools {
         match lookup.next(alloc, &mut self.shared, tick) {
             Ok(PoolStep::Order { number, order }) => {
                 let aim = aim_of(&order);
-                self.note(n, Some(Given { number, aim, since }), None, None);
+                let given = Given {
+                    number,
+                    aim,
+                    since,
+                    polled: None,
+                };
+                self.note(n, Some(given), None, None);
                 Ok(Some((number, order)))
             }
             Ok(PoolStep::Done(_)) => {
@@ -393,13 +460,18 @@ impl Pools {
     }
 
     /// The open order of a lookup, where this is an outcome of it.
-    fn given_for(&self, lookup: &PoolLookup, outcome: &Outcome, patience: u32) -> Option<Given>
-        ensures { IfSome result (IsGivenFor self.now lookup.now.number outcome.now patience) }
+    fn given_for(
+        &self,
+        lookup: &PoolLookup,
+        outcome: &Outcome,
+        waits: Option<&Sent>,
+    ) -> Option<Given>
+        ensures { IfSome result (IsGivenFor self.now lookup.now.number (option_copied waits.entry) outcome.now) }
     {
         let ended = !lookup.ends(&self.shared).is_empty();
         let sought = self.sought.get(&lookup.number())?;
         let given = sought.given?;
-        if sought.may_take(ended, &given, outcome, patience) {
+        if sought.may_take(ended, &given, outcome, waits) {
             Some(given)
         } else {
             None
@@ -420,31 +492,37 @@ impl Pools {
     {
         let ended = before < lookup.ends(&self.shared).len();
         let given = match after {
-            After::Kept | After::GiveUp => Some(given),
-            After::Ended | After::Late => None,
+            After::Kept => Some(given),
+            After::GiveUp | After::Ended | After::Late => None,
         };
         let at = if ended { Some(now) } else { None };
         self.note(lookup.number(), given, first, at);
     }
 
-    /// Takes the outcome of the open order of a lookup. One that is not of this order is late, and
+    /// Takes the outcome of the open order of a lookup. A poll that found nothing waits for what was
+    /// sent for the order, which is handed in with it. An outcome that is not of this order is late, and
     /// changes nothing. Where memory is wanting, the lookup is no longer under way.
     pub fn put(
         &mut self,
         alloc: Global,
         lookup: &PoolLookup,
         outcome: Outcome,
+        waits: Option<&Sent>,
         tick: Tick,
     ) -> Result<After, NoMemory>
-        ensures holds { (terms : Terms) (greatest moment : ℕ) (log longer : Log)
-            → terms.patience ≤ tick.patience → IsNext greatest (entry_of outcome) → moment ≤ tick.now
-            → PoolsHold terms greatest moment log self.old → Extends log longer → Fits longer tick.now outcome
-            → PoolsHold terms (max greatest (entry_of outcome)) tick.now longer self.new }
+        ensures holds { (terms : Terms) (greatest moment : ℕ) (log longer : Log) → terms.patience ≤ tick.patience
+            → IsPut greatest moment log tick (option_copied waits.entry) outcome result longer
+            → PoolsHold terms greatest moment log self.old
+            → PoolsHold terms (max greatest (last_entry result (option_copied waits.entry) outcome)) tick.now longer self.new }
     {
-        let Some(given) = self.given_for(lookup, &outcome, tick.patience) else {
+        let Some(given) = self.given_for(lookup, &outcome, waits) else {
             return Ok(After::Late);
         };
-        let first = first_of(&given, &outcome);
+        let first = first_of(&given, &outcome, waits);
+        let given = Given {
+            polled: polled_by(&outcome),
+            ..given
+        };
         let before = lookup.ends(&self.shared).len();
         match self.shared.put(alloc, given.number, outcome, tick) {
             Ok(after) => {
@@ -472,7 +550,7 @@ impl Pools {
     }
 
     /// What a lookup for a question at the servers of a zone, since no earlier than a moment, came to;
-    /// none where it goes on.
+    /// none where it goes on. One for which memory was wanting has no answer.
     pub fn answer(
         &self,
         alloc: Global,
@@ -490,6 +568,9 @@ impl Pools {
         let Some(told) = lookup.answer(alloc, &self.shared)? else {
             return Ok(None);
         };
+        if is_memory(&told) {
+            return Err(NoMemory);
+        }
         let ends = copy_of(alloc, lookup.ends(&self.shared))?;
         Ok(Some(Answer { told, ends, at }))
     }

@@ -9,10 +9,11 @@ ghost use Rattle.recursor_setting.specs.Asking.{connect_of};
 ghost use Rattle.recursor_core.specs.Standing.{Standing, Rests};
 
 use crate::machine::RecursorCore;
+use crate::runner::Runner;
 use dns_core::{ConnectOptions, ConnectionProvider, NoMemory};
+use order_carrier::Carrier;
 use recursor_types::{MessageKind, RecursorError, RecursorOptions};
 use server_core::PoolContext;
-use server_pool::Carrier;
 use std::alloc::Global;
 use std::marker::Model;
 use std::net::IpAddr;
@@ -23,15 +24,15 @@ use std::net::IpAddr;
 #[derive(Drop)]
 pub struct Recursor<P: ConnectionProvider> {
     pub(crate) core: RecursorCore,
-    pub(crate) carrier: Carrier<P>,
+    pub(crate) runner: Runner<P>,
 }
 
 impl<P: ConnectionProvider> Model for Recursor<P> {
     ghost Value = { Standing P };
 
-    ghost view = { λ a. record { provider = a.carrier.provider; roots = a.core.setting.roots; server_filter = a.core.setting.server_filter; answer_filter = a.core.setting.answer_filter; lives = a.core.setting.lives; context = a.core.setting.context; patience = a.core.setting.patience; moment = a.core.moment } };
+    ghost view = { λ a. record { provider = a.runner.carrier.provider; roots = a.core.setting.roots; server_filter = a.core.setting.server_filter; answer_filter = a.core.setting.answer_filter; lives = a.core.setting.lives; context = a.core.setting.context; patience = a.core.setting.patience; moment = a.core.moment } };
 
-    ghost invariant = { λ a. Rests P.ConnectionProvider a.core a.carrier };
+    ghost invariant = { λ a. Rests P.ConnectionProvider a.core a.runner };
 }
 
 impl<P: ConnectionProvider> Recursor<P> {
@@ -69,7 +70,7 @@ impl<P: ConnectionProvider> Recursor<P> {
         };
         Ok(Recursor {
             core,
-            carrier: Carrier::new(alloc, provider, connect),
+            runner: Runner::new(Carrier::new(alloc, provider, connect)),
         })
     }
 
@@ -77,7 +78,7 @@ impl<P: ConnectionProvider> Recursor<P> {
     pub fn provider(&self) -> &P
         ensures { result.now ≡ self.now.provider }
     {
-        self.carrier.provider()
+        self.runner.provider()
     }
 
     /// What its pools of servers are set to: how servers are asked, one at a time and without the wish
@@ -107,6 +108,6 @@ impl<P: ConnectionProvider> Recursor<P> {
     pub fn into_provider(self) -> P
         ensures { result ≡ self.provider }
     {
-        self.carrier.into_provider()
+        self.runner.into_provider()
     }
 }

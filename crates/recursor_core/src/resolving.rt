@@ -1,19 +1,18 @@
 //! One question under way, answered, or ended.
-ghost use Rattle.std.specs.Prelude.{max, ◌≡◌, ◌≢◌, ◌≤◌, ◌<◌, ◌+◌, ℕ, true, length, Some, None, Ok, IfOk, IfSome, IsSome, OnOk, OnErr, is_ok};
+ghost use Rattle.std.specs.Prelude.{max, ◌≡◌, ◌≢◌, ◌≤◌, ◌<◌, ◌+◌, ℕ, true, length, Some, None, Ok, IfOk, IfSome, IsSome, OnOk, OnErr, is_ok, option_copied};
 ghost use Rattle.std.specs.declared.net.ip_addr.IpAddr.{IpAddr};
-ghost use Rattle.dns_core.specs.Log.{Log, Extends};
-ghost use Rattle.server_core.specs.Order.{entry_of};
-ghost use Rattle.order_carrier.specs.Fits.{Fits};
+ghost use Rattle.dns_core.specs.Log.{Log};
+ghost use Rattle.recursor_core.specs.Order.{last_entry, IsPut};
 ghost use Rattle.recursor_core.specs.Replies.{Terms, given_of, ReplyHolds};
 ghost use Rattle.recursor_core.specs.Tried.{machine_timer};
 ghost use Rattle.recursor_core.specs.Counted.{IsRecalled, recalled};
 ghost use Rattle.recursor_core.specs.Remembered.{CacheHolds, telling_in, remembered};
 ghost use Rattle.recursor_core.specs.Lookup.{want_of as wanted};
-ghost use Rattle.recursor_core.specs.Pools.{PoolsHold, IsNext, StepGoes};
+ghost use Rattle.recursor_core.specs.Pools.{PoolsHold, StepGoes};
 ghost use Rattle.recursor_core.specs.declared.lookup.Want.TheVariants as want;
-ghost use Rattle.recursor_core.specs.Derived.{WalkHolds, WalkComes, StateHolds, ResolutionHolds};
+ghost use Rattle.recursor_core.specs.Derived.{WalkHolds, WalkComes, StateHolds, ResolutionHolds, ResolutionTaken};
 ghost use Rattle.recursor_core.specs.Walk.{begin_steps, Goes};
-ghost use Rattle.recursor_core.specs.Resolving.{want_of, waits_for, state_steps, steps, rank, IsSettled, SameBegun, asked_of, AsksFor, IsAnswered};
+ghost use Rattle.recursor_core.specs.Resolving.{want_of, waits_for, state_steps, steps, IsSettled, SameBegun, asked_of, AsksFor, IsAnswered};
 
 use crate::counted::{Counted, recalled};
 use crate::kept_answer::kept_answer;
@@ -24,7 +23,7 @@ use dns_core::{DnsRequest, Ips, NoMemory, Query, Question, TryClone};
 use recursor_types::Reply;
 use resolver_cache::ResponseCache;
 use resolver_settings::AccessControlSet;
-use server_core::{After, Order, Outcome, Tick};
+use server_core::{After, Order, Outcome, Sent, Tick};
 use std::alloc::Global;
 use std::mem;
 
@@ -281,7 +280,7 @@ impl Resolution {
     ) -> Result<Option<(u64, Order)>, NoMemory>
         requires { want_of self.old ≡ Need.Send want.Step }
         ensures falls { OnOk result (steps self.new < steps self.old) }
-        ensures keeps { (p : ℕ) → OnErr result (rank p self.new ≤ rank p self.old) }
+        ensures keeps { OnErr result (steps self.new ≤ steps self.old) }
         ensures begun { SameBegun self.old self.new }
         ensures holds { (terms : Terms) (log : Log) → PoolsHold terms since tick.now log pools.old
             → ResolutionHolds terms since tick.now log self.old → ResolutionHolds terms since tick.now log self.new × PoolsHold terms since tick.now log pools.new }
@@ -300,21 +299,21 @@ impl Resolution {
         alloc: Global,
         pools: &mut Pools,
         outcome: Outcome,
+        waits: Option<&Sent>,
         tick: Tick,
     ) -> Result<After, NoMemory>
         requires { waits_for self.old ≢ None }
-        ensures falls { IfOk result (λ after. after ≢ After.Late → after ≢ After.GiveUp → rank tick.patience self.new < rank tick.patience self.old) }
-        ensures keeps { rank tick.patience self.new ≤ rank tick.patience self.old }
+        ensures keeps { steps self.new ≤ steps self.old }
         ensures late { result ≡ Ok After.Late → self.new ≡ self.old }
         ensures begun { SameBegun self.old self.new }
-        ensures holds { (terms : Terms) (greatest moment : ℕ) (log longer : Log)
-            → terms.patience ≤ tick.patience → IsNext greatest (entry_of outcome) → moment ≤ tick.now
-            → PoolsHold terms greatest moment log pools.old → ResolutionHolds terms greatest moment log self.old → Extends log longer → Fits longer tick.now outcome
-            → ResolutionHolds terms (max greatest (entry_of outcome)) tick.now longer self.new × PoolsHold terms (max greatest (entry_of outcome)) tick.now longer pools.new }
+        ensures holds { (terms : Terms) (greatest moment : ℕ) (log longer : Log) → terms.patience ≤ tick.patience
+            → IsPut greatest moment log tick (option_copied waits.entry) outcome result longer
+            → PoolsHold terms greatest moment log pools.old → ResolutionHolds terms greatest moment log self.old
+            → ResolutionTaken terms (max greatest (last_entry result (option_copied waits.entry) outcome)) tick.now longer self.new pools.new }
     {
         let begun = self.begun;
         match &mut self.state {
-            State::Under(walk) => walk.take(alloc, pools, begun, outcome, tick),
+            State::Under(walk) => walk.take(alloc, pools, begun, outcome, waits, tick),
             _ => unreachable!(),
         }
     }

@@ -4,22 +4,19 @@ ghost use Rattle.dns_core.specs.Log.{Log};
 ghost use Rattle.dns_core.specs.declared.log.LogEntry.{LogEntry};
 ghost use Rattle.dns_core.specs.declared.request.Question.{Question};
 ghost use Rattle.dns_core.specs.declared.request.Turn.{Turn};
-ghost use Rattle.order_carrier.specs.Fits.{Fits, GoesToServer};
 ghost use Rattle.recursor_core.specs.Replies.{given_of};
-ghost use Rattle.order_carrier.specs.Carrying.{TellsThat};
-ghost use Rattle.order_carrier.specs.Key.{key_of};
-ghost use Rattle.order_carrier.specs.Stands.{stand_at};
-ghost use Rattle.order_carrier.specs.Stands.Stand.{Unseen};
+ghost use Rattle.order_carrier.specs.Growing.{TellsThat};
 ghost use Rattle.recursor_core.specs.Derived.{terms_of, Derived};
 ghost use Rattle.recursor_core.specs.Machine.{rank, Begun, begun_at};
+ghost use Rattle.recursor_core.specs.Runner.{GoesRight, RunsUnder, sent_by, HasTold};
 ghost use Rattle.recursor_core.specs.Standing.{Holds, Moves, ReplyTold, TurnedTold, PlaysHold, run_moments};
-ghost use Rattle.recursor_core.specs.Turns.{TurnFalls, work, open_plays, IsBegunAt, IsUnderWay, Begins, ReplyOf};
+ghost use Rattle.recursor_core.specs.Turns.{due, TurnFalls, work, open_plays, IsBegunAt, IsUnderWay, Begins, ReplyOf};
 
 use crate::machine::{RecursorCore, Step};
+use crate::runner::Runner;
 use dns_core::{ConnectionProvider, NoMemory, Numbers, Question, TryClone};
 use recursor_types::{RecursorError, Reply};
 use server_core::{After, Order, Outcome, Tick};
-use server_pool::Carrier;
 use std::alloc::Global;
 use std::mem;
 
@@ -32,15 +29,12 @@ pub enum Turned {
     Ended,
 }
 
-/// A question: not begun, under way as the resolution at a place, with the order that was given for it
-/// last, answered, or without an answer for want of memory.
+/// A question: not begun, under way as the resolution at a place, answered, or without an answer for want
+/// of memory.
 #[derive(Drop, Debug)]
 pub enum Played {
     Waiting,
-    Begun {
-        place: usize,
-        order: Option<Box<Order>>,
-    },
+    Begun { place: usize },
     Answered(Box<Reply>),
     Unanswered,
 }
@@ -55,151 +49,110 @@ pub fn no_memory(alloc: Global) -> Reply
     }
 }
 
-/// Gives up an order, and feeds the machine that.
-fn give_up_order<P: ConnectionProvider>(
-    alloc: Global,
-    core: &mut RecursorCore,
-    carrier: &mut Carrier<P>,
-    number: u64,
-    tick: Tick,
-) -> Result<Turned, NoMemory>
-    requires holds { Holds P.ConnectionProvider tick.patience core.old carrier.old }
-    requires moment { core.old.moment ≡ tick.now }
-    ensures vouches { (es : List LogEntry) → P.vouches carrier.new.provider es → P.vouches carrier.old.provider es }
-    ensures holds { Holds P.ConnectionProvider tick.patience core.new carrier.new }
-    ensures moves { Moves P.ConnectionProvider tick.patience tick.now core.old core.new carrier.old carrier.new }
-    ensures moment { core.new.moment ≡ tick.now }
-    ensures falls { OnOk result (rank tick.patience core.new < rank tick.patience core.old) }
-    ensures keeps { rank tick.patience core.new ≤ rank tick.patience core.old }
-    ensures told { (b : Option Begun) → IfOk result (TurnedTold (terms_of core.old) tick.now (P.log carrier.new.provider) b) }
-{
-    let Some(outcome) = carrier.give_up(number, tick.now) else {
-        return Err(NoMemory);
-    };
-    match core.put(alloc, number, outcome, tick)? {
-        After::Ended => Ok(Turned::Again),
-        After::Kept => Ok(Turned::Pending),
-        After::GiveUp => Err(NoMemory),
-        After::Late => Err(NoMemory),
-    }
-}
-
-/// Feeds an outcome to the machine; an order that it gives up is given up. A late outcome, which no
-/// order that is open has, ends the turn as want of memory does; so does want of memory for the cache.
+/// Feeds an outcome of the order that runs to the machine. An order that has ended though it still is
+/// under way is given up: after its last poll, or for want of memory. A late outcome, which no order that
+/// is open has, ends the turn as want of memory does; so does want of memory for the cache.
 fn settle<P: ConnectionProvider>(
     alloc: Global,
     core: &mut RecursorCore,
-    carrier: &mut Carrier<P>,
+    runner: &mut Runner<P>,
     number: u64,
     outcome: Outcome,
     tick: Tick,
 ) -> Result<Turned, NoMemory>
-    requires holds { Holds P.ConnectionProvider tick.patience core.old carrier.old }
+    requires holds { Holds P.ConnectionProvider tick.patience core.old runner.old }
     requires moment { core.old.moment ≡ tick.now }
-    requires fits { TellsThat (P.log carrier.old.provider) (λ log. Fits log tick.now outcome) }
-    ensures vouches { (es : List LogEntry) → P.vouches carrier.new.provider es → P.vouches carrier.old.provider es }
-    ensures holds { Holds P.ConnectionProvider tick.patience core.new carrier.new }
-    ensures moves { Moves P.ConnectionProvider tick.patience tick.now core.old core.new carrier.old carrier.new }
+    requires told { RunsUnder number runner.old.running × TellsThat (P.log runner.old.carrier.provider) (HasTold tick.now (sent_by runner.old) outcome) }
+    ensures vouches { (es : List LogEntry) → P.vouches runner.new.carrier.provider es → P.vouches runner.old.carrier.provider es }
+    ensures holds { Holds P.ConnectionProvider tick.patience core.new runner.new }
+    ensures moves { Moves P.ConnectionProvider tick.patience tick.now core.old core.new runner.old.carrier runner.new.carrier }
     ensures moment { core.new.moment ≡ tick.now }
-    ensures falls { OnOk result (rank tick.patience core.new < rank tick.patience core.old) }
-    ensures keeps { rank tick.patience core.new ≤ rank tick.patience core.old }
-    ensures told { (b : Option Begun) → IfOk result (TurnedTold (terms_of core.old) tick.now (P.log carrier.new.provider) b) }
+    ensures keeps { due tick.patience core.new runner.new ≤ due tick.patience core.old runner.old }
+    ensures told { (b : Option Begun) → IfOk result (TurnedTold (terms_of core.old) tick.now (P.log runner.new.carrier.provider) b) }
 {
-    match core.put(alloc, number, outcome, tick)? {
-        After::Kept => Ok(Turned::Pending),
-        After::Ended => Ok(Turned::Again),
-        After::GiveUp => give_up_order(alloc, core, carrier, number, tick),
-        After::Late => Err(NoMemory),
+    let waits = runner.sent();
+    match core.put(alloc, number, outcome, waits, tick) {
+        Ok(After::Kept) => Ok(Turned::Pending),
+        Ok(After::Ended) => Ok(Turned::Again),
+        Ok(After::GiveUp) => {
+            runner.give_up(number, tick.now);
+            Ok(Turned::Again)
+        }
+        Ok(After::Late) => Err(NoMemory),
+        Err(NoMemory) => {
+            runner.give_up(number, tick.now);
+            Err(NoMemory)
+        }
     }
 }
 
-/// Carries an order. One that patience allows no further poll is given up in place of that; in a run
-/// the machine gives an order up before, at the last poll that patience allows.
-fn carry_order<P: ConnectionProvider>(
+/// Starts an order that the machine gave.
+fn start_order<P: ConnectionProvider>(
     alloc: Global,
     core: &mut RecursorCore,
-    carrier: &mut Carrier<P>,
+    runner: &mut Runner<P>,
     number: u64,
-    order: &Order,
+    order: Box<Order>,
     tick: Tick,
 ) -> Result<Turned, NoMemory>
-    requires holds { Holds P.ConnectionProvider tick.patience core.old carrier.old }
+    requires holds { Holds P.ConnectionProvider tick.patience core.old runner.old }
     requires moment { core.old.moment ≡ tick.now }
-    requires goes { stand_at carrier.old.slots (key_of number order.now) ≡ Unseen
-        → TellsThat (P.log carrier.old.provider) (λ log. GoesToServer (given_of (terms_of core.old)) log log.next order.now) }
-    ensures vouches { (es : List LogEntry) → P.vouches carrier.new.provider es → P.vouches carrier.old.provider es }
-    ensures holds { Holds P.ConnectionProvider tick.patience core.new carrier.new }
-    ensures moves { Moves P.ConnectionProvider tick.patience tick.now core.old core.new carrier.old carrier.new }
+    requires goes { GoesRight (P.log runner.old.carrier.provider) order.value (given_of (terms_of core.old)) }
+    ensures vouches { (es : List LogEntry) → P.vouches runner.new.carrier.provider es → P.vouches runner.old.carrier.provider es }
+    ensures holds { Holds P.ConnectionProvider tick.patience core.new runner.new }
+    ensures moves { Moves P.ConnectionProvider tick.patience tick.now core.old core.new runner.old.carrier runner.new.carrier }
     ensures moment { core.new.moment ≡ tick.now }
-    ensures falls { OnOk result (rank tick.patience core.new < rank tick.patience core.old) }
-    ensures keeps { rank tick.patience core.new ≤ rank tick.patience core.old }
-    ensures told { (b : Option Begun) → IfOk result (TurnedTold (terms_of core.old) tick.now (P.log carrier.new.provider) b) }
+    ensures keeps { rank core.new ≤ rank core.old }
+    ensures told { (b : Option Begun) → IfOk result (TurnedTold (terms_of core.old) tick.now (P.log runner.new.carrier.provider) b) }
 {
-    if carrier.polls(number, order) >= tick.patience.max(1) {
-        return give_up_order(alloc, core, carrier, number, tick);
-    }
-    let Some(outcome) = carrier.carry(number, order, tick.now)? else {
-        return Err(NoMemory);
-    };
-    settle(alloc, core, carrier, number, outcome, tick)
+    let outcome = runner.start(number, order, tick)?;
+    settle(alloc, core, runner, number, outcome, tick)
 }
 
 /// Polls an order that the machine waits for.
 fn poll_order<P: ConnectionProvider>(
     alloc: Global,
     core: &mut RecursorCore,
-    carrier: &mut Carrier<P>,
+    runner: &mut Runner<P>,
     number: u64,
-    order: &Order,
     tick: Tick,
 ) -> Result<Turned, NoMemory>
-    requires holds { Holds P.ConnectionProvider tick.patience core.old carrier.old }
+    requires holds { Holds P.ConnectionProvider tick.patience core.old runner.old }
     requires moment { core.old.moment ≡ tick.now }
-    ensures vouches { (es : List LogEntry) → P.vouches carrier.new.provider es → P.vouches carrier.old.provider es }
-    ensures holds { Holds P.ConnectionProvider tick.patience core.new carrier.new }
-    ensures moves { Moves P.ConnectionProvider tick.patience tick.now core.old core.new carrier.old carrier.new }
+    ensures vouches { (es : List LogEntry) → P.vouches runner.new.carrier.provider es → P.vouches runner.old.carrier.provider es }
+    ensures holds { Holds P.ConnectionProvider tick.patience core.new runner.new }
+    ensures moves { Moves P.ConnectionProvider tick.patience tick.now core.old core.new runner.old.carrier runner.new.carrier }
     ensures moment { core.new.moment ≡ tick.now }
-    ensures falls { OnOk result (rank tick.patience core.new < rank tick.patience core.old) }
-    ensures keeps { rank tick.patience core.new ≤ rank tick.patience core.old }
-    ensures told { (b : Option Begun) → IfOk result (TurnedTold (terms_of core.old) tick.now (P.log carrier.new.provider) b) }
+    ensures falls { OnOk result (due tick.patience core.new runner.new < due tick.patience core.old runner.old) }
+    ensures keeps { due tick.patience core.new runner.new ≤ due tick.patience core.old runner.old }
+    ensures told { (b : Option Begun) → IfOk result (TurnedTold (terms_of core.old) tick.now (P.log runner.new.carrier.provider) b) }
 {
-    if !carrier.is_under_way(number, order) {
-        return Err(NoMemory);
-    }
-    carry_order(alloc, core, carrier, number, order, tick)
+    let outcome = runner.poll(number, tick)?;
+    settle(alloc, core, runner, number, outcome, tick)
 }
 
-/// One step of a question: an order is started, or polled, or its reply given. The order that was
-/// given last is kept, to be handed in again.
+/// One step of a question: an order is started, or polled, or its reply given.
 fn step<P: ConnectionProvider>(
     alloc: Global,
     core: &mut RecursorCore,
-    carrier: &mut Carrier<P>,
+    runner: &mut Runner<P>,
     r: usize,
-    open: &mut Option<Box<Order>>,
     tick: Tick,
 ) -> Result<Turned, NoMemory>
-    requires holds { Holds P.ConnectionProvider tick.patience core.old carrier.old }
+    requires holds { Holds P.ConnectionProvider tick.patience core.old runner.old }
     requires moment { core.old.moment ≡ tick.now }
-    ensures vouches { (es : List LogEntry) → P.vouches carrier.new.provider es → P.vouches carrier.old.provider es }
-    ensures holds { Holds P.ConnectionProvider tick.patience core.new carrier.new }
-    ensures moves { Moves P.ConnectionProvider tick.patience tick.now core.old core.new carrier.old carrier.new }
+    ensures vouches { (es : List LogEntry) → P.vouches runner.new.carrier.provider es → P.vouches runner.old.carrier.provider es }
+    ensures holds { Holds P.ConnectionProvider tick.patience core.new runner.new }
+    ensures moves { Moves P.ConnectionProvider tick.patience tick.now core.old core.new runner.old.carrier runner.new.carrier }
     ensures moment { core.new.moment ≡ tick.now }
-    ensures told { IfOk result (TurnedTold (terms_of core.old) tick.now (P.log carrier.new.provider) (begun_at core.old r)) }
-    ensures falls { IfOk result (TurnFalls (rank tick.patience core.new) (rank tick.patience core.old)) }
-    ensures keeps { rank tick.patience core.new ≤ rank tick.patience core.old }
+    ensures told { IfOk result (TurnedTold (terms_of core.old) tick.now (P.log runner.new.carrier.provider) (begun_at core.old r)) }
+    ensures falls { IfOk result (TurnFalls (due tick.patience core.new runner.new) (due tick.patience core.old runner.old)) }
+    ensures keeps { due tick.patience core.new runner.new ≤ due tick.patience core.old runner.old }
 {
     let next = core.next(alloc, r)?;
     match next {
-        Step::Order { number, order } => {
-            let turned = carry_order(alloc, core, carrier, number, &order, tick);
-            *open = Some(order);
-            turned
-        }
-        Step::Waiting { number } => match open {
-            Some(order) => poll_order(alloc, core, carrier, number, order, tick),
-            None => Err(NoMemory),
-        },
+        Step::Order { number, order } => start_order(alloc, core, runner, number, order, tick),
+        Step::Waiting { number } => poll_order(alloc, core, runner, number, tick),
         Step::Done(reply) => Ok(Turned::Done(reply)),
         Step::Ended => Ok(Turned::Ended),
     }
@@ -209,23 +162,22 @@ fn step<P: ConnectionProvider>(
 fn turn<P: ConnectionProvider>(
     alloc: Global,
     core: &mut RecursorCore,
-    carrier: &mut Carrier<P>,
+    runner: &mut Runner<P>,
     r: usize,
-    open: &mut Option<Box<Order>>,
     tick: Tick,
 ) -> Result<Turned, NoMemory>
-    requires holds { Holds P.ConnectionProvider tick.patience core.old carrier.old }
+    requires holds { Holds P.ConnectionProvider tick.patience core.old runner.old }
     requires moment { core.old.moment ≡ tick.now }
-    ensures vouches { (es : List LogEntry) → P.vouches carrier.new.provider es → P.vouches carrier.old.provider es }
-    ensures holds { Holds P.ConnectionProvider tick.patience core.new carrier.new }
-    ensures moves { Moves P.ConnectionProvider tick.patience tick.now core.old core.new carrier.old carrier.new }
+    ensures vouches { (es : List LogEntry) → P.vouches runner.new.carrier.provider es → P.vouches runner.old.carrier.provider es }
+    ensures holds { Holds P.ConnectionProvider tick.patience core.new runner.new }
+    ensures moves { Moves P.ConnectionProvider tick.patience tick.now core.old core.new runner.old.carrier runner.new.carrier }
     ensures moment { core.new.moment ≡ tick.now }
-    ensures told { IfOk result (TurnedTold (terms_of core.old) tick.now (P.log carrier.new.provider) (begun_at core.old r)) }
-    ensures falls { IfOk result (TurnFalls (rank tick.patience core.new) (rank tick.patience core.old)) }
-    ensures keeps { rank tick.patience core.new ≤ rank tick.patience core.old }
+    ensures told { IfOk result (TurnedTold (terms_of core.old) tick.now (P.log runner.new.carrier.provider) (begun_at core.old r)) }
+    ensures falls { IfOk result (TurnFalls (due tick.patience core.new runner.new) (due tick.patience core.old runner.old)) }
+    ensures keeps { due tick.patience core.new runner.new ≤ due tick.patience core.old runner.old }
 {
     'steps: loop {
-        match step(alloc, core, carrier, r, open, tick)? {
+        match step(alloc, core, runner, r, tick)? {
             Turned::Again => {}
             Turned::Pending => return Ok(Turned::Pending),
             Turned::Done(reply) => return Ok(Turned::Done(reply)),
@@ -237,20 +189,20 @@ fn turn<P: ConnectionProvider>(
 /// Ends a resolution, and gives up the order that it waited for.
 fn abandon<P: ConnectionProvider>(
     core: &mut RecursorCore,
-    carrier: &mut Carrier<P>,
+    runner: &mut Runner<P>,
     r: usize,
     tick: Tick,
 )
-    requires holds { Holds P.ConnectionProvider tick.patience core.old carrier.old }
+    requires holds { Holds P.ConnectionProvider tick.patience core.old runner.old }
     requires moment { core.old.moment ≡ tick.now }
-    ensures vouches { (es : List LogEntry) → P.vouches carrier.new.provider es → P.vouches carrier.old.provider es }
-    ensures holds { Holds P.ConnectionProvider tick.patience core.new carrier.new }
-    ensures moves { Moves P.ConnectionProvider tick.patience tick.now core.old core.new carrier.old carrier.new }
+    ensures vouches { (es : List LogEntry) → P.vouches runner.new.carrier.provider es → P.vouches runner.old.carrier.provider es }
+    ensures holds { Holds P.ConnectionProvider tick.patience core.new runner.new }
+    ensures moves { Moves P.ConnectionProvider tick.patience tick.now core.old core.new runner.old.carrier runner.new.carrier }
     ensures moment { core.new.moment ≡ tick.now }
-    ensures keeps { (p : ℕ) → rank p core.new ≤ rank p core.old }
+    ensures keeps { (p : ℕ) → due p core.new runner.new ≤ due p core.old runner.old }
 {
     if let Some(number) = core.cancel(r) {
-        let _outcome = carrier.give_up(number, tick.now);
+        runner.give_up(number, tick.now);
     }
 }
 
@@ -259,28 +211,27 @@ fn abandon<P: ConnectionProvider>(
 fn answer_of<P: ConnectionProvider>(
     alloc: Global,
     core: &mut RecursorCore,
-    carrier: &mut Carrier<P>,
+    runner: &mut Runner<P>,
     r: usize,
-    open: &mut Option<Box<Order>>,
     tick: Tick,
 ) -> Result<Option<Box<Reply>>, NoMemory>
-    requires holds { Holds P.ConnectionProvider tick.patience core.old carrier.old }
+    requires holds { Holds P.ConnectionProvider tick.patience core.old runner.old }
     requires moment { core.old.moment ≤ tick.now }
-    ensures vouches { (es : List LogEntry) → P.vouches carrier.new.provider es → P.vouches carrier.old.provider es }
-    ensures holds { Holds P.ConnectionProvider tick.patience core.new carrier.new }
-    ensures moves { Moves P.ConnectionProvider tick.patience tick.now core.old core.new carrier.old carrier.new }
+    ensures vouches { (es : List LogEntry) → P.vouches runner.new.carrier.provider es → P.vouches runner.old.carrier.provider es }
+    ensures holds { Holds P.ConnectionProvider tick.patience core.new runner.new }
+    ensures moves { Moves P.ConnectionProvider tick.patience tick.now core.old core.new runner.old.carrier runner.new.carrier }
     ensures moment { core.new.moment ≡ tick.now }
-    ensures told { IfOk result (λ reply. IfSome reply (λ given. ReplyTold (terms_of core.old) tick.now (P.log carrier.new.provider) (begun_at core.old r) given.value)) }
-    ensures falls { IfOk result (λ reply. IfNone reply (rank tick.patience core.new < rank tick.patience core.old)) }
-    ensures keeps { rank tick.patience core.new ≤ rank tick.patience core.old }
+    ensures told { IfOk result (λ reply. IfSome reply (λ given. ReplyTold (terms_of core.old) tick.now (P.log runner.new.carrier.provider) (begun_at core.old r) given.value)) }
+    ensures falls { IfOk result (λ reply. IfNone reply (due tick.patience core.new runner.new < due tick.patience core.old runner.old)) }
+    ensures keeps { due tick.patience core.new runner.new ≤ due tick.patience core.old runner.old }
 {
     core.reach(tick.now);
-    match turn(alloc, core, carrier, r, open, tick) {
+    match turn(alloc, core, runner, r, tick) {
         Ok(Turned::Pending) => Ok(None),
         Ok(Turned::Done(reply)) => Ok(Some(reply)),
         Ok(_) => Err(NoMemory),
         Err(_) => {
-            abandon(core, carrier, r, tick);
+            abandon(core, runner, r, tick);
             Err(NoMemory)
         }
     }
@@ -298,7 +249,7 @@ pub fn begun(alloc: Global, core: &mut RecursorCore, question: &Question, now: u
         return Played::Unanswered;
     };
     match core.begin(question, now) {
-        Ok(place) => Played::Begun { place, order: None },
+        Ok(place) => Played::Begun { place },
         Err(error) => {
             let reply = Reply {
                 outcome: Err(error),
@@ -317,7 +268,7 @@ fn under_way(plays: &[Played], q: usize) -> Option<usize>
     ensures { IsUnderWay plays.now q result }
 {
     match plays.get(q) {
-        Some(Played::Begun { place, .. }) => Some(*place),
+        Some(Played::Begun { place }) => Some(*place),
         _ => None,
     }
 }
@@ -340,55 +291,31 @@ fn leave_unanswered(plays: &mut Vec<Played>, q: usize)
     plays[q] = Played::Unanswered;
 }
 
-/// Takes out the order that was given last for a question that is under way.
-fn take_order(plays: &mut Vec<Played>, q: usize, place: usize) -> Option<Box<Order>>
-    requires { IsUnderWay plays.old.items q (Some place) }
-    ensures set { plays.new.items ≡ slice_set plays.old.items q (Played.Begun place None) }
-    ensures open { open_plays plays.new.items ≡ open_plays plays.old.items }
-    ensures count { vec_len plays.new ≡ vec_len plays.old }
-{
-    match mem::replace(&mut plays[q], Played::Begun { place, order: None }) {
-        Played::Begun { order, .. } => order,
-        _ => None,
-    }
-}
-
-/// Keeps the order that was given last for a question that is under way.
-fn keep_order(plays: &mut Vec<Played>, q: usize, place: usize, order: Option<Box<Order>>)
-    requires { IsUnderWay plays.old.items q (Some place) }
-    ensures set { plays.new.items ≡ slice_set plays.old.items q (Played.Begun place order) }
-    ensures open { open_plays plays.new.items ≡ open_plays plays.old.items }
-    ensures count { vec_len plays.new ≡ vec_len plays.old }
-{
-    plays[q] = Played::Begun { place, order };
-}
-
 /// Gives the question that is under way as the resolution at a place a turn.
 fn play_at<P: ConnectionProvider>(
     alloc: Global,
     core: &mut RecursorCore,
-    carrier: &mut Carrier<P>,
+    runner: &mut Runner<P>,
     plays: &mut Vec<Played>,
     q: usize,
     place: usize,
     tick: Tick,
 )
-    requires holds { Holds P.ConnectionProvider tick.patience core.old carrier.old }
+    requires holds { Holds P.ConnectionProvider tick.patience core.old runner.old }
     requires moment { core.old.moment ≤ tick.now }
     requires under_way { IsUnderWay plays.old.items q (Some place) }
-    ensures vouches { (es : List LogEntry) → P.vouches carrier.new.provider es → P.vouches carrier.old.provider es }
-    ensures holds { Holds P.ConnectionProvider tick.patience core.new carrier.new }
-    ensures moves { Moves P.ConnectionProvider tick.patience tick.now core.old core.new carrier.old carrier.new }
+    ensures vouches { (es : List LogEntry) → P.vouches runner.new.carrier.provider es → P.vouches runner.old.carrier.provider es }
+    ensures holds { Holds P.ConnectionProvider tick.patience core.new runner.new }
+    ensures moves { Moves P.ConnectionProvider tick.patience tick.now core.old core.new runner.old.carrier runner.new.carrier }
     ensures moment { core.new.moment ≡ tick.now }
-    ensures plays { (start : ℕ) (turns rest : List Turn) (questions : List Question) → Contains (run_moments start turns) tick.now → PlaysHold core.old (P.log carrier.old.provider) start turns rest questions plays.old.items
-        → PlaysHold core.new (P.log carrier.new.provider) start turns rest questions plays.new.items }
-    ensures falls { work tick.patience core.new plays.new.items < work tick.patience core.old plays.old.items }
+    ensures plays { (start : ℕ) (turns rest : List Turn) (questions : List Question) → Contains (run_moments start turns) tick.now → PlaysHold core.old (P.log runner.old.carrier.provider) start turns rest questions plays.old.items
+        → PlaysHold core.new (P.log runner.new.carrier.provider) start turns rest questions plays.new.items }
+    ensures falls { work tick.patience core.new runner.new plays.new.items < work tick.patience core.old runner.old plays.old.items }
     ensures count { vec_len plays.new ≡ vec_len plays.old }
 {
-    let mut open = take_order(plays, q, place);
-    match answer_of(alloc, core, carrier, place, &mut open, tick) {
+    match answer_of(alloc, core, runner, place, tick) {
         Ok(Some(reply)) => put_answer(plays, q, reply),
-        Ok(None) => keep_order(plays, q, place, open),
+        Ok(None) => {}
         Err(_) => leave_unanswered(plays, q),
     }
 }
@@ -397,26 +324,26 @@ fn play_at<P: ConnectionProvider>(
 pub fn play<P: ConnectionProvider>(
     alloc: Global,
     core: &mut RecursorCore,
-    carrier: &mut Carrier<P>,
+    runner: &mut Runner<P>,
     plays: &mut Vec<Played>,
     q: usize,
     tick: Tick,
 ) -> bool
-    requires holds { Holds P.ConnectionProvider tick.patience core.old carrier.old }
+    requires holds { Holds P.ConnectionProvider tick.patience core.old runner.old }
     requires moment { core.old.moment ≤ tick.now }
-    ensures vouches { (es : List LogEntry) → P.vouches carrier.new.provider es → P.vouches carrier.old.provider es }
-    ensures holds { Holds P.ConnectionProvider tick.patience core.new carrier.new }
-    ensures moves { Moves P.ConnectionProvider tick.patience tick.now core.old core.new carrier.old carrier.new }
+    ensures vouches { (es : List LogEntry) → P.vouches runner.new.carrier.provider es → P.vouches runner.old.carrier.provider es }
+    ensures holds { Holds P.ConnectionProvider tick.patience core.new runner.new }
+    ensures moves { Moves P.ConnectionProvider tick.patience tick.now core.old core.new runner.old.carrier runner.new.carrier }
     ensures moment { (core.new.moment ≡ core.old.moment) ⊎ (core.new.moment ≡ tick.now) }
-    ensures plays { (start : ℕ) (turns rest : List Turn) (questions : List Question) → Contains (run_moments start turns) tick.now → PlaysHold core.old (P.log carrier.old.provider) start turns rest questions plays.old.items
-        → PlaysHold core.new (P.log carrier.new.provider) start turns rest questions plays.new.items }
-    ensures falls { MatchBool result (work tick.patience core.new plays.new.items < work tick.patience core.old plays.old.items) (work tick.patience core.new plays.new.items ≤ work tick.patience core.old plays.old.items) }
+    ensures plays { (start : ℕ) (turns rest : List Turn) (questions : List Question) → Contains (run_moments start turns) tick.now → PlaysHold core.old (P.log runner.old.carrier.provider) start turns rest questions plays.old.items
+        → PlaysHold core.new (P.log runner.new.carrier.provider) start turns rest questions plays.new.items }
+    ensures falls { MatchBool result (work tick.patience core.new runner.new plays.new.items < work tick.patience core.old runner.old plays.old.items) (work tick.patience core.new runner.new plays.new.items ≤ work tick.patience core.old runner.old plays.old.items) }
     ensures count { vec_len plays.new ≡ vec_len plays.old }
 {
     let Some(place) = under_way(plays, q) else {
         return false;
     };
-    play_at(alloc, core, carrier, plays, q, place, tick);
+    play_at(alloc, core, runner, plays, q, place, tick);
     true
 }
 

@@ -1,20 +1,19 @@
 //! The way of one question: from the roots down the zone cuts to the servers of its name, and the
 //! question itself at them; at each step what the cache has comes first (RFC 1034 section 5.3.3).
-ghost use Rattle.std.specs.Prelude.{◌≡◌, ◌≢◌, max, ◌<◌, ◌≤◌, ◌+◌, [], ℕ, true, length, Ok, Err, Some, None, IfOk, IfSome, IsSome, OnOk, OnErr};
-ghost use Rattle.dns_core.specs.Log.{Log, Extends};
+ghost use Rattle.std.specs.Prelude.{◌≡◌, max, ◌<◌, ◌≤◌, ◌+◌, [], ℕ, true, length, Ok, Err, Some, None, IfOk, IfSome, IsSome, OnOk, OnErr, option_copied};
+ghost use Rattle.dns_core.specs.Log.{Log};
 ghost use Rattle.dns_core.specs.declared.message.Query.{Query};
 ghost use Rattle.recursor_core.specs.Replies.{Terms, given_of, ReplyHolds, IsReply};
 ghost use Rattle.recursor_core.specs.Tried.{machine_timer};
 ghost use Rattle.recursor_core.specs.Lookup.{want_of, IsWaiting};
-ghost use Rattle.recursor_core.specs.Pools.{PoolsHold, IsNext, StepGoes};
-ghost use Rattle.server_core.specs.Order.{entry_of};
-ghost use Rattle.order_carrier.specs.Fits.{Fits};
+ghost use Rattle.recursor_core.specs.Pools.{PoolsHold, StepGoes};
+ghost use Rattle.recursor_core.specs.Order.{last_entry, IsPut};
 ghost use Rattle.recursor_walk.specs.Stage.{IsCandidate};
-ghost use Rattle.recursor_core.specs.Walk.{steps, rank, begin_steps, Goes, Recalls};
+ghost use Rattle.recursor_core.specs.Walk.{steps, begin_steps, Goes, Recalls};
 ghost use Rattle.recursor_core.specs.Counted.{Stands, Answers, IsRecalled, may_answer};
 ghost use Rattle.recursor_core.specs.Remembered.{telling_of_walk, remembered};
 ghost use Rattle.recursor_core.specs.declared.lookup.Want.TheVariants as want;
-ghost use Rattle.recursor_core.specs.Derived.{FoundHolds, WayHolds, WalkHolds, WalkComes, LeavesBehind};
+ghost use Rattle.recursor_core.specs.Derived.{FoundHolds, WayHolds, WalkHolds, WalkTaken, WalkComes, LeavesBehind};
 
 use crate::counted::Counted;
 use crate::lookup::{Ask, Found, Lookup};
@@ -31,7 +30,7 @@ use recursor_walk::{
 use resolution::Verdict;
 use resolver_cache::ResponseCache;
 use resolver_settings::AccessControlSet;
-use server_core::{After, Order, Outcome, Tick};
+use server_core::{After, Order, Outcome, Sent, Tick};
 use std::alloc::Global;
 use std::mem;
 
@@ -178,7 +177,7 @@ impl Walk {
     ) -> Result<Option<(u64, Order)>, NoMemory>
         requires want { want_of self.old.lookup.ask ≡ want.Step }
         ensures falls { OnOk result (steps self.new < steps self.old) }
-        ensures keeps { (patience : ℕ) → OnErr result (rank patience self.new ≤ rank patience self.old) }
+        ensures keeps { OnErr result (steps self.new ≤ steps self.old) }
         ensures holds { (terms : Terms) (log : Log) (q : Query) → PoolsHold terms since tick.now log pools.old
             → WalkHolds terms since tick.now begun log q self.old → WalkHolds terms since tick.now begun log q self.new × PoolsHold terms since tick.now log pools.new }
         ensures goes { (terms : Terms) (log : Log) → PoolsHold terms since tick.now log pools.old → IfOk result (StepGoes (given_of terms) log (since + 1)) }
@@ -194,19 +193,19 @@ impl Walk {
         pools: &mut Pools,
         begun: u64,
         outcome: Outcome,
+        waits: Option<&Sent>,
         tick: Tick,
     ) -> Result<After, NoMemory>
         requires { IsWaiting self.old.lookup.ask }
-        ensures falls { IfOk result (λ after. after ≢ After.Late → after ≢ After.GiveUp → rank tick.patience self.new < rank tick.patience self.old) }
-        ensures keeps { rank tick.patience self.new ≤ rank tick.patience self.old }
+        ensures keeps { steps self.new ≤ steps self.old }
         ensures late { result ≡ Ok After.Late → self.new ≡ self.old }
-        ensures holds { (terms : Terms) (greatest moment : ℕ) (log longer : Log) (q : Query)
-            → terms.patience ≤ tick.patience → IsNext greatest (entry_of outcome) → moment ≤ tick.now
-            → PoolsHold terms greatest moment log pools.old → WalkHolds terms greatest moment begun log q self.old → Extends log longer → Fits longer tick.now outcome
-            → WalkHolds terms (max greatest (entry_of outcome)) tick.now begun longer q self.new × PoolsHold terms (max greatest (entry_of outcome)) tick.now longer pools.new }
+        ensures holds { (terms : Terms) (greatest moment : ℕ) (log longer : Log) (q : Query) → terms.patience ≤ tick.patience
+            → IsPut greatest moment log tick (option_copied waits.entry) outcome result longer
+            → PoolsHold terms greatest moment log pools.old → WalkHolds terms greatest moment begun log q self.old
+            → WalkTaken terms (max greatest (last_entry result (option_copied waits.entry) outcome)) tick.now begun longer q self.new pools.new }
     {
         self.lookup
-            .take(alloc, pools, &self.zone, begun, outcome, tick)
+            .take(alloc, pools, &self.zone, begun, outcome, waits, tick)
     }
 
     /// Hears what was told to the lookup; a reply where the walk ends with it.

@@ -10,7 +10,7 @@ use Rattle.dns_core.specs.declared.log.LogEntry.{LogEntry}
 use Rattle.dns_core.specs.declared.log.LogEntry.TheVariants.{Opened, Asked}
 use Rattle.resolution.specs.Names.{same_query}
 use Rattle.resolution.specs.Given.{Given}
-use Rattle.resolution.specs.Lookups.{Answered, class_of_answer, End, PoolRun}
+use Rattle.resolution.specs.Lookups.{Answered, class_of_answer, End, PoolRun, IsBounded}
 use Rattle.resolution.specs.Ending.{Known, by_address, same_ip, is_begun, EndsSend, EndSends, Finished}
 use Rattle.resolution.specs.Ending.EndsSend.{open_refused, ask_refused, open_failed, ask_failed, answered, given_up}
 use Rattle.resolution.specs.Ending.EndSends.{no_send, and_send}
@@ -61,6 +61,7 @@ module _ (q p : Query) (same : same_query q p ≡ true) where
       rises = f.rises;
       logged = EndSends-same f.logged;
       run = subst (λ (c : Answered → Class). PoolRun (by_address given.timeout) c f.ips f.ends result f.start f.now) (class-same q p same) f.run;
+      bounded = subst (λ (c : Answered → Class). IsBounded (by_address given.timeout) c f.ips f.ends) (class-same q p same) f.bounded;
       since = f.since;
       till = f.till;
       asked = f.asked;

@@ -99,6 +99,7 @@ module _ (given : Given) (less : ℕ) (fewer : less ≤ given.patience) (log new
       rises = f.rises;
       logged = EndSends-extend f.logged;
       run = f.run;
+      bounded = f.bounded;
       since = f.since;
       till = f.till;
       asked = f.asked;

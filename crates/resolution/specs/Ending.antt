@@ -18,7 +18,7 @@ use Rattle.resolution.specs.Names.{root, is_above, walk, same_query}
 use Rattle.resolution.specs.Given.{Given}
 use Rattle.resolution.specs.Telling.{Logged}
 use Rattle.resolution.specs.Serving.{Serves, Delegates, glue, allowed}
-use Rattle.resolution.specs.Lookups.{Answered, class_of_answer, End, Rules, PoolRun}
+use Rattle.resolution.specs.Lookups.{Answered, class_of_answer, End, Rules, PoolRun, IsBounded}
 
 -- What a caller knows of the moments of a finished lookup (its question, addresses, entries, their ends and moments, its start and its answer),
 -- and what it knows of counts that stand at their limit.
@@ -113,6 +113,8 @@ pub record Finished (given : Given) (known : Known) (log : Log) (t0 : ℕ) (q : 
   pub rises : Rise g
   pub logged : EndSends given log q ips g ends moments
   pub run : PoolRun (by_address given.timeout) (class_of_answer q) ips ends result start now
+  -- at most five ends for each place of an address
+  pub bounded : IsBounded (by_address given.timeout) (class_of_answer q) ips ends
   pub since : IsTrue (list_all (nat_le start) moments)
   pub till : IsTrue (list_all (λ m. nat_le m now) moments)
   pub asked : t0 ≤ now

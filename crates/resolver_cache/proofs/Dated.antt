@@ -1,5 +1,5 @@
 -- The expiries stay those of the entries where one entry is added or taken out.
-use Rattle.std.proofs.Common.{◌≡◌, ◌∙◌, ℕ, Bool, true, false, cond, List, [], ◌∷◌, ◌++◌, refl, ap, sym, Some, None}
+use Rattle.std.proofs.Common.{◌≡◌, ◌∙◌, ℕ, Bool, true, false, cond, List, [], ◌∷◌, ◌++◌, refl, ap, sym, subst, Some, None}
 use Rattle.std.specs.Prelude.{◌==◌}
 use Rattle.std.specs.BTreeMap.{is_at, insert_entry}
 use Rattle.std.specs.BTreeSet.{BTreeSet, contains}
@@ -29,6 +29,13 @@ last_taken n e [] h = ap (λ (b : Bool). cond b [] ((n, e) ∷ [])) (at_itself n
 last_taken n e (o ∷ es) h =
     ap (λ (c : Ordering). cond (is_eq c) (es ++ (n, e) ∷ []) (o ∷ remove_entry (is_at (nat_cmp n)) (es ++ (n, e) ∷ []))) (above_is n o.0 h.0)
     ∙ ap (λ (l : List (ℕ × Entry)). o ∷ l) (last_taken n e es h.1)
+
+-- what is said of an expiry is said of one that is the same
+pub said_of_same : (new old : BTreeSet (ℕ × ℕ)) (b : Bool) (n : ℕ) {x y : ℕ} → x ≡ y
+    → ((q : ℕ × ℕ) → contains by_expiry new q ≡ cond (is_at (by_expiry (x, n)) q) b (contains by_expiry old q))
+    → (q : ℕ × ℕ) → contains by_expiry new q ≡ cond (is_at (by_expiry (y, n)) q) b (contains by_expiry old q)
+said_of_same new old b n same has =
+    subst (λ (z : ℕ). (q : ℕ × ℕ) → contains by_expiry new q ≡ cond (is_at (by_expiry (z, n)) q) b (contains by_expiry old q)) same has
 
 with_itself : (b : Bool) → cond b true false ≡ b
 with_itself true = refl

@@ -1,4 +1,5 @@
 pub mod Entry
+pub mod Kept
 pub mod Life
 pub mod Lowering
 pub mod Placing

@@ -11,8 +11,9 @@ ghost use Rattle.std.specs.Map.{values_of};
 use crate::bounds::ReversedTtl;
 use crate::entry::{CachedResponse, Entry};
 use crate::index::Index;
+use crate::kept_entry::KeptEntry;
 use crate::life::{life_of, moment_after};
-use crate::lowering::{lowered, seconds_between};
+use crate::lowering::seconds_between;
 use dns_core::{Message, NetError, NoMemory, Query, TryClone};
 use resolver_settings::TtlConfig;
 use std::alloc::Global;
@@ -50,7 +51,7 @@ fn new_expiry(index: &Index, query: &Query, now: u64, clamp: bool, life: u64) ->
         return whole;
     }
     match index.current_for(query, now) {
-        Some(e) => whole.min(e.expiry),
+        Some(e) => whole.min(e.expiry()),
         None => whole,
     }
 }
@@ -97,10 +98,10 @@ impl ResponseCache {
     {
         match self.index.current_for(query, now) {
             Some(e) => {
-                let seconds = seconds_between(e.written, now);
+                let seconds = seconds_between(e.written(), now);
                 Ok(Some(CachedResponse {
-                    response: lowered(alloc, &e.response, seconds)?,
-                    source: e.source,
+                    response: e.lowered(alloc, seconds)?,
+                    source: e.source(),
                 }))
             }
             None => Ok(None),
@@ -108,7 +109,7 @@ impl ResponseCache {
     }
 
     /// The entry for a question, where it is current at a moment: its response as it was written.
-    pub fn current(&self, query: &Query, now: u64) -> Option<&Entry>
+    pub fn current(&self, query: &Query, now: u64) -> Option<&KeptEntry>
         ensures { option_copied result ≡ current_for query.now now self.now.entries }
     {
         self.index.current_for(query, now)
@@ -168,7 +169,8 @@ impl ResponseCache {
             expiry,
             source,
         };
-        self.index.put(alloc, self.size, entry)
+        let kept = KeptEntry::new(alloc, entry)?;
+        self.index.put(alloc, self.size, kept)
     }
 
     pub fn entry_count(&self) -> u64

@@ -13,7 +13,7 @@ ghost use Rattle.resolver_cache.specs.Placing.{with_entry};
 ghost use Rattle.resolver_cache.specs.Writings.{number_of, AreBelow};
 ghost use Rattle.resolver_cache.specs.Index.{number_at, ArePlaced, AreSingle};
 
-use crate::entry::Entry;
+use crate::kept_entry::KeptEntry;
 use crate::writings::Writings;
 use dns_core::{NoMemory, Query, TryClone};
 use std::alloc::Global;
@@ -72,7 +72,7 @@ impl Index {
     }
 
     /// The entry for a question.
-    pub(crate) fn entry_for(&self, query: &Query) -> Option<&Entry>
+    pub(crate) fn entry_for(&self, query: &Query) -> Option<&KeptEntry>
         requires { ArePlaced self.now.writings self.now.places }
         ensures { option_copied result ≡ find (is_for query.now) (values_of self.now.writings) }
     {
@@ -83,12 +83,12 @@ impl Index {
     }
 
     /// The entry for a question, where it is current.
-    pub(crate) fn current_for(&self, query: &Query, now: u64) -> Option<&Entry>
+    pub(crate) fn current_for(&self, query: &Query, now: u64) -> Option<&KeptEntry>
         requires { ArePlaced self.now.writings self.now.places }
         ensures { option_copied result ≡ current_for query.now now (values_of self.now.writings) }
     {
         let found = self.entry_for(query)?;
-        if found.is_current(now) {
+        if now <= found.expiry() {
             Some(found)
         } else {
             None
@@ -110,7 +110,7 @@ impl Index {
     }
 
     /// Adds an entry, and its number under its question.
-    fn add(&mut self, number: u64, key: Query, entry: Entry) -> Result<(), NoMemory>
+    fn add(&mut self, number: u64, key: Query, entry: KeptEntry) -> Result<(), NoMemory>
         requires { AreBelow number self.old.writings }
         ensures ok { OnOk result (self.new.writings ≡ self.old.writings ++ (number, entry) ∷ []) }
         ensures places { OnOk result ((q : Question) → number_at self.new.places q ≡ cond (is_same_question key q) (Some number) (number_at self.old.places q)) }
@@ -136,7 +136,7 @@ impl Index {
         ensures placed { ArePlaced self.new.writings self.new.places }
     {
         match self.writings.take(number) {
-            Some(gone) => displace(&mut self.places, &gone.query),
+            Some(gone) => displace(&mut self.places, gone.query()),
             None => {}
         }
     }
@@ -147,7 +147,7 @@ impl Index {
         before: u64,
         number: u64,
         key: Query,
-        entry: Entry,
+        entry: KeptEntry,
     ) -> Result<(), NoMemory>
         requires own { number_of (is_for entry.query) self.old.writings ≡ Some before }
         requires above { AreBelow number self.old.writings }
@@ -166,7 +166,13 @@ impl Index {
 
     /// Writes an entry for a question that has none, in the place of the one that expires first
     /// where there are as many as the size.
-    fn put_new(&mut self, size: u64, number: u64, key: Query, entry: Entry) -> Result<(), NoMemory>
+    fn put_new(
+        &mut self,
+        size: u64,
+        number: u64,
+        key: Query,
+        entry: KeptEntry,
+    ) -> Result<(), NoMemory>
         requires new { number_of (is_for entry.query) self.old.writings ≡ None }
         requires above { AreBelow number self.old.writings }
         requires key { key ≡ entry.query }
@@ -195,7 +201,7 @@ impl Index {
         alloc: Global,
         size: u64,
         number: u64,
-        entry: Entry,
+        entry: KeptEntry,
     ) -> Result<(), NoMemory>
         requires above { AreBelow number self.old.writings }
         requires placed { ArePlaced self.old.writings self.old.places }
@@ -205,8 +211,8 @@ impl Index {
         ensures err { OnErr result (self.new.writings ≡ self.old.writings) }
         ensures placed { ArePlaced self.new.writings self.new.places }
     {
-        let key = entry.query.try_clone(alloc)?;
-        match self.number_for(&entry.query) {
+        let key = entry.query().try_clone(alloc)?;
+        match self.number_for(entry.query()) {
             Some(before) => {
                 self.put_over(before, number, key, entry)?;
                 Ok(())
@@ -216,7 +222,7 @@ impl Index {
     }
 
     /// Adds a copy of an entry for a question that has none.
-    fn add_copy(&mut self, alloc: Global, number: u64, entry: &Entry) -> Result<(), NoMemory>
+    fn add_copy(&mut self, alloc: Global, number: u64, entry: &KeptEntry) -> Result<(), NoMemory>
         requires new { number_of (is_for entry.now.query) self.old.writings ≡ None }
         requires above { AreBelow number self.old.writings }
         requires placed { ArePlaced self.old.writings self.old.places }
@@ -224,7 +230,7 @@ impl Index {
         ensures placed { OnOk result (ArePlaced self.new.writings self.new.places) }
     {
         let copy = entry.try_clone(alloc)?;
-        let key = copy.query.try_clone(alloc)?;
+        let key = copy.query().try_clone(alloc)?;
         self.add(number, key, copy)?;
         Ok(())
     }
@@ -248,7 +254,7 @@ impl Index {
 
     /// `put_under` where the numbers have come to their end: they begin again from 0, in a copy that
     /// takes the place of this index once the entry is in it.
-    fn put_renumbered(&mut self, alloc: Global, size: u64, entry: Entry) -> Result<(), NoMemory>
+    fn put_renumbered(&mut self, alloc: Global, size: u64, entry: KeptEntry) -> Result<(), NoMemory>
         requires placed { ArePlaced self.old.writings self.old.places }
         requires within { IsWithin size (values_of self.old.writings) }
         requires some { 0 < size }
@@ -263,7 +269,7 @@ impl Index {
     }
 
     /// Writes an entry behind the others. A cache of size 0 keeps nothing.
-    pub(crate) fn put(&mut self, alloc: Global, size: u64, entry: Entry) -> Result<(), NoMemory>
+    pub(crate) fn put(&mut self, alloc: Global, size: u64, entry: KeptEntry) -> Result<(), NoMemory>
         requires placed { ArePlaced self.old.writings self.old.places }
         requires within { IsWithin size (values_of self.old.writings) }
         ensures ok { OnOk result (values_of self.new.writings ≡ with_entry size entry (values_of self.old.writings)) }

@@ -45,7 +45,7 @@ pub(crate) fn lowered_records(
     Ok(Items::new(copies))
 }
 
-fn lowered_message(alloc: Global, m: &Message, seconds: u64) -> Result<Message, NoMemory>
+pub(crate) fn lowered_message(alloc: Global, m: &Message, seconds: u64) -> Result<Message, NoMemory>
     ensures { IfOk result (λ copy. copy ≡ lowered_message seconds m.now) }
 {
     let query = m.query.try_clone(alloc)?;

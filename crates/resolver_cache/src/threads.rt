@@ -3,6 +3,7 @@
 use crate::bounds::ReversedTtl;
 use crate::cache::ResponseCache;
 use crate::entry::{CachedResponse, Entry};
+use crate::kept_entry::KeptEntry;
 
 fn crosses<T: Send + Sync>() {}
 
@@ -10,6 +11,7 @@ fn crosses<T: Send + Sync>() {}
 pub fn caches_cross_threads() {
     crosses::<ResponseCache>();
     crosses::<Entry>();
+    crosses::<KeptEntry>();
     crosses::<CachedResponse>();
     crosses::<ReversedTtl>();
 }

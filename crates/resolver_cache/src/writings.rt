@@ -7,7 +7,7 @@ ghost use Rattle.std.specs.Map.{keys_of, remove_entry};
 ghost use Rattle.std.specs.Ordering.{nat_cmp};
 ghost use Rattle.resolver_cache.specs.Writings.{under, number_of_least, least_of_full, AreBelow, AreKept};
 
-use crate::entry::Entry;
+use crate::kept_entry::KeptEntry;
 use dns_core::NoMemory;
 use std::alloc::Global;
 use std::collections::{BTreeMap, BTreeSet};
@@ -16,7 +16,7 @@ use std::marker::Model;
 /// The entries under rising numbers, and their expiries in order, each with the number of its entry.
 #[derive(Drop, Debug)]
 pub(crate) struct Writings {
-    written: BTreeMap<u64, Entry>,
+    written: BTreeMap<u64, KeptEntry>,
     expiries: BTreeSet<(u64, u64)>,
 }
 
@@ -33,7 +33,11 @@ impl Model for Writings {
     ghost invariant = { λ a. AreKept a.written.entries a.expiries };
 }
 
-fn add_entry(written: &mut BTreeMap<u64, Entry>, number: u64, entry: Entry) -> Result<(), NoMemory>
+fn add_entry(
+    written: &mut BTreeMap<u64, KeptEntry>,
+    number: u64,
+    entry: KeptEntry,
+) -> Result<(), NoMemory>
     requires { AreBelow number written.old.entries }
     ensures ok { OnOk result (written.new.entries ≡ written.old.entries ++ (number, entry) ∷ []) }
     ensures updates { OnOk result ((k : ℕ) → under k written.new.entries ≡ cond (is_at (nat_cmp number) k) (Some entry) (under k written.old.entries)) }
@@ -47,10 +51,10 @@ fn add_entry(written: &mut BTreeMap<u64, Entry>, number: u64, entry: Entry) -> R
 /// Adds an entry under a number above the others. The room for its expiry is taken first, and given
 /// back where there is none for the entry.
 fn add_at(
-    written: &mut BTreeMap<u64, Entry>,
+    written: &mut BTreeMap<u64, KeptEntry>,
     expiries: &mut BTreeSet<(u64, u64)>,
     number: u64,
-    entry: Entry,
+    entry: KeptEntry,
 ) -> Result<(), NoMemory>
     requires above { AreBelow number written.old.entries }
     requires kept { AreKept written.old.entries expiries.old }
@@ -58,7 +62,7 @@ fn add_at(
     ensures err { OnErr result (written.new.entries ≡ written.old.entries) }
     ensures kept { AreKept written.new.entries expiries.new }
 {
-    let expiry = entry.expiry;
+    let expiry = entry.expiry();
     let _new = expiries.insert((expiry, number))?;
     match add_entry(written, number, entry) {
         Ok(()) => Ok(()),
@@ -71,10 +75,10 @@ fn add_at(
 
 /// Takes the entry of a number out, with its expiry.
 fn take_at(
-    written: &mut BTreeMap<u64, Entry>,
+    written: &mut BTreeMap<u64, KeptEntry>,
     expiries: &mut BTreeSet<(u64, u64)>,
     number: u64,
-) -> Option<Entry>
+) -> Option<KeptEntry>
     requires { AreKept written.old.entries expiries.old }
     ensures gone { result ≡ under number written.old.entries }
     ensures left { written.new.entries ≡ remove_entry (is_at (nat_cmp number)) written.old.entries }
@@ -82,7 +86,7 @@ fn take_at(
 {
     match written.remove(&number) {
         Some(gone) => {
-            let _there = expiries.remove(&(gone.expiry, number));
+            let _there = expiries.remove(&(gone.expiry(), number));
             Some(gone)
         }
         None => None,
@@ -90,7 +94,7 @@ fn take_at(
 }
 
 /// The number of the entry that expires first.
-fn least_at(written: &BTreeMap<u64, Entry>, expiries: &BTreeSet<(u64, u64)>) -> Option<u64>
+fn least_at(written: &BTreeMap<u64, KeptEntry>, expiries: &BTreeSet<(u64, u64)>) -> Option<u64>
     requires { AreKept written.now.entries expiries.now }
     ensures { result ≡ number_of_least written.now.entries }
 {
@@ -101,7 +105,7 @@ fn least_at(written: &BTreeMap<u64, Entry>, expiries: &BTreeSet<(u64, u64)>) -> 
 }
 
 /// The number after the last one.
-fn next_at(written: &BTreeMap<u64, Entry>) -> Option<u64>
+fn next_at(written: &BTreeMap<u64, KeptEntry>) -> Option<u64>
     ensures { IfSome result (λ n. AreBelow n written.now.entries) }
 {
     match written.last_key_value() {
@@ -121,7 +125,7 @@ impl Writings {
     }
 
     /// The entries under their numbers.
-    pub(crate) fn written(&self) -> &BTreeMap<u64, Entry>
+    pub(crate) fn written(&self) -> &BTreeMap<u64, KeptEntry>
         ensures { result.now.entries ≡ self.now }
     {
         &self.written
@@ -135,7 +139,7 @@ impl Writings {
     }
 
     /// The entry of a number.
-    pub(crate) fn get(&self, number: u64) -> Option<&Entry>
+    pub(crate) fn get(&self, number: u64) -> Option<&KeptEntry>
         ensures entry { option_copied result ≡ under number self.now }
         ensures rising { IsStrictlySortedBy nat_cmp (keys_of self.now) }
     {
@@ -168,7 +172,7 @@ impl Writings {
     }
 
     /// Adds an entry under a number above the others.
-    pub(crate) fn add(&mut self, number: u64, entry: Entry) -> Result<(), NoMemory>
+    pub(crate) fn add(&mut self, number: u64, entry: KeptEntry) -> Result<(), NoMemory>
         requires { AreBelow number self.old }
         ensures ok { OnOk result (self.new ≡ self.old ++ (number, entry) ∷ []) }
         ensures err { OnErr result (self.new ≡ self.old) }
@@ -178,7 +182,7 @@ impl Writings {
     }
 
     /// Takes the entry of a number out.
-    pub(crate) fn take(&mut self, number: u64) -> Option<Entry>
+    pub(crate) fn take(&mut self, number: u64) -> Option<KeptEntry>
         ensures gone { result ≡ under number self.old }
         ensures left { self.new ≡ remove_entry (is_at (nat_cmp number)) self.old }
     {

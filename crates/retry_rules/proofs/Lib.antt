@@ -7,4 +7,3 @@ pub mod Deciding
 pub mod Finishing
 pub mod Plans
 pub mod Moving
-pub mod Apart

@@ -14,9 +14,9 @@ use Rattle.retry_rules.specs.KeptError.{kept_after}
 use Rattle.retry_rules.specs.declared.candidate.Candidate.{Candidate}
 use Rattle.retry_rules.specs.declared.candidate.Ending.{Ending}
 use Rattle.retry_rules.specs.declared.candidate.Ending.TheVariants.{Turns, Passes, Ends}
-use Rattle.retry_rules.specs.Agenda.{Plan, PlanStands, Stands, among, places, end_at, may_sleep, same_candidate, rules_of, may_ask, class_of_sent, ending_of, answer_after, after_end, IsHeard, StandsAfter}
+use Rattle.retry_rules.specs.Agenda.{Plan, PlanStands, Stands, HasRoom, among, places, end_at, may_sleep, same_candidate, rules_of, may_ask, class_of_sent, ending_of, hearing_of, after_end, StandsAfter}
 use Rattle.retry_rules.specs.declared.candidate.Hearing.{Hearing}
-use Rattle.retry_rules.specs.declared.candidate.Hearing.TheVariants.{GoesOn, Answers, Wanting}
+use Rattle.retry_rules.specs.declared.candidate.Hearing.TheVariants.{GoesOn, Answers}
 use Rattle.retry_rules.proofs.Turning.{after_no, any_more}
 use Rattle.retry_rules.proofs.Standing.{or_left, or_right, count_more, stands_turned, stands_passed}
 use Rattle.retry_rules.proofs.Finishing.{stands_woken, pool_spent, pool_decided}
@@ -48,6 +48,7 @@ after_by d s c p = elim d [
   | Ends ↦ p
 ]
 
+-- a mismatch turned UDP off
 pub turned_by : (s : Candidate) (e : NetError) (p n : Plan) → Turns ≡ ending_of p.off s.trusted (class_of_error e) → n ≡ record p { waiting = s ∷ p.waiting; off = true } → n ≡ after_end s (class_of_error e) p
 turned_by s e p n h g =
     g ∙ ap (λ (k : NetError). record p { waiting = s ∷ p.waiting; off = true; kept = k }) (sym (turn_keeps p.off s.trusted e p.kept h))
@@ -118,25 +119,21 @@ taken_empty p n None f g = ap (λ (x : Plan). x.waiting) (none_waits p n f g)
 
 -- ---- an end is heard
 
-abbrev answer_by : {A : Type 0} → Ending → A → Option A
-answer_by d y = elim d [ Turns ↦ None | Passes ↦ None | Ends ↦ Some y ]
-
--- a mismatch turned UDP off
-pub turn_heard : (s : Candidate) (e : NetError) (p n : Plan) → Turns ≡ ending_of p.off s.trusted (class_of_error e) → n ≡ record p { waiting = s ∷ p.waiting; off = true } → IsHeard s (class_of_error e) (Err e) p n GoesOn
-turn_heard s e p n h g = (ap (λ (d : Ending). answer_by d (answer_of (class_of_error e))) h, turned_by s e p n h g)
+abbrev hearing_by : Ending → Answered → Hearing
+hearing_by d a = elim d [ Turns ↦ GoesOn | Passes ↦ GoesOn | Ends ↦ Answers a ]
 
 -- what two tests of a class and the policy come to
 abbrev ending : Bool → Bool → Bool → Ending
 ending t r off = if t && not off then Turns else (if r then Passes else Ends)
 
-it_ends : {A : Type 0} (t r off : Bool) (x y : A) → Some x ≡ answer_by (ending t r off) y → (r ≡ false) × (t ≡ true → off ≡ true) × (x ≡ y)
+it_ends : (t r off : Bool) (x y : Answered) → Answers x ≡ hearing_by (ending t r off) y → (r ≡ false) × (t ≡ true → off ≡ true) × (x ≡ y)
 it_ends true r false x y h = cc
 it_ends true true true x y h = cc
 it_ends true false true x y h = (refl, (λ g. refl), cc)
 it_ends false true off x y h = cc
 it_ends false false off x y h = (refl, (λ g. cc), cc)
 
-it_goes_on : {A : Type 0} (t r off : Bool) (y : A) → None ≡ answer_by (ending t r off) y → ((t ≡ true) × (off ≡ false)) ⊎ ((r ≡ true) × ((t && not off) ≡ false))
+it_goes_on : (t r off : Bool) (y : Answered) → GoesOn ≡ hearing_by (ending t r off) y → ((t ≡ true) × (off ≡ false)) ⊎ ((r ≡ true) × ((t && not off) ≡ false))
 it_goes_on true r false y h = inl (refl, refl)
 it_goes_on true true true y h = inr (refl, refl)
 it_goes_on true false true y h = cc
@@ -181,7 +178,7 @@ module _ (q : Query) (timeout : ℕ) (pool : List Candidate) (ends : List (End C
   abbrev class : Class
   class = class_of_sent q o
 
-  answered : (start now : ℕ) (a : Answered) → Some a ≡ answer_after p.off s.trusted class → PoolRun (rules_of timeout) (class_of_sent q) pool (ends ++ end_at s o ∷ []) a start now
+  answered : (start now : ℕ) (a : Answered) → Answers a ≡ hearing_of s class p → PoolRun (rules_of timeout) (class_of_sent q) pool (ends ++ end_at s o ∷ []) a start now
   answered start now a h =
       let d = it_ends (is_turn class) (is_retryable s.trusted class) p.off a (answer_of class) h in
       subst (λ (x : Answered). PoolRun (rules_of timeout) (class_of_sent q) pool (ends ++ end_at s o ∷ []) x start now) (sym d.2)
@@ -209,10 +206,14 @@ module _ (q : Query) (timeout : ℕ) (pool : List Candidate) (ends : List (End C
   either n g (inl h) = after_turn n g h.0 h.1
   either n g (inr h) = after_pass n g h.0 h.1
 
-  pub stands_heard : (start now : ℕ) (n : Plan) (h : Hearing) → IsHeard s class o p n h → StandsAfter q timeout start now pool ends under s o n h
-  stands_heard start now n GoesOn h = either n h.1 (it_goes_on (is_turn class) (is_retryable s.trusted class) p.off (answer_of class) h.0)
-  stands_heard start now n (Answers a) h = answered start now a h.0
-  stands_heard start now n (Wanting back) h = subst (λ (x : Plan). PlanStands q timeout pool ends (s ∷ under) x) (sym h.1) st
+  pub stands_heard : (start now : ℕ) (n : Plan) (h : Hearing) → h ≡ hearing_of s class p → n ≡ after_end s class p → StandsAfter q timeout start now pool ends under s o n h
+  stands_heard start now n GoesOn h g = either n g (it_goes_on (is_turn class) (is_retryable s.trusted class) p.off (answer_of class) h)
+  stands_heard start now n (Answers a) h g = answered start now a h
+
+-- while a send is under way, there is room to hear its end
+pub room_to_hear : (q : Query) (timeout : ℕ) (pool : List Candidate) (ends : List (End Candidate)) (c : Candidate) (under : List Candidate) (p : Plan)
+    → PlanStands q timeout pool ends (c ∷ under) p → p.most ≡ length pool → HasRoom p
+room_to_hear q timeout pool ends c under p st most = omega (arith, st.size, most)
 
 -- ---- a sleep is over, and all is spent
 

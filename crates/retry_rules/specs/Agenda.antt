@@ -1,5 +1,5 @@
 -- What a lookup has still to ask, and how that stands to the ends of the sends that it made.
-use Rattle.std.specs.Prelude.{◌≡◌, ℕ, ◌+◌, ◌*◌, ◌≤◌, Bool, true, false, not, ◌&&◌, ◌||◌, ◌==◌, List, map, filter, count_by, length, nat_lt, ◌^◌, ◌∷◌, ◌++◌, [], if◌then◌else◌, Option, Some, None, Ok, Err}
+use Rattle.std.specs.Prelude.{◌≡◌, ℕ, ◌+◌, ◌*◌, ◌≤◌, ◌<◌, Bool, true, false, not, ◌&&◌, ◌||◌, ◌==◌, List, map, filter, count_by, length, nat_lt, ◌^◌, ◌∷◌, ◌++◌, [], if◌then◌else◌, Some, None, Ok, Err}
 use Rattle.std.specs.Bool.{beq}
 use Rattle.std.specs.List.{list_any, last_or, after_first}
 use Rattle.dns_core.specs.declared.message.Query.{Query}
@@ -12,15 +12,16 @@ use Rattle.retry_rules.specs.declared.candidate.Candidate.{Candidate}
 use Rattle.retry_rules.specs.declared.candidate.Ending.{Ending}
 use Rattle.retry_rules.specs.declared.candidate.Ending.TheVariants.{Turns, Passes, Ends}
 use Rattle.retry_rules.specs.declared.candidate.Hearing.{Hearing}
-use Rattle.retry_rules.specs.declared.candidate.Hearing.TheVariants.{GoesOn, Answers, Wanting}
+use Rattle.retry_rules.specs.declared.candidate.Hearing.TheVariants.{GoesOn, Answers}
 
--- those to be asked, in their order, and those that were busy; UDP is off; the error that is kept; how often the lookup slept
+-- those to be asked, in their order, and those that were busy; UDP is off; the error that is kept; how often the lookup slept; the places of its pool
 pub record Plan : Type 0 where
   pub waiting : List Candidate
   pub busy : List Candidate
   pub off : Bool
   pub kept : NetError
   pub sleeps : ℕ
+  pub most : ℕ
 
 abbrev pub same_candidate : Candidate → Candidate → Bool
 same_candidate a b = a.server == b.server && (beq a.beyond_udp b.beyond_udp && beq a.trusted b.trusted)
@@ -42,9 +43,9 @@ class_of_sent q (Err e) = class_of_error e
 abbrev pub ending_of : Bool → Bool → Class → Ending
 ending_of off trusted c = if is_turn c && not off then Turns else (if is_retryable trusted c then Passes else Ends)
 
--- what an end of a send to a server answers, where it ends the lookup
-abbrev pub answer_after : Bool → Bool → Class → Option Answered
-answer_after off trusted c = elim (ending_of off trusted c) [ Turns ↦ None | Passes ↦ None | Ends ↦ Some (answer_of c) ]
+-- what comes of an end: the lookup goes on, or answers this
+abbrev pub hearing_of : Candidate → Class → Plan → Hearing
+hearing_of s c p = elim (ending_of p.off s.trusted c) [ Turns ↦ GoesOn | Passes ↦ GoesOn | Ends ↦ Answers (answer_of c) ]
 
 -- what is to be done after an end: a server that turned UDP off comes first, one that is busy comes later
 abbrev pub after_end : Candidate → Class → Plan → Plan
@@ -54,11 +55,9 @@ after_end s c p = elim (ending_of p.off s.trusted c) [
   | Ends ↦ p
 ]
 
--- the end of a send to a server was heard, or given back
-abbrev pub IsHeard : Candidate → Class → Answered → Plan → Plan → Hearing → Type 0
-IsHeard s c o old new GoesOn = (None ≡ answer_after old.off s.trusted c) × (new ≡ after_end s c old)
-IsHeard s c o old new (Answers a) = (Some a ≡ answer_after old.off s.trusted c) × (new ≡ after_end s c old)
-IsHeard s c o old new (Wanting back) = (back ≡ o) × (new ≡ old)
+-- there is a place for one more that waits, or that was busy
+abbrev pub HasRoom : Plan → Type 0
+HasRoom p = length p.waiting + length p.busy < p.most
 
 -- the sleeps get longer: 20 milliseconds, 40, 80, 160
 abbrev pub sleep_time : ℕ → ℕ
@@ -136,4 +135,3 @@ PlanStands q timeout pool ends under p = Stands (rules_of timeout) (class_of_sen
 abbrev pub StandsAfter : Query → ℕ → ℕ → ℕ → List Candidate → List (End Candidate) → List Candidate → Candidate → Answered → Plan → Hearing → Type 0
 StandsAfter q timeout start now pool ends under s o p GoesOn = PlanStands q timeout pool (ends ++ end_at s o ∷ []) under p
 StandsAfter q timeout start now pool ends under s o p (Answers a) = PoolRun (rules_of timeout) (class_of_sent q) pool (ends ++ end_at s o ∷ []) a start now
-StandsAfter q timeout start now pool ends under s o p (Wanting back) = PlanStands q timeout pool ends (s ∷ under) p

@@ -1,13 +1,14 @@
 //! What a lookup has still to ask: which servers, in which order, and what it answers where none of
 //! them decides it.
-ghost use Rattle.std.specs.Prelude.{◌≡◌, ◌≤◌, ◌<◌, ◌+◌, ℕ, [], ◌∷◌, ◌++◌, List, true, false, if◌then◌else◌, OnOk, Ok, Err, find, IfOk, IfSome, IfNone, OnErr, IsTrue, ◌↔◌};
-ghost use Rattle.std.specs.List.{after_first};
+ghost use Rattle.std.specs.Prelude.{◌≡◌, ◌≤◌, ◌<◌, ◌+◌, ℕ, [], ◌∷◌, ◌++◌, List, length, true, false, not, if◌then◌else◌, Ok, Err, find, IfOk, IfSome, IfNone, IsTrue, ◌↔◌};
+ghost use Rattle.std.specs.List.{after_first, list_any};
+ghost use Rattle.std.specs.VecDeque.{deque_capacity};
 ghost use Rattle.dns_core.specs.declared.message.Query.{Query};
 ghost use Rattle.resolution.specs.Class.{class_of_error};
 ghost use Rattle.resolution.specs.KeptError.{most_specific};
 ghost use Rattle.resolution.specs.Lookups.{Answered, End, PoolRun, answer_of, is_turn, is_busy, is_retryable};
 ghost use Rattle.retry_rules.specs.declared.candidate.Candidate.{Candidate};
-ghost use Rattle.retry_rules.specs.Agenda.{may_ask, class_of_sent, ending_of, IsHeard, StandsAfter, sleep_time, may_sleep, rules_of, end_at, PlanStands};
+ghost use Rattle.retry_rules.specs.Agenda.{HasRoom, may_ask, class_of_sent, ending_of, hearing_of, after_end, StandsAfter, sleep_time, may_sleep, rules_of, end_at, PlanStands};
 
 use crate::answer_filter::{foreign_class, of_one_class};
 use crate::candidate::{Candidate, Ending, Hearing};
@@ -23,7 +24,8 @@ use std::mem;
 const MOST_SLEEPS: u8 = 4;
 
 /// The servers that are to be asked, in their order, those that were busy, over which protocols they
-/// are asked, the error that is kept, and how often the lookup slept.
+/// are asked, the error that is kept, and how often the lookup slept. Both queues have room for all
+/// places of the pool from the start, so that no later step wants memory.
 #[derive(Drop, Debug)]
 pub struct Agenda {
     waiting: VecDeque<Candidate>,
@@ -31,14 +33,19 @@ pub struct Agenda {
     policy: ConnectionPolicy,
     kept: NetError,
     sleeps: u8,
+    most: usize,
 }
 
 impl Model for Agenda {
+    ghost use Rattle.std.specs.Prelude.{◌≤◌};
+    ghost use Rattle.std.specs.VecDeque.{deque_capacity};
     ghost use Rattle.retry_rules.specs.Agenda.{Plan};
 
     ghost Value = { Plan };
 
-    ghost view = { λ a. record { waiting = a.waiting.items; busy = a.busy.items; off = a.policy.disable_udp; kept = a.kept; sleeps = a.sleeps } };
+    ghost view = { λ a. record { waiting = a.waiting.items; busy = a.busy.items; off = a.policy.disable_udp; kept = a.kept; sleeps = a.sleeps; most = a.most } };
+
+    ghost invariant = { λ a. (a.most ≤ deque_capacity a.waiting) × (a.most ≤ deque_capacity a.busy) };
 }
 
 /// Whether an error passes the question on to another server.
@@ -87,19 +94,38 @@ fn whole_answer(query: &Query, message: Message) -> Result<Message, NetError>
     }
 }
 
+/// A copy of a queue, with room for so many servers.
+fn queue_copy(
+    alloc: Global,
+    queue: &VecDeque<Candidate>,
+    most: usize,
+) -> Result<VecDeque<Candidate>, NoMemory>
+    ensures items { IfOk result (λ copy. copy.items ≡ queue.now.items) }
+    ensures room { IfOk result (λ copy. most ≤ deque_capacity copy) }
+{
+    let (front, back) = queue.as_slices();
+    let mut copy = Vec::with_capacity(alloc, most)?;
+    copy.extend_from_slice(front)?;
+    copy.extend_from_slice(back)?;
+    Ok(VecDeque::from_vec(copy))
+}
+
 impl Agenda {
     /// All servers of the pool are to be asked, in their order.
     pub fn new(alloc: Global, pool: &[Candidate]) -> Result<Self, NoMemory>
-        ensures plan { IfOk result (λ a. a ≡ record { waiting = pool.now; busy = []; off = false; kept = NetError.NoConnections; sleeps = 0 }) }
+        ensures plan { IfOk result (λ a. a ≡ record { waiting = pool.now; busy = []; off = false; kept = NetError.NoConnections; sleeps = 0; most = length pool.now }) }
         ensures stands { (q : Query) (timeout : ℕ) → IfOk result (λ a. PlanStands q timeout pool.now [] [] a) }
     {
+        let most = pool.len();
         let waiting = VecDeque::from_vec(Vec::from_slice(alloc, pool)?);
+        let busy = VecDeque::with_capacity(alloc, most)?;
         Ok(Agenda {
             waiting,
-            busy: VecDeque::new(alloc),
+            busy,
             policy: ConnectionPolicy { disable_udp: false },
             kept: NetError::NoConnections,
             sleeps: 0,
+            most,
         })
     }
 
@@ -145,7 +171,9 @@ impl Agenda {
     /// Takes a message that a server told. A cut one turns UDP off the first time, and the server is
     /// asked again first; another one ends the lookup.
     fn hear_message(&mut self, candidate: Candidate, message: Message, query: &Query) -> Hearing
-        ensures { IsHeard candidate (class_of_sent query.now (Ok message)) (Ok message) self.old self.new result }
+        requires { HasRoom self.old }
+        ensures hearing { result ≡ hearing_of candidate (class_of_sent query.now (Ok message)) self.old }
+        ensures plan { self.new ≡ after_end candidate (class_of_sent query.now (Ok message)) self.old }
     {
         if !message.truncation {
             return Hearing::Answers(whole_answer(query, message));
@@ -153,13 +181,9 @@ impl Agenda {
         if self.policy.disable_udp {
             return Hearing::Answers(Err(NetError::Truncated));
         }
-        match self.turn(candidate) {
-            Ok(()) => {
-                self.kept = NetError::Truncated;
-                Hearing::GoesOn
-            }
-            Err(NoMemory) => Hearing::Wanting(Ok(message)),
-        }
+        self.turn(candidate);
+        self.kept = NetError::Truncated;
+        Hearing::GoesOn
     }
 
     /// Keeps an error, where it is the most specific.
@@ -171,57 +195,47 @@ impl Agenda {
     }
 
     /// Turns UDP off: the server is asked again first.
-    fn turn(&mut self, candidate: Candidate) -> Result<(), NoMemory>
-        ensures ok { OnOk result (self.new ≡ record self.old { waiting = candidate ∷ self.old.waiting; off = true }) }
-        ensures err { OnErr result (self.new ≡ self.old) }
+    fn turn(&mut self, candidate: Candidate)
+        requires { length self.old.waiting < self.old.most }
+        ensures { self.new ≡ record self.old { waiting = candidate ∷ self.old.waiting; off = true } }
     {
-        self.waiting.push_front(candidate)?;
+        self.waiting.push_front_reserved(candidate);
         self.policy.disable_udp = true;
-        Ok(())
     }
 
     /// Keeps a server that is busy for later.
-    fn delay(&mut self, candidate: Candidate, error: &NetError) -> Result<(), NoMemory>
-        ensures ok { OnOk result (self.new ≡ record self.old { busy = if is_busy (class_of_error error.now) then self.old.busy ++ candidate ∷ [] else self.old.busy }) }
-        ensures err { OnErr result (self.new ≡ self.old) }
+    fn delay(&mut self, candidate: Candidate, error: &NetError)
+        requires { length self.old.busy < self.old.most }
+        ensures { self.new ≡ record self.old { busy = if is_busy (class_of_error error.now) then self.old.busy ++ candidate ∷ [] else self.old.busy } }
     {
         if is_busy(error) {
-            self.busy.push_back(candidate)?;
+            self.busy.push_back_reserved(candidate);
         }
-        Ok(())
     }
 
     /// Passes the question on to another server.
     fn pass(&mut self, candidate: Candidate, error: NetError) -> Hearing
-        requires { Ending.Passes ≡ ending_of self.old.off candidate.trusted (class_of_error error) }
-        ensures { IsHeard candidate (class_of_error error) (Err error) self.old self.new result }
+        requires passes { Ending.Passes ≡ ending_of self.old.off candidate.trusted (class_of_error error) }
+        requires room { length self.old.busy < self.old.most }
+        ensures hearing { result ≡ hearing_of candidate (class_of_error error) self.old }
+        ensures plan { self.new ≡ after_end candidate (class_of_error error) self.old }
     {
-        match self.delay(candidate, &error) {
-            Ok(()) => {
-                self.keep(error);
-                Hearing::GoesOn
-            }
-            Err(NoMemory) => Hearing::Wanting(Err(error)),
-        }
+        self.delay(candidate, &error);
+        self.keep(error);
+        Hearing::GoesOn
     }
 
-    /// Turns UDP off for a mismatch.
-    fn turn_for(&mut self, candidate: Candidate, error: NetError) -> Hearing
-        requires { Ending.Turns ≡ ending_of self.old.off candidate.trusted (class_of_error error) }
-        ensures { IsHeard candidate (class_of_error error) (Err error) self.old self.new result }
-    {
-        match self.turn(candidate) {
-            Ok(()) => Hearing::GoesOn,
-            Err(NoMemory) => Hearing::Wanting(Err(error)),
-        }
-    }
-
-    /// Takes an error with which a send to a server ended.
+    /// Takes an error with which a send to a server ended. A mismatch leaves the error that is kept.
     fn hear_error(&mut self, candidate: Candidate, error: NetError) -> Hearing
-        ensures { IsHeard candidate (class_of_error error) (Err error) self.old self.new result }
+        requires { HasRoom self.old }
+        ensures hearing { result ≡ hearing_of candidate (class_of_error error) self.old }
+        ensures plan { self.new ≡ after_end candidate (class_of_error error) self.old }
     {
         match ending_of(self.policy.disable_udp, candidate.trusted, &error) {
-            Ending::Turns => self.turn_for(candidate, error),
+            Ending::Turns => {
+                self.turn(candidate);
+                Hearing::GoesOn
+            }
             Ending::Passes => self.pass(candidate, error),
             Ending::Ends => Hearing::Answers(Err(error)),
         }
@@ -234,7 +248,9 @@ impl Agenda {
         outcome: Result<Message, NetError>,
         query: &Query,
     ) -> Hearing
-        ensures { IsHeard candidate (class_of_sent query.now outcome) outcome self.old self.new result }
+        requires { HasRoom self.old }
+        ensures hearing { result ≡ hearing_of candidate (class_of_sent query.now outcome) self.old }
+        ensures plan { self.new ≡ after_end candidate (class_of_sent query.now outcome) self.old }
     {
         match outcome {
             Ok(message) => self.hear_message(candidate, message, query),
@@ -249,7 +265,9 @@ impl Agenda {
         outcome: Result<Message, NetError>,
         query: &Query,
     ) -> Hearing
-        ensures heard { IsHeard candidate (class_of_sent query.now outcome) outcome self.old self.new result }
+        requires { HasRoom self.old }
+        ensures hearing { result ≡ hearing_of candidate (class_of_sent query.now outcome) self.old }
+        ensures plan { self.new ≡ after_end candidate (class_of_sent query.now outcome) self.old }
         ensures stands { (timeout start now : ℕ) (pool : List Candidate) (ends : List (End Candidate)) (under : List Candidate) →
             PlanStands query.now timeout pool ends (candidate ∷ under) self.old → StandsAfter query.now timeout start now pool ends under candidate outcome self.new result }
     {
@@ -267,6 +285,13 @@ impl Agenda {
         ensures { IsTrue result ↔ (self.now.waiting ≡ []) }
     {
         self.waiting.is_empty()
+    }
+
+    /// Whether no server that waits may be asked.
+    pub fn has_none_allowed(&self) -> bool
+        ensures { result ≡ not (list_any (may_ask self.now.off) self.now.waiting) }
+    {
+        !self.waiting.iter().any(|c| self.may_ask(*c))
     }
 
     /// How long the next sleep is, in microseconds.
@@ -320,8 +345,8 @@ impl Agenda {
 
 impl TryClone for Agenda {
     fn try_clone(&self, alloc: Global) -> Result<Self, NoMemory> {
-        let waiting = self.waiting.clone()?;
-        let busy = self.busy.clone()?;
+        let waiting = queue_copy(alloc, &self.waiting, self.most)?;
+        let busy = queue_copy(alloc, &self.busy, self.most)?;
         let kept = self.kept.try_clone(alloc)?;
         Ok(Agenda {
             waiting,
@@ -329,6 +354,7 @@ impl TryClone for Agenda {
             policy: self.policy,
             kept,
             sleeps: self.sleeps,
+            most: self.most,
         })
     }
 }

@@ -20,11 +20,9 @@ pub enum Ending {
     Ends,
 }
 
-/// What an end that was heard came to: the lookup goes on, or answers this; or memory is wanting, and
-/// the end is given back unheard.
+/// What an end that was heard came to: the lookup goes on, or answers this.
 #[derive(Drop, Debug)]
 pub enum Hearing {
     GoesOn,
     Answers(Result<Message, NetError>),
-    Wanting(Result<Message, NetError>),
 }

@@ -5,10 +5,7 @@
 mod agenda;
 mod agenda_laws;
 mod answer_filter;
-mod cancelling;
 mod candidate;
-mod closing;
-mod deadline;
 mod kept_error;
 mod kept_error_laws;
 mod ordering;
@@ -16,12 +13,9 @@ mod statistics;
 mod threads;
 
 pub use agenda::Agenda;
-pub use agenda_laws::{a_deadline_ends_a_lookup, a_lookup_makes_few_sends};
+pub use agenda_laws::{a_deadline_ends_a_lookup, a_lookup_makes_few_sends, an_end_can_be_heard};
 pub use answer_filter::filtered;
-pub use cancelling::{cancel, ends_by_message};
 pub use candidate::{Candidate, Ending, Hearing};
-pub use closing::ended_by_of;
-pub use deadline::{is_late, wakes_at};
 pub use kept_error::most_specific;
 pub use kept_error_laws::{the_earlier_negative_is_kept, the_kept_error_is_what_is_left};
 pub use ordering::{ordered, side_by_side};

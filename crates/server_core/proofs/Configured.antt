@@ -1,16 +1,19 @@
 -- Nothing that is done to a server changes how it is reached.
-use Rattle.std.proofs.Common.{◌≡◌, ◌∙◌, ◌∷◌, ℕ, zero, suc, List, [], map, Option, Some, None, option_map, Result, refl, sym, ap, slice_get}
+use Rattle.std.proofs.Common.{◌≡◌, ◌∙◌, ◌∷◌, ℕ, zero, suc, List, [], map, Bool, true, false, if◌then◌else◌, Option, Some, None, option_map, Result, Ok, Err, refl, sym, ap, slice_get}
 use Rattle.std.proofs.lemmas.Option.{slice_get-map}
 use Rattle.dns_core.specs.declared.connection.Protocol.{Protocol}
 use Rattle.dns_core.specs.declared.message.Message.{Message}
 use Rattle.dns_core.specs.declared.net_error.DnsError.{DnsError}
+use Rattle.dns_core.specs.declared.net_error.IoKind.TheVariants.{Other}
 use Rattle.dns_core.specs.declared.net_error.NetError.{NetError}
+use Rattle.dns_core.specs.declared.net_error.NetError.TheVariants.{Io, Timeout}
+use Rattle.dns_core.specs.Classifying.{classify_of}
 use Rattle.server_core.specs.Servers.{Server, place_of, server_of}
 use Rattle.server_core.specs.Hearing.{after_heard, without_dead, with_opened, changed_place, changed_at}
-use Rattle.server_core.specs.Sending.{lost_put, told_put, heard_put, after_step, after_want}
+use Rattle.server_core.specs.Sending.{asked_of, is_last_poll, lost_put, told_put, polled_put, heard_put, after_step, after_want, after_next}
 use Rattle.server_core.specs.declared.heard.Heard.{Heard}
 use Rattle.server_core.specs.declared.order.Outcome.{Outcome}
-use Rattle.server_core.specs.declared.order.Outcome.TheVariants.{Pending, Connected, Told, Failed, GaveUp, Slept}
+use Rattle.server_core.specs.declared.order.Outcome.TheVariants.{Pending, Connected, Told, Failed, Slept}
 use Rattle.server_core.specs.declared.server_send.Asked.{Asked}
 use Rattle.server_core.specs.declared.server_send.Stage.{Stage}
 use Rattle.server_core.specs.declared.server_send.Stage.TheVariants as stage
@@ -33,14 +36,21 @@ pub told_configured : (asked : Option Asked) (now : ℕ) (class : Result Message
 told_configured None now class s = refl
 told_configured (Some asked) now class s = refl
 
+-- a poll
+pub polled_configured : (patience : ℕ) (at : Stage) (now : ℕ) (s : Server) → (polled_put patience at now s).config ≡ s.config
+polled_configured patience at now s = by_test (is_last_poll patience at)
+  where
+    by_test : (last : Bool) → (if last then lost_put (asked_of at) now Timeout s else s).config ≡ s.config
+    by_test true = lost_configured (asked_of at) now Timeout s
+    by_test false = refl
+
 -- an outcome
-pub put_configured : (asked : Option Asked) (now : ℕ) (outcome : Outcome) (s : Server) → (heard_put asked now outcome s).config ≡ s.config
-put_configured asked now (Pending entry) s = refl
-put_configured asked now (Connected entry sent) s = lost_configured asked now _ s
-put_configured asked now (Told entry sent message) s = told_configured asked now _ s
-put_configured asked now (Failed entry sent refused error) s = lost_configured asked now error s
-put_configured asked now (GaveUp entry sent polls) s = lost_configured asked now _ s
-put_configured asked now Slept s = lost_configured asked now _ s
+pub put_configured : (patience : ℕ) (at : Stage) (now : ℕ) (outcome : Outcome) (s : Server) → (heard_put patience at now outcome s).config ≡ s.config
+put_configured patience at now (Pending entry of) s = polled_configured patience at now s
+put_configured patience at now (Connected entry sent) s = lost_configured (asked_of at) now (Io Other) s
+put_configured patience at now (Told entry sent message) s = told_configured (asked_of at) now (classify_of message) s
+put_configured patience at now (Failed entry sent refused error) s = lost_configured (asked_of at) now error s
+put_configured patience at now Slept s = lost_configured (asked_of at) now (Io Other) s
 
 -- a step
 pub step_configured : (at : Stage) (s : Server) → (after_step at s).config ≡ s.config
@@ -51,7 +61,7 @@ step_configured (stage.Asking asked polls) s = refl
 step_configured (stage.Ended result) s = refl
 step_configured stage.Over s = refl
 
--- a step for which memory is wanting
+-- a step that runs out of memory
 pub want_configured : (at : Stage) (s : Server) → (after_want at s).config ≡ s.config
 want_configured stage.Ready s = refl
 want_configured (stage.Opening protocol order polls) s = refl
@@ -59,6 +69,11 @@ want_configured (stage.Opened protocol conn) s = refl
 want_configured (stage.Asking asked polls) s = refl
 want_configured (stage.Ended result) s = refl
 want_configured stage.Over s = refl
+
+-- the attempt of a step
+pub next_configured : {T E : Type 0} (at : Stage) (made : Result T E) (s : Server) → (after_next at made s).config ≡ s.config
+next_configured at (Ok done) s = step_configured at s
+next_configured at (Err error) s = want_configured at s
 
 place_kept :
     (f : Server → Server) (n : ℕ) (table : List Server) → ((s : Server) → (f s).config ≡ s.config) →

@@ -1,9 +1,9 @@
 -- Where a send stands, by what it comes to next.
-use Rattle.std.proofs.Common.{◌≡◌, ℕ, List, refl}
+use Rattle.std.proofs.Common.{◌≡◌, ℕ, List, None, refl}
 use Rattle.dns_core.specs.declared.connection.Protocol.{Protocol}
 use Rattle.server_core.specs.Servers.{Server}
 use Rattle.server_core.specs.Hearing.{changed_at}
-use Rattle.server_core.specs.Sending.{want_of, after_step, StepIs, TellsEnd}
+use Rattle.server_core.specs.Sending.{want_of, end_of, after_end, after_step, StepIs, TellsEnd}
 use Rattle.server_core.specs.declared.server_send.Stage.{Stage}
 use Rattle.server_core.specs.declared.server_send.Stage.TheVariants as stage
 use Rattle.server_core.specs.declared.server_send.Want.TheVariants as want
@@ -61,3 +61,12 @@ table_tells (stage.Opened protocol conn) next made n xs t = absurd t
 table_tells (stage.Asking asked polls) next made n xs t = absurd t
 table_tells (stage.Ended result) next made n xs t = changed_same n xs
 table_tells stage.Over next made n xs t = absurd t
+
+-- a send whose end is told, or not there yet, stays as it is where it is asked for the end
+pub end_stays : (at : Stage) → end_of at ≡ None → after_end at ≡ at
+end_stays stage.Ready e = refl
+end_stays (stage.Opening protocol order polls) e = refl
+end_stays (stage.Opened protocol conn) e = refl
+end_stays (stage.Asking asked polls) e = refl
+end_stays (stage.Ended result) e = cc
+end_stays stage.Over e = refl

@@ -1,5 +1,5 @@
 -- What the steps of a send come to.
-use Rattle.std.proofs.Common.{◌≡◌, ◌∙◌, ◌<◌, ◌≤◌, ◌+◌, ℕ, zero, suc, Bool, true, false, if◌then◌else◌, List, [], ◌∷◌, Some, Result, Ok, Err, length, slice_get, IfOk, OnOk, OnErr, inl, inr, refl, sym, ap, subst, arith}
+use Rattle.std.proofs.Common.{◌≡◌, ◌∙◌, ◌<◌, ◌≤◌, ◌+◌, ℕ, zero, suc, Bool, true, false, if◌then◌else◌, List, [], ◌∷◌, Some, Result, Ok, Err, length, slice_get, IfOk, OnOk, OnErr, MatchResult, inl, inr, refl, sym, ap, subst, arith}
 use Rattle.std.proofs.lemmas.Result.{IfOk-weaker}
 use Rattle.dns_core.specs.declared.connection.ConnectionConfig.{ConnectionConfig}
 use Rattle.dns_core.specs.declared.connection.Protocol.{Protocol}
@@ -12,13 +12,8 @@ use Rattle.server_core.specs.Choice.{IsFirstLeast}
 use Rattle.server_core.specs.Policy.{allows_connection, allows_config, is_before, is_config_before}
 use Rattle.server_core.specs.Servers.{Server, place_of, server_of}
 use Rattle.server_core.specs.Hearing.{changed_at, without_dead, with_opened}
-use Rattle.server_core.specs.Sending.{left_of, asks_left, asks_of, after_step, after_want, IsAskedOver, IsOpenedOver, OpensSelected, Begins, StepIs}
+use Rattle.server_core.specs.Sending.{left_of, asks_left, asks_of, after_step, after_want, after_next, IsAskedOver, IsOpenedOver, OpensSelected, Begins, StepIs}
 use Rattle.server_core.proofs.Changing.{changed_length, changed_get, changed_same}
-
--- what holds in both cases
-pub in_both : {T E P : Type 0} (r : Result T E) → OnOk r P → OnErr r P → P
-in_both (Ok x) p q = p
-in_both (Err e) p q = q
 
 at_place : (n : ℕ) (xs : List Server) → n < length xs → (s : Server) × (slice_get xs n ≡ Some s)
 at_place n [] h = absurd (omega arith)
@@ -32,6 +27,13 @@ there_is n xs h = at_place (place_of n) xs h
 -- a change keeps the count of servers
 pub length_changed : (f : Server → Server) (n : ℕ) (xs ys : List Server) → ys ≡ changed_at f n xs → length ys ≡ length xs
 length_changed f n xs ys is = ap length is ∙ changed_length f n xs
+
+-- an outcome keeps the count of servers
+pub put_kept :
+    {T E : Type 0} (f : Server → Server) (n : ℕ) (xs ys : List Server) (made : Result T E) →
+    MatchResult made (λ done. ys ≡ changed_at f n xs) (λ error. ys ≡ xs) → length ys ≡ length xs
+put_kept f n xs ys (Ok done) changed = length_changed f n xs ys changed
+put_kept f n xs ys (Err error) same = ap length same
 
 -- a number stays live where a server was changed
 pub live_changed : (f : Server → Server) (n k : ℕ) (xs ys : List Server) → ys ≡ changed_at f n xs → k < length xs → k < length ys
@@ -80,18 +82,21 @@ pub step_asks :
 step_asks {E} s at next number now conn protocol server made is asked =
     subst (λ (x : Stage). IfOk made (λ step. StepIs s x number now server step next)) (sym is) asked
 
--- the table where the opened connection is kept
-pub table_asks :
-    (at : Stage) (n conn : ℕ) (protocol : Protocol) (xs ys : List Server) → at ≡ stage.Opened protocol conn →
-    ys ≡ changed_at (with_opened conn protocol) n xs → ys ≡ changed_at (after_step at) n xs
-table_asks at n conn protocol xs ys is kept = subst (λ (x : Stage). ys ≡ changed_at (after_step x) n xs) (sym is) kept
+-- the table after the first step
+pub table_begins :
+    {T E : Type 0} (at : Stage) (n : ℕ) (xs ys : List Server) (made : Result T E) → at ≡ stage.Ready →
+    ys ≡ changed_at without_dead n xs → ys ≡ changed_at (after_next at made) n xs
+table_begins at n xs ys (Ok step) ready dropped = subst (λ (x : Stage). ys ≡ changed_at (after_step x) n xs) (sym ready) dropped
+table_begins at n xs ys (Err error) ready dropped = subst (λ (x : Stage). ys ≡ changed_at (after_want x) n xs) (sym ready) dropped
 
--- and where memory is wanting for that
-pub table_wants :
-    (at : Stage) (n conn : ℕ) (protocol : Protocol) (xs ys : List Server) → at ≡ stage.Opened protocol conn →
-    ys ≡ xs → ys ≡ changed_at (after_want at) n xs
-table_wants at n conn protocol xs ys is same =
-    subst (λ (x : Stage). ys ≡ changed_at (after_want x) n xs) (sym is) (same ∙ sym (changed_same n xs))
+-- the table after the opened connection is kept, and where memory runs out before
+pub table_asks :
+    {T E : Type 0} (at : Stage) (n conn : ℕ) (protocol : Protocol) (xs ys : List Server) (made : Result T E) → at ≡ stage.Opened protocol conn →
+    OnOk made (ys ≡ changed_at (with_opened conn protocol) n xs) → OnErr made (ys ≡ xs) → ys ≡ changed_at (after_next at made) n xs
+table_asks at n conn protocol xs ys (Ok step) opened kept same =
+    subst (λ (x : Stage). ys ≡ changed_at (after_step x) n xs) (sym opened) kept
+table_asks at n conn protocol xs ys (Err error) opened kept same =
+    subst (λ (x : Stage). ys ≡ changed_at (after_want x) n xs) (sym opened) (same ∙ sym (changed_same n xs))
 
 -- a question over a connection is one of those that are left
 over_asks :

@@ -1,5 +1,5 @@
 -- One send of a request to a server: where it stands, and what each of its steps does.
-use Rattle.std.specs.Prelude.{◌≡◌, ℕ, ◌+◌, ◌-◌, nat_le, min, Bool, true, false, ◌&&◌, not, if◌then◌else◌, ◌⊎◌, Option, Some, None, Result, Ok, Err}
+use Rattle.std.specs.Prelude.{◌≡◌, ℕ, ◌+◌, ◌-◌, nat_le, Bool, true, false, ◌&&◌, not, if◌then◌else◌, ◌⊎◌, Option, Some, None, Result, Ok, Err}
 use Rattle.dns_core.specs.declared.connection.ConnectionConfig.{ConnectionConfig}
 use Rattle.dns_core.specs.declared.connection.Protocol.{Protocol}
 use Rattle.dns_core.specs.declared.message.Message.{Message}
@@ -18,7 +18,7 @@ use Rattle.server_core.specs.declared.order.After.{After}
 use Rattle.server_core.specs.declared.order.After.TheVariants.{Kept, Ended, GiveUp, Late}
 use Rattle.server_core.specs.declared.order.Order.TheVariants.{Open, Ask, Sleep}
 use Rattle.server_core.specs.declared.order.Outcome.{Outcome}
-use Rattle.server_core.specs.declared.order.Outcome.TheVariants.{Pending, Connected, Told, Failed, GaveUp, Slept}
+use Rattle.server_core.specs.declared.order.Outcome.TheVariants.{Pending, Connected, Told, Failed, Slept}
 use Rattle.server_core.specs.declared.server_send.Asked.{Asked}
 use Rattle.server_core.specs.declared.server_send.Stage.{Stage}
 use Rattle.server_core.specs.declared.server_send.Stage.TheVariants as stage
@@ -28,7 +28,9 @@ use Rattle.server_core.specs.declared.server_send.SendStep.{SendStep}
 use Rattle.server_core.specs.declared.server_send.SendStep.TheVariants as step
 use Rattle.server_core.specs.declared.server_send.ServerSend.{ServerSend}
 
--- an order of it is open
+-- ---- where a send stands
+
+-- an order of the send is open
 abbrev pub is_open : Stage → Bool
 is_open stage.Ready = false
 is_open (stage.Opening protocol order polls) = true
@@ -37,7 +39,7 @@ is_open (stage.Asking asked polls) = true
 is_open (stage.Ended result) = false
 is_open stage.Over = false
 
--- the question that is asked
+-- the question that is under way, if there is one
 abbrev pub asked_of : Stage → Option Asked
 asked_of stage.Ready = None
 asked_of (stage.Opening protocol order polls) = None
@@ -46,7 +48,7 @@ asked_of (stage.Asking asked polls) = Some asked
 asked_of (stage.Ended result) = None
 asked_of stage.Over = None
 
--- the connection that is opened, by its protocol and the number of the order
+-- the connection that is being opened, if there is one, by its protocol and the number of its order
 abbrev pub opening_of : Stage → Option (Protocol × ℕ)
 opening_of stage.Ready = None
 opening_of (stage.Opening protocol order polls) = Some (protocol, order)
@@ -55,7 +57,7 @@ opening_of (stage.Asking asked polls) = None
 opening_of (stage.Ended result) = None
 opening_of stage.Over = None
 
--- what it comes to next
+-- what the send comes to next
 abbrev pub want_of : Stage → Want
 want_of stage.Ready = want.Begin
 want_of (stage.Opening protocol order polls) = want.Wait
@@ -64,7 +66,7 @@ want_of (stage.Asking asked polls) = want.Wait
 want_of (stage.Ended result) = want.Tell
 want_of stage.Over = want.Wait
 
--- how many polls of the open order found nothing; from 2 ^ 32 - 1 on they are no more counted
+-- how many polls of the open order found nothing
 abbrev pub pendings : Stage → ℕ
 pendings stage.Ready = 0
 pendings (stage.Opening protocol order polls) = polls
@@ -73,7 +75,7 @@ pendings (stage.Asking asked polls) = polls
 pendings (stage.Ended result) = 0
 pendings stage.Over = 0
 
--- of so many questions those that are left
+-- how many of so many questions a send that stands so may still ask
 abbrev pub left_of : ℕ → Stage → ℕ
 left_of most stage.Ready = most
 left_of most (stage.Opening protocol order polls) = most
@@ -82,11 +84,11 @@ left_of most (stage.Asking asked polls) = most - 1
 left_of most (stage.Ended result) = 0
 left_of most stage.Over = 0
 
--- how many questions may still be asked: two at first
+-- how many questions the send may still ask: one for each of its two tries
 abbrev pub asks_left : ServerSend → ℕ
 asks_left s = left_of (if s.retried then 1 else 2) s.stage
 
--- what it ended with, where that is not told yet
+-- what the send ended with, where that is not told yet
 abbrev pub end_of : Stage → Option (Result Message NetError)
 end_of stage.Ready = None
 end_of (stage.Opening protocol order polls) = None
@@ -95,7 +97,7 @@ end_of (stage.Asking asked polls) = None
 end_of (stage.Ended result) = Some result
 end_of stage.Over = None
 
--- once that is told, it is over
+-- a send is over once its end is told
 abbrev pub after_end : Stage → Stage
 after_end stage.Ready = stage.Ready
 after_end (stage.Opening protocol order polls) = stage.Opening protocol order polls
@@ -104,7 +106,9 @@ after_end (stage.Asking asked polls) = stage.Asking asked polls
 after_end (stage.Ended result) = stage.Over
 after_end stage.Over = stage.Over
 
--- what a step does to the server where it comes to pass: those that failed are dropped where a connection is chosen, and the one that was opened is kept
+-- ---- its next step
+
+-- what a step does to the server: connections that failed are dropped where one is chosen, and the one that was opened is kept
 abbrev pub after_step : Stage → Server → Server
 after_step stage.Ready server = without_dead server
 after_step (stage.Opening protocol order polls) server = server
@@ -113,7 +117,7 @@ after_step (stage.Asking asked polls) server = server
 after_step (stage.Ended result) server = server
 after_step stage.Over server = server
 
--- what it does where memory is wanting: those that failed are dropped, and the opened one is not kept yet
+-- what a step does to the server out of memory: connections that failed are dropped, and the one that was opened is not kept yet
 abbrev pub after_want : Stage → Server → Server
 after_want stage.Ready server = without_dead server
 after_want (stage.Opening protocol order polls) server = server
@@ -122,23 +126,28 @@ after_want (stage.Asking asked polls) server = server
 after_want (stage.Ended result) server = server
 after_want stage.Over server = server
 
--- the request is asked over a connection
+-- what the attempt of a step does to the server, by whether memory was there
+abbrev pub after_next : {T E : Type 0} → Stage → Result T E → Server → Server
+after_next at (Ok made) server = after_step at server
+after_next at (Err error) server = after_want at server
+
+-- the step asks the request over a connection
 abbrev pub IsAskedOver : ServerSend → ℕ → Bool → Protocol → ℕ → Server → SendStep → Stage → Type 0
 IsAskedOver s now again protocol conn server made next =
     (made ≡ step.Order (Ask conn server.config.ip protocol s.request)) × (next ≡ stage.Asking (record { conn = conn; at = now; again = again }) 0)
 
--- a connection is opened by a configuration
+-- the step opens a connection by a configuration
 abbrev pub IsOpenedOver : ℕ → ConnectionConfig → Server → SendStep → Stage → Type 0
 IsOpenedOver number config server made next =
     (made ≡ step.Order (Open server.config.ip config)) × (next ≡ stage.Opening (protocol_of config.protocol) number 0)
 
--- the request is asked over the connection that the policy selects
+-- the step asks the request over the connection that the policy selects
 pub record IsAskedAgain (s : ServerSend) (now : ℕ) (server : Server) (made : SendStep) (next : Stage) : Type 0 where
   pub place : ℕ
   pub chosen : IsFirstLeast (allows_connection s.policy) (is_before now) server.connections place
   pub over : IsAskedOver s now true chosen.item.protocol chosen.item.number server made next
 
--- the configuration that the policy selects is opened
+-- the step opens a connection by the configuration that the policy selects
 pub record IsOpened (s : ServerSend) (number : ℕ) (server : Server) (made : SendStep) (next : Stage) : Type 0 where
   pub place : ℕ
   pub chosen : IsFirstLeast (allows_config s.policy) is_config_before server.config.connections place
@@ -150,10 +159,11 @@ pub record IsClosedOff (s : ServerSend) (server : Server) (made : SendStep) (nex
   pub done : made ≡ step.Done (Err NoConnections)
   pub over : next ≡ stage.Over
 
+-- the step opens a connection, where the policy allows a configuration
 abbrev pub OpensSelected : ServerSend → ℕ → Server → SendStep → Stage → Type 0
 OpensSelected s number server made next = IsOpened s number server made next ⊎ IsClosedOff s server made next
 
--- where the policy selects no connection, a configuration is opened
+-- the policy selects no connection, so that one has to be opened
 abbrev pub IsWithoutConnection : ServerSend → ℕ → ℕ → Server → SendStep → Stage → Type 0
 IsWithoutConnection s number now server made next =
     Picks (allows_connection s.policy) (is_before now) server.connections None × OpensSelected s number server made next
@@ -171,7 +181,7 @@ StepIs s (stage.Asking asked polls) number now server made next = (made ≡ step
 StepIs s (stage.Ended result) number now server made next = (made ≡ step.Done result) × (next ≡ stage.Over)
 StepIs s stage.Over number now server made next = (made ≡ step.Waiting) × (next ≡ stage.Over)
 
--- what it ended with is told
+-- the step tells what the send ended with
 abbrev pub TellsEnd : Stage → SendStep → Stage → Type 0
 TellsEnd stage.Ready made next = ⊥
 TellsEnd (stage.Opening protocol order polls) made next = ⊥
@@ -180,7 +190,7 @@ TellsEnd (stage.Asking asked polls) made next = ⊥
 TellsEnd (stage.Ended result) made next = (made ≡ step.Done result) × (next ≡ stage.Over)
 TellsEnd stage.Over made next = ⊥
 
--- a question takes one of those that are left, anything else none
+-- a step that asks takes one of the questions that are left, and any other takes none
 abbrev pub asks_of : SendStep → ℕ
 asks_of (step.Order (Ask conn ip protocol request)) = 1
 asks_of (step.Order (Open ip config)) = 0
@@ -188,95 +198,127 @@ asks_of (step.Order (Sleep until)) = 0
 asks_of step.Waiting = 0
 asks_of (step.Done result) = 0
 
--- what an outcome does to an order that is open: it is to be given up at the first poll that is no fewer than patience allows
+-- ---- an outcome of the open order
+
+-- a poll that finds nothing is the last one that patience allows
+abbrev pub is_last_poll : ℕ → Stage → Bool
+is_last_poll patience at = nat_le patience (pendings at + 1)
+
+-- what a poll that found nothing does to its order: the last one that patience allows gives it up, and one before it keeps it
+abbrev pub after_poll : ℕ → Stage → After
+after_poll patience at = if is_last_poll patience at then GiveUp else Kept
+
+-- what an outcome does to an order that is open
 abbrev pub after_outcome : ℕ → Stage → Outcome → After
-after_outcome patience s (Pending entry) = if nat_le patience (pendings s + 1) then GiveUp else Kept
-after_outcome patience s (Connected entry sent) = Ended
-after_outcome patience s (Told entry sent message) = Ended
-after_outcome patience s (Failed entry sent refused error) = Ended
-after_outcome patience s (GaveUp entry sent polls) = Ended
-after_outcome patience s Slept = Ended
+after_outcome patience at (Pending entry of) = after_poll patience at
+after_outcome patience at (Connected entry sent) = Ended
+after_outcome patience at (Told entry sent message) = Ended
+after_outcome patience at (Failed entry sent refused error) = Ended
+after_outcome patience at Slept = Ended
 
+-- an outcome is late exactly where no order is open
 abbrev pub after_put : ℕ → Stage → Outcome → After
-after_put patience s outcome = if is_open s then after_outcome patience s outcome else Late
+after_put patience at outcome = if is_open at then after_outcome patience at outcome else Late
 
--- a response was told
-abbrev pub IsTold : Outcome → Type 0
-IsTold (Pending entry) = ⊥
-IsTold (Connected entry sent) = ⊥
-IsTold (Told entry sent message) = Unit {0}
-IsTold (Failed entry sent refused error) = ⊥
-IsTold (GaveUp entry sent polls) = ⊥
-IsTold Slept = ⊥
+-- only a message that is told to an open order takes memory
+abbrev pub takes_memory : Stage → Outcome → Bool
+takes_memory at (Pending entry of) = false
+takes_memory at (Connected entry sent) = false
+takes_memory at (Told entry sent message) = is_open at
+takes_memory at (Failed entry sent refused error) = false
+takes_memory at Slept = false
 
--- what an error does to the server: only that of a question does anything
-abbrev pub lost_put : Option Asked → ℕ → NetError → Server → Server
-lost_put None now error server = server
-lost_put (Some asked) now error server = after_failed asked.conn error now server
+-- ---- what it makes of the send
 
--- what a response does to the server, by what it is
-abbrev pub told_put : Option Asked → ℕ → Result Message DnsError → Server → Server
-told_put None now class server = server
-told_put (Some asked) now class server = after_told asked.conn (now - asked.at) now class server
+-- the send has ended with a result, which is still to be told
+abbrev pub ended : Result Message NetError → ServerSend → ServerSend
+ended result s = record s { stage = stage.Ended result }
 
--- what an outcome does to the server; one that a question cannot have counts as another fault of transport
-abbrev pub heard_put : Option Asked → ℕ → Outcome → Server → Server
-heard_put asked now (Pending entry) server = server
-heard_put asked now (Connected entry sent) server = lost_put asked now (Io Other) server
-heard_put asked now (Told entry sent message) server = told_put asked now (classify_of message) server
-heard_put asked now (Failed entry sent refused error) server = lost_put asked now error server
-heard_put asked now (GaveUp entry sent polls) server = lost_put asked now Timeout server
-heard_put asked now Slept server = lost_put asked now (Io Other) server
+-- the send begins its second try
+abbrev pub tried_again : ServerSend → ServerSend
+tried_again s = record s { retried = true; stage = stage.Ready }
 
--- what a send ends with where a response is told
+-- a question is tried once more where a connection that was used again was closed, for the first time
+abbrev pub is_tried_again : Bool → Asked → NetError → Bool
+is_tried_again retried asked error = asked.again && (not retried && is_closed error)
+
+-- an error of an opening ends the send, and one of a question ends it or is followed by one more try
+abbrev pub after_error : Option Asked → NetError → ServerSend → ServerSend
+after_error None error s = ended (Err error) s
+after_error (Some asked) error s = if is_tried_again s.retried asked error then tried_again s else ended (Err error) s
+
+-- the open order is lost with an error
+abbrev pub lost : NetError → ServerSend → ServerSend
+lost error s = after_error (asked_of s.stage) error s
+
+-- what a response to a question ends the send with: its message, or the error that it is
 abbrev pub result_of : Result Message DnsError → Result Message NetError
 result_of (Ok message) = Ok message
 result_of (Err error) = Err (Dns error)
 
--- the error is followed by one more try: a connection that was used again was closed, for the first time
-abbrev pub is_tried_again : Bool → Asked → NetError → Bool
-is_tried_again retried asked error = asked.again && (not retried && is_closed error)
+-- what any response ends the send with: one that no question asked for is a fault of transport
+abbrev pub response_end : Option Asked → Result Message DnsError → Result Message NetError
+response_end None class = Err (Io Other)
+response_end (Some asked) class = result_of class
 
--- an error of a question: one more try, or the end
-abbrev pub IsLostAsk : ServerSend → Asked → NetError → ServerSend → Type 0
-IsLostAsk s asked error next = elim (is_tried_again s.retried asked error) [
-  | true ↦ (next.stage ≡ stage.Ready) × (next.retried ≡ true)
-  | false ↦ (next.stage ≡ stage.Ended (Err error)) × (next.retried ≡ s.retried)
-]
+-- a response is told, and ends the send
+abbrev pub told : Result Message DnsError → ServerSend → ServerSend
+told class s = ended (response_end (asked_of s.stage) class) s
 
--- an error of an opening ends the send
-abbrev pub IsLost : ServerSend → Option Asked → NetError → ServerSend → Type 0
-IsLost s None error next = (next.stage ≡ stage.Ended (Err error)) × (next.retried ≡ s.retried)
-IsLost s (Some asked) error next = IsLostAsk s asked error next
+-- a connection that was being opened is asked over next, and one that was not is a fault of transport
+abbrev pub after_opening : Option (Protocol × ℕ) → ServerSend → ServerSend
+after_opening None s = lost (Io Other) s
+after_opening (Some opening) s = record s { stage = stage.Opened opening.0 opening.1 }
 
--- a response ends it: one that no question asked for is a fault of transport
-abbrev pub IsHeard : ServerSend → Option Asked → Result Message DnsError → ServerSend → Type 0
-IsHeard s None class next = (next.stage ≡ stage.Ended (Err (Io Other))) × (next.retried ≡ s.retried)
-IsHeard s (Some asked) class next = (next.stage ≡ stage.Ended (result_of class)) × (next.retried ≡ s.retried)
+-- the connection of the open order is there
+abbrev pub connected : ServerSend → ServerSend
+connected s = after_opening (opening_of s.stage) s
 
--- the connection that was opened is there
-abbrev pub IsConnected : ServerSend → Option (Protocol × ℕ) → ServerSend → Type 0
-IsConnected s None next = IsLost s (asked_of s.stage) (Io Other) next
-IsConnected s (Some opening) next = (next.stage ≡ stage.Opened opening.0 opening.1) × (next.retried ≡ s.retried)
+-- one poll more of the open order found nothing
+abbrev pub polled_once : Stage → Stage
+polled_once stage.Ready = stage.Ready
+polled_once (stage.Opening protocol order polls) = stage.Opening protocol order (polls + 1)
+polled_once (stage.Opened protocol conn) = stage.Opened protocol conn
+polled_once (stage.Asking asked polls) = stage.Asking asked (polls + 1)
+polled_once (stage.Ended result) = stage.Ended result
+polled_once stage.Over = stage.Over
 
--- one poll more found nothing: the order is the same
-pub record IsPending (s next : ServerSend) : Type 0 where
-  pub asked : asked_of next.stage ≡ asked_of s.stage
-  pub opening : opening_of next.stage ≡ opening_of s.stage
-  pub polls : pendings next.stage ≡ min (pendings s.stage + 1) 4294967295
-  pub retried : next.retried ≡ s.retried
+-- a poll that found nothing is counted, but the last one that patience allows is a timeout
+abbrev pub polled : ℕ → ServerSend → ServerSend
+polled patience s = if is_last_poll patience s.stage then lost Timeout s else record s { stage = polled_once s.stage }
 
--- where the send stands after the outcome of its open order
-abbrev pub Comes : ServerSend → Outcome → ServerSend → Type 0
-Comes s (Pending entry) next = IsPending s next
-Comes s (Connected entry sent) next = IsConnected s (opening_of s.stage) next
-Comes s (Told entry sent message) next = IsHeard s (asked_of s.stage) (classify_of message) next
-Comes s (Failed entry sent refused error) next = IsLost s (asked_of s.stage) error next
-Comes s (GaveUp entry sent polls) next = IsLost s (asked_of s.stage) Timeout next
-Comes s Slept next = IsLost s (asked_of s.stage) (Io Other) next
+-- the outcome of the open order is taken, and one that such an order cannot have is a fault of transport
+abbrev pub taken : ℕ → Outcome → ServerSend → ServerSend
+taken patience (Pending entry of) s = polled patience s
+taken patience (Connected entry sent) s = connected s
+taken patience (Told entry sent message) s = told (classify_of message) s
+taken patience (Failed entry sent refused error) s = lost error s
+taken patience Slept s = lost (Io Other) s
 
--- it goes to the same server, with the same request and policy
-pub record IsSameSend (s next : ServerSend) : Type 0 where
-  pub server : next.server ≡ s.server
-  pub request : next.request ≡ s.request
-  pub policy : next.policy ≡ s.policy
+-- what a send comes to by an outcome: a late one changes nothing
+abbrev pub come_to : ℕ → Outcome → ServerSend → ServerSend
+come_to patience outcome s = if is_open s.stage then taken patience outcome s else s
+
+-- ---- what it does to the server
+
+-- an error of a question counts for the server, and one of an opening does not
+abbrev pub lost_put : Option Asked → ℕ → NetError → Server → Server
+lost_put None now error server = server
+lost_put (Some asked) now error server = after_failed asked.conn error now server
+
+-- a response to a question counts for the server, by what it is
+abbrev pub told_put : Option Asked → ℕ → Result Message DnsError → Server → Server
+told_put None now class server = server
+told_put (Some asked) now class server = after_told asked.conn (now - asked.at) now class server
+
+-- the last poll that patience allows counts as a timeout, and one before it does not count
+abbrev pub polled_put : ℕ → Stage → ℕ → Server → Server
+polled_put patience at now server = if is_last_poll patience at then lost_put (asked_of at) now Timeout server else server
+
+-- what an outcome does to the server: one that a question cannot have counts as a fault of transport
+abbrev pub heard_put : ℕ → Stage → ℕ → Outcome → Server → Server
+heard_put patience at now (Pending entry of) server = polled_put patience at now server
+heard_put patience at now (Connected entry sent) server = lost_put (asked_of at) now (Io Other) server
+heard_put patience at now (Told entry sent message) server = told_put (asked_of at) now (classify_of message) server
+heard_put patience at now (Failed entry sent refused error) server = lost_put (asked_of at) now error server
+heard_put patience at now Slept server = lost_put (asked_of at) now (Io Other) server

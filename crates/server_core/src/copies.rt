@@ -33,7 +33,10 @@ impl TryClone for Sent {
 impl TryClone for Outcome {
     fn try_clone(&self, alloc: Global) -> Result<Self, NoMemory> {
         match self {
-            Outcome::Pending { entry } => Ok(Outcome::Pending { entry: *entry }),
+            Outcome::Pending { entry, of } => Ok(Outcome::Pending {
+                entry: *entry,
+                of: *of,
+            }),
             Outcome::Connected { entry, sent } => {
                 let sent = sent.try_clone(alloc)?;
                 Ok(Outcome::Connected {
@@ -67,14 +70,6 @@ impl TryClone for Outcome {
                     sent,
                     refused: *refused,
                     error,
-                })
-            }
-            Outcome::GaveUp { entry, sent, polls } => {
-                let sent = sent.try_clone(alloc)?;
-                Ok(Outcome::GaveUp {
-                    entry: *entry,
-                    sent,
-                    polls: *polls,
                 })
             }
             Outcome::Slept => Ok(Outcome::Slept),

@@ -111,12 +111,13 @@ pub struct Sent {
 }
 
 /// What came of it, with the number of the log entry that says so; of a sleep no entry says anything,
-/// and the number is 0. `refused` tells a call that failed at once, and `polls` how many found nothing
-/// before a give-up.
+/// and the number is 0. A poll that found nothing names the entry that sent what it waits for; of a
+/// sleep that is 0 too. `refused` tells a call that failed at once.
 #[derive(Drop, Debug)]
 pub enum Outcome {
     Pending {
         entry: u64,
+        of: u64,
     },
     Connected {
         entry: u64,
@@ -133,11 +134,6 @@ pub enum Outcome {
         refused: bool,
         error: NetError,
     },
-    GaveUp {
-        entry: u64,
-        sent: Sent,
-        polls: u32,
-    },
     Slept,
 }
 
@@ -146,17 +142,17 @@ impl Outcome {
         ensures { result ≡ entry_of self.now }
     {
         match self {
-            Outcome::Pending { entry } => *entry,
+            Outcome::Pending { entry, .. } => *entry,
             Outcome::Connected { entry, .. } => *entry,
             Outcome::Told { entry, .. } => *entry,
             Outcome::Failed { entry, .. } => *entry,
-            Outcome::GaveUp { entry, .. } => *entry,
             Outcome::Slept => 0,
         }
     }
 }
 
-/// What an outcome did: the order goes on, has ended, is to be given up, or was not open or is another.
+/// What an outcome did: the order goes on, has ended, has ended since patience is over and is to be
+/// given up by whoever carries it, or was not open or is another.
 #[derive(Clone, Copy, Debug, PartialEq, Eq)]
 pub enum After {
     Kept,

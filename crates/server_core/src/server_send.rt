@@ -1,12 +1,12 @@
 //! One send of a request to one server, over the connections that are kept to it.
-ghost use Rattle.std.specs.Prelude.{◌≡◌, ◌≤◌, ◌<◌, ◌+◌, nat_le, ℕ, min, if◌then◌else◌, length, slice_get, true, false, IfNone, IfOk, OnOk, OnErr, IsTrue, Ok, IsOk};
+ghost use Rattle.std.specs.Prelude.{◌≡◌, ◌≤◌, ◌<◌, ◌+◌, ℕ, if◌then◌else◌, length, slice_get, true, false, IfOk, OnOk, OnErr, MatchResult, IsOk};
 ghost use Rattle.dns_core.specs.Connection.{protocol_of};
-ghost use Rattle.dns_core.specs.declared.connection.Protocol.{Protocol};
 ghost use Rattle.dns_core.specs.declared.connection.ConnectionConfig.{ConnectionConfig};
 ghost use Rattle.server_core.specs.declared.name_server.Connection.{Connection};
 ghost use Rattle.server_core.specs.Hearing.{changed_at, without_dead, with_opened};
 ghost use Rattle.server_core.specs.Servers.{Server, place_of, server_of};
-ghost use Rattle.server_core.specs.Sending.{want_of, is_open, asked_of, opening_of, pendings, asks_left, asks_of, end_of, after_end, after_step, after_want, IsAskedOver, IsOpenedOver, OpensSelected, Begins, StepIs, TellsEnd, after_put, lost_put, told_put, heard_put, result_of, IsLostAsk, IsLost, IsHeard, IsConnected, IsTold, Comes, IsSameSend};
+ghost use Rattle.server_core.specs.Sending.{want_of, is_open, asked_of, opening_of, pendings, asks_left, asks_of, end_of, after_end, after_next, IsAskedOver, IsOpenedOver, OpensSelected, Begins, StepIs, TellsEnd};
+ghost use Rattle.server_core.specs.Sending.{is_last_poll, after_poll, after_put, takes_memory, after_error, lost, result_of, told, connected, polled_once, polled, come_to, lost_put, told_put, heard_put};
 
 use crate::context::PoolContext;
 use crate::heard::{heard_error, heard_of};
@@ -128,26 +128,33 @@ impl Stage {
         }
     }
 
-    /// Counts a poll that found nothing, and answers how many there were before.
-    fn count_poll(&mut self) -> u32
-        requires { IsTrue (is_open self.old) }
-        ensures before { result ≡ pendings self.old }
-        ensures asked { asked_of self.new ≡ asked_of self.old }
-        ensures opening { opening_of self.new ≡ opening_of self.old }
-        ensures polls { pendings self.new ≡ min (pendings self.old + 1) 4294967295 }
+    /// How many polls of its order found nothing.
+    fn polls(&self) -> u32
+        ensures { result ≡ pendings self.now }
     {
         match self {
-            Stage::Opening { polls, .. } => {
-                let before = *polls;
-                *polls = before.saturating_add(1);
-                before
-            }
-            Stage::Asking { polls, .. } => {
-                let before = *polls;
-                *polls = before.saturating_add(1);
-                before
-            }
+            Stage::Opening { polls, .. } => *polls,
+            Stage::Asking { polls, .. } => *polls,
             _ => 0,
+        }
+    }
+
+    /// Whether a poll that finds nothing is the last one that patience allows.
+    fn is_last_poll(&self, patience: u32) -> bool
+        ensures { result ≡ is_last_poll patience self.now }
+    {
+        patience <= self.polls().saturating_add(1)
+    }
+
+    /// Counts a poll that found nothing.
+    fn count_poll(&mut self)
+        requires { pendings self.old < 4294967295 }
+        ensures { self.new ≡ polled_once self.old }
+    {
+        match self {
+            Stage::Opening { polls, .. } => *polls += 1,
+            Stage::Asking { polls, .. } => *polls += 1,
+            Stage::Ready | Stage::Opened { .. } | Stage::Ended(_) | Stage::Over => {}
         }
     }
 }
@@ -158,17 +165,6 @@ fn result_of(class: Result<Message, DnsError>) -> Result<Message, NetError>
     match class {
         Ok(message) => Ok(message),
         Err(error) => Err(NetError::Dns(error)),
-    }
-}
-
-/// One more poll, after so many: the last one that patience allows, or one before it.
-fn after_poll(before: u32, patience: u32) -> After
-    ensures { result ≡ (if nat_le patience (before + 1) then After.GiveUp else After.Kept) }
-{
-    if patience <= before.saturating_add(1) {
-        After::GiveUp
-    } else {
-        After::Kept
     }
 }
 
@@ -197,16 +193,13 @@ impl ServerSend {
         tick: Tick,
     ) -> Result<SendStep, NoMemory>
         requires { place_of self.old.server < length table.old }
-        ensures same { IsSameSend self.old self.new }
-        ensures retried { self.new.retried ≡ self.old.retried }
-        ensures table { OnOk result (table.new ≡ changed_at (after_step self.old.stage) self.old.server table.old) }
+        ensures same { self.new ≡ record self.old { stage = self.new.stage } }
+        ensures table { table.new ≡ changed_at (after_next self.old.stage result) self.old.server table.old }
         ensures step { (server : Server) → server_of table.old self.old.server ≡ Some server
             → IfOk result (λ step. StepIs self.old self.old.stage number tick.now server step self.new.stage) }
         ensures asks { IfOk result (λ step. asks_left self.new + asks_of step ≤ asks_left self.old) }
-        ensures count { length table.new ≡ length table.old }
         ensures context { cx.new ≡ cx.old }
         ensures err { OnErr result (self.new ≡ self.old) }
-        ensures want { OnErr result (table.new ≡ changed_at (after_want self.old.stage) self.old.server table.old) }
     {
         match self.stage.want() {
             Want::Begin => self.begin(alloc, table, cx, number, tick.now),
@@ -219,10 +212,7 @@ impl ServerSend {
     /// What it ended with, where that was not told yet: it is over from then on. Else nothing changes.
     pub fn take_end(&mut self) -> Option<Result<Message, NetError>>
         ensures end { result ≡ end_of self.old.stage }
-        ensures stage { self.new.stage ≡ after_end self.old.stage }
-        ensures same { IsSameSend self.old self.new }
-        ensures retried { self.new.retried ≡ self.old.retried }
-        ensures none { IfNone result (self.new ≡ self.old) }
+        ensures send { self.new ≡ record self.old { stage = after_end self.old.stage } }
         ensures asks { asks_left self.new ≤ asks_left self.old }
     {
         match mem::replace(&mut self.stage, Stage::Over) {
@@ -238,8 +228,7 @@ impl ServerSend {
     fn tell(&mut self) -> SendStep
         requires { want_of self.old.stage ≡ Want.Tell }
         ensures tells { TellsEnd self.old.stage result self.new.stage }
-        ensures same { IsSameSend self.old self.new }
-        ensures retried { self.new.retried ≡ self.old.retried }
+        ensures same { self.new ≡ record self.old { stage = self.new.stage } }
     {
         match self.take_end() {
             Some(result) => SendStep::Done(result),
@@ -259,8 +248,7 @@ impl ServerSend {
     ) -> Result<SendStep, NoMemory>
         requires live { place_of self.old.server < length table.old }
         requires ready { self.old.stage ≡ Stage.Ready }
-        ensures same { IsSameSend self.old self.new }
-        ensures retried { self.new.retried ≡ self.old.retried }
+        ensures same { self.new ≡ record self.old { stage = self.new.stage } }
         ensures table { table.new ≡ changed_at without_dead self.old.server table.old }
         ensures step { (server : Server) → server_of table.old self.old.server ≡ Some server
             → IfOk result (λ step. Begins self.old number now (without_dead server) step self.new.stage) }
@@ -278,8 +266,7 @@ impl ServerSend {
         number: u64,
         now: u64,
     ) -> Result<SendStep, NoMemory>
-        ensures same { IsSameSend self.old self.new }
-        ensures retried { self.new.retried ≡ self.old.retried }
+        ensures same { self.new ≡ record self.old { stage = self.new.stage } }
         ensures step { IfOk result (λ step. Begins self.old number now server.now step self.new.stage) }
         ensures err { OnErr result (self.new ≡ self.old) }
     {
@@ -297,8 +284,7 @@ impl ServerSend {
         now: u64,
     ) -> Result<SendStep, NoMemory>
         requires { place < length server.now.connections }
-        ensures same { IsSameSend self.old self.new }
-        ensures retried { self.new.retried ≡ self.old.retried }
+        ensures same { self.new ≡ record self.old { stage = self.new.stage } }
         ensures step { (c : Connection) → slice_get server.now.connections place ≡ Some c
             → IfOk result (λ step. IsAskedOver self.old now true c.protocol c.number server.now step self.new.stage) }
         ensures err { OnErr result (self.new ≡ self.old) }
@@ -342,8 +328,7 @@ impl ServerSend {
         number: u64,
         now: u64,
     ) -> Result<SendStep, NoMemory>
-        ensures same { IsSameSend self.old self.new }
-        ensures retried { self.new.retried ≡ self.old.retried }
+        ensures same { self.new ≡ record self.old { stage = self.new.stage } }
         ensures step { IfOk result (λ step. OpensSelected self.old number server.now step self.new.stage) }
         ensures err { OnErr result (self.new ≡ self.old) }
     {
@@ -369,8 +354,7 @@ impl ServerSend {
         number: u64,
     ) -> Result<SendStep, NoMemory>
         requires { place < length server.now.config.connections }
-        ensures same { IsSameSend self.old self.new }
-        ensures retried { self.new.retried ≡ self.old.retried }
+        ensures same { self.new ≡ record self.old { stage = self.new.stage } }
         ensures step { (c : ConnectionConfig) → slice_get server.now.config.connections place ≡ Some c
             → IfOk result (λ step. IsOpenedOver number c server.now step self.new.stage) }
         ensures err { OnErr result (self.new ≡ self.old) }
@@ -402,13 +386,12 @@ impl ServerSend {
         now: u64,
     ) -> Result<SendStep, NoMemory>
         requires live { place_of self.old.server < length table.old }
-        ensures same { IsSameSend self.old self.new }
-        ensures retried { self.new.retried ≡ self.old.retried }
+        ensures same { self.new ≡ record self.old { stage = self.new.stage } }
         ensures table { OnOk result (table.new ≡ changed_at (with_opened conn protocol) self.old.server table.old) }
         ensures step { (server : Server) → server_of table.old self.old.server ≡ Some server
             → IfOk result (λ step. IsAskedOver self.old now false protocol conn server step self.new.stage) }
         ensures err { OnErr result (self.new ≡ self.old) }
-        ensures want { OnErr result (table.new ≡ table.old) }
+        ensures kept { OnErr result (table.new ≡ table.old) }
     {
         let ip = table.get(self.server).ip();
         let request = self.request.try_clone(alloc)?;
@@ -425,7 +408,8 @@ impl ServerSend {
         ))
     }
 
-    /// Takes the outcome of the open order. Where memory is wanting, nothing has changed.
+    /// Takes the outcome of the open order. The last poll that patience allows ends the order as a
+    /// timeout, and whoever carries the order is then to give it up. Out of memory, nothing has changed.
     pub fn put(
         &mut self,
         alloc: Global,
@@ -436,60 +420,78 @@ impl ServerSend {
     ) -> Result<After, NoMemory>
         requires { place_of self.old.server < length table.old }
         ensures after { IfOk result (λ after. after ≡ after_put tick.patience self.old.stage outcome) }
-        ensures same { IsSameSend self.old self.new }
-        ensures late { is_open self.old.stage ≡ false → (result ≡ Ok After.Late) × (self.new ≡ self.old) × (table.new ≡ table.old) }
-        ensures table { OnOk result (table.new ≡ changed_at (heard_put (asked_of self.old.stage) tick.now outcome) self.old.server table.old) }
-        ensures comes { IsTrue (is_open self.old.stage) → OnOk result (Comes self.old outcome self.new) }
+        ensures send { MatchResult result (λ after. self.new ≡ come_to tick.patience outcome self.old) (λ error. self.new ≡ self.old) }
+        ensures table { MatchResult result (λ after. table.new ≡ changed_at (heard_put tick.patience self.old.stage tick.now outcome) self.old.server table.old)
+            (λ error. table.new ≡ table.old) }
         ensures asks { asks_left self.new ≤ asks_left self.old }
-        ensures count { length table.new ≡ length table.old }
         ensures context { cx.new ≡ cx.old }
-        ensures err { OnErr result ((self.new ≡ self.old) × (table.new ≡ table.old)) }
-        ensures ample { (IsTold outcome → ⊥) → IsOk result }
+        ensures ample { takes_memory self.old.stage outcome ≡ false → IsOk result }
     {
         if !self.stage.is_open() {
             return Ok(After::Late);
         }
         match outcome {
-            Outcome::Pending { .. } => {
-                let before = self.stage.count_poll();
-                Ok(after_poll(before, tick.patience))
+            Outcome::Pending { .. } => Ok(self.poll(table, tick)),
+            Outcome::Connected { .. } => {
+                self.connect(table, tick.now);
+                Ok(After::Ended)
             }
-            Outcome::Connected { .. } => Ok(self.connect(table, tick.now)),
             Outcome::Told { message, .. } => {
                 let class = classify(alloc, message)?;
-                Ok(self.hear(table, class, tick.now))
+                self.hear(table, class, tick.now);
+                Ok(After::Ended)
             }
-            Outcome::Failed { error, .. } => Ok(self.lose(table, error, tick.now)),
-            Outcome::GaveUp { .. } => Ok(self.lose(table, NetError::Timeout, tick.now)),
-            Outcome::Slept => Ok(self.lose(table, NetError::Io(IoKind::Other), tick.now)),
+            Outcome::Failed { error, .. } => {
+                self.lose(table, error, tick.now);
+                Ok(After::Ended)
+            }
+            Outcome::Slept => {
+                self.lose(table, NetError::Io(IoKind::Other), tick.now);
+                Ok(After::Ended)
+            }
+        }
+    }
+
+    /// One poll more of the open order found nothing.
+    fn poll(&mut self, table: &mut ServerTable, tick: Tick) -> After
+        requires { place_of self.old.server < length table.old }
+        ensures after { result ≡ after_poll tick.patience self.old.stage }
+        ensures send { self.new ≡ polled tick.patience self.old }
+        ensures table { table.new ≡ (if is_last_poll tick.patience self.old.stage
+            then changed_at (lost_put (asked_of self.old.stage) tick.now NetError.Timeout) self.old.server table.old
+            else table.old) }
+    {
+        if self.stage.is_last_poll(tick.patience) {
+            self.lose(table, NetError::Timeout, tick.now);
+            After::GiveUp
+        } else {
+            self.stage.count_poll();
+            After::Kept
         }
     }
 
     /// The connection is there, where one was being opened.
-    fn connect(&mut self, table: &mut ServerTable, now: u64) -> After
+    fn connect(&mut self, table: &mut ServerTable, now: u64)
         requires { place_of self.old.server < length table.old }
-        ensures after { result ≡ After.Ended }
-        ensures same { IsSameSend self.old self.new }
-        ensures none { opening_of self.old.stage ≡ None → table.new ≡ changed_at (lost_put (asked_of self.old.stage) now (NetError.Io IoKind.Other)) self.old.server table.old }
-        ensures some { (opening : Protocol × ℕ) → opening_of self.old.stage ≡ Some opening → table.new ≡ table.old }
-        ensures comes { IsConnected self.old (opening_of self.old.stage) self.new }
+        ensures send { self.new ≡ connected self.old }
+        ensures table { table.new ≡ changed_at (lost_put (asked_of self.old.stage) now (NetError.Io IoKind.Other)) self.old.server table.old }
     {
         match self.stage.opening() {
-            Some((protocol, conn)) => {
-                self.stage = Stage::Opened { protocol, conn };
-                After::Ended
+            Some(opening) => {
+                self.stage = Stage::Opened {
+                    protocol: opening.0,
+                    conn: opening.1,
+                };
             }
             None => self.lose(table, NetError::Io(IoKind::Other), now),
         }
     }
 
     /// A response was told, where one was asked for.
-    fn hear(&mut self, table: &mut ServerTable, class: Result<Message, DnsError>, now: u64) -> After
+    fn hear(&mut self, table: &mut ServerTable, class: Result<Message, DnsError>, now: u64)
         requires { place_of self.old.server < length table.old }
-        ensures after { result ≡ After.Ended }
-        ensures same { IsSameSend self.old self.new }
+        ensures send { self.new ≡ told class self.old }
         ensures table { table.new ≡ changed_at (told_put (asked_of self.old.stage) now class) self.old.server table.old }
-        ensures comes { IsHeard self.old (asked_of self.old.stage) class self.new }
     {
         match self.stage.asked() {
             Some(asked) => {
@@ -501,16 +503,13 @@ impl ServerSend {
                 self.stage = Stage::Ended(Err(NetError::Io(IoKind::Other)));
             }
         }
-        After::Ended
     }
 
     /// The order came to nothing but an error.
-    fn lose(&mut self, table: &mut ServerTable, error: NetError, now: u64) -> After
+    fn lose(&mut self, table: &mut ServerTable, error: NetError, now: u64)
         requires { place_of self.old.server < length table.old }
-        ensures after { result ≡ After.Ended }
-        ensures same { IsSameSend self.old self.new }
+        ensures send { self.new ≡ lost error self.old }
         ensures table { table.new ≡ changed_at (lost_put (asked_of self.old.stage) now error) self.old.server table.old }
-        ensures comes { IsLost self.old (asked_of self.old.stage) error self.new }
     {
         match self.stage.asked() {
             Some(asked) => {
@@ -522,13 +521,11 @@ impl ServerSend {
                 self.stage = Stage::Ended(Err(error));
             }
         }
-        After::Ended
     }
 
     /// Tries once more, or ends.
     fn lose_ask(&mut self, asked: Asked, error: NetError)
-        ensures same { IsSameSend self.old self.new }
-        ensures comes { IsLostAsk self.old asked error self.new }
+        ensures { self.new ≡ after_error (Some asked) error self.old }
     {
         if asked.again && !self.retried && error.is_connection_closed() {
             self.retried = true;

@@ -1,15 +1,17 @@
 -- What the pools of a resolver share.
-use Rattle.std.specs.Prelude.{◌≡◌, ◌≢◌, ℕ, List, Option, Some, map, unwrap_or}
+use Rattle.std.specs.Prelude.{◌≡◌, ◌≢◌, ℕ, Bool, List, Option, Some, unwrap_or}
 use Rattle.std.specs.BTreeMap.{is_at}
 use Rattle.std.specs.Map.{lookup}
 use Rattle.std.specs.Ordering.{nat_cmp}
-use Rattle.resolver_settings.specs.NameServer.{NameServer}
+use Rattle.std.specs.declared.net.ip_addr.IpAddr.{IpAddr}
 use Rattle.server_core.specs.Context.{Context}
 use Rattle.server_core.specs.Servers.{Server}
+use Rattle.retry_rules.specs.AnswerFilter.{denied_by}
+pub use Rattle.retry_lookup.specs.Tables.{configs}
 use Rattle.server_pool.specs.declared.open_lookup.OpenLookup.{OpenLookup}
 
--- the servers, each with its place as its number; the settings of all pools; how many pools were numbered so far; the open lookups by their numbers; the lookup of each order that was given and has not
--- ended, by its number; whose turn it is in each pool that takes turns; and how many lookups and orders were numbered so far
+-- the servers, each with its place as its number; the settings of all pools; how many pools were numbered so far; the lookups that are under way, by their numbers; the lookup of each order that was given
+-- and has not ended, by its number; whose turn it is in each pool that takes turns; and how many requests were sent and how many orders were given so far
 pub record Shared : Type 0 where
   pub table : List Server
   pub context : Context
@@ -17,14 +19,14 @@ pub record Shared : Type 0 where
   pub lookups : List (ℕ × OpenLookup)
   pub orders : List (ℕ × ℕ)
   pub turns : List (ℕ × ℕ)
-  pub begun : ℕ
+  pub sent : ℕ
   pub given : ℕ
 
 -- what stands under a number
 abbrev pub under : {X : Type 0} → ℕ → List (ℕ × X) → Option X
 under n entries = lookup (is_at (nat_cmp n)) entries
 
--- the open lookup of a number
+-- the lookup of a number
 abbrev pub lookup_at : Shared → ℕ → Option OpenLookup
 lookup_at shared n = under n shared.lookups
 
@@ -36,9 +38,9 @@ lookup_of shared number = under number shared.orders
 abbrev pub turn_at : Shared → ℕ → ℕ
 turn_at shared pool = unwrap_or (under pool shared.turns) 0
 
--- how the servers are reached
-abbrev pub configs : List Server → List NameServer
-configs table = map (λ server. server.config) table
+-- which addresses are taken out of answers
+abbrev pub denied_in : Shared → (IpAddr → Bool)
+denied_in shared = denied_by shared.context.answer_address_filter
 
 -- The settings are the same, and so are the servers, but for their connections and delays.
 pub record SameServers (old new : Shared) : Type 0 where

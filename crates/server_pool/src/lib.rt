@@ -1,21 +1,22 @@
-//! A pool of servers: its lookups with their rounds, and what they share. The rules by which servers are
-//! asked again are those of `retry_rules`; what is ordered for a pool is carried out by `order_carrier`.
+//! Pools of servers: the lookups at them, each of which all requests of its key share, and what the pools
+//! share. The rules by which servers are asked again are those of `retry_rules`, and one lookup is one of
+//! `retry_lookup`; what is ordered for a pool is carried out by `order_carrier`.
 #![tactic(auto)]
 
-mod by_number;
-mod cancelling;
+mod beginning;
 mod candidates;
+mod key;
 mod new_pool;
-mod next_step;
 mod open_lookup;
+mod orders;
 mod pool;
 mod pool_laws;
 mod pool_lookup;
 mod pool_shared;
-mod rounds;
+mod table_laws;
 mod threads;
 
-pub use next_step::RoundStep;
+pub use open_lookup::OpenLookup;
 pub use order_carrier::{Carrier, carriers_cross_threads};
 pub use pool::NameServerPool;
 pub use pool_laws::a_pool_expires_after_its_ttl;
@@ -25,5 +26,8 @@ pub use retry_rules::{
     Agenda, Candidate, Ending, Hearing, a_deadline_ends_a_lookup, a_lookup_makes_few_sends,
     filtered, most_specific, ordered, sort_servers_by_query_statistics,
     the_earlier_negative_is_kept, the_kept_error_is_what_is_left,
+};
+pub use table_laws::{
+    a_lookup_runs_by_its_ends, a_step_changes_one_lookup, an_order_goes_to_a_server,
 };
 pub use threads::pools_cross_threads;

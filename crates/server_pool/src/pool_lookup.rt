@@ -1,15 +1,13 @@
 //! One caller's interest in a lookup at a pool.
-ghost use Rattle.std.specs.Prelude.{◌≡◌, ◌≢◌, ◌+◌, ◌*◌, ◌≤◌, ℕ, length, ◌↔◌, List, [], Contains, IfOk, OnErr, Err, Some, None, option_map, ◌⊎◌};
+ghost use Rattle.std.specs.Prelude.{◌≡◌, ◌≢◌, ◌⊎◌, ℕ, ◌↔◌, true, [], Contains, IfOk, OnErr, Err, Some, None, option_and_then};
 ghost use Rattle.std.specs.List.Sorted.{IsStrictlyIncreasing};
-ghost use Rattle.resolution.specs.Lookups.{Answered};
-ghost use Rattle.server_pool.specs.Shared.{lookup_at, SameBut};
-ghost use Rattle.server_pool.specs.SharedStands.{IsOpenOrder};
-ghost use Rattle.server_pool.specs.PoolSteps.{IsSameBeside, HasSameLookupsBut, HasSameOrdersAtBut, HasBegun, request_by, NumbersStep, PoolGives, IsHaltedBefore, TellsAgain};
-ghost use Rattle.server_pool.specs.Lookups.{Begins, Gives, told_of};
-ghost use Rattle.server_pool.specs.Running.{Runs, AreReached, answer_of, ends_at};
-ghost use Rattle.server_pool.specs.OpenLookup.{LookupStands};
-ghost use Rattle.server_pool.specs.Rounds.{HeardEnd, ends_of, sends_made};
-ghost use Rattle.retry_rules.specs.declared.candidate.Candidate.{Candidate};
+ghost use Rattle.retry_lookup.specs.Asked.{answer_of};
+ghost use Rattle.server_pool.specs.Lookups.{is_last, after_leave, closed_by};
+ghost use Rattle.server_pool.specs.Orders.{IsOpenOrder};
+ghost use Rattle.server_pool.specs.Promises.{IsFairly, IfDone, IfWaiting};
+ghost use Rattle.server_pool.specs.Sending.{request_by, HasSent};
+ghost use Rattle.server_pool.specs.Shared.{lookup_at, denied_in};
+ghost use Rattle.server_pool.specs.Stepping.{HasStepped, HasHalted};
 ghost use Rattle.server_pool.specs.declared.open_lookup.OpenLookup.{OpenLookup as Seen};
 
 use crate::pool::NameServerPool;
@@ -20,7 +18,8 @@ use dns_core::{
 use server_core::Tick;
 use std::alloc::Global;
 
-/// A lookup that was begun, by its number, and the numbers of the servers of its pool.
+/// A lookup that waits for its answer together with others of its key, by its number, and the numbers of
+/// the servers of its pool.
 #[derive(Drop, Debug)]
 pub struct PoolLookup {
     number: u64,
@@ -39,7 +38,9 @@ fn copy_of(alloc: Global, servers: &[u32]) -> Result<Numbers, NoMemory>
 }
 
 impl NameServerPool {
-    /// Asks the servers for a request. Where memory is wanting, nothing has changed.
+    /// Asks the servers for a request. It joins the lookup at this pool that has no answer yet and is of
+    /// the same question, whatever the case of its letters, with recursion, checking, DNSSEC and client
+    /// subnet alike, where there is one. Where memory is wanting, nothing has changed.
     pub fn send(
         &self,
         alloc: Global,
@@ -47,13 +48,12 @@ impl NameServerPool {
         request: DnsRequest,
         tick: Tick,
     ) -> Result<PoolLookup, NoMemory>
-        ensures first { IfOk result (λ lookup. HasBegun self.now.number self.now.servers.items request tick.now shared.old shared.new lookup.number) }
-        ensures begins { IfOk result (λ lookup. Begins self.now.servers.items request tick.now shared.old shared.new lookup.number) }
+        ensures sent { IfOk result (λ lookup. HasSent self.now.number self.now.servers.items request tick.now shared.old shared.new lookup.number) }
         ensures servers { IfOk result (λ lookup. lookup.servers ≡ self.now.servers.items) }
         ensures err { OnErr result (shared.new ≡ shared.old) }
     {
         let servers = copy_of(alloc, self.servers())?;
-        let number = shared.begin(alloc, self.number(), self.servers(), request, tick)?;
+        let number = shared.send(alloc, self.number(), self.servers(), request, tick)?;
         Ok(PoolLookup { number, servers })
     }
 
@@ -66,8 +66,7 @@ impl NameServerPool {
         options: DnsRequestOptions,
         tick: Tick,
     ) -> Result<PoolLookup, NoMemory>
-        ensures first { IfOk result (λ lookup. HasBegun self.now.number self.now.servers.items (request_by shared.old.context query options) tick.now shared.old shared.new lookup.number) }
-        ensures begins { IfOk result (λ lookup. Begins self.now.servers.items (request_by shared.old.context query options) tick.now shared.old shared.new lookup.number) }
+        ensures sent { IfOk result (λ lookup. HasSent self.now.number self.now.servers.items (request_by shared.old.context query options) tick.now shared.old shared.new lookup.number) }
         ensures servers { IfOk result (λ lookup. lookup.servers ≡ self.now.servers.items) }
         ensures err { OnErr result (shared.new ≡ shared.old) }
     {
@@ -98,69 +97,57 @@ impl PoolLookup {
         }
     }
 
-    /// The next step of the lookup, at a moment. Once it is done it answers the same each time. One that
-    /// is not there, of another `PoolShared` say, is done without a connection. Of a pool of n servers it
-    /// makes at most 5 n + 1 sends, those that ended and those that did not (`few`).
+    /// The next step of the lookup, at a moment. Once it has its answer it tells the same each time. One
+    /// that is not there, of another `PoolShared` say, has no connection. Each server has at most five
+    /// ends for each of its places in the pool, and the one that turned UDP off one more, and of n places
+    /// it makes at most 5 n + 1 sends (`fair`).
     pub fn next(
         &mut self,
         alloc: Global,
         shared: &mut PoolShared,
         tick: Tick,
     ) -> Result<PoolStep, NoMemory>
-        ensures steps { (l : Seen) (pool : List Candidate) (heard : List HeardEnd) → lookup_at shared.old self.old.number ≡ Some l → l.answer ≡ None → LookupStands pool heard l
-            → PoolGives tick.now self.old.number pool heard l shared.old result shared.new ⊎ IsHaltedBefore result shared.old shared.new }
-        ensures gives { (l : Seen) (pool : List Candidate) (heard : List HeardEnd) → lookup_at shared.old self.old.number ≡ Some l → AreReached shared.old.table pool → Runs pool heard tick.now l
-            → IfOk result (Gives pool heard tick.now l self.old.number shared.new) }
-        ensures few { (l : Seen) (pool : List Candidate) (heard : List HeardEnd) → lookup_at shared.new self.old.number ≡ Some l → LookupStands pool heard l
-            → sends_made (ends_of heard) l.rounds ≤ 5 * length pool + 1 }
-        ensures again { (l : Seen) (answer : Answered) → lookup_at shared.old self.old.number ≡ Some l → l.answer ≡ Some answer → TellsAgain answer l shared.old result shared.new }
-        ensures gone { lookup_at shared.old self.old.number ≡ None → IfOk result (λ s. s ≡ PoolStep.Done (Err NetError.NoConnections)) }
-        ensures numbers { lookup_at shared.old self.old.number ≢ None → NumbersStep self.old.number result shared.old shared.new }
-        ensures others { HasSameLookupsBut self.old.number shared.old shared.new }
-        ensures orders { HasSameOrdersAtBut (shared.old.given + 1) shared.old shared.new }
-        ensures beside { IsSameBeside shared.old shared.new }
-        ensures rest { SameBut self.old.number shared.old shared.new }
+        ensures steps { (l : Seen) → lookup_at shared.old self.old.number ≡ Some l → IfOk result (λ told. HasStepped self.old.number tick.now l shared.old told shared.new) }
+        ensures halts { (l : Seen) → lookup_at shared.old self.old.number ≡ Some l → OnErr result ((shared.new ≡ shared.old) ⊎ HasHalted self.old.number tick.now l shared.old shared.new) }
+        ensures gone { lookup_at shared.old self.old.number ≡ None → IfOk result (λ told. told ≡ PoolStep.Done (Err NetError.NoConnections)) × (shared.new ≡ shared.old) }
+        ensures fair { (l : Seen) → lookup_at shared.new self.old.number ≡ Some l → IsFairly l.lookup }
+        ensures answer { (l : Seen) → lookup_at shared.new self.old.number ≡ Some l → IfOk result (IfDone (denied_in shared.old) l.lookup) }
+        ensures waits { IfOk result (IfWaiting self.old.number shared.new) }
         ensures same { self.new ≡ self.old }
     {
         shared.next(alloc, self.number, tick)
     }
 
-    /// What the lookup answers, where it is decided.
+    /// What the lookup was answered, where it is decided.
     pub fn answer(
         &self,
         alloc: Global,
         shared: &PoolShared,
     ) -> Result<Option<Result<Message, NetError>>, NoMemory>
-        ensures there { (l : Seen) → lookup_at shared.now self.now.number ≡ Some l → IfOk result (λ told. told ≡ option_map (told_of shared.now l) (answer_of l)) }
-        ensures gone { lookup_at shared.now self.now.number ≡ None → IfOk result (λ told. told ≡ None) }
+        ensures { IfOk result (λ told. told ≡ option_and_then (λ l. answer_of l.lookup) (lookup_at shared.now self.now.number)) }
     {
         shared.answer(alloc, self.number)
     }
 
-    /// The numbers of the log entries by which its sends ended, in the order of their ends.
+    /// The numbers of the log entries by which its attempts ended, in the order of their ends.
     pub fn ends<'a>(&self, shared: &'a PoolShared) -> &'a [u64]
-        ensures there { (l : Seen) → lookup_at shared.now self.now.number ≡ Some l → result.now ≡ ends_at l }
-        ensures gone { lookup_at shared.now self.now.number ≡ None → result.now ≡ [] }
-        ensures few { (l : Seen) (pool : List Candidate) (heard : List HeardEnd) (now : ℕ) → lookup_at shared.now self.now.number ≡ Some l → Runs pool heard now l
-            → length result.now ≤ 5 * length pool + 1 }
+        ensures ends { result.now ≡ closed_by (lookup_at shared.now self.now.number) }
+        ensures fair { (l : Seen) → lookup_at shared.now self.now.number ≡ Some l → IsFairly l.lookup }
     {
         shared.ends(self.number)
     }
 
-    /// Ends this interest in the lookup: its open orders are withdrawn.
+    /// Ends this interest in the lookup. The last one that does withdraws its open orders.
     pub fn leave(self, shared: &mut PoolShared)
-        ensures gone { lookup_at shared.new self.number ≡ None }
-        ensures rest { SameBut self.number shared.old shared.new }
-        ensures orders { (shared.new.orders ≡ shared.old.orders) × (shared.new.given ≡ shared.old.given) }
-        ensures table { shared.new.table ≡ shared.old.table }
-        ensures beside { IsSameBeside shared.old shared.new }
+        ensures left { shared.new ≡ record shared.old { lookups = after_leave self.number shared.old.lookups } }
+        ensures last { is_last self.number shared.old.lookups ≡ true → lookup_at shared.new self.number ≡ None }
     {
-        shared.forget(self.number);
+        shared.leave(self.number);
     }
 
     /// The numbers of its open orders, rising.
     pub fn open_orders(&self, alloc: Global, shared: &PoolShared) -> Result<Numbers, NoMemory>
-        ensures those { IfOk result (λ ns. (n : ℕ) → Contains ns n ↔ ((polls : ℕ) × IsOpenOrder n self.now.number polls shared.now)) }
+        ensures those { IfOk result (λ ns. (n : ℕ) → Contains ns n ↔ ((l : Seen) × IsOpenOrder n self.now.number l shared.now)) }
         ensures rising { IfOk result IsStrictlyIncreasing }
     {
         shared.open_orders(alloc, self.number)

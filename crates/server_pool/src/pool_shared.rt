@@ -1,28 +1,27 @@
 //! What the pools of a resolver share.
-ghost use Rattle.std.specs.Prelude.{◌≡◌, ◌≢◌, ◌+◌, ◌*◌, ◌≤◌, ◌++◌, ◌<◌, ℕ, Bool, ◌∷◌, [], List, length, IfOk, IfSome, IfNone, Contains, OnOk, OnErr, Ok, Err, Some, None, IsTrue, ◌↔◌, option_map, ◌⊎◌};
+ghost use Rattle.std.specs.Prelude.{◌≡◌, ◌≢◌, ◌+◌, ◌⊎◌, ◌++◌, ℕ, Bool, ◌∷◌, [], length, IfOk, IfSome, true, Contains, OnOk, OnErr, Ok, Err, Some, None, ◌↔◌, IsTrue, option_and_then};
 ghost use Rattle.std.specs.List.Sorted.{IsStrictlyIncreasing};
-ghost use Rattle.resolution.specs.Lookups.{Answered};
-ghost use Rattle.server_pool.specs.Candidates.{candidates};
-ghost use Rattle.server_pool.specs.Orders.{opens};
-ghost use Rattle.retry_rules.specs.Ordering.{IsOrdered, next_turn, side_by_side};
-ghost use Rattle.server_pool.specs.OpenLookup.{after_polls, LookupStands};
-ghost use Rattle.server_pool.specs.Rounds.{HeardEnd, ends_of, sends_made, RoundsStand, BeginsWith};
-ghost use Rattle.server_pool.specs.Shared.{lookup_at, lookup_of, turn_at, SameBut};
-ghost use Rattle.server_pool.specs.Lookups.{Begins, Gives, HasTaken, HasSlept, told_of};
-ghost use Rattle.server_pool.specs.Running.{Runs, AreReached, IsOpenTo, IsNapping, answer_of};
-ghost use Rattle.server_pool.specs.SharedStands.{IsOpenOrder, IsWithdrawn};
-ghost use Rattle.server_pool.specs.PoolSteps.{IsSameBeside, HasSameLookupsBut, HasSameOrdersAtBut, IsFedBy, HasBegun, NumbersStep, PoolGives, IsHaltedBefore, TellsAgain, told_by};
-ghost use Rattle.retry_rules.specs.declared.candidate.Candidate.{Candidate};
+ghost use Rattle.std.specs.declared.net.IpAddr.{IpAddr};
+ghost use Rattle.retry_rules.specs.Ordering.{next_turn};
+ghost use Rattle.retry_lookup.specs.Asked.{answer_of};
+ghost use Rattle.retry_lookup.specs.Holds.{Holds};
+ghost use Rattle.server_pool.specs.Lookups.{is_last, after_leave, closed_by};
+ghost use Rattle.server_pool.specs.Orders.{IsOpenOrder, open_at, first_withdrawn, after_withdrawn};
+ghost use Rattle.server_pool.specs.Promises.{IsFairly, IfDone, IfWaiting};
+ghost use Rattle.server_pool.specs.Sending.{Begins, HasBegun, after_join, HasSent};
+ghost use Rattle.server_pool.specs.Shared.{lookup_at, lookup_of, turn_at, denied_in};
+ghost use Rattle.server_pool.specs.Stepping.{told_by, HasStepped, HasHalted, HasPut};
 ghost use Rattle.server_pool.specs.declared.open_lookup.OpenLookup.{OpenLookup as Seen};
 
-use crate::by_number::{
-    add_next, drop_closed, feed_open, is_open, keep_order, step, take_lookup, take_out,
-};
+use crate::beginning::add_begun;
 use crate::candidates::candidates;
-use crate::open_lookup::{LookupStep, OpenLookup};
-use crate::rounds::Rounds;
+use crate::open_lookup::{
+    OpenLookup, is_last, is_open_in, join_at, leave_at, open_for, put_at, step_at, take_lookup,
+};
+use crate::orders::{drop_closed, keep_order, take_out};
 use dns_core::{DnsRequest, Message, NetError, NoMemory, Numbers, TryClone};
-use retry_rules::ordered;
+use retry_lookup::{Lookup, LookupStep};
+use retry_rules::{ordered, side_by_side};
 use server_core::{After, NameServer, Order, Outcome, PoolContext, ServerTable, Tick};
 use std::alloc::Global;
 use std::collections::BTreeMap;
@@ -60,9 +59,9 @@ impl TryClone for PoolStep {
     }
 }
 
-/// The servers, the settings of all pools, the open lookups by their numbers, the lookup of each order
-/// that was given and has not ended, whose turn it is in each pool that takes turns, and how many pools,
-/// lookups and orders were numbered so far.
+/// The servers, the settings of all pools, the lookups that are under way by their numbers, the lookup of
+/// each order that was given and has not ended, whose turn it is in each pool that takes turns, and how
+/// many pools were numbered, requests were sent and orders were given so far.
 #[derive(Drop, Debug)]
 pub struct PoolShared {
     table: ServerTable,
@@ -71,20 +70,21 @@ pub struct PoolShared {
     lookups: BTreeMap<u64, OpenLookup>,
     orders: BTreeMap<u64, u64>,
     turns: BTreeMap<u64, usize>,
-    begun: u64,
+    sent: u64,
     given: u64,
 }
 
 impl Model for PoolShared {
     ghost use Rattle.std.specs.Prelude.{◌<◌, ◌^◌, length};
+    ghost use Rattle.retry_rules.specs.AnswerFilter.{denied_by};
+    ghost use Rattle.server_pool.specs.Holds.{SharedHolds};
     ghost use Rattle.server_pool.specs.Shared.{Shared};
-    ghost use Rattle.server_pool.specs.SharedStands.{SharedStands};
 
     ghost Value = { Shared };
 
-    ghost view = { λ a. record { table = a.table; context = a.context; pools = a.pools; lookups = a.lookups.entries; orders = a.orders.entries; turns = a.turns.entries; begun = a.begun; given = a.given } };
+    ghost view = { λ a. record { table = a.table; context = a.context; pools = a.pools; lookups = a.lookups.entries; orders = a.orders.entries; turns = a.turns.entries; sent = a.sent; given = a.given } };
 
-    ghost invariant = { λ a. (length a.table < 2 ^ 32) × SharedStands a.table a.lookups.entries a.orders.entries a.begun a.given };
+    ghost invariant = { λ a. (length a.table < 2 ^ 32) × SharedHolds (denied_by a.context.answer_address_filter) a.table a.lookups.entries a.orders.entries a.sent a.given };
 }
 
 /// What a step of a lookup is as one of its pool: an order has the number.
@@ -99,10 +99,21 @@ fn numbered(number: u64, made: Result<LookupStep, NoMemory>) -> Result<PoolStep,
     }
 }
 
+/// The number after those so far.
+fn number_after(last: u64) -> Result<u64, NoMemory>
+    ensures { IfOk result (λ number. number ≡ last + 1) }
+{
+    if last == u64::MAX {
+        Err(NoMemory)
+    } else {
+        Ok(last + 1)
+    }
+}
+
 impl PoolShared {
     /// Without servers. It takes no memory.
     pub fn new(alloc: Global, context: PoolContext) -> Self
-        ensures { result ≡ record { table = []; context = context; pools = 0; lookups = []; orders = []; turns = []; begun = 0; given = 0 } }
+        ensures { result ≡ record { table = []; context = context; pools = 0; lookups = []; orders = []; turns = []; sent = 0; given = 0 } }
     {
         PoolShared {
             table: ServerTable::new(alloc),
@@ -111,7 +122,7 @@ impl PoolShared {
             lookups: BTreeMap::new(alloc),
             orders: BTreeMap::new(alloc),
             turns: BTreeMap::new(alloc),
-            begun: 0,
+            sent: 0,
             given: 0,
         }
     }
@@ -172,7 +183,7 @@ impl PoolShared {
         }
     }
 
-    /// The first round of a lookup of a request at these servers, and whose turn it is then.
+    /// The lookup of a request that begins at these servers, and whose turn it is then.
     fn first_round(
         &self,
         alloc: Global,
@@ -180,25 +191,32 @@ impl PoolShared {
         turn: &mut usize,
         request: DnsRequest,
         tick: Tick,
-    ) -> Result<Rounds, NoMemory>
-        ensures stands { IfOk result (λ r. (asked : List ℕ) × IsOrdered self.now.context.options self.now.table tick.now turn.old servers.now asked × RoundsStand (candidates self.now.table asked) [] r
-            × Runs (candidates self.now.table asked) [] tick.now (record { rounds = r; nap = None; answer = None })
-            × BeginsWith (side_by_side self.now.context.options) (candidates self.now.table asked) r) }
-        ensures request { IfOk result (λ r. r.request ≡ request) }
-        ensures time { IfOk result (λ r. (r.start ≡ tick.now) × (r.timeout ≡ self.now.context.options.timeout)) }
+    ) -> Result<Lookup, NoMemory>
+        ensures begins { IfOk result (Begins self.now.context.options self.now.table servers.now turn.old request tick.now) }
+        ensures holds { (denied : IpAddr → Bool) → IfOk result (Holds denied) }
         ensures turn { OnOk result (turn.new ≡ next_turn self.now.context.options turn.old (length servers.now)) }
-        ensures orders { IfOk result (λ r. (n : ℕ) → opens n r.sends.items ≡ []) }
     {
         let options = self.context.options();
         let mut servers = Vec::from_slice(alloc, servers)?;
         ordered(alloc, &mut servers, turn, &self.table, options, tick.now)?;
         let found = candidates(alloc, &self.table, servers.as_slice())?;
-        Rounds::new(alloc, found.as_slice(), request, options, tick.now)
+        if found.len() > u32::MAX as usize {
+            return Err(NoMemory);
+        }
+        let together = side_by_side(options);
+        Lookup::begin(
+            alloc,
+            request,
+            found.as_slice(),
+            together,
+            options.timeout,
+            tick.now,
+        )
     }
 
     /// Begins a lookup of a request at the servers of the pool of a number. Where memory is wanting,
     /// nothing has changed.
-    pub(crate) fn begin(
+    fn begin(
         &mut self,
         alloc: Global,
         pool: u64,
@@ -206,23 +224,59 @@ impl PoolShared {
         request: DnsRequest,
         tick: Tick,
     ) -> Result<u64, NoMemory>
-        ensures first { IfOk result (HasBegun pool servers.now request tick.now self.old self.new) }
-        ensures begins { IfOk result (Begins servers.now request tick.now self.old self.new) }
+        ensures ok { IfOk result (HasBegun pool servers.now request tick.now self.old self.new) }
         ensures err { OnErr result (self.new ≡ self.old) }
     {
+        let number = number_after(self.sent)?;
         let before = self.turn_of(pool);
         let mut turn = before;
-        let rounds = self.first_round(alloc, servers, &mut turn, request, tick)?;
-        let number = add_next(
+        let lookup = self.first_round(alloc, servers, &mut turn, request, tick)?;
+        let open = OpenLookup {
+            pool,
+            waiters: 1,
+            lookup,
+        };
+        add_begun(
             &mut self.lookups,
             &mut self.turns,
-            &mut self.begun,
-            rounds,
-            pool,
+            number,
+            open,
             before,
             turn,
         )?;
+        self.sent = number;
         Ok(number)
+    }
+
+    /// One more waits for the lookup of a number.
+    fn join(&mut self, lookup: u64) -> Result<u64, NoMemory>
+        ensures number { IfOk result (λ number. number ≡ lookup) }
+        ensures ok { OnOk result (self.new ≡ after_join lookup self.old) }
+        ensures err { OnErr result (self.new ≡ self.old) }
+    {
+        let number = number_after(self.sent)?;
+        join_at(&mut self.lookups, lookup);
+        self.sent = number;
+        Ok(lookup)
+    }
+
+    /// Sends a request to the servers of the pool of a number: it joins the lookup of its key there that
+    /// has no answer yet, or begins one. Where memory is wanting, nothing has changed.
+    pub(crate) fn send(
+        &mut self,
+        alloc: Global,
+        pool: u64,
+        servers: &[u32],
+        request: DnsRequest,
+        tick: Tick,
+    ) -> Result<u64, NoMemory>
+        ensures ok { IfOk result (HasSent pool servers.now request tick.now self.old self.new) }
+        ensures err { OnErr result (self.new ≡ self.old) }
+    {
+        match open_for(&self.lookups, pool, &request) {
+            Some(lookup) => self.join(lookup),
+            None => self.begin(alloc, pool, servers, request, tick),
+        }
     }
 
     /// The next step of the lookup of a number. Room for its order is made first, and taken back where it
@@ -233,26 +287,18 @@ impl PoolShared {
         lookup: u64,
         tick: Tick,
     ) -> Result<PoolStep, NoMemory>
-        ensures gives { (l : Seen) (pool : List Candidate) (heard : List HeardEnd) → lookup_at self.old lookup ≡ Some l → l.answer ≡ None → LookupStands pool heard l
-            → PoolGives tick.now lookup pool heard l self.old result self.new ⊎ IsHaltedBefore result self.old self.new }
-        ensures runs { (l : Seen) (pool : List Candidate) (heard : List HeardEnd) → lookup_at self.old lookup ≡ Some l → AreReached self.old.table pool → Runs pool heard tick.now l
-            → IfOk result (Gives pool heard tick.now l lookup self.new) }
-        ensures rest { SameBut lookup self.old self.new }
-        ensures again { (l : Seen) (answer : Answered) → lookup_at self.old lookup ≡ Some l → l.answer ≡ Some answer → TellsAgain answer l self.old result self.new }
-        ensures gone { lookup_at self.old lookup ≡ None → IfOk result (λ s. s ≡ PoolStep.Done (Err NetError.NoConnections)) }
-        ensures numbers { lookup_at self.old lookup ≢ None → NumbersStep lookup result self.old self.new }
-        ensures others { HasSameLookupsBut lookup self.old self.new }
-        ensures orders { HasSameOrdersAtBut (self.old.given + 1) self.old self.new }
-        ensures same { IsSameBeside self.old self.new }
+        ensures steps { (l : Seen) → lookup_at self.old lookup ≡ Some l → IfOk result (λ told. HasStepped lookup tick.now l self.old told self.new) }
+        ensures halts { (l : Seen) → lookup_at self.old lookup ≡ Some l → OnErr result ((self.new ≡ self.old) ⊎ HasHalted lookup tick.now l self.old self.new) }
+        ensures gone { lookup_at self.old lookup ≡ None → IfOk result (λ told. told ≡ PoolStep.Done (Err NetError.NoConnections)) × (self.new ≡ self.old) }
+        ensures fair { (l : Seen) → lookup_at self.new lookup ≡ Some l → IsFairly l.lookup }
+        ensures answer { (l : Seen) → lookup_at self.new lookup ≡ Some l → IfOk result (IfDone (denied_in self.old) l.lookup) }
+        ensures waits { IfOk result (IfWaiting lookup self.new) }
     {
-        if self.given == u64::MAX {
-            return Err(NoMemory);
-        }
-        let number = self.given + 1;
+        let number = number_after(self.given)?;
         let _room = self.orders.insert(number, lookup)?;
-        let made = step(
-            alloc,
+        let made = step_at(
             &mut self.lookups,
+            alloc,
             &mut self.table,
             &mut self.context,
             lookup,
@@ -265,12 +311,11 @@ impl PoolShared {
 
     /// The lookup at which the order of a number is open.
     fn open_at(&self, number: u64) -> Option<u64>
-        ensures some { IfSome result (λ lookup. (polls : ℕ) × IsOpenOrder number lookup polls self.now) }
-        ensures none { IfNone result ((lookup polls : ℕ) → IsOpenOrder number lookup polls self.now → ⊥) }
+        ensures { result ≡ open_at number self.now }
     {
         match self.orders.get(&number) {
             Some(lookup) => {
-                if is_open(&self.lookups, *lookup, number) {
+                if is_open_in(&self.lookups, *lookup, number) {
                     Some(*lookup)
                 } else {
                     None
@@ -282,6 +327,7 @@ impl PoolShared {
 
     /// Takes the outcome of an order by its number. An order that has ended, was withdrawn, or was never
     /// given is late, and nothing changes. One that is not open any more after its outcome is forgotten.
+    /// Memory can be wanting only for a message, and is then the answer of its lookup.
     pub fn put(
         &mut self,
         alloc: Global,
@@ -289,68 +335,47 @@ impl PoolShared {
         outcome: Outcome,
         tick: Tick,
     ) -> Result<After, NoMemory>
-        ensures late { ((lookup polls : ℕ) → IsOpenOrder number lookup polls self.old → ⊥) → (result ≡ Ok After.Late) × (self.new ≡ self.old) }
-        ensures after { (lookup polls : ℕ) → IsOpenOrder number lookup polls self.old → IfOk result (λ a. a ≡ after_polls tick.patience polls outcome) }
-        ensures feeds { (lookup polls : ℕ) (o : IsOpenOrder number lookup polls self.old) → (next : Seen) × (lookup_at self.new lookup ≡ Some next)
-            × IsFedBy number outcome tick self.old.table o.at result self.new.table next }
-        ensures sends { (l : Seen) (pool : List Candidate) (heard : List HeardEnd) (n : ℕ) (c : Candidate) (asks : Bool) → lookup_of self.old number ≡ Some n → lookup_at self.old n ≡ Some l
-            → AreReached self.old.table pool → Runs pool heard tick.now l → IsOpenTo number c asks l → Contains pool c
-            → IfOk result (λ did. HasTaken pool heard tick l number c asks outcome did n self.new) }
-        ensures sleeps { (l : Seen) (pool : List Candidate) (heard : List HeardEnd) (n : ℕ) → lookup_of self.old number ≡ Some n → lookup_at self.old n ≡ Some l
-            → AreReached self.old.table pool → Runs pool heard tick.now l → IsNapping number l → IfOk result (λ did. HasSlept pool heard tick l number outcome did n self.new) }
-        ensures rest { (n : ℕ) → lookup_of self.old number ≡ Some n → SameBut n self.old self.new }
-        ensures few { (l : Seen) (pool : List Candidate) (heard : List HeardEnd) (n : ℕ) → lookup_at self.new n ≡ Some l → LookupStands pool heard l → sends_made (ends_of heard) l.rounds ≤ 5 * length pool + 1 }
-        ensures ended { (lookup polls : ℕ) → IsOpenOrder number lookup polls self.old → ((polls : ℕ) → IsOpenOrder number lookup polls self.new → ⊥) → lookup_of self.new number ≡ None }
-        ensures others { (lookup polls : ℕ) → IsOpenOrder number lookup polls self.old → HasSameLookupsBut lookup self.old self.new }
-        ensures orders { HasSameOrdersAtBut number self.old self.new }
-        ensures given { self.new.given ≡ self.old.given }
-        ensures same { IsSameBeside self.old self.new }
+        ensures late { open_at number self.old ≡ None → (result ≡ Ok After.Late) × (self.new ≡ self.old) }
+        ensures puts { (n : ℕ) (l : Seen) → IsOpenOrder number n l self.old → HasPut number n l outcome tick self.old result self.new }
     {
-        let open_at = self.open_at(number);
-        let after = feed_open(
-            alloc,
-            &mut self.lookups,
-            &mut self.table,
-            &mut self.context,
-            open_at,
-            number,
-            outcome,
-            tick,
-        );
-        drop_closed(&self.lookups, &mut self.orders, open_at, number);
-        after
+        match self.open_at(number) {
+            Some(lookup) => {
+                let after = put_at(
+                    &mut self.lookups,
+                    alloc,
+                    &mut self.table,
+                    &mut self.context,
+                    lookup,
+                    number,
+                    outcome,
+                    tick,
+                );
+                drop_closed(&self.lookups, &mut self.orders, lookup, number);
+                after
+            }
+            None => Ok(After::Late),
+        }
     }
 
-    /// Ends the interest in a lookup: its open orders are withdrawn.
-    pub(crate) fn forget(&mut self, lookup: u64)
-        ensures gone { lookup_at self.new lookup ≡ None }
-        ensures others { HasSameLookupsBut lookup self.old self.new }
-        ensures rest { SameBut lookup self.old self.new }
-        ensures orders { self.new.orders ≡ self.old.orders }
-        ensures given { self.new.given ≡ self.old.given }
-        ensures table { self.new.table ≡ self.old.table }
-        ensures same { IsSameBeside self.old self.new }
+    /// One fewer waits for the lookup of a number. The last one takes it away, and so withdraws its open
+    /// orders.
+    pub(crate) fn leave(&mut self, lookup: u64)
+        ensures left { self.new ≡ record self.old { lookups = after_leave lookup self.old.lookups } }
+        ensures last { is_last lookup self.old.lookups ≡ true → lookup_at self.new lookup ≡ None }
     {
-        take_lookup(&mut self.lookups, lookup);
-    }
-
-    /// Whether the order of a number was withdrawn.
-    fn is_withdrawn(&self, number: u64) -> bool
-        ensures { IsTrue result ↔ IsWithdrawn number self.now }
-    {
-        match self.orders.get(&number) {
-            Some(lookup) => !is_open(&self.lookups, *lookup, number),
-            None => false,
+        if is_last(&self.lookups, lookup) {
+            take_lookup(&mut self.lookups, lookup);
+        } else {
+            leave_at(&mut self.lookups, lookup);
         }
     }
 
     /// The number of the first order that was withdrawn.
-    fn withdrawn(&self) -> Option<u64>
-        ensures some { IfSome result (λ number. IsWithdrawn number self.now) }
-        ensures none { IfNone result ((number : ℕ) → IsWithdrawn number self.now → ⊥) }
+    fn first_withdrawn(&self) -> Option<u64>
+        ensures { result ≡ first_withdrawn self.now }
     {
-        'orders: for number in self.orders.keys() {
-            if self.is_withdrawn(*number) {
+        for (number, _lookup) in &self.orders {
+            if self.open_at(*number).is_none() {
                 return Some(*number);
             }
         }
@@ -359,21 +384,22 @@ impl PoolShared {
 
     /// An order that was withdrawn, and is to be given up: each once.
     pub fn take_withdrawn(&mut self) -> Option<u64>
-        ensures some { IfSome result (λ number. IsWithdrawn number self.old × (lookup_of self.new number ≡ None) × HasSameOrdersAtBut number self.old self.new) }
-        ensures none { IfNone result (((number : ℕ) → IsWithdrawn number self.old → ⊥) × (self.new ≡ self.old)) }
-        ensures lookups { self.new.lookups ≡ self.old.lookups }
-        ensures given { self.new.given ≡ self.old.given }
-        ensures table { self.new.table ≡ self.old.table }
-        ensures same { IsSameBeside self.old self.new }
+        ensures which { result ≡ first_withdrawn self.old }
+        ensures after { self.new ≡ after_withdrawn result self.old }
+        ensures once { IfSome result (λ number. lookup_of self.new number ≡ None) }
     {
-        let number = self.withdrawn()?;
-        take_out(&mut self.orders, number);
-        Some(number)
+        match self.first_withdrawn() {
+            Some(number) => {
+                take_out(&mut self.orders, number);
+                Some(number)
+            }
+            None => None,
+        }
     }
 
-    /// Whether the order of a number is open at a lookup.
+    /// Whether the order of a number is open at the lookup of a number.
     fn has_order(&self, lookup: u64, number: u64) -> bool
-        ensures { IsTrue result ↔ ((polls : ℕ) × IsOpenOrder number lookup polls self.now) }
+        ensures { IsTrue result ↔ ((l : Seen) × IsOpenOrder number lookup l self.now) }
     {
         match self.open_at(number) {
             Some(of) => of == lookup,
@@ -383,7 +409,7 @@ impl PoolShared {
 
     /// The numbers of the open orders of a lookup, rising.
     pub(crate) fn open_orders(&self, alloc: Global, lookup: u64) -> Result<Numbers, NoMemory>
-        ensures those { IfOk result (λ ns. (n : ℕ) → Contains ns n ↔ ((polls : ℕ) × IsOpenOrder n lookup polls self.now)) }
+        ensures those { IfOk result (λ ns. (n : ℕ) → Contains ns n ↔ ((l : Seen) × IsOpenOrder n lookup l self.now)) }
         ensures rising { IfOk result IsStrictlyIncreasing }
     {
         let mut open = Numbers::empty(alloc);
@@ -402,28 +428,27 @@ impl PoolShared {
         self.lookups.contains_key(&lookup)
     }
 
-    /// What is left of the answer of a lookup, where it is decided.
+    /// What a lookup was answered, where it is decided.
     pub(crate) fn answer(
         &self,
         alloc: Global,
         lookup: u64,
     ) -> Result<Option<Result<Message, NetError>>, NoMemory>
-        ensures there { (l : Seen) → lookup_at self.now lookup ≡ Some l → IfOk result (λ told. told ≡ option_map (told_of self.now l) (answer_of l)) }
-        ensures gone { lookup_at self.now lookup ≡ None → IfOk result (λ told. told ≡ None) }
+        ensures { IfOk result (λ told. told ≡ option_and_then (λ l. answer_of l.lookup) (lookup_at self.now lookup)) }
     {
         match self.lookups.get(&lookup) {
-            Some(open) => open.left_answer(alloc, &self.context),
+            Some(open) => open.lookup.answer(alloc),
             None => Ok(None),
         }
     }
 
-    /// By which log entries the sends of a lookup ended, in the order in which their ends were heard.
+    /// By which log entries the attempts of a lookup ended, in the order in which their ends were heard.
     pub(crate) fn ends(&self, lookup: u64) -> &[u64]
-        ensures there { (l : Seen) → lookup_at self.now lookup ≡ Some l → result.now ≡ l.rounds.ends.items }
-        ensures gone { lookup_at self.now lookup ≡ None → result.now ≡ [] }
+        ensures ends { result.now ≡ closed_by (lookup_at self.now lookup) }
+        ensures fair { (l : Seen) → lookup_at self.now lookup ≡ Some l → IsFairly l.lookup }
     {
         match self.lookups.get(&lookup) {
-            Some(open) => open.rounds.ends.as_slice(),
+            Some(open) => open.lookup.closed_by(),
             None => &[],
         }
     }

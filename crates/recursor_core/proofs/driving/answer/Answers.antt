@@ -1,10 +1,10 @@
 use Rattle.std.proofs.Common.{◌≡◌, ◌≤◌, ◌∙◌, [], Contains, arith, subst, max}
 use Rattle.std.proofs.lemmas.Result.{IfOk-weaker}
-use Rattle.order_carrier.specs.Carrying.{TellsThat}
+use Rattle.order_carrier.specs.Growing.{TellsThat}
 use Rattle.recursor_core.specs.Standing.{RepliesHold, last_moment, run_moments}
 use Rattle.recursor_setting.specs.declared.setting.Setting.{Setting}
 use Rattle.recursor_core.specs.Replies.{terms_with}
-use Rattle.order_carrier.proofs.Patience.{IsPatient-trans}
+use Rattle.order_carrier.proofs.Waiting.{IsPatient-trans}
 use Rattle.recursor_core.proofs.Playing.{plays_wait, replies_hold}
 use Rattle.recursor_core.proofs.Timed.{run_first, run_turns, run_last, contains_max, contains_moment}
 use Rattle.recursor_core.proofs.Moments.{over_refl, over_one, over_trans}
@@ -18,8 +18,8 @@ returns-clause-replies g c =
     let turns = c.args.turns.now in
     let questions = c.args.questions.now in
     let now = c.max-now.result in
-    let first = g.P.ConnectionProvider.log c.args.carrier.now.provider in
-    let told = g.P.ConnectionProvider.log c.play_rest.new.carrier.provider in
+    let first = g.P.ConnectionProvider.log c.args.runner.now.carrier.provider in
+    let told = g.P.ConnectionProvider.log c.play_rest.new.runner.carrier.provider in
     let last : c.last_moment-last.result ≡ last_moment start turns = rw c.moment.ensures at c.last_moment-last.ensures in
     let mid = c.play_turns-current.new.core.moment in
     let due : last_moment start turns ≤ now = omega (arith, last, c.max-now.ensures) in
@@ -46,7 +46,7 @@ returns-in_err-plays-clause-timely g c = run_first c.args.core.now.moment c.args
 
 pub returns-in_err-plays-clause-grown : goal.returns-in_err-plays-clause-grown
 returns-in_err-plays-clause-grown g c =
-    over_refl (run_moments c.args.core.now.moment c.args.turns.now) c.args.core.now.moment (g.P.ConnectionProvider.log c.args.carrier.now.provider)
+    over_refl (run_moments c.args.core.now.moment c.args.turns.now) c.args.core.now.moment (g.P.ConnectionProvider.log c.args.runner.now.carrier.provider)
 
 pub returns-clause-moment : goal.returns-clause-moment
 returns-clause-moment g c =
@@ -80,9 +80,9 @@ returns-clause-grown g c =
     let log = g.P.ConnectionProvider.log in
     let mid = c.play_turns-current.new.core.moment in
     let now = c.max-now.result in
-    let first = log c.args.carrier.now.provider in
-    let turned_to = log c.play_turns-current.new.carrier.provider in
-    let told = log c.play_rest.new.carrier.provider in
+    let first = log c.args.runner.now.carrier.provider in
+    let turned_to = log c.play_turns-current.new.runner.carrier.provider in
+    let told = log c.play_rest.new.runner.carrier.provider in
     let last : c.last_moment-last.result ≡ last_moment start turns = rw c.moment.ensures at c.last_moment-last.ensures in
     let is : max (last_moment start turns) mid ≡ now = omega (arith, last, c.max-now.ensures, c.moment-2.ensures) in
     let due : mid ≤ now = omega (arith, is) in
@@ -90,4 +90,4 @@ returns-clause-grown g c =
     let one : Contains moments now = subst (Contains moments) is (contains_max moments (last_moment start turns) mid (run_last start turns) turned) in
     over_trans moments start mid first turned_to told c.play_turns-current.ensures.moment c.play_turns-current.ensures.holds.past
     (c.play_turns-current.ensures.grown moments (run_first start turns) (run_turns start turns))
-    (over_one moments mid now turned_to told one due (Grown-trans now turned_to (log c.finish.new.carrier.provider) told c.finish.ensures.grown c.play_rest.ensures.grown))
+    (over_one moments mid now turned_to told one due (Grown-trans now turned_to (log c.finish.new.runner.carrier.provider) told c.finish.ensures.grown c.play_rest.ensures.grown))

@@ -1,5 +1,5 @@
 use Rattle.std.proofs.Common.{◌<◌, ◌∙◌, ℕ, length, IfOk, sym, subst}
-use Rattle.order_carrier.specs.Carrying.{TellsThat}
+use Rattle.order_carrier.specs.Growing.{TellsThat}
 use Rattle.recursor_core.specs.Standing.{Standing, run_terms, run_moments, RepliesHold, IsPast}
 use Rattle.recursor_core.proofs.Moments.{rises_over}
 use Rattle.recursor_core.specs.Replies.{terms_with}
@@ -11,7 +11,7 @@ use Rattle.recursor_core.proofs.driving.drive.Goals as goal
 pub answer-requires : goal.answer-requires
 answer-requires g c =
     let was = c.recursor.inside in
-    rests_holds g.P.ConnectionProvider c.args.patience was.core c.clear.new.self was.carrier c.clear.ensures.setting c.clear.ensures.same.1
+    rests_holds g.P.ConnectionProvider c.args.patience was.core c.clear.new.self was.runner c.clear.ensures.setting c.clear.ensures.same.1
     c.clear.ensures.derived c.recursor.invariant
 
 pub invariant_of-recursor : goal.invariant_of-recursor
@@ -21,14 +21,14 @@ invariant_of-recursor g c =
     let log = g.P.ConnectionProvider.log in
     let was = c.recursor.inside in
     let start = c.clear.new.self.moment in
-    let old = log was.carrier.provider in
+    let old = log was.runner.carrier.provider in
     let past = subst (λ (m : ℕ). TellsThat old (IsPast m)) (sym c.clear.ensures.same.1) c.recursor.invariant.past in
-    let rises = rises_over (run_moments start c.args.turns.now) start old (log c.answer.new.carrier.provider) past c.recursor.invariant.rises c.answer.ensures.grown in
-    holds_rests g.P.ConnectionProvider c.args.patience c.answer.new.core c.answer.new.carrier some rises c.answer.ensures.holds
+    let rises = rises_over (run_moments start c.args.turns.now) start old (log c.answer.new.runner.carrier.provider) past c.recursor.invariant.rises c.answer.ensures.grown in
+    holds_rests g.P.ConnectionProvider c.args.patience c.answer.new.core c.answer.new.runner some rises c.answer.ensures.holds
 
 pub returns-clause-replies : goal.returns-clause-replies
 returns-clause-replies g c =
-    let told = g.P.ConnectionProvider.log c.answer.new.carrier.provider in
+    let told = g.P.ConnectionProvider.log c.answer.new.runner.carrier.provider in
     let patience = c.args.patience in
     let was = c.recursor.inside.core in
     let new = c.clear.new.self in
@@ -46,6 +46,6 @@ pub returns-clause-rises : goal.returns-clause-rises
 returns-clause-rises g c =
     let log = g.P.ConnectionProvider.log in
     let start = c.clear.new.self.moment in
-    let old = log c.recursor.inside.carrier.provider in
+    let old = log c.recursor.inside.runner.carrier.provider in
     let past = subst (λ (m : ℕ). TellsThat old (IsPast m)) (sym c.clear.ensures.same.1) c.recursor.invariant.past in
-    rises_over (run_moments start c.args.turns.now) start old (log c.answer.new.carrier.provider) past c.recursor.invariant.rises c.answer.ensures.grown
+    rises_over (run_moments start c.args.turns.now) start old (log c.answer.new.runner.carrier.provider) past c.recursor.invariant.rises c.answer.ensures.grown

@@ -1,5 +1,5 @@
 use Rattle.std.proofs.Common.{◌∙◌}
-use Rattle.order_carrier.proofs.Patience.{IsPatient-trans}
+use Rattle.order_carrier.proofs.Waiting.{IsPatient-trans}
 use Rattle.recursor_core.proofs.Standing.{moments_then, Grown-trans}
 use Rattle.recursor_core.proofs.driving.finish.Goals as goal
 

@@ -2,7 +2,7 @@ use Rattle.std.proofs.Common.{◌≡◌, ◌⊎◌, ℕ, max, List, Contains, ve
 use Rattle.dns_core.specs.declared.log.LogEntry.{LogEntry}
 use Rattle.dns_core.specs.declared.request.Question.{Question}
 use Rattle.dns_core.specs.declared.request.Turn.{Turn}
-use Rattle.order_carrier.specs.Carrying.{Grown}
+use Rattle.order_carrier.specs.Growing.{Grown}
 use Rattle.order_carrier.specs.Patience.{IsPatient}
 use Rattle.recursor_core.specs.Standing.{Holds, PlaysHold, run_moments}
 use Rattle.recursor_core.specs.Turns.{work}
@@ -10,17 +10,17 @@ use Rattle.recursor_core.proofs.driving.finish.Given as goal
 
 abbrev pub invariant-turns : goal.invariant-turns
 invariant-turns g l = record {
-  vouches : (es : List LogEntry) → g.P.ConnectionProvider.vouches l.carrier.provider es → g.P.ConnectionProvider.vouches l.fn.carrier.provider es;
-  holds : Holds g.P.ConnectionProvider l.tick.patience l.core l.carrier;
+  vouches : (es : List LogEntry) → g.P.ConnectionProvider.vouches l.runner.carrier.provider es → g.P.ConnectionProvider.vouches l.fn.runner.carrier.provider es;
+  holds : Holds g.P.ConnectionProvider l.tick.patience l.core l.runner;
   setting : l.core.setting ≡ l.fn.core.setting;
   moment : (l.core.moment ≡ l.fn.core.moment) ⊎ (l.core.moment ≡ l.tick.now);
-  grown : Grown l.tick.now (g.P.ConnectionProvider.log l.fn.carrier.provider) (g.P.ConnectionProvider.log l.carrier.provider);
-  patient : IsPatient (max 1 l.tick.patience) (g.P.ConnectionProvider.log l.fn.carrier.provider) (g.P.ConnectionProvider.log l.carrier.provider);
+  grown : Grown l.tick.now (g.P.ConnectionProvider.log l.fn.runner.carrier.provider) (g.P.ConnectionProvider.log l.runner.carrier.provider);
+  patient : IsPatient (max 1 l.tick.patience) (g.P.ConnectionProvider.log l.fn.runner.carrier.provider) (g.P.ConnectionProvider.log l.runner.carrier.provider);
   plays : (start : ℕ) (turns rest : List Turn) (questions : List Question) → Contains (run_moments start turns) l.tick.now
-      → PlaysHold l.fn.core (g.P.ConnectionProvider.log l.fn.carrier.provider) start turns rest questions l.fn.plays.items
-      → PlaysHold l.core (g.P.ConnectionProvider.log l.carrier.provider) start turns rest questions l.plays.items;
+      → PlaysHold l.fn.core (g.P.ConnectionProvider.log l.fn.runner.carrier.provider) start turns rest questions l.fn.plays.items
+      → PlaysHold l.core (g.P.ConnectionProvider.log l.runner.carrier.provider) start turns rest questions l.plays.items;
   count : vec_len l.plays ≡ vec_len l.fn.plays;
 }
 
 abbrev pub decreases-turns : goal.decreases-turns
-decreases-turns g l = work l.tick.patience l.core l.plays.items
+decreases-turns g l = work l.tick.patience l.core l.runner l.plays.items

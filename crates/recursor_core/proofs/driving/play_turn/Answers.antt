@@ -1,8 +1,8 @@
 use Rattle.std.proofs.Common.{◌≡◌, ◌≤◌, ◌+◌, ◌-◌, ◌∷◌, ℕ, Contains, arith, max, subst, sym}
-use Rattle.order_carrier.proofs.Patience.{IsPatient-trans}
+use Rattle.order_carrier.proofs.Waiting.{IsPatient-trans}
 use Rattle.recursor_core.proofs.Standing.{holds_derived, moment_later}
 use Rattle.recursor_core.proofs.Playing.{plays_skip, plays_turn}
-use Rattle.order_carrier.specs.Carrying.{TellsThat}
+use Rattle.order_carrier.specs.Growing.{TellsThat}
 use Rattle.recursor_core.specs.Standing.{run_moments, IsPast}
 use Rattle.recursor_core.proofs.Timed.{contains_max, contains_moment}
 use Rattle.recursor_core.proofs.Moments.{over_refl, over_one, over_trans}
@@ -10,7 +10,7 @@ use Rattle.recursor_core.proofs.driving.play_turn.Goals as goal
 
 pub returns-then-turn-eq0-clause-plays : goal.returns-then-turn-eq0-clause-plays
 returns-then-turn-eq0-clause-plays g c start turns rest after was here h =
-    plays_skip c.args.core.now (g.P.ConnectionProvider.log c.args.carrier.now.provider) start turns rest c.args.turn.now c.args.questions.now
+    plays_skip c.args.core.now (g.P.ConnectionProvider.log c.args.runner.now.carrier.provider) start turns rest c.args.turn.now c.args.questions.now
     c.args.plays.now.items c.if-turn-eq0.true h
 
 pub play-played-requires-clause-holds : goal.play-played-requires-clause-holds
@@ -18,7 +18,7 @@ play-played-requires-clause-holds g c =
     let core = c.make_way-next.new.core in
     let new = c.begin_one.new.core in
     let come : core.moment ≤ c.max-now.result = omega (arith, c.max-now.ensures, c.moment.ensures) in
-    holds_derived g.P.ConnectionProvider c.args.patience core new c.make_way-next.new.carrier c.begin_one.ensures.setting
+    holds_derived g.P.ConnectionProvider c.args.patience core new c.make_way-next.new.runner c.begin_one.ensures.setting
     (moment_later core.moment new.moment c.max-now.result come c.begin_one.ensures.moment) c.begin_one.ensures.derived c.make_way-next.ensures.holds
 
 pub returns-clause-timely : goal.returns-clause-timely
@@ -35,7 +35,7 @@ returns-clause-timely g c moments was here =
 
 pub returns-then-turn-eq0-clause-grown : goal.returns-then-turn-eq0-clause-grown
 returns-then-turn-eq0-clause-grown g c moments was here =
-    over_refl moments c.args.core.now.moment (g.P.ConnectionProvider.log c.args.carrier.now.provider)
+    over_refl moments c.args.core.now.moment (g.P.ConnectionProvider.log c.args.runner.now.carrier.provider)
 
 pub returns-clause-grown : goal.returns-clause-grown
 returns-clause-grown g c moments was here =
@@ -43,9 +43,9 @@ returns-clause-grown g c moments was here =
     let start = c.args.core.now.moment in
     let core = c.make_way-next.new.core in
     let now = c.max-now.result in
-    let first = log c.args.carrier.now.provider in
-    let way = log c.make_way-next.new.carrier.provider in
-    let last = log c.play-played.new.carrier.provider in
+    let first = log c.args.runner.now.carrier.provider in
+    let way = log c.make_way-next.new.runner.carrier.provider in
+    let last = log c.play-played.new.runner.carrier.provider in
     let still : Contains moments core.moment = subst (Contains moments) (sym c.make_way-next.ensures.moment) was in
     let is : max c.args.turn.now.moment core.moment ≡ now = omega (arith, c.max-now.ensures, c.moment.ensures) in
     let one : Contains moments now = subst (Contains moments) is (contains_max moments c.args.turn.now.moment core.moment here still) in
@@ -70,7 +70,7 @@ returns-clause-plays g c start turns rest after was here h =
     let one : Contains moments c.max-now.result = subst (Contains moments) is (contains_max moments t.moment core.moment here still) in
     let way = c.make_way-next.ensures.plays start turns (t ∷ rest) c.args.questions.now was h in
     c.play-played.ensures.plays start turns rest c.args.questions.now one
-    (plays_turn c.make_way-next.new.core c.begin_one.new.core (g.P.ConnectionProvider.log c.make_way-next.new.carrier.provider) start turns rest t
+    (plays_turn c.make_way-next.new.core c.begin_one.new.core (g.P.ConnectionProvider.log c.make_way-next.new.runner.carrier.provider) start turns rest t
     c.args.questions.now
     c.make_way-next.new.plays.items c.begin_one.new.plays.items q c.max-now.result names come due b.setting b.begun b.others b.begins way)
 

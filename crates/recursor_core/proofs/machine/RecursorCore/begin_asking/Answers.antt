@@ -5,7 +5,7 @@ use Rattle.recursor_core.proofs.machine.RecursorCore.begin_asking.Goals as goal
 pub returns-in_err-begin_lookup-clause-goes : goal.returns-in_err-begin_lookup-clause-goes
 returns-in_err-begin_lookup-clause-goes c =
     goes-err c.args.self.now c.begin_lookup.new.self c.from_residual-in_err-begin_lookup.result c.from_residual-in_err-begin_lookup.ensures.0
-    (λ p. c.in_err-begin_lookup.ensures.keeps p)
+    c.in_err-begin_lookup.ensures.keeps
 
 pub returns-in_err-begin_lookup-clause-gives : goal.returns-in_err-begin_lookup-clause-gives
 returns-in_err-begin_lookup-clause-gives c log d = (

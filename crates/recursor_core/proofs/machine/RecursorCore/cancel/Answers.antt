@@ -6,12 +6,12 @@ use Rattle.recursor_core.proofs.Cores.{held-at, begun-set}
 use Rattle.recursor_core.proofs.machine.RecursorCore.cancel.Goals as goal
 
 pub returns-clause-keeps : goal.returns-clause-keeps
-returns-clause-keeps c p =
+returns-clause-keeps c =
     let xs = c.args.self.now.resolutions.items in
     let f = c.index_mut-resolution.result.now in
     let at = c.index_mut-resolution.ensures.value in
     let within : c.args.r < length xs = omega (arith, c.if-r-len.false) in
-    sum_keeps p xs c.args.r f c.end.new.self within at (ended_least p f c.end.new.self c.end.ensures.nothing)
+    sum_keeps xs c.args.r f c.end.new.self within at (ended_least f c.end.new.self c.end.ensures.nothing)
 
 pub returns-clause-derived : goal.returns-clause-derived
 returns-clause-derived c log d =

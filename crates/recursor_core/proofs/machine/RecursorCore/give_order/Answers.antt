@@ -9,7 +9,7 @@ use Rattle.recursor_core.proofs.machine.RecursorCore.give_order.Goals as goal
 
 pub returns-in_err-number-clause-goes : goal.returns-in_err-number-clause-goes
 returns-in_err-number-clause-goes c =
-    goes-err c.args.self.now c.step_lookup.new.self c.from_residual.result c.from_residual.ensures.0 (λ p. c.in_err-number.ensures.keeps p)
+    goes-err c.args.self.now c.step_lookup.new.self c.from_residual.result c.from_residual.ensures.0 c.in_err-number.ensures.keeps
 
 pub returns-in_err-number-clause-gives : goal.returns-in_err-number-clause-gives
 returns-in_err-number-clause-gives c log d =
@@ -21,7 +21,7 @@ returns-in_default-clause-gives c log d = ((c.in_ok-number.ensures.derived log d
 pub returns-in_err-boxed-clause-goes : goal.returns-in_err-boxed-clause-goes
 returns-in_err-boxed-clause-goes c =
     goes-err c.args.self.now c.step_lookup.new.self c.from_residual-in_err-boxed.result c.from_residual-in_err-boxed.ensures.0
-    (λ p. let falls = c.in_ok-number.ensures.falls p in omega (arith, falls))
+    (let falls = c.in_ok-number.ensures.falls in omega (arith, falls))
 
 pub returns-in_err-boxed-clause-gives : goal.returns-in_err-boxed-clause-gives
 returns-in_err-boxed-clause-gives c log d =

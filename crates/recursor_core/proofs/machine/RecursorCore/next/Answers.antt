@@ -22,7 +22,7 @@ pub steps-preserved : goal.steps-preserved
 steps-preserved c =
     let goes = rw c.in-Again.is at c.in_ok-step.ensures.goes in
     record {
-      rank = λ p. omega (arith, goes p, c.steps.invariant.rank p);
+      rank = omega (arith, goes, c.steps.invariant.rank);
       derived = λ log d. (c.in_ok-step.ensures.gives log (c.steps.invariant.derived log d)).0;
       same = same-trans c.args.self.now c.steps.self c.step.new.self c.steps.invariant.same c.in_ok-step.ensures.same;
     }

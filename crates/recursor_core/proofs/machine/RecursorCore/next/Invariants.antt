@@ -1,4 +1,4 @@
-use Rattle.std.proofs.Common.{◌≤◌, ℕ}
+use Rattle.std.proofs.Common.{◌≤◌}
 use Rattle.dns_core.specs.Log.{Log}
 use Rattle.recursor_core.specs.Derived.{Derived}
 use Rattle.recursor_core.specs.Machine.{rank, SameCore}
@@ -6,10 +6,10 @@ use Rattle.recursor_core.proofs.machine.RecursorCore.next.Given as goal
 
 abbrev pub invariant-steps : goal.invariant-steps
 invariant-steps l = record {
-  rank : (p : ℕ) → rank p l.self ≤ rank p l.fn.self;
+  rank : rank l.self ≤ rank l.fn.self;
   derived : (log : Log) → Derived l.fn.self log → Derived l.self log;
   same : SameCore l.fn.self l.self;
 }
 
 abbrev pub decreases-steps : goal.decreases-steps
-decreases-steps l = rank 0 l.self
+decreases-steps l = rank l.self

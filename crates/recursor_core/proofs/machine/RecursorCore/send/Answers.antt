@@ -6,7 +6,7 @@ use Rattle.recursor_core.specs.Resolving.{order_of}
 use Rattle.recursor_core.proofs.machine.RecursorCore.send.Goals as goal
 
 pub returns-in-Wait-clause-goes : goal.returns-in-Wait-clause-goes
-returns-in-Wait-clause-goes c = (λ p. omega arith, (c.args.r, ap order_of c.requires ∙ ap (λ (w : Want). order_of (need.Send w)) c.in-Wait.is))
+returns-in-Wait-clause-goes c = (omega arith, (c.args.r, ap order_of c.requires ∙ ap (λ (w : Want). order_of (need.Send w)) c.in-Wait.is))
 
 pub returns-in_err-recall-in-Recall-clause-gives : goal.returns-in_err-recall-in-Recall-clause-gives
 returns-in_err-recall-in-Recall-clause-gives c log d = (

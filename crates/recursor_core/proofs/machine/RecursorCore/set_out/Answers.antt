@@ -1,16 +1,16 @@
 use Rattle.std.proofs.Common.{◌<◌, length, refl}
 use Rattle.recursor_core.specs.Derived.{terms_of, ResolutionHolds}
-use Rattle.recursor_core.proofs.Ranks.{rank_falls, sum_falls, need_within}
+use Rattle.recursor_core.proofs.Ranks.{sum_falls, need_within}
 use Rattle.recursor_core.proofs.Cores.{all-after, begun-set}
 use Rattle.recursor_core.proofs.machine.RecursorCore.set_out.Goals as goal
 
 pub returns-clause-falls : goal.returns-clause-falls
-returns-clause-falls c p =
+returns-clause-falls c =
     let xs = c.args.self.now.resolutions.items in
     let f = c.index_mut-resolution.result.now in
     let at = c.index_mut-resolution.ensures.value in
     let within : c.args.r < length xs = need_within xs c.args.r (λ e. cc) in
-    sum_falls p xs c.args.r f c.set_out.new.self within at (rank_falls p f c.set_out.new.self c.set_out.ensures.falls)
+    sum_falls xs c.args.r f c.set_out.new.self within at c.set_out.ensures.falls
 
 pub returns-clause-derived : goal.returns-clause-derived
 returns-clause-derived c log d =

@@ -2,25 +2,25 @@ use Rattle.std.proofs.Common.{◌<◌, length, refl}
 use Rattle.std.proofs.lemmas.List.Elements.{All-set}
 use Rattle.std.proofs.lemmas.Result.{on_ok_weaker, on_err_weaker}
 use Rattle.recursor_core.specs.Derived.{terms_of, ResolutionHolds}
-use Rattle.recursor_core.proofs.Ranks.{rank_falls, sum_falls, sum_keeps, need_within}
+use Rattle.recursor_core.proofs.Ranks.{sum_falls, sum_keeps, need_within}
 use Rattle.recursor_core.proofs.Cores.{held-at, begun-set}
 use Rattle.recursor_core.proofs.machine.RecursorCore.step_lookup.Goals as goal
 
 pub returns-clause-falls : goal.returns-clause-falls
-returns-clause-falls c p =
+returns-clause-falls c =
     let xs = c.args.self.now.resolutions.items in
     let f = c.index_mut-resolution.result.now in
     let at = c.index_mut-resolution.ensures.value in
     let within : c.args.r < length xs = need_within xs c.args.r (λ e. cc) in
-    on_ok_weaker c.step.result (λ fewer. sum_falls p xs c.args.r f c.step.new.self within at (rank_falls p f c.step.new.self fewer)) c.step.ensures.falls
+    on_ok_weaker c.step.result (λ fewer. sum_falls xs c.args.r f c.step.new.self within at fewer) c.step.ensures.falls
 
 pub returns-clause-keeps : goal.returns-clause-keeps
-returns-clause-keeps c p =
+returns-clause-keeps c =
     let xs = c.args.self.now.resolutions.items in
     let f = c.index_mut-resolution.result.now in
     let at = c.index_mut-resolution.ensures.value in
     let within : c.args.r < length xs = need_within xs c.args.r (λ e. cc) in
-    on_err_weaker c.step.result (λ most. sum_keeps p xs c.args.r f c.step.new.self within at most) (c.step.ensures.keeps p)
+    on_err_weaker c.step.result (λ most. sum_keeps xs c.args.r f c.step.new.self within at most) c.step.ensures.keeps
 
 pub returns-clause-derived : goal.returns-clause-derived
 returns-clause-derived c log d =

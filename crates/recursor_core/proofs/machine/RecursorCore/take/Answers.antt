@@ -1,23 +1,15 @@
 use Rattle.std.proofs.Common.{◌<◌, max, length, arith, refl}
+use Rattle.std.specs.Prelude.{option_copied}
 use Rattle.std.proofs.lemmas.List.Elements.{All-set}
-use Rattle.std.proofs.lemmas.Result.{IfOk-weaker}
-use Rattle.server_core.specs.Order.{entry_of}
 use Rattle.recursor_core.specs.Derived.{terms_of, ResolutionHolds}
+use Rattle.recursor_core.specs.Order.{last_entry}
 use Rattle.recursor_core.proofs.Kept.{resolutions-kept}
+use Rattle.recursor_core.proofs.Puts.{longer-put, last-within}
 use Rattle.recursor_core.proofs.Remembering.{cache-kept}
 use Rattle.recursor_core.proofs.Tellings.{late-untold}
-use Rattle.recursor_core.proofs.Ranks.{sum_falls, order_within, sum_keeps}
+use Rattle.recursor_core.proofs.Ranks.{order_within, sum_keeps}
 use Rattle.recursor_core.proofs.Cores.{held-at, begun-set}
 use Rattle.recursor_core.proofs.machine.RecursorCore.take.Goals as goal
-
-pub returns-clause-falls : goal.returns-clause-falls
-returns-clause-falls c =
-    let xs = c.args.self.now.resolutions.items in
-    let f = c.index_mut-resolution.result.now in
-    let at = c.index_mut-resolution.ensures.value in
-    let within : c.args.r < length xs = order_within xs c.args.r c.requires in
-    IfOk-weaker c.take.result _ _ (λ after falls timely kept. sum_falls c.args.tick.patience xs c.args.r f c.take.new.self within at (falls timely kept))
-    c.take.ensures.falls
 
 pub returns-clause-keeps : goal.returns-clause-keeps
 returns-clause-keeps c =
@@ -25,28 +17,26 @@ returns-clause-keeps c =
     let f = c.index_mut-resolution.result.now in
     let at = c.index_mut-resolution.ensures.value in
     let within : c.args.r < length xs = order_within xs c.args.r c.requires in
-    sum_keeps c.args.tick.patience xs c.args.r f c.take.new.self within at c.take.ensures.keeps
+    sum_keeps xs c.args.r f c.take.new.self within at c.take.ensures.keeps
 
 pub returns-clause-derived : goal.returns-clause-derived
-returns-clause-derived c log longer bound next later d x fits =
+returns-clause-derived c log longer patient d put =
     let core = c.args.self.now in
     let terms = terms_of core in
     let xs = c.args.self.now.resolutions.items in
     let f = c.index_mut-resolution.result.now in
     let at = c.index_mut-resolution.ensures.value in
     let within : c.args.r < length xs = order_within xs c.args.r c.requires in
-    let entry = entry_of c.args.outcome in
-    let g = max core.greatest entry in
+    let waits = option_copied c.args.waits in
+    let g = max core.greatest (last_entry c.take.result waits c.args.outcome) in
     let now = c.args.tick.now in
     let held = held-at (ResolutionHolds terms core.greatest core.moment log) xs c.args.r f within at d.resolutions in
-    let new = c.take.ensures.holds terms core.greatest core.moment log longer bound next later d.pools held x fits in
-    let others = resolutions-kept terms log longer x core.moment now later core.greatest g xs (omega arith) d.resolutions in
+    let new = c.take.ensures.holds terms core.greatest core.moment log longer patient put d.pools held in
+    let x = longer-put core.greatest core.moment log c.args.tick waits c.args.outcome c.take.result longer put in
+    let others = resolutions-kept terms log longer x core.moment now put.tells.later core.greatest g xs (omega arith) d.resolutions in
     let cache = cache-kept terms log longer x core.greatest g core.cache (omega arith) d.cache in
-    let before = d.bound in
-    let longer_is = x.later in
-    let within_log = fits.within in
     record {
-      bound = omega (arith, before, longer_is, within_log);
+      bound = last-within core.greatest core.moment log c.args.tick waits c.args.outcome c.take.result longer put;
       some = d.some;
       cache = cache;
       pools = new.1;

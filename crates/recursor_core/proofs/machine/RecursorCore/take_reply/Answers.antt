@@ -3,17 +3,17 @@ use Rattle.std.proofs.lemmas.List.Elements.{All-set}
 use Rattle.recursor_core.specs.Derived.{terms_of, ResolutionHolds}
 use Rattle.std.specs.Option.{option_map}
 use Rattle.recursor_core.specs.Machine.{begun_of}
-use Rattle.recursor_core.proofs.Ranks.{rank_falls, sum_falls, read_at, need_within}
+use Rattle.recursor_core.proofs.Ranks.{sum_falls, read_at, need_within}
 use Rattle.recursor_core.proofs.Cores.{held-at, begun-set, given-some}
 use Rattle.recursor_core.proofs.machine.RecursorCore.take_reply.Goals as goal
 
 pub returns-clause-falls : goal.returns-clause-falls
-returns-clause-falls c p =
+returns-clause-falls c =
     let xs = c.args.self.now.resolutions.items in
     let f = c.index_mut-resolution.result.now in
     let at = c.index_mut-resolution.ensures.value in
     let within : c.args.r < length xs = need_within xs c.args.r (λ e. cc) in
-    sum_falls p xs c.args.r f c.take_reply.new.self within at (rank_falls p f c.take_reply.new.self c.take_reply.ensures.falls)
+    sum_falls xs c.args.r f c.take_reply.new.self within at c.take_reply.ensures.falls
 
 pub returns-clause-derived : goal.returns-clause-derived
 returns-clause-derived c log d =

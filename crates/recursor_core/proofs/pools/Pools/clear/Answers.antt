@@ -11,6 +11,7 @@ pub returns : goal.returns
 returns c = record {
   holds = λ terms less greatest moment log h. record {
     servers = record { numbers = h.servers.numbers; timeout = h.servers.timeout; filter = h.servers.filter };
+    numbered = h.numbered;
     lookups = λ n s is. absurd (none-some s (subst (λ (es : List (ℕ × Sought)). lookup (tree.is_at (nat_cmp n)) es ≡ Some s) c.clear.ensures.empty is));
   };
   gone = λ n. ap (λ (es : List (ℕ × Sought)). lookup (tree.is_at (nat_cmp n)) es) c.clear.ensures.empty;

@@ -7,7 +7,8 @@ use Rattle.recursor_core.proofs.pools.Pools.keep.Goals as goal
 
 pub returns-clause-err : goal.returns-clause-err
 returns-clause-err c = record {
-  rest = c.leave.ensures.rest;
+  left = c.leave.ensures.left;
+  last = c.leave.ensures.last;
   numbers = refl;
   sought = λ m. ap (λ (es : List (ℕ × Sought)). lookup (tree.is_at (nat_cmp m)) es) c.in-Err.ensures.err;
 }

@@ -8,7 +8,7 @@ returns c = record {
       let n = c.args.lookup.number in
       let mid = c.forget.new.self in
       let forgotten = rw c.number.ensures at c.forget.ensures in
-      pools-left terms greatest moment log n mid _ (record { rest = c.leave.ensures.rest; numbers = refl; sought = λ m. refl }) forgotten.none
+      pools-left terms greatest moment log n mid _ (record { left = c.leave.ensures.left; last = c.leave.ensures.last; numbers = refl; sought = λ m. refl }) forgotten.none
       (pools-forgotten terms greatest moment log n c.args.self.now mid forgotten h);
   gone = (rw c.number.ensures at c.forget.ensures).none;
 }

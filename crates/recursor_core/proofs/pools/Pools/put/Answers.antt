@@ -1,40 +1,47 @@
 use Rattle.std.proofs.Common.{refl, ap, length, arith}
-use Rattle.recursor_core.specs.Pools.{IsGivenFor, NotesOutcome, first_of}
+use Rattle.std.specs.Option.{option_copied}
+use Rattle.recursor_core.specs.Pools.{IsGivenFor, NotesOutcome, first_of, polled_by}
+use Rattle.recursor_core.specs.declared.pools.Given.{Given}
 use Rattle.recursor_core.proofs.KeptPools.{pools-kept}
-use Rattle.recursor_core.proofs.Outcomes.{pools-lost, order-of, pools-put}
+use Rattle.recursor_core.proofs.Losing.{pools-lost}
+use Rattle.recursor_core.proofs.Outcomes.{open-order, its-rest, its-numbered, pools-put}
+use Rattle.recursor_core.proofs.Puts.{longer-put}
 use Rattle.recursor_core.proofs.pools.Pools.put.Goals as goal
 
 -- what is late changes nothing
 pub returns-in_default : goal.returns-in_default
 returns-in_default c = record {
-  holds = λ terms greatest moment log longer patient next later h x fits. pools-kept terms log longer x greatest _ moment c.args.tick.now c.args.self.now (omega arith) later h;
+  holds = λ terms greatest moment log longer patient put h.
+      pools-kept terms log longer (longer-put greatest moment log c.args.tick (option_copied c.args.waits) c.args.outcome _ longer put) greatest _ moment c.args.tick.now c.args.self.now (omega arith) put.tells.later h;
 }
 
 pub returns-in-Ok : goal.returns-in-Ok
 returns-in-Ok c = record {
-  holds = λ terms greatest moment log longer patient next later h x fits.
+  holds = λ terms greatest moment log longer patient put h.
       let old = c.args.self.now in
       let n = c.args.lookup.now.number in
+      let w = option_copied c.args.waits in
       let g = c.in-Some.given in
-      let given : IsGivenFor old n c.args.outcome c.args.tick.patience g = rw c.in-Some.is at c.given_for.ensures in
-      let of = order-of terms greatest moment log old n c.args.outcome c.args.tick.patience g given h in
-      let note : NotesOutcome n g (first_of g.aim c.args.outcome) (length c.ends-before.result.now) c.in-Ok.after c.args.tick.now (record old { shared = c.put.new.self }) c.note_outcome.new.self =
-      rw c.first_of-first.ensures at c.note_outcome.ensures in
-      pools-put terms greatest moment log longer x old (record old { shared = c.put.new.self }) c.note_outcome.new.self n c.args.tick c.args.outcome g (length c.ends-before.result.now) c.in-Ok.after
-      patient next later fits (c.put.ensures.rest n of) refl refl
-      (λ l pool heard candidate asks of there reached runs to from. c.in-Ok.ensures.sends l pool heard n candidate asks of there reached runs to from)
-      (λ l pool heard of there reached runs nap. c.in-Ok.ensures.sleeps l pool heard n of there reached runs nap)
-      (λ l there. ap (λ ns. length ns) (c.ends-before.ensures.there l there)) given note h;
+      let mid = record old { shared = c.put.new.self } in
+      let given : IsGivenFor old n w c.args.outcome g = rw c.in-Some.is at c.given_for.ensures in
+      let again : Given = record g { polled = polled_by c.args.outcome } in
+      let note : NotesOutcome n again (first_of g.aim w c.args.outcome) (length c.ends-before.result.now) c.in-Ok.after c.args.tick.now mid c.note_outcome.new.self =
+      rw (c.first_of-first.ensures, c.polled_by.ensures) at c.note_outcome.ensures in
+      pools-put terms greatest moment log longer old mid c.note_outcome.new.self n c.args.tick w c.args.outcome g (length c.ends-before.result.now) c.in-Ok.after patient put refl refl given
+      (ap (λ ns. length ns) c.ends-before.ensures.ends) note h (c.in-Ok.ensures.puts n _ (open-order terms greatest moment log old n w c.args.outcome g given h));
 }
 
 pub returns-in-Err : goal.returns-in-Err
 returns-in-Err c = record {
-  holds = λ terms greatest moment log longer patient next later h x fits.
+  holds = λ terms greatest moment log longer patient put h.
       let old = c.args.self.now in
       let n = c.args.lookup.now.number in
+      let w = option_copied c.args.waits in
       let g = c.in-Some.given in
-      let given : IsGivenFor old n c.args.outcome c.args.tick.patience g = rw c.in-Some.is at c.given_for.ensures in
-      let of = order-of terms greatest moment log old n c.args.outcome c.args.tick.patience g given h in
-      pools-kept terms log longer x greatest _ moment c.args.tick.now c.forget.new.self (omega arith) later
-      (pools-lost terms greatest moment log n old (record old { shared = c.put.new.self }) c.forget.new.self (c.put.ensures.rest n of) refl refl (rw c.number.ensures at c.forget.ensures) h);
+      let mid = record old { shared = c.put.new.self } in
+      let given : IsGivenFor old n w c.args.outcome g = rw c.in-Some.is at c.given_for.ensures in
+      let puts = c.in-Err.ensures.puts n _ (open-order terms greatest moment log old n w c.args.outcome g given h) in
+      pools-kept terms log longer (longer-put greatest moment log c.args.tick w c.args.outcome _ longer put) greatest _ moment c.args.tick.now c.forget.new.self (omega arith) put.tells.later
+      (pools-lost terms greatest moment log n old mid c.forget.new.self (its-rest terms greatest moment log old n w c.args.outcome g given h c.args.tick mid _ puts)
+      (its-numbered terms greatest moment log old n w c.args.outcome g given h c.args.tick mid _ puts) refl refl (rw c.number.ensures at c.forget.ensures) h);
 }

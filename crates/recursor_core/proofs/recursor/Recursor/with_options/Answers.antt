@@ -12,5 +12,6 @@ pub invariant_of-result : goal.invariant_of-result
 invariant_of-result g c =
     let p = g.P.ConnectionProvider in
     let some : 0 < length c.args.roots.now = has_some c.args.roots.now (sym c.is_empty.ensures ∙ c.if-is_empty.false) in
-    let empty : (es : List LogEntry) → p.log c.new-2.result.provider ≡ Some es → es ≡ [] = rw c.new-2.ensures.provider c.requires in
-    new_rests p c.args.roots.now c.args.options c.in-Ok.core c.new-2.result c.in-Ok.ensures.new some (c.new-2.ensures.holds c.requires) empty
+    let carrier : c.new-3.result.carrier.provider ≡ c.args.provider = rw c.new-3.ensures.carrier c.new-2.ensures.provider in
+    let empty : (es : List LogEntry) → p.log c.new-3.result.carrier.provider ≡ Some es → es ≡ [] = rw carrier c.requires in
+    new_rests p c.args.roots.now c.args.options c.in-Ok.core c.new-3.result c.in-Ok.ensures.new some (c.new-3.ensures.holds (c.new-2.ensures.holds c.requires)) empty

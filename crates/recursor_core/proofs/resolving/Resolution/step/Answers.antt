@@ -1,16 +1,16 @@
-use Rattle.std.proofs.Common.{◌≤◌, ◌+◌, ◌*◌, arith, subst, sym}
+use Rattle.std.proofs.Common.{◌≤◌, arith, subst, sym}
 use Rattle.std.proofs.lemmas.Result.{on_err_weaker}
 use Rattle.recursor_core.specs.Walk as walk
-use Rattle.recursor_core.specs.Resolving.{state_steps, state_polls}
+use Rattle.recursor_core.specs.Resolving.{state_steps}
 use Rattle.recursor_core.specs.declared.resolving.State.{State}
 use Rattle.recursor_core.proofs.Resolved.{walk-holds}
 use Rattle.recursor_core.proofs.resolving.Resolution.step.Goals as goal
 
 pub returns-in-Under-clause-keeps : goal.returns-in-Under-clause-keeps
-returns-in-Under-clause-keeps c p =
+returns-in-Under-clause-keeps c =
     on_err_weaker c.step.result (λ keeps.
-    subst (λ (s : State). walk.rank p c.step.new.self ≤ (p + 1) * state_steps c.args.self.now.question.query s + state_polls p s) (sym c.in-Under.is) keeps)
-    (rw c.deref_mut.ensures.value at c.step.ensures.keeps p)
+    subst (λ (s : State). walk.steps c.step.new.self ≤ state_steps c.args.self.now.question.query s) (sym c.in-Under.is) keeps)
+    (rw c.deref_mut.ensures.value at c.step.ensures.keeps)
 
 pub returns-in-Under-clause-holds : goal.returns-in-Under-clause-holds
 returns-in-Under-clause-holds c terms log pools h =

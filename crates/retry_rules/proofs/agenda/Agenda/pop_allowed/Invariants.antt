@@ -9,6 +9,7 @@ invariant-refused l = record {
   off : l.self.off ≡ l.initial.self.off;
   kept : l.self.kept ≡ l.initial.self.kept;
   sleeps : l.self.sleeps ≡ l.initial.self.sleeps;
+  most : l.self.most ≡ l.initial.self.most;
   first : find (may_ask l.self.off) l.self.waiting ≡ find (may_ask l.self.off) l.initial.self.waiting;
   rest : after_first (may_ask l.self.off) l.self.waiting ≡ after_first (may_ask l.self.off) l.initial.self.waiting;
 }

@@ -1,9 +1,15 @@
-use Rattle.std.proofs.Common.{◌∙◌, length, sym, ap}
-use Rattle.std.proofs.lemmas.Result.{on_ok_weaker, on_err_weaker}
-use Rattle.server_core.specs.Hearing.{without_dead, with_opened}
+use Rattle.std.proofs.Common.{◌∙◌, sym, ap}
+use Rattle.server_core.specs.Hearing.{without_dead}
+use Rattle.server_core.specs.declared.server_send.ServerSend.{ServerSend}
 use Rattle.server_core.proofs.Stages.{ready_of, opened_of, table_waits, table_tells}
-use Rattle.server_core.proofs.Steps.{in_both, there_is, step_begins, step_asks, table_asks, table_wants, length_changed, asks_begun, asks_asked}
+use Rattle.server_core.proofs.Steps.{there_is, step_begins, step_asks, table_begins, table_asks, asks_begun, asks_asked}
 use Rattle.server_core.proofs.server_send.ServerSend.next.Goals as goal
+
+pub returns-in-Begin-clause-table : goal.returns-in-Begin-clause-table
+returns-in-Begin-clause-table c =
+    let s = c.args.self.now in
+    let ready = ready_of s.stage (sym c.want.ensures ∙ c.in-Begin.is) in
+    table_begins s.stage s.server c.args.table.now c.begin.new.table c.begin.result ready c.begin.ensures.table
 
 pub returns-in-Begin-clause-step : goal.returns-in-Begin-clause-step
 returns-in-Begin-clause-step c = λ server there.
@@ -16,19 +22,17 @@ returns-in-Begin-clause-asks c =
     let s = c.args.self.now in
     let ready = ready_of s.stage (sym c.want.ensures ∙ c.in-Begin.is) in
     let server = there_is s.server c.args.table.now c.requires in
-    asks_begun s c.begin.new.self c.args.number c.args.tick.now (without_dead server.0) c.begin.result ready c.begin.ensures.retried
+    let retried = ap (λ (x : ServerSend). x.retried) c.begin.ensures.same in
+    asks_begun s c.begin.new.self c.args.number c.args.tick.now (without_dead server.0) c.begin.result ready retried
     (c.begin.ensures.step server.0 server.1)
-
-pub returns-in-Begin-clause-count : goal.returns-in-Begin-clause-count
-returns-in-Begin-clause-count c =
-    length_changed without_dead c.args.self.now.server c.args.table.now c.begin.new.table c.begin.ensures.table
 
 pub returns-in-Ask-clause-table : goal.returns-in-Ask-clause-table
 returns-in-Ask-clause-table c =
     let s = c.args.self.now in
     let ask = c.in-Ask in
+    let asks = c.ask_first in
     let opened = opened_of s.stage ask.protocol ask.conn (sym c.want.ensures ∙ ask.is) in
-    on_ok_weaker c.ask_first.result (table_asks s.stage s.server ask.conn ask.protocol c.args.table.now c.ask_first.new.table opened) c.ask_first.ensures.table
+    table_asks s.stage s.server ask.conn ask.protocol c.args.table.now asks.new.table asks.result opened asks.ensures.table asks.ensures.kept
 
 pub returns-in-Ask-clause-step : goal.returns-in-Ask-clause-step
 returns-in-Ask-clause-step c = λ server there.
@@ -43,25 +47,9 @@ returns-in-Ask-clause-asks c =
     let ask = c.in-Ask in
     let opened = opened_of s.stage ask.protocol ask.conn (sym c.want.ensures ∙ ask.is) in
     let server = there_is s.server c.args.table.now c.requires in
-    asks_asked s c.ask_first.new.self c.args.tick.now ask.conn ask.protocol server.0 c.ask_first.result opened c.ask_first.ensures.retried
+    let retried = ap (λ (x : ServerSend). x.retried) c.ask_first.ensures.same in
+    asks_asked s c.ask_first.new.self c.args.tick.now ask.conn ask.protocol server.0 c.ask_first.result opened retried
     (c.ask_first.ensures.step server.0 server.1)
-
-pub returns-in-Ask-clause-count : goal.returns-in-Ask-clause-count
-returns-in-Ask-clause-count c =
-    let number = c.args.self.now.server in
-    let before = c.args.table.now in
-    let after = c.ask_first.new.table in
-    let ask = c.in-Ask in
-    in_both c.ask_first.result
-    (on_ok_weaker c.ask_first.result (length_changed (with_opened ask.conn ask.protocol) number before after) c.ask_first.ensures.table)
-    (on_err_weaker c.ask_first.result (λ same. ap length same) c.ask_first.ensures.want)
-
-pub returns-in-Ask-clause-want : goal.returns-in-Ask-clause-want
-returns-in-Ask-clause-want c =
-    let s = c.args.self.now in
-    let ask = c.in-Ask in
-    let opened = opened_of s.stage ask.protocol ask.conn (sym c.want.ensures ∙ ask.is) in
-    on_err_weaker c.ask_first.result (table_wants s.stage s.server ask.conn ask.protocol c.args.table.now c.ask_first.new.table opened) c.ask_first.ensures.want
 
 pub returns-in-Wait-clause-table : goal.returns-in-Wait-clause-table
 returns-in-Wait-clause-table c =

@@ -1,26 +1,28 @@
-use Rattle.std.proofs.Common.{◌∙◌, ℕ, List, [], ap, subst, None, IfOk}
+use Rattle.std.proofs.Common.{◌≡◌, ◌∙◌, ℕ, List, ap, subst, IfOk}
 use Rattle.resolver_settings.specs.declared.options.ResolverOpts.{ResolverOpts}
-use Rattle.server_pool.specs.Candidates.{candidates}
 use Rattle.retry_rules.specs.Ordering.{IsOrdered, side_by_side}
-use Rattle.server_pool.specs.Rounds.{RoundsStand, BeginsWith}
-use Rattle.server_pool.specs.Running.{Runs}
+use Rattle.retry_lookup.specs.Rounds.{begun}
+use Rattle.server_pool.specs.Candidates.{candidates}
+use Rattle.server_pool.specs.Sending.{Begins}
 use Rattle.server_pool.specs.Shared.{Shared}
-use Rattle.server_pool.proofs.PoolBegin.{first_stands}
+use Rattle.server_pool.proofs.Reaching.{begins_so}
 use Rattle.server_pool.proofs.pool_shared.PoolShared.first_round.Goals as goal
 
-pub returns-clause-stands : goal.returns-clause-stands
-returns-clause-stands c =
+pub returns-clause-begins : goal.returns-clause-begins
+returns-clause-begins c =
     let i = c.self.inside in
     let now = c.args.tick.now in
     let turn = c.args.turn.now in
     let given = c.args.servers.now in
     let asked = c.ordered.new.servers.items in
-    let ordered : IsOrdered i.context.options i.table now turn given asked =
+    let found = c.as_slice-2.result.now in
+    let together = c.side_by_side-together.result in
+    let order : IsOrdered i.context.options i.table now turn given asked =
     subst (λ (o : ResolverOpts). IsOrdered o i.table now turn given asked) c.options-options.ensures
     (subst (λ (g : List ℕ). IsOrdered c.options-options.result.now i.table now turn g asked) c.in_ok-servers.ensures.items c.in_ok-ordered.ensures.order) in
-    let begins : IfOk c.new.result (BeginsWith (side_by_side i.context.options) c.as_slice-2.result.now) =
-    subst (λ (o : ResolverOpts). IfOk c.new.result (BeginsWith (side_by_side o) c.as_slice-2.result.now)) c.options-options.ensures c.new.ensures.begins in
-    let is = c.as_slice-2.ensures.value ∙ c.in_ok-found.ensures ∙ ap (candidates i.table) c.as_slice.ensures.value in
-    subst (λ (o : Shared). IfOk c.new.result (λ r. (x : List ℕ) × IsOrdered o.context.options o.table now turn given x × RoundsStand (candidates o.table x) [] r
-    × Runs (candidates o.table x) [] now (record { rounds = r; nap = None; answer = None }) × BeginsWith (side_by_side o.context.options) (candidates o.table x) r)) c.self.view_is
-    (first_stands i.context.options i.table now turn given asked c.as_slice-2.result.now c.new.result c.new.ensures.stands c.new.ensures.runs begins ordered is)
+    let those : found ≡ candidates i.table asked = c.as_slice-2.ensures.value ∙ c.in_ok-found.ensures ∙ ap (candidates i.table) c.as_slice.ensures.value in
+    let many : together ≡ side_by_side i.context.options = c.side_by_side-together.ensures ∙ ap side_by_side c.options-options.ensures in
+    let is : IfOk c.begin.result (λ l. l ≡ begun c.args.request found together i.context.options.timeout now) =
+    subst (λ (o : ResolverOpts). IfOk c.begin.result (λ l. l ≡ begun c.args.request found together o.timeout now)) c.options-options.ensures c.begin.ensures.begun in
+    subst (λ (s : Shared). IfOk c.begin.result (Begins s.context.options s.table given turn c.args.request now)) c.self.view_is
+    (begins_so c.begin.result i.context.options i.table given turn c.args.request now asked found together order those many is)

@@ -1,137 +1,93 @@
-use Rattle.std.proofs.Common.{◌≡◌, ◌≢◌, ◌∙◌, ℕ, ◌+◌, List, arith, refl, ap, sym, subst, Some, None, Result, Ok, Err, IfOk, ◌⊎◌, inl, inr}
-use Rattle.std.specs.BTreeMap.{BTreeMap}
-use Rattle.std.proofs.lemmas.Result.{err_from_is_err_and}
-use Rattle.dns_core.specs.declared.errors.NoMemory.{NoMemory}
-use Rattle.dns_core.specs.declared.net_error.NetError.TheVariants as net
-use Rattle.resolution.specs.Lookups.{Answered}
-use Rattle.server_pool.specs.OpenLookup.{LookupStands}
-use Rattle.server_pool.specs.PoolSteps.{HasStepped, NumbersStep, PoolGives, IsHaltedBefore, TellsAgain, denied_in}
-use Rattle.server_pool.specs.Rounds.{HeardEnd}
-use Rattle.server_pool.specs.Lookups.{Gives}
-use Rattle.server_pool.specs.Running.{Runs, AreReached}
-use Rattle.server_pool.specs.Shared.{Shared, under, lookup_at, SameBut}
-use Rattle.retry_rules.specs.declared.candidate.Candidate.{Candidate}
-use Rattle.server_pool.specs.declared.open_lookup.LookupStep.TheVariants as step
+use Rattle.std.proofs.Common.{◌≡◌, ◌∙◌, ℕ, ◌+◌, Some, None, Err, IfOk, OnErr, arith, ap, sym, subst}
+use Rattle.std.specs.Prelude.{◌⊎◌}
+use Rattle.dns_core.specs.declared.net_error.NetError.TheVariants.{NoConnections}
+use Rattle.server_core.specs.Context.{Context}
+use Rattle.retry_rules.specs.AnswerFilter.{denied_by}
+use Rattle.server_pool.specs.Promises.{IfDone}
+use Rattle.server_pool.specs.Shared.{Shared, lookup_at, denied_in}
+use Rattle.server_pool.specs.Stepping.{IsStepAt, told_by, given_by, with_rest, HasStepped, HasHalted}
+use Rattle.server_pool.specs.contracts.pool_shared.PoolShared.{the_view}
 use Rattle.server_pool.specs.declared.open_lookup.OpenLookup.{OpenLookup}
-use Rattle.server_pool.specs.declared.pool_shared.PoolStep.{PoolStep}
-use Rattle.server_pool.proofs.PoolNext.{next_shared, next_gives, next_again, next_numbers, next_runs, next_rest, left_beside}
-use Rattle.server_pool.proofs.UnderNumbers.{written, unwritten}
+use Rattle.server_pool.specs.declared.pool_shared.PoolStep.TheVariants as gives
+use Rattle.server_pool.proofs.Calls.{IsNext, kept_orders, same_length, next_configs, next_holds, next_steps, next_halts, next_gone, next_fair, next_answer, next_waits}
+use Rattle.server_pool.proofs.Promised.{fairly}
 use Rattle.server_pool.proofs.pool_shared.PoolShared.next.Goals as goal
 
-pub returns-then-self-clause-gives : goal.returns-then-self-clause-gives
-returns-then-self-clause-gives c = λ l pool heard here untold st. inr (tt, refl)
+-- what is shared afterwards
+abbrev after : goal.After-numbered → Shared
+after c = record {
+  table = c.step_at-made.new.table;
+  context = c.step_at-made.new.cx;
+  pools = c.self.inside.pools;
+  lookups = c.step_at-made.new.lookups.entries;
+  orders = c.keep_order.new.orders.entries;
+  turns = c.self.inside.turns.entries;
+  sent = c.self.inside.sent;
+  given = c.keep_order.new.given;
+}
 
-pub returns-in_err-_room-clause-gives : goal.returns-in_err-_room-clause-gives
-returns-in_err-_room-clause-gives c = λ l pool heard here untold st.
-    let i = c.self.inside in
-    let seen : List (ℕ × ℕ) → Shared = λ es. record { table = i.table; context = i.context; pools = i.pools; lookups = i.lookups.entries; orders = es; turns = i.turns.entries; begun = i.begun; given = i.given } in
-    let p = err_from_is_err_and c.from_residual.result c.from_residual.ensures.1 in
-    inr (subst (λ (r : Result PoolStep NoMemory). IfOk r (λ s. ⊥)) (sym p.1) tt, ap seen c.in_err-_room.ensures.err ∙ c.self.view_is)
+called : (c : goal.After-numbered) → IsNext c.args.lookup c.args.tick.now (the_view c.self.inside) c.step_at-made.result (after c)
+called c =
+    let old = the_view c.self.inside in
+    let r = c.step_at-made.result in
+    let is : c.in_ok-number.number ≡ old.given + 1 = c.in_ok-number.ensures in
+    record {
+      ok = λ l there. subst (λ (k : ℕ). IfOk r (λ made. IsStepAt c.args.lookup k c.args.tick.now l old.lookups old.table made (after c).lookups (after c).table)) is (c.step_at-made.ensures.ok l there);
+      err = λ l there. c.step_at-made.ensures.err l there;
+      gone = λ none. c.step_at-made.ensures.gone none;
+      orders =
+          kept_orders r c.in_ok-number.number old.given c.args.lookup old.orders c.insert.new.self.entries (after c).orders is c.in_ok-_room.ensures.entries (c.self.invariant.1.ordered (old.given + 1) (omega arith))
+          c.keep_order.ensures.orders;
+      given = c.keep_order.ensures.given ∙ ap (λ (k : ℕ). given_by r k old.given) is;
+      rest = ap (λ (cx : Context). record (with_rest old (after c)) { context = cx }) c.step_at-made.ensures.context;
+      holds = c.self.invariant.1;
+    }
+
+told : (c : goal.After-numbered) → c.numbered.result ≡ told_by (c.self.inside.given + 1) c.step_at-made.result
+told c = c.numbered.ensures ∙ ap (λ (k : ℕ). told_by k c.step_at-made.result) c.in_ok-number.ensures
+
+pub returns-in_err-number-clause-fair : goal.returns-in_err-number-clause-fair
+returns-in_err-number-clause-fair c = λ l there.
+    let here = subst (λ (s : Shared). lookup_at s c.args.lookup ≡ Some l) (sym c.self.view_is) there in
+    fairly (denied_by c.self.inside.context.answer_address_filter) l.lookup (c.self.invariant.1.each c.args.lookup l here).rules
+
+pub returns-in_err-_room-clause-fair : goal.returns-in_err-_room-clause-fair
+returns-in_err-_room-clause-fair c = λ l there. fairly (denied_by c.self.inside.context.answer_address_filter) l.lookup (c.self.invariant.1.each c.args.lookup l there).rules
 
 pub invariant_of-self-2 : goal.invariant_of-self-2
 invariant_of-self-2 c =
-    let i = c.self.inside in
-    let old : Shared = record { table = i.table; context = i.context; pools = i.pools; lookups = i.lookups.entries; orders = i.orders.entries; turns = i.turns.entries; begun = i.begun; given = i.given } in
-    let new : Shared = record { table = c.step-made.new.table; context = c.step-made.new.cx; pools = i.pools; lookups = c.step-made.new.lookups.entries; orders = c.keep_order.new.orders.entries; turns = i.turns.entries; begun = i.begun; given = c.keep_order.new.given } in
-    let number = i.given + 1 in
-    let room = c.insert.new.self.entries in
-    let there : (l : OpenLookup) → lookup_at old c.args.lookup ≡ Some l → (next : OpenLookup) × (lookup_at new c.args.lookup ≡ Some next)
-    × HasStepped number c.args.tick.now (denied_in old) old.table l c.step-made.result new.table next =
-    λ l here. (let x = c.step-made.ensures.there l here in
-    (x.0, x.1, x.2)) in
-    let none : lookup_at old c.args.lookup ≡ None → (c.step-made.result ≡ Ok (step.Done (Err net.NoConnections))) × (new.lookups ≡ old.lookups) × (new.table ≡ old.table) =
-    λ gone. (let x = c.step-made.ensures.none gone in (x.0, ap (λ (m : BTreeMap ℕ OpenLookup). m.entries) x.1, x.2)) in
-    let roomed : under number room ≡ Some c.args.lookup = written number (Some c.args.lookup) i.orders.entries room (λ q. c.in_ok-_room.ensures.updates.0 q) in
-    let beside : (n : ℕ) → (n ≡ number → ⊥) → under n room ≡ under n old.orders = unwritten number (Some c.args.lookup) i.orders.entries room (λ q. c.in_ok-_room.ensures.updates.0 q) in
-    (omega (arith, c.step-made.ensures.count, c.self.invariant.0), next_shared c.args.lookup number c.args.tick.now old new room c.step-made.result c.numbered.result refl c.numbered.ensures there none c.step-made.ensures.others c.step-made.ensures.count roomed beside c.keep_order.ensures refl c.step-made.ensures.context c.step-made.ensures.reached c.self.invariant.1)
+    let old = the_view c.self.inside in
+    let r = c.step_at-made.result in (
+      omega (arith, same_length old.table (after c).table (next_configs c.args.lookup c.args.tick.now old (after c) r (called c)), c.self.invariant.0),
+      rw c.step_at-made.ensures.context (next_holds c.args.lookup c.args.tick.now old (after c) r (called c)),
+    )
 
-pub returns-clause-gives : goal.returns-clause-gives
-returns-clause-gives c =
-    let i = c.self.inside in
-    let old : Shared = record { table = i.table; context = i.context; pools = i.pools; lookups = i.lookups.entries; orders = i.orders.entries; turns = i.turns.entries; begun = i.begun; given = i.given } in
-    let new : Shared = record { table = c.step-made.new.table; context = c.step-made.new.cx; pools = i.pools; lookups = c.step-made.new.lookups.entries; orders = c.keep_order.new.orders.entries; turns = i.turns.entries; begun = i.begun; given = c.keep_order.new.given } in
-    let number = i.given + 1 in
-    let room = c.insert.new.self.entries in
-    let there : (l : OpenLookup) → lookup_at old c.args.lookup ≡ Some l → (next : OpenLookup) × (lookup_at new c.args.lookup ≡ Some next)
-    × HasStepped number c.args.tick.now (denied_in old) old.table l c.step-made.result new.table next =
-    λ l here. (let x = c.step-made.ensures.there l here in
-    (x.0, x.1, x.2)) in
-    let none : lookup_at old c.args.lookup ≡ None → (c.step-made.result ≡ Ok (step.Done (Err net.NoConnections))) × (new.lookups ≡ old.lookups) × (new.table ≡ old.table) =
-    λ gone. (let x = c.step-made.ensures.none gone in (x.0, ap (λ (m : BTreeMap ℕ OpenLookup). m.entries) x.1, x.2)) in
-    let roomed : under number room ≡ Some c.args.lookup = written number (Some c.args.lookup) i.orders.entries room (λ q. c.in_ok-_room.ensures.updates.0 q) in
-    let beside : (n : ℕ) → (n ≡ number → ⊥) → under n room ≡ under n old.orders = unwritten number (Some c.args.lookup) i.orders.entries room (λ q. c.in_ok-_room.ensures.updates.0 q) in
-    subst (λ (o : Shared). (l : OpenLookup) (pool : List Candidate) (heard : List HeardEnd) → lookup_at o c.args.lookup ≡ Some l → l.answer ≡ None → LookupStands pool heard l
-    → PoolGives c.args.tick.now c.args.lookup pool heard l o c.numbered.result new ⊎ IsHaltedBefore c.numbered.result o new) c.self.view_is
-    (λ l pool heard here untold st. inl (next_gives c.args.lookup number c.args.tick.now old new room c.step-made.result c.numbered.result refl c.numbered.ensures there none c.step-made.ensures.others c.step-made.ensures.count roomed beside c.keep_order.ensures refl c.step-made.ensures.context c.step-made.ensures.reached c.self.invariant.1 l pool heard here untold st))
+pub returns-clause-steps : goal.returns-clause-steps
+returns-clause-steps c =
+    let n = c.args.lookup in
+    subst (λ (s : Shared). (l : OpenLookup) → lookup_at s n ≡ Some l → IfOk c.numbered.result (λ t. HasStepped n c.args.tick.now l s t (after c))) c.self.view_is
+    (λ l there. rw (told c) (next_steps n c.args.tick.now (the_view c.self.inside) (after c) c.step_at-made.result (called c) l there))
 
-pub returns-clause-again : goal.returns-clause-again
-returns-clause-again c =
-    let i = c.self.inside in
-    let old : Shared = record { table = i.table; context = i.context; pools = i.pools; lookups = i.lookups.entries; orders = i.orders.entries; turns = i.turns.entries; begun = i.begun; given = i.given } in
-    let new : Shared = record { table = c.step-made.new.table; context = c.step-made.new.cx; pools = i.pools; lookups = c.step-made.new.lookups.entries; orders = c.keep_order.new.orders.entries; turns = i.turns.entries; begun = i.begun; given = c.keep_order.new.given } in
-    let number = i.given + 1 in
-    let room = c.insert.new.self.entries in
-    let there : (l : OpenLookup) → lookup_at old c.args.lookup ≡ Some l → (next : OpenLookup) × (lookup_at new c.args.lookup ≡ Some next)
-    × HasStepped number c.args.tick.now (denied_in old) old.table l c.step-made.result new.table next =
-    λ l here. (let x = c.step-made.ensures.there l here in
-    (x.0, x.1, x.2)) in
-    let none : lookup_at old c.args.lookup ≡ None → (c.step-made.result ≡ Ok (step.Done (Err net.NoConnections))) × (new.lookups ≡ old.lookups) × (new.table ≡ old.table) =
-    λ gone. (let x = c.step-made.ensures.none gone in (x.0, ap (λ (m : BTreeMap ℕ OpenLookup). m.entries) x.1, x.2)) in
-    let roomed : under number room ≡ Some c.args.lookup = written number (Some c.args.lookup) i.orders.entries room (λ q. c.in_ok-_room.ensures.updates.0 q) in
-    let beside : (n : ℕ) → (n ≡ number → ⊥) → under n room ≡ under n old.orders = unwritten number (Some c.args.lookup) i.orders.entries room (λ q. c.in_ok-_room.ensures.updates.0 q) in
-    subst (λ (o : Shared). (l : OpenLookup) (answer : Answered) → lookup_at o c.args.lookup ≡ Some l → l.answer ≡ Some answer → TellsAgain answer l o c.numbered.result new) c.self.view_is
-    (λ l answer here kept. next_again c.args.lookup number c.args.tick.now old new room c.step-made.result c.numbered.result refl c.numbered.ensures there none c.step-made.ensures.others c.step-made.ensures.count roomed beside c.keep_order.ensures refl c.step-made.ensures.context c.step-made.ensures.reached c.self.invariant.1 l answer here kept)
+pub returns-clause-halts : goal.returns-clause-halts
+returns-clause-halts c =
+    let n = c.args.lookup in
+    subst (λ (s : Shared). (l : OpenLookup) → lookup_at s n ≡ Some l → OnErr c.numbered.result ((after c ≡ s) ⊎ HasHalted n c.args.tick.now l s (after c))) c.self.view_is
+    (λ l there. rw (told c) (next_halts n c.args.tick.now (the_view c.self.inside) (after c) c.step_at-made.result (called c) l there))
 
-pub returns-clause-numbers : goal.returns-clause-numbers
-returns-clause-numbers c =
-    let i = c.self.inside in
-    let old : Shared = record { table = i.table; context = i.context; pools = i.pools; lookups = i.lookups.entries; orders = i.orders.entries; turns = i.turns.entries; begun = i.begun; given = i.given } in
-    let new : Shared = record { table = c.step-made.new.table; context = c.step-made.new.cx; pools = i.pools; lookups = c.step-made.new.lookups.entries; orders = c.keep_order.new.orders.entries; turns = i.turns.entries; begun = i.begun; given = c.keep_order.new.given } in
-    let number = i.given + 1 in
-    let room = c.insert.new.self.entries in
-    let there : (l : OpenLookup) → lookup_at old c.args.lookup ≡ Some l → (next : OpenLookup) × (lookup_at new c.args.lookup ≡ Some next)
-    × HasStepped number c.args.tick.now (denied_in old) old.table l c.step-made.result new.table next =
-    λ l here. (let x = c.step-made.ensures.there l here in
-    (x.0, x.1, x.2)) in
-    let none : lookup_at old c.args.lookup ≡ None → (c.step-made.result ≡ Ok (step.Done (Err net.NoConnections))) × (new.lookups ≡ old.lookups) × (new.table ≡ old.table) =
-    λ gone. (let x = c.step-made.ensures.none gone in (x.0, ap (λ (m : BTreeMap ℕ OpenLookup). m.entries) x.1, x.2)) in
-    let roomed : under number room ≡ Some c.args.lookup = written number (Some c.args.lookup) i.orders.entries room (λ q. c.in_ok-_room.ensures.updates.0 q) in
-    let beside : (n : ℕ) → (n ≡ number → ⊥) → under n room ≡ under n old.orders = unwritten number (Some c.args.lookup) i.orders.entries room (λ q. c.in_ok-_room.ensures.updates.0 q) in
-    subst (λ (o : Shared). lookup_at o c.args.lookup ≢ None → NumbersStep c.args.lookup c.numbered.result o new) c.self.view_is (λ some. next_numbers c.args.lookup number c.args.tick.now old new room c.step-made.result c.numbered.result refl c.numbered.ensures there none c.step-made.ensures.others c.step-made.ensures.count roomed beside c.keep_order.ensures refl c.step-made.ensures.context c.step-made.ensures.reached c.self.invariant.1 some)
+pub returns-clause-gone : goal.returns-clause-gone
+returns-clause-gone c =
+    let n = c.args.lookup in
+    subst (λ (s : Shared). lookup_at s n ≡ None → IfOk c.numbered.result (λ t. t ≡ gives.Done (Err NoConnections)) × (after c ≡ s)) c.self.view_is
+    (λ none. rw (told c) (next_gone n c.args.tick.now (the_view c.self.inside) (after c) c.step_at-made.result (called c) none))
 
-pub returns-clause-runs : goal.returns-clause-runs
-returns-clause-runs c =
-    let i = c.self.inside in
-    let old : Shared = record { table = i.table; context = i.context; pools = i.pools; lookups = i.lookups.entries; orders = i.orders.entries; turns = i.turns.entries; begun = i.begun; given = i.given } in
-    let new : Shared = record { table = c.step-made.new.table; context = c.step-made.new.cx; pools = i.pools; lookups = c.step-made.new.lookups.entries; orders = c.keep_order.new.orders.entries; turns = i.turns.entries; begun = i.begun; given = c.keep_order.new.given } in
-    let number = i.given + 1 in
-    let room = c.insert.new.self.entries in
-    let there : (l : OpenLookup) → lookup_at old c.args.lookup ≡ Some l → (next : OpenLookup) × (lookup_at new c.args.lookup ≡ Some next)
-    × HasStepped number c.args.tick.now (denied_in old) old.table l c.step-made.result new.table next =
-    λ l here. (let x = c.step-made.ensures.there l here in
-    (x.0, x.1, x.2)) in
-    let none : lookup_at old c.args.lookup ≡ None → (c.step-made.result ≡ Ok (step.Done (Err net.NoConnections))) × (new.lookups ≡ old.lookups) × (new.table ≡ old.table) =
-    λ gone. (let x = c.step-made.ensures.none gone in (x.0, ap (λ (m : BTreeMap ℕ OpenLookup). m.entries) x.1, x.2)) in
-    let roomed : under number room ≡ Some c.args.lookup = written number (Some c.args.lookup) i.orders.entries room (λ q. c.in_ok-_room.ensures.updates.0 q) in
-    let beside : (n : ℕ) → (n ≡ number → ⊥) → under n room ≡ under n old.orders = unwritten number (Some c.args.lookup) i.orders.entries room (λ q. c.in_ok-_room.ensures.updates.0 q) in
-    subst (λ (o : Shared). (l : OpenLookup) (pool : List Candidate) (heard : List HeardEnd) → lookup_at o c.args.lookup ≡ Some l → AreReached o.table pool → Runs pool heard c.args.tick.now l
-    → IfOk c.numbered.result (Gives pool heard c.args.tick.now l c.args.lookup new)) c.self.view_is
-    (λ l pool heard here asked runs. next_runs c.args.lookup number c.args.tick.now old new room c.step-made.result c.numbered.result refl c.numbered.ensures there none c.step-made.ensures.others c.step-made.ensures.count roomed beside c.keep_order.ensures refl c.step-made.ensures.context c.step-made.ensures.reached c.self.invariant.1 l pool heard here asked runs)
+pub returns-clause-fair : goal.returns-clause-fair
+returns-clause-fair c = λ l there. next_fair c.args.lookup c.args.tick.now (the_view c.self.inside) (after c) c.step_at-made.result (called c) l there
 
-pub returns-clause-rest : goal.returns-clause-rest
-returns-clause-rest c =
-    let i = c.self.inside in
-    let old : Shared = record { table = i.table; context = i.context; pools = i.pools; lookups = i.lookups.entries; orders = i.orders.entries; turns = i.turns.entries; begun = i.begun; given = i.given } in
-    let new : Shared = record { table = c.step-made.new.table; context = c.step-made.new.cx; pools = i.pools; lookups = c.step-made.new.lookups.entries; orders = c.keep_order.new.orders.entries; turns = i.turns.entries; begun = i.begun; given = c.keep_order.new.given } in
-    let number = i.given + 1 in
-    let room = c.insert.new.self.entries in
-    let there : (l : OpenLookup) → lookup_at old c.args.lookup ≡ Some l → (next : OpenLookup) × (lookup_at new c.args.lookup ≡ Some next)
-    × HasStepped number c.args.tick.now (denied_in old) old.table l c.step-made.result new.table next =
-    λ l here. (let x = c.step-made.ensures.there l here in
-    (x.0, x.1, x.2)) in
-    let none : lookup_at old c.args.lookup ≡ None → (c.step-made.result ≡ Ok (step.Done (Err net.NoConnections))) × (new.lookups ≡ old.lookups) × (new.table ≡ old.table) =
-    λ gone. (let x = c.step-made.ensures.none gone in (x.0, ap (λ (m : BTreeMap ℕ OpenLookup). m.entries) x.1, x.2)) in
-    let roomed : under number room ≡ Some c.args.lookup = written number (Some c.args.lookup) i.orders.entries room (λ q. c.in_ok-_room.ensures.updates.0 q) in
-    let beside : (n : ℕ) → (n ≡ number → ⊥) → under n room ≡ under n old.orders = unwritten number (Some c.args.lookup) i.orders.entries room (λ q. c.in_ok-_room.ensures.updates.0 q) in
-    let orders : (n : ℕ) → (n ≡ number → ⊥) → under n new.orders ≡ under n old.orders = λ n apart. left_beside number c.step-made.result room old.orders i.given new.orders c.keep_order.new.given c.keep_order.ensures beside n apart in
-    subst (λ (o : Shared). SameBut c.args.lookup o new) c.self.view_is (next_rest c.args.lookup number c.args.tick.now old new room c.step-made.result c.numbered.result refl c.numbered.ensures there none c.step-made.ensures.others c.step-made.ensures.count roomed beside c.keep_order.ensures refl c.step-made.ensures.context c.step-made.ensures.reached c.self.invariant.1 orders)
+pub returns-clause-answer : goal.returns-clause-answer
+returns-clause-answer c =
+    let n = c.args.lookup in
+    subst (λ (s : Shared). (l : OpenLookup) → lookup_at (after c) n ≡ Some l → IfOk c.numbered.result (IfDone (denied_in s) l.lookup)) c.self.view_is
+    (λ l there. rw (told c) (next_answer n c.args.tick.now (the_view c.self.inside) (after c) c.step_at-made.result (called c) l there))
+
+pub returns-clause-waits : goal.returns-clause-waits
+returns-clause-waits c = rw (told c) (next_waits c.args.lookup c.args.tick.now (the_view c.self.inside) (after c) c.step_at-made.result (called c))

@@ -8,14 +8,15 @@ use Rattle.std.proofs.lemmas.List.{map-append}
 use Rattle.std.proofs.lemmas.Map.Iter.{iter_end}
 use Rattle.std.proofs.lemmas.Map.Keys.{IsStrictlyIncreasing-from_sorted}
 use Rattle.server_pool.specs.Shared.{Shared, lookup_of}
-use Rattle.server_pool.specs.SharedStands.{IsOpenOrder}
-use Rattle.server_pool.proofs.OpenAt.{AreThose, IsLeftOf, one_more, no_more, none_those, among_keys, last_stays, last_goes, left_rises}
-use Rattle.server_pool.proofs.OpenAt.IsLeftOf.{nothing}
+use Rattle.server_pool.specs.Orders.{IsOpenOrder}
+use Rattle.server_pool.specs.declared.open_lookup.OpenLookup.{OpenLookup}
+use Rattle.server_pool.proofs.Listed.{AreThose, IsLeftOf, one_more, no_more, none_those, among_keys, last_stays, last_goes, left_rises}
+use Rattle.server_pool.proofs.Listed.IsLeftOf.{nothing}
 use Rattle.server_pool.proofs.pool_shared.PoolShared.open_orders.Goals as goal
 
 pub orders-init : goal.orders-init
 orders-init c =
-    let P : ℕ → Type 0 = λ n. (polls : ℕ) × IsOpenOrder n c.args.lookup polls c.args.self.now in
+    let P : ℕ → Type 0 = λ n. (l : OpenLookup) × IsOpenOrder n c.args.lookup l c.args.self.now in
     record {
       those = subst (λ (o : List ℕ). AreThose [] o P) (sym c.empty-open.ensures) (none_those P);
       left = subst (λ (o : List ℕ). IsLeftOf o []) (sym c.empty-open.ensures) nothing;
@@ -23,7 +24,7 @@ orders-init c =
 
 pub orders-preserved-in-Continue-1 : goal.orders-preserved-in-Continue-1
 orders-preserved-in-Continue-1 c =
-    let P : ℕ → Type 0 = λ n. (polls : ℕ) × IsOpenOrder n c.args.lookup polls c.args.self.now in
+    let P : ℕ → Type 0 = λ n. (l : OpenLookup) × IsOpenOrder n c.args.lookup l c.args.self.now in
     let all = map deref c.orders.yielded in
     let m = c.in-Some.number.now in
     let more = one_more P all c.orders.open m c.orders.invariant.those (c.has_order.ensures.0 c.if-has_order.true) in
@@ -35,7 +36,7 @@ orders-preserved-in-Continue-1 c =
 
 pub orders-preserved : goal.orders-preserved
 orders-preserved c =
-    let P : ℕ → Type 0 = λ n. (polls : ℕ) × IsOpenOrder n c.args.lookup polls c.args.self.now in
+    let P : ℕ → Type 0 = λ n. (l : OpenLookup) × IsOpenOrder n c.args.lookup l c.args.self.now in
     let all = map deref c.orders.yielded in
     let m = c.in-Some.number.now in
     let more = no_more P all c.orders.open m c.orders.invariant.those (λ p. let t = c.has_order.ensures.1 p in let f = c.if-has_order.false in cc) in

@@ -1,0 +1,33 @@
+use Rattle.std.proofs.Common.{◌≡◌, true, refl, ap}
+use Rattle.std.specs.Prelude.{is_some}
+use Rattle.order_carrier.specs.Stand.{stand_of}
+use Rattle.order_carrier.specs.declared.slot.Slot.TheVariants as slot
+use Rattle.order_carrier.proofs.Keys.{at-put, elsewhere-put}
+use Rattle.order_carrier.proofs.Taking.{room-same}
+use Rattle.order_carrier.proofs.carrier.Carrier.make_room.Goals as goal
+
+pub returns-in_err-copy-clause-made : goal.returns-in_err-copy-clause-made
+returns-in_err-copy-clause-made g c = room-same c.args.key c.args.self.now c.requires
+
+pub returns-in_err-query-clause-made : goal.returns-in_err-query-clause-made
+returns-in_err-query-clause-made g c = room-same c.args.key c.args.self.now c.requires
+
+pub returns-then-not-has_numbers-clause-made : goal.returns-then-not-has_numbers-clause-made
+returns-then-not-has_numbers-clause-made g c = room-same c.args.key c.args.self.now c.requires
+
+pub returns-clause-made : goal.returns-clause-made
+returns-clause-made g c =
+    let slots = c.in_ok-_before.ensures.updates.0 in
+    let new = c.insert.new.self in
+    record {
+      provider = refl;
+      entries = refl;
+      options = refl;
+      unseen = ap stand_of (at-put c.args.key slot.Fresh c.args.self.now.slots new slots);
+      others = elsewhere-put c.args.key slot.Fresh c.args.self.now.slots new slots;
+    }
+
+pub returns-clause-room : goal.returns-clause-room
+returns-clause-room g c =
+    let has : c.has_numbers.result ≡ true = let n = c.if-not-has_numbers.false in cc in
+    (c.has_numbers.ensures.0 has, ap is_some (at-put c.args.key slot.Fresh c.args.self.now.slots c.insert.new.self c.in_ok-_before.ensures.updates.0))

@@ -1,0 +1,13 @@
+pub mod Lists
+pub mod Tables
+pub mod Lookup
+pub mod Rounds
+pub mod Attempts
+pub mod Hearing
+pub mod Backoff
+pub mod Cancelling
+pub mod Giving
+pub mod Promises
+pub mod Holds
+pub mod Asked
+pub mod Running

@@ -1,0 +1,61 @@
+//! How a lookup runs, by its ends and its orders.
+ghost use Rattle.std.specs.Prelude.{◌≡◌, ℕ, ◌+◌, ◌≤◌, ◌==◌, Bool, true, List, if◌then◌else◌};
+ghost use Rattle.std.specs.declared.net.IpAddr.{IpAddr};
+ghost use Rattle.dns_core.specs.declared.request.DnsRequest.{DnsRequest};
+ghost use Rattle.server_core.specs.declared.order.After.TheVariants.{Kept};
+ghost use Rattle.server_core.specs.declared.order.Order.{Order as Given};
+ghost use Rattle.server_core.specs.declared.order.Outcome.{Outcome};
+ghost use Rattle.server_core.specs.declared.order.Tick.{Tick};
+ghost use Rattle.server_core.specs.Servers.{Server};
+ghost use Rattle.retry_rules.specs.declared.candidate.Candidate.{Candidate};
+ghost use Rattle.retry_lookup.specs.declared.giving.LookupStep.{LookupStep};
+ghost use Rattle.retry_lookup.specs.declared.lookup.State.TheVariants.{Asking};
+ghost use Rattle.retry_lookup.specs.Asked.{opens, has_order};
+ghost use Rattle.retry_lookup.specs.Giving.{Gives, GivesFor, want_of};
+ghost use Rattle.retry_lookup.specs.Hearing.{done_by, after_outcome, after_out_of_memory};
+ghost use Rattle.retry_lookup.specs.Holds.{HeardEnd, HoldsBy};
+ghost use Rattle.retry_lookup.specs.Lookup.{LookupState};
+ghost use Rattle.retry_lookup.specs.Rounds.{begun, started};
+ghost use Rattle.retry_lookup.specs.Running.{DecidesAt, IsOpenTo, IsGivenFor, heard_after, heard_out};
+
+/// A lookup stands by the ends that it heard: no step hears one, and an outcome at most that of its
+/// attempt.
+pub fn a_lookup_stands_by_its_ends()
+    ensures next { (denied : IpAddr → Bool) (heard : List HeardEnd) (number now : ℕ) (table : List Server) (l : LookupState) (made : LookupStep) (new : LookupState)
+        → Gives number now table (started now l) made new → HoldsBy denied heard l → HoldsBy denied heard new }
+    ensures put { (denied : IpAddr → Bool) (heard : List HeardEnd) (tick : Tick) (number : ℕ) (o : Outcome) (l : LookupState) → HoldsBy denied heard l
+        → HoldsBy denied (heard_after tick.patience number o heard l) (after_outcome denied tick number o l) }
+    ensures out_of_memory { (denied : IpAddr → Bool) (heard : List HeardEnd) (number now : ℕ) (o : Outcome) (l : LookupState) → l.state ≡ Asking → HoldsBy denied heard l
+        → HoldsBy denied (heard_out number o heard l) (after_out_of_memory number now o l) }
+{}
+
+/// A lookup is decided at the moment of the step that decides it.
+pub fn a_lookup_is_decided_by_a_step()
+    ensures next { (number now : ℕ) (table : List Server) (l : LookupState) (made : LookupStep) (new : LookupState) → Gives number now table (started now l) made new → DecidesAt now l new }
+    ensures put { (denied : IpAddr → Bool) (tick : Tick) (number : ℕ) (o : Outcome) (l : LookupState) → DecidesAt tick.now l (after_outcome denied tick number o l) }
+    ensures out_of_memory { (number now : ℕ) (o : Outcome) (l : LookupState) → DecidesAt now l (after_out_of_memory number now o l) }
+{}
+
+/// An order is open at a lookup only where a step gave it, and then once.
+pub fn a_lookup_opens_what_it_gives()
+    ensures begun { (k : ℕ) (request : DnsRequest) (servers : List Candidate) (together timeout now : ℕ) → opens k (begun request servers together timeout now) ≡ 0 }
+    ensures order { (k number now : ℕ) (table : List Server) (l : LookupState) (order : Given) (new : LookupState) → GivesFor (want_of l) number now table l order new
+        → opens k new ≤ opens k l + (if number == k then 1 else 0) }
+    ensures put { (k : ℕ) (denied : IpAddr → Bool) (tick : Tick) (number : ℕ) (o : Outcome) (heard : List HeardEnd) (l : LookupState) → HoldsBy denied heard l
+        → opens k (after_outcome denied tick number o l) ≤ opens k l }
+    ensures out_of_memory { (k number now : ℕ) (o : Outcome) (l : LookupState) → opens k (after_out_of_memory number now o l) ≤ opens k l }
+    ensures started { (k now : ℕ) (l : LookupState) → opens k (started now l) ≤ opens k l }
+    ensures has { (k : ℕ) (l : LookupState) → 1 ≤ opens k l → has_order k l ≡ true }
+{}
+
+/// The order that a step gives goes to a server of the pool, or is that of a backoff.
+pub fn a_lookup_sends_to_its_servers()
+    ensures { (denied : IpAddr → Bool) (heard : List HeardEnd) (number now : ℕ) (table : List Server) (l : LookupState) (order : Given) (new : LookupState) → HoldsBy denied heard l
+        → opens number l ≡ 0 → GivesFor (want_of l) number now table l order new → IsGivenFor table number order new }
+{}
+
+/// An order that its outcome keeps is open as before, to the same server.
+pub fn an_order_that_is_kept_stays_open()
+    ensures { (denied : IpAddr → Bool) (tick : Tick) (number : ℕ) (c : Candidate) (asks : Bool) (o : Outcome) (l : LookupState) → IsOpenTo number c asks l → done_by tick.patience number o l ≡ Kept
+        → IsOpenTo number c asks (after_outcome denied tick number o l) }
+{}

@@ -1,0 +1,10 @@
+use Rattle.server_pool.specs.Lookups.{moved_to}
+use Rattle.server_pool.proofs.Changed.{halted_there}
+use Rattle.server_pool.proofs.open_lookup.step_at.Goals as goal
+
+pub returns-in-Some-clause-err : goal.returns-in-Some-clause-err
+returns-in-Some-clause-err c = λ l here.
+    let lent = c.in-Some.open.now in
+    let w = moved_to c.next.new.self lent in
+    halted_there c.args.lookup c.args.tick.now lent l c.args.lookups.now.entries _ c.args.table.now c.next.new.table c.next.new.self c.next.result c.in-Some.ensures.value
+    (c.get_mut.follows.holds w).0 c.next.ensures.err c.next.ensures.halted here

@@ -1,0 +1,45 @@
+-- The lookups of a table after an outcome, and what the laws of the table say of one of them.
+use Rattle.std.specs.Prelude.{◌≡◌, ℕ, Bool, List, Some, Result, Ok, Err}
+use Rattle.std.specs.declared.net.ip_addr.IpAddr.{IpAddr}
+use Rattle.dns_core.specs.declared.errors.NoMemory.{NoMemory}
+use Rattle.server_core.specs.declared.order.After.{After}
+use Rattle.server_core.specs.declared.order.Order.{Order}
+use Rattle.server_core.specs.declared.order.Outcome.{Outcome}
+use Rattle.server_core.specs.declared.order.Tick.{Tick}
+use Rattle.server_core.specs.Context.{Context}
+use Rattle.retry_rules.specs.AnswerFilter.{denied_by}
+use Rattle.retry_lookup.specs.Holds.{HeardEnd, HoldsBy}
+use Rattle.retry_lookup.specs.Running.{IsGivenFor, heard_after, heard_out}
+use Rattle.server_pool.specs.Lookups.{with_at, moved_to}
+use Rattle.server_pool.specs.Orders.{IsOpenOrder}
+use Rattle.server_pool.specs.Running.{RunsOn}
+use Rattle.server_pool.specs.Shared.{Shared, lookup_at, denied_in}
+use Rattle.server_pool.specs.Stepping.{put_lookup}
+use Rattle.server_pool.specs.declared.open_lookup.OpenLookup.{OpenLookup}
+
+-- the lookups where the one of the number took the outcome of an order
+abbrev pub with_put : Context → Tick → ℕ → Outcome → Result After NoMemory → ℕ → OpenLookup → List (ℕ × OpenLookup) → List (ℕ × OpenLookup)
+with_put cx tick number o result n l lookups = with_at n (moved_to (put_lookup (denied_by cx.answer_address_filter) tick number o result l.lookup)) lookups
+
+-- The lookup of the number is this one, and stands by these ends.
+pub record StandsBy (denied : IpAddr → Bool) (heard : List HeardEnd) (n : ℕ) (l : OpenLookup) (shared : Shared) : Type 0 where
+  pub there : lookup_at shared n ≡ Some l
+  pub holds : HoldsBy denied heard l.lookup
+
+-- Whatever ends it stood by, after a step of the moment it stands by these.
+abbrev pub RunsBy : (IpAddr → Bool) → (List HeardEnd → List HeardEnd) → ℕ → ℕ → OpenLookup → Shared → Shared → Type 0
+RunsBy denied after now n l old new = (heard : List HeardEnd) → StandsBy denied heard n l old → RunsOn denied (after heard) now n l new
+
+-- the ends that were heard once the outcome of an order was, also where memory was wanting for it
+abbrev pub ends_after : Tick → ℕ → Outcome → OpenLookup → Result After NoMemory → List HeardEnd → List HeardEnd
+ends_after tick number o l (Ok did) heard = heard_after tick.patience number o heard l.lookup
+ends_after tick number o l (Err error) heard = heard_out number o heard l.lookup
+
+-- so it is with the outcome of an order
+abbrev pub RunsByOutcome : ℕ → ℕ → OpenLookup → Outcome → Tick → Shared → Result After NoMemory → Shared → Type 0
+RunsByOutcome number n l o tick old result new = RunsBy (denied_in old) (ends_after tick number o l result) tick.now n l old new
+
+-- Whatever ends it stood by, the order that it gave is open at it, and goes to a server of its pool.
+abbrev pub GoesToServer : ℕ → ℕ → OpenLookup → Order → Shared → Shared → Type 0
+GoesToServer number n l order old new = (denied : IpAddr → Bool) (heard : List HeardEnd) → StandsBy denied heard n l old
+    → (next : OpenLookup) × IsOpenOrder number n next new × IsGivenFor old.table number order next.lookup

@@ -1,0 +1,5 @@
+pub mod Serving
+pub mod Layout
+pub mod Naming
+pub mod Filters
+pub mod Clauses

@@ -1,0 +1,15 @@
+//! Whether a world is well served: its zones lie as they are delegated, and each is served by those to
+//! whom it is delegated, so that a recursor finds every answer in it.
+//!
+//! `check_world` tells the lowest of the seven clauses that fails (`IsVerdict`). It compares every record
+//! with every zone, as the clauses say it.
+#![tactic(auto)]
+
+mod filters;
+mod layout;
+mod naming;
+mod serving;
+mod verdict;
+
+pub use filters::WorldFilters;
+pub use verdict::{Verdict, check_world, verdicts_cross_threads};

@@ -1,0 +1,140 @@
+//! The names of a world.
+ghost use Rattle.std.specs.Prelude.{◌≡◌, ◌&&◌, not, length, filter, nat_le};
+ghost use Rattle.std.specs.List.{list_any, list_all};
+ghost use Rattle.dns_core.specs.Name.{same_names};
+ghost use Rattle.zone_worlds.specs.Choosing.{is_alias};
+ghost use Rattle.world_check.specs.Naming.{is_aliased, owns_one, is_star, has_star, is_soundly_held, is_soundly_named, has_sound_names};
+
+use dns_core::{Label, Letter, Name, RData, Record};
+use zone_worlds::{World, Zone, is_alias};
+
+// ---- aliases
+
+fn has_alias(zone: &Zone, name: &Name) -> bool
+    ensures { result ≡ list_any (is_alias name.now) zone.now.records }
+{
+    zone.records.items().iter().any(|r| is_alias(r, name))
+}
+
+fn is_aliased(world: &World, name: &Name) -> bool
+    ensures { result ≡ is_aliased world.now name.now }
+{
+    world.zones.items().iter().any(|zone| has_alias(zone, name))
+}
+
+fn is_owned_by(r: &Record, name: &Name) -> bool
+    ensures { result ≡ same_names r.now.name name.now }
+{
+    r.name == *name
+}
+
+fn owns(zone: &Zone, name: &Name) -> bool
+    ensures { result ≡ list_any (λ r. same_names r.name name.now) zone.now.records }
+{
+    zone.records.items().iter().any(|r| is_owned_by(r, name))
+}
+
+fn count_owned(zone: &Zone, name: &Name) -> usize
+    ensures { result ≡ length (filter (λ r. same_names r.name name.now) zone.now.records) }
+{
+    zone.records
+        .items()
+        .iter()
+        .filter(|r| is_owned_by(r, name))
+        .count()
+}
+
+fn owns_at_most_one(zone: &Zone, name: &Name) -> bool
+    ensures { result ≡ nat_le (length (filter (λ r. same_names r.name name.now) zone.now.records)) 1 }
+{
+    count_owned(zone, name) <= 1
+}
+
+fn count_owners(world: &World, name: &Name) -> usize
+    ensures { result ≡ length (filter (λ zone. list_any (λ r. same_names r.name name.now) zone.records) world.now.zones) }
+{
+    world
+        .zones
+        .items()
+        .iter()
+        .filter(|zone| owns(zone, name))
+        .count()
+}
+
+fn none_owns_two(world: &World, name: &Name) -> bool
+    ensures { result ≡ list_all (λ zone. nat_le (length (filter (λ r. same_names r.name name.now) zone.records)) 1) world.now.zones }
+{
+    world
+        .zones
+        .items()
+        .iter()
+        .all(|zone| owns_at_most_one(zone, name))
+}
+
+fn owns_one(world: &World, name: &Name) -> bool
+    ensures { result ≡ owns_one world.now name.now }
+{
+    count_owners(world, name) == 1 && none_owns_two(world, name)
+}
+
+// ---- wildcards
+
+fn is_star(label: &Label) -> bool
+    ensures { result ≡ is_star label.now }
+{
+    match label.letters() {
+        [letter] => letter.byte() == 42,
+        _ => false,
+    }
+}
+
+fn has_star(name: &Name) -> bool
+    ensures { result ≡ has_star name.now }
+{
+    name.labels().iter().any(|label| is_star(label))
+}
+
+// ---- all names
+
+fn is_soundly_held(world: &World, owner: &Name, rdata: &RData) -> bool
+    ensures { result ≡ is_soundly_held world.now owner.now rdata.now }
+{
+    match rdata {
+        RData::NS(target) => !is_aliased(world, target) && !has_star(target),
+        RData::CNAME(target) => owns_one(world, owner) && !has_star(target),
+        RData::SOA(soa) => !has_star(&soa.mname) && !has_star(&soa.rname),
+        _ => true,
+    }
+}
+
+fn is_soundly_named(world: &World, r: &Record) -> bool
+    ensures { result ≡ is_soundly_named world.now r.now }
+{
+    !has_star(&r.name) && is_soundly_held(world, &r.name, &r.rdata)
+}
+
+fn are_soundly_named(world: &World, zone: &Zone) -> bool
+    ensures { result ≡ list_all (is_soundly_named world.now) zone.now.records }
+{
+    zone.records
+        .items()
+        .iter()
+        .all(|r| is_soundly_named(world, r))
+}
+
+fn is_zone_soundly_named(world: &World, zone: &Zone) -> bool
+    ensures { result ≡ (not (has_star zone.now.apex) && list_all (is_soundly_named world.now) zone.now.records) }
+{
+    !has_star(&zone.apex) && are_soundly_named(world, zone)
+}
+
+/// Whether no server is an alias, no alias owns another record, and no label is a wildcard.
+pub(crate) fn has_sound_names(world: &World) -> bool
+    ensures { result ≡ has_sound_names world.now }
+{
+    world
+        .zones
+        .items()
+        .iter()
+        .all(|zone| is_zone_soundly_named(world, zone))
+}

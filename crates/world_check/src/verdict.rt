@@ -1,0 +1,71 @@
+//! The verdict on a world.
+ghost use Rattle.std.specs.Prelude.{◌≡◌, IfOk, IsOk};
+ghost use Rattle.world_check.specs.Clauses.{clauses, first_failing, IsVerdict};
+
+use crate::filters::{WorldFilters, has_allowed_addresses};
+use crate::layout::is_laid_out;
+use crate::naming::has_sound_names;
+use crate::serving::{has_served_root, has_served_zones, is_delegated_well};
+use dns_core::NoMemory;
+use std::alloc::Global;
+use std::net::IpAddr;
+use zone_worlds::World;
+
+/// Whether a world is well served, or the number of the lowest clause that fails.
+#[derive(Clone, Copy, Debug, PartialEq, Eq)]
+pub enum Verdict {
+    Yes,
+    No(u8),
+}
+
+/// The first clause that fails, tried in their order.
+fn verdict_of(world: &World, roots: &[IpAddr], filters: &WorldFilters, patience: u32) -> Verdict
+    ensures { result ≡ first_failing 1 (clauses world.now roots.now filters.now patience) }
+{
+    if !has_served_root(world, roots) {
+        return Verdict::No(1);
+    }
+    if !is_laid_out(world) {
+        return Verdict::No(2);
+    }
+    if !is_delegated_well(world) {
+        return Verdict::No(3);
+    }
+    if !has_served_zones(world) {
+        return Verdict::No(4);
+    }
+    if !has_sound_names(world) {
+        return Verdict::No(5);
+    }
+    if !has_allowed_addresses(world, filters) {
+        return Verdict::No(6);
+    }
+    if world.delay >= patience {
+        return Verdict::No(7);
+    }
+    Verdict::Yes
+}
+
+/// Whether a world is well served for a recursor that begins at these root addresses, has these filters
+/// and waits for so many polls; and else the number of the lowest clause that fails. Memory is never
+/// wanting for that.
+pub fn check_world(
+    _alloc: Global,
+    world: &World,
+    roots: &[IpAddr],
+    options: &WorldFilters,
+    patience: u32,
+) -> Result<Verdict, NoMemory>
+    ensures verdict { IfOk result (IsVerdict (clauses world.now roots.now options.now patience)) }
+    ensures ok { IsOk result }
+{
+    Ok(verdict_of(world, roots, options, patience))
+}
+
+fn crosses<T: Send + Sync>() {}
+
+/// Verdicts cross threads, and so do filters.
+pub fn verdicts_cross_threads() {
+    crosses::<Verdict>();
+    crosses::<WorldFilters>();
+}

@@ -1,0 +1,39 @@
+//! Which questions are valid, and that the world is well served.
+
+use crate::world_samples::{ip, query, world};
+use dns_core::{NoMemory, RecordType};
+use resolver_settings::{AccessControlSet, AccessControlSetBuilder};
+use std::alloc::Global;
+use std::test::Fail;
+use world_check::{Verdict, WorldFilters, check_world};
+use zone_worlds::{World, valid_question};
+
+/// Whether the question for `web.example.com.` is valid, with the limits 24.
+fn is_valid(alloc: Global, world: &World, asked: RecordType) -> Result<bool, Fail> {
+    let query = query(alloc, "web.example.com.", asked)?;
+    Ok(valid_question(alloc, world, 24, 24, &query)?)
+}
+
+fn open_set(alloc: Global) -> AccessControlSet {
+    AccessControlSetBuilder::new(alloc, "open").build()
+}
+
+/// The verdict for a root address, with filters that deny nothing.
+fn verdict(alloc: Global, world: &World, root: u8) -> Result<Verdict, NoMemory> {
+    let filters = WorldFilters {
+        server: open_set(alloc),
+        answer: open_set(alloc),
+    };
+    check_world(alloc, world, &[ip(root)], &filters, 3)
+}
+
+#[test]
+fn the_world_is_well_served(rt: HostRuntime) -> Result<(), Fail> {
+    let alloc = rt.alloc();
+    let world = world(alloc)?;
+    assert!(rt; is_valid(alloc, &world, RecordType::A)?);
+    assert!(rt; !is_valid(alloc, &world, RecordType::SOA)?);
+    assert!(rt; verdict(alloc, &world, 1)? == Verdict::Yes);
+    assert!(rt; verdict(alloc, &world, 9)? == Verdict::No(1));
+    Ok(())
+}

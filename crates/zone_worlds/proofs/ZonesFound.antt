@@ -1,0 +1,107 @@
+-- Zones and aliases that are found are those of the world.
+use Rattle.std.proofs.Common.{◌≡◌, ℕ, suc, Bool, true, false, cond, List, [], ◌∷◌, drop, length, Option, Some, None, ◌⊎◌, inl, inr, refl, ap, ◌∙◌, arith}
+use Rattle.std.specs.Prelude.{◌==◌, ◌<◌, ◌≤◌, nat_le}
+use Rattle.std.specs.Option.{option_or, is_some}
+use Rattle.std.specs.List.{flat_map}
+use Rattle.std.specs.Cmp.{second_so}
+use Rattle.std.proofs.lemmas.Bool.Decides.{nat_tests}
+use Rattle.dns_core.specs.Name.{DomainName, same_names}
+use Rattle.dns_core.specs.declared.message.Query.{Query}
+use Rattle.dns_core.specs.declared.record.Record.{Record}
+use Rattle.resolution.specs.Names.{walk}
+use Rattle.resolution.specs.Records.{cname_target}
+use Rattle.resolution.proofs.Members.{Has, flat_map-Has}
+use Rattle.zone_worlds.specs.Tree.{qualified, zone_at, nearest, first_cut, zone_of}
+use Rattle.zone_worlds.specs.Choosing.{is_alias, alias_in}
+use Rattle.zone_worlds.specs.Answer.{alias_for}
+use Rattle.zone_worlds.specs.declared.world.Zone.{Zone}
+use Rattle.zone_worlds.specs.declared.world.World.{World}
+use Rattle.zone_worlds.proofs.Listed.{find_Has, find_passes}
+
+-- ---- going up and down a name
+
+pub nearest_here : (look_up : List (List ℕ) → Option Zone) (ls : List (List ℕ)) (z : Zone) → look_up ls ≡ Some z → nearest look_up ls ≡ Some z
+nearest_here look_up [] z e = e
+nearest_here look_up (l ∷ ls) z e = ap (λ (o : Option Zone). option_or o (nearest look_up ls)) e
+
+pub nearest_none : (look_up : List (List ℕ) → Option Zone) (ls : List (List ℕ)) → look_up ls ≡ None → (length ls == 0) ≡ true → nearest look_up ls ≡ None
+nearest_none look_up [] e h = e
+nearest_none look_up (l ∷ ls) e h = let no : suc (length ls) ≡ 0 = grind (arith, nat_tests) in absurd (omega arith)
+
+pub nearest_above : (look_up : List (List ℕ) → Option Zone) (ls : List (List ℕ)) → look_up ls ≡ None → (length ls == 0) ≡ false → nearest look_up ls ≡ nearest look_up (drop 1 ls)
+nearest_above look_up [] e h = cc
+nearest_above look_up (l ∷ ls) e h = ap (λ (o : Option Zone). option_or o (nearest look_up ls)) e
+
+not_le : (m n : ℕ) → n < m → nat_le m n ≡ false
+not_le m n h = grind (arith, nat_tests)
+
+is_le : (m n : ℕ) → m ≤ n → nat_le m n ≡ true
+is_le m n h = grind (arith, nat_tests)
+
+pub first_cut_above : (zones : List Zone) (apex : ℕ) (ls : List (List ℕ)) → length ls ≤ apex → first_cut zones apex ls ≡ None
+first_cut_above zones apex [] h = refl
+first_cut_above zones apex (l ∷ ls) h = ap (λ (b : Bool). cond b None (option_or (first_cut zones apex ls) (zone_at zones (l ∷ ls)))) (is_le (suc (length ls)) apex h)
+
+first_cut-step : (zones : List Zone) (apex : ℕ) (ls : List (List ℕ)) → apex < length ls → first_cut zones apex ls ≡ option_or (first_cut zones apex (drop 1 ls)) (zone_at zones ls)
+first_cut-step zones apex [] h = absurd (omega arith)
+first_cut-step zones apex (l ∷ ls) h = ap (λ (b : Bool). cond b None (option_or (first_cut zones apex ls) (zone_at zones (l ∷ ls)))) (not_le (suc (length ls)) apex h)
+
+pub first_cut_higher : (zones : List Zone) (apex : ℕ) (ls : List (List ℕ)) (z : Zone) → apex < length ls → first_cut zones apex (drop 1 ls) ≡ Some z → first_cut zones apex ls ≡ Some z
+first_cut_higher zones apex ls z h e = first_cut-step zones apex ls h ∙ ap (λ (o : Option Zone). option_or o (zone_at zones ls)) e
+
+pub first_cut_here : (zones : List Zone) (apex : ℕ) (ls : List (List ℕ)) → apex < length ls → first_cut zones apex (drop 1 ls) ≡ None → first_cut zones apex ls ≡ zone_at zones ls
+first_cut_here zones apex ls h e = first_cut-step zones apex ls h ∙ ap (λ (o : Option Zone). option_or o (zone_at zones ls)) e
+
+-- ---- what is found
+
+one_of : {X : Type 0} (o p : Option X) (x : X) → option_or o p ≡ Some x → (o ≡ Some x) ⊎ (p ≡ Some x)
+one_of None p x e = inr e
+one_of (Some y) p x e = inl e
+
+pub nearest_Has : (zones : List Zone) (ls : List (List ℕ)) (z : Zone) → nearest (λ labels. zone_at zones labels) ls ≡ Some z → Has zones z
+nearest_Has zones [] z e = find_Has (λ y. same_names y.apex (qualified [])) zones z e
+nearest_Has zones (l ∷ ls) z e =
+    elim (one_of (zone_at zones (l ∷ ls)) (nearest (λ labels. zone_at zones labels) ls) z e) [
+      | inl here ↦ find_Has (λ y. same_names y.apex (qualified (l ∷ ls))) zones z here
+      | inr above ↦ nearest_Has zones ls z above
+    ]
+
+zone_of_Has : (w : World) (q : Query) (z : Zone) → zone_of w q ≡ Some z → Has w.zones z
+zone_of_Has w q z e = at_flag (q.name).fqdn e
+  where
+    at_flag : (b : Bool) → cond b (nearest (λ labels. zone_at w.zones labels) (walk q).labels) None ≡ Some z → Has w.zones z
+    at_flag true e = nearest_Has w.zones (walk q).labels z e
+    at_flag false e = cc
+
+pub alias_in_Has : (z : Zone) (n : DomainName) (c : Record) → alias_in z n ≡ Some c → Has z.records c
+alias_in_Has z n c e = find_Has (is_alias n) z.records c e
+
+pub alias_in_owner : (z : Zone) (n : DomainName) (c : Record) → alias_in z n ≡ Some c → same_names c.name n ≡ true
+alias_in_owner z n c e = second_so (is_some (cname_target c)) (same_names c.name n) (find_passes (is_alias n) z.records c e)
+
+-- the zone that has the alias of a question
+pub record HasAlias (w : World) (n : DomainName) (c : Record) : Type 0 where
+  pub zone : Zone
+  pub has : Has w.zones zone
+  pub alias : alias_in zone n ≡ Some c
+
+pub alias_for-zone : (w : World) (q : Query) (c : Record) → alias_for w q ≡ Some c → HasAlias w q.name c
+alias_for-zone w q c e = at_type (q.query_type.code == 5) e
+  where
+    at_zone : (o : Option Zone) → zone_of w q ≡ o → elim o [ None ↦ None | Some z ↦ alias_in z q.name ] ≡ Some c → HasAlias w q.name c
+    at_zone None h e = cc
+    at_zone (Some z) h e = record { zone = z; has = zone_of_Has w q z h; alias = e }
+
+    at_type : (b : Bool) → cond b None (elim (zone_of w q) [ None ↦ None | Some z ↦ alias_in z q.name ]) ≡ Some c → HasAlias w q.name c
+    at_type true e = cc
+    at_type false e = at_zone (zone_of w q) refl e
+
+-- all records of the world, zone by zone
+abbrev pub all_records : World → List Record
+all_records w = flat_map (λ z. z.records) w.zones
+
+pub alias_for_Has : (w : World) (q : Query) (c : Record) → alias_for w q ≡ Some c → Has (all_records w) c
+alias_for_Has w q c e = let a = alias_for-zone w q c e in flat_map-Has (λ (z : Zone). z.records) w.zones a.zone c a.has (alias_in_Has a.zone q.name c a.alias)
+
+pub alias_for_owner : (w : World) (q : Query) (c : Record) → alias_for w q ≡ Some c → same_names c.name q.name ≡ true
+alias_for_owner w q c e = let a = alias_for-zone w q c e in alias_in_owner a.zone q.name c a.alias

@@ -1,0 +1,12 @@
+use Rattle.std.specs.Prelude.{filter, length}
+use Rattle.zone_worlds.proofs.MetNames.{unmet}
+use Rattle.zone_worlds.proofs.ZonesFound.{all_records}
+use Rattle.zone_worlds.proofs.Ways.{Reached}
+use Rattle.zone_worlds.proofs.answer.way_of.Given as goal
+
+-- what leads on from the name at hand leads on from the question's, and where nothing does nothing did
+abbrev pub invariant-way : goal.invariant-way
+invariant-way l = Reached l.world l.query l.met.items l.at l.aliases.items
+
+abbrev pub decreases-way : goal.decreases-way
+decreases-way l = length (filter (unmet l.met.items) (all_records l.world))

@@ -1,0 +1,11 @@
+use Rattle.std.specs.Prelude.{filter, length}
+use Rattle.zone_worlds.proofs.MetNames.{unmet}
+use Rattle.zone_worlds.proofs.Ways.{OnWay}
+use Rattle.zone_worlds.proofs.telling.follow.Given as goal
+
+-- what follows from the name at hand follows from the first
+abbrev pub invariant-chain : goal.invariant-chain
+invariant-chain l = OnWay l.zone l.name l.met.items l.at l.aliases.items
+
+abbrev pub decreases-chain : goal.decreases-chain
+decreases-chain l = length (filter (unmet l.met.items) l.zone.records)

@@ -1,0 +1,51 @@
+-- What a world answers to a question, whoever is asked.
+use Rattle.std.specs.Prelude.{◌≡◌, ◌==◌, false, List, [], ◌∷◌, ◌++◌, length, if◌then◌else◌, Option, Some, None}
+use Rattle.std.specs.List.{list_any}
+use Rattle.dns_core.specs.Name.{DomainName, same_names}
+use Rattle.dns_core.specs.declared.message.Query.{Query}
+use Rattle.dns_core.specs.declared.record.Record.{Record}
+use Rattle.resolution.specs.Records.{cname_target}
+use Rattle.resolution.specs.Answering.{with_name}
+use Rattle.zone_worlds.specs.Tree.{zone_of, exists_in}
+use Rattle.zone_worlds.specs.Choosing.{owned, alias_in}
+use Rattle.zone_worlds.specs.declared.world.World.{World}
+use Rattle.zone_worlds.specs.declared.world.WorldAnswer.{WorldAnswer}
+use Rattle.zone_worlds.specs.declared.world.WorldAnswer.TheVariants.{Records, NxDomain, NoData}
+
+-- the alias of a question's name, in the deepest zone at or above it, for DS at or above the base name; a question for CNAME asks for the alias itself
+abbrev pub alias_for : World → Query → Option Record
+alias_for w q = if q.query_type.code == 5 then None else elim (zone_of w q) [ None ↦ None | Some z ↦ alias_in z q.name ]
+
+-- the next alias on the way, unless the name was met
+abbrev pub next_alias_for : World → Query → List DomainName → DomainName → Option Record
+next_alias_for w q met n = if list_any (same_names n) met then None else alias_for w (with_name n q)
+
+-- These aliases lead from a name on, after names that were met, to a last name, which has none. No name on the way repeats.
+pub data Leads (w : World) (q : Query) : List DomainName → DomainName → List Record → List DomainName → DomainName → Type 0 where
+  arrives : {met : List DomainName} {n : DomainName} → list_any (same_names n) met ≡ false → alias_for w (with_name n q) ≡ None → Leads w q met n [] (met ++ n ∷ []) n
+  goes_on : {met names : List DomainName} {n t last : DomainName} {c : Record} {cs : List Record}
+      → list_any (same_names n) met ≡ false → alias_for w (with_name n q) ≡ Some c → cname_target c ≡ Some t
+      → Leads w q (met ++ n ∷ []) t cs names last → Leads w q met n (c ∷ cs) names last
+
+-- the aliases of a question lead nowhere: a name repeats
+abbrev pub NoWay : World → Query → List DomainName → DomainName → Type 0
+NoWay w q met n = (cs : List Record) (names : List DomainName) (last : DomainName) → Leads w q met n cs names last → ⊥
+
+-- what a zone owns of the question
+abbrev pub data_of : List Record → WorldAnswer
+data_of rs = if length rs == 0 then NoData else Records rs
+
+-- the answer at a name without an alias
+abbrev pub found : World → Query → WorldAnswer
+found w q = if exists_in w q.name then elim (zone_of w q) [ None ↦ NoData | Some z ↦ data_of (owned z q.name q.query_type) ] else NxDomain
+
+-- the aliases that led there, followed by the records; a negative is that of the last name (RFC 2308 section 2)
+abbrev pub after : List Record → WorldAnswer → WorldAnswer
+after cs (Records rs) = Records (cs ++ rs)
+after cs NxDomain = NxDomain
+after cs NoData = NoData
+
+-- The world's answer to a question: that at the end of its aliases, none where they do not end.
+pub data Answers (w : World) (q : Query) : Option WorldAnswer → Type 0 where
+  ends : {cs : List Record} {names : List DomainName} {last : DomainName} → Leads w q [] q.name cs names last → Answers w q (Some (after cs (found w (with_name last q))))
+  never_ends : NoWay w q [] q.name → Answers w q None

@@ -1,0 +1,6 @@
+pub mod Tree
+pub mod Zones
+pub mod Choosing
+pub mod Telling
+pub mod Answer
+pub mod Valid

@@ -1,0 +1,25 @@
+//! Worlds: trees of zones with the hosts that serve them, as an upstream that is given whole.
+//!
+//! `told` is what an address tells for a question (`Tells`), and `world_answer` what the world answers
+//! to it, whoever is asked (`Answers`). `valid_question` says which questions a recursor must answer as
+//! the world does (`IsValid`). Each goes through the zones name by name, as its definition does.
+#![tactic(auto)]
+
+mod answer;
+mod choosing;
+mod copies;
+mod laws;
+mod telling;
+mod threads;
+mod tree;
+mod valid;
+mod world;
+
+pub use answer::world_answer;
+pub use choosing::{is_alias, is_ns_of, is_soa_of};
+pub use laws::{a_world_answers_once, an_address_tells_one_message};
+pub use telling::told;
+pub use threads::worlds_cross_threads;
+pub use tree::is_above;
+pub use valid::valid_question;
+pub use world::{Host, World, WorldAnswer, Zone};

@@ -1,0 +1,36 @@
+//! Worlds: a tree of zones, and the hosts that serve them.
+
+use dns_core::{Items, Name, Records};
+use std::net::IpAddr;
+
+/// A zone: its apex and its records, in an order.
+#[derive(Drop, Debug, PartialEq, Eq)]
+pub struct Zone {
+    pub apex: Name,
+    pub records: Records,
+}
+
+/// An address, and the numbers of the zones that it serves. Zones are numbered from 1.
+#[derive(Drop, Debug, PartialEq, Eq)]
+pub struct Host {
+    pub ip: IpAddr,
+    pub zones: Items<u32>,
+}
+
+/// A tree of zones with its hosts. With `chain`, an answer follows the aliases inside a zone. Each
+/// question waits for `delay` polls.
+#[derive(Drop, Debug, PartialEq, Eq)]
+pub struct World {
+    pub zones: Items<Zone>,
+    pub hosts: Items<Host>,
+    pub chain: bool,
+    pub delay: u32,
+}
+
+/// What a world answers to a question.
+#[derive(Drop, Debug, PartialEq, Eq)]
+pub enum WorldAnswer {
+    Records(Records),
+    NxDomain,
+    NoData,
+}
