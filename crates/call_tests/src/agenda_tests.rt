@@ -4,7 +4,7 @@ ghost use Rattle.retry_rules.specs.Agenda.{HasRoom};
 
 use crate::message_samples::{Sight, denial, message, query, seen};
 use dns_core::{IoKind, Message, NameError, NetError};
-use server_pool::{Agenda, Candidate, Hearing};
+use retry_rules::{Agenda, Candidate, Hearing};
 use std::alloc::Global;
 use std::test::Fail;
 

@@ -1,14 +1,16 @@
 -- Keys of orders that compare as equal, and what a map has after one was put there.
-use Rattle.std.proofs.Common.{Bool, true, false, cond, ◌≡◌, ◌⊎◌, inl, inr, ℕ, Some, refl, sym, ◌∙◌, ap}
-use Rattle.std.specs.BTreeMap.{BTreeMap}
+use Rattle.std.proofs.Common.{Bool, true, false, cond, ◌≡◌, ◌⊎◌, inl, inr, ◌<◌, ℕ, Option, Some, None, refl, sym, ◌∙◌, ap}
+use Rattle.std.specs.BTreeMap.{BTreeMap, IsUpperBound}
 use Rattle.std.specs.Cmp.{nat_cmp_is}
-use Rattle.std.specs.Ordering.{nat_cmp, is_eq, ordering_then}
-use Rattle.std.specs.Prelude.{◌≢◌}
+use Rattle.std.specs.Ordering.{nat_cmp, is_eq, is_lt, ordering_then}
+use Rattle.std.specs.Prelude.{◌≢◌, is_some}
 use Rattle.std.specs.FinMap.{nat_cmp-IsAntisymmetric}
 use Rattle.std.specs.declared.cmp.Ordering.{Ordering}
 use Rattle.std.specs.declared.cmp.Ordering.TheVariants.{Less, Equal, Greater}
 use Rattle.order_carrier.specs.Key.{same_key}
 use Rattle.order_carrier.specs.Stand.{slot_at, IsPutAt, IsSameElsewhere}
+use Rattle.order_carrier.specs.contracts.key.FormOrd.TheImpl as form_order
+use Rattle.order_carrier.specs.contracts.key.OrderKeyOrd.TheImpl as key_order
 use Rattle.order_carrier.specs.declared.key.Form.{Form}
 use Rattle.order_carrier.specs.declared.key.Form.TheVariants as form
 use Rattle.order_carrier.specs.declared.key.OrderKey.{OrderKey}
@@ -67,6 +69,18 @@ key_other a b differ = by (same_key a b) refl
     by : (c : Bool) → same_key a b ≡ c → same_key a b ≡ false
     by false is = is
     by true is = absurd (differ (key_is a b is))
+
+-- a key of a smaller number is less than one of a greater
+less_number : (a b : OrderKey) → a.number < b.number → is_lt (key_order.ghosts.cmp a b) ≡ true
+less_number a b less = ap (λ (o : Ordering). is_lt (ordering_then o (form_order.ghosts.cmp a.form b.form))) (sym (nat_cmp_is a.number b.number Less less))
+
+-- under a number that is greater than that of the last key nothing stands
+pub past_last : {S : Type 0} (slots : BTreeMap OrderKey S) (last k : OrderKey) → IsUpperBound key_order.ghosts.cmp slots last → last.number < k.number → slot_at slots k ≡ None
+past_last {S} slots last k bound less = by (slot_at slots k) refl
+  where
+    by : (o : Option S) → slot_at slots k ≡ o → slot_at slots k ≡ None
+    by None is = is
+    by (Some v) is = let greater = less_number last k less in let not_less = bound k (ap is_some is) in cc
 
 module _ {S : Type 0} (key : OrderKey) (value : S) (old new : BTreeMap OrderKey S) (put : IsPutAt key value old new) where
   -- what was put stands there

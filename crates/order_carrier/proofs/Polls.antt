@@ -70,11 +70,11 @@ still-named : (e : LogEntry) (old new : Option (List LogEntry)) (n m : ℕ) → 
 still-named e old new n m grew named es told = let l = Longer-from_added e old es (sym grew ∙ told) in named l.before l.was
 
 -- what is under way goes where its order goes
-pub goes-for : {P C F E : Type 0} (p : Ghosts P C F E) (u : Ongoing P C F E p) (a : Awaited F E) → u.awaited ≡ a → GoesFor p u.order a
+pub goes-for : {P C F E : Type 0} (p : Ghosts P C F E) (u : Ongoing P C F E p) (a : Awaited F E) → u.awaited ≡ a → GoesFor p u.order.value a
 goes-for {P} {C} {F} {E} p u a is = record {
   polls = subst (λ (a : Awaited F E). IsTrue (may_be_polled p.opens p.waits a)) is u.polls;
-  goes = subst (λ (a : Awaited F E). aim p.opening p.question a ≡ aim_of u.order) is u.goes;
-  sends = subst (λ (a : Awaited F E). IsSentFor u.order (sent_of a)) is u.sends;
+  goes = subst (λ (a : Awaited F E). aim p.opening p.question a ≡ aim_of u.order.value) is u.goes;
+  sends = subst (λ (a : Awaited F E). IsSentFor u.order.value (sent_of a)) is u.sends;
 }
 
 -- ---- what a poll of what was sent comes to, by what the provider answered

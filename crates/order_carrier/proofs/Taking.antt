@@ -160,10 +160,10 @@ module _ {P C F E : Type 0} (p : Ghosts P C F E) (key : OrderKey) (order : Order
   pub carries-polled : (mid new : Carrier P C F E p) (u : Ongoing P C F E p) (result : Option (Option Outcome)) → HasNumbers old.entries
       → order_in (stand_at old.slots key) ≡ Some order → slot_at old.slots key ≡ Some (slot.UnderWay u)
       → (mid.provider ≡ old.provider) × (mid.entries ≡ old.entries) × (mid.options ≡ old.options) → IsPutAt key slot.Over old.slots mid.slots
-      → Hears p key u.order (sent_of u.awaited) now mid new result → Carries p key order now old new result
+      → Hears p key u.order.value (sent_of u.awaited) now mid new result → Carries p key order now old new result
   carries-polled mid new u result numbers going taken same slots hears =
-      let stood : stand_at old.slots key ≡ UnderWay u.order (sent_of u.awaited) = ap stand_of taken in
-      let is : u.order ≡ order = same_Some _ _ (sym (ap order_in stood) ∙ going) in
+      let stood : stand_at old.slots key ≡ UnderWay u.order.value (sent_of u.awaited) = ap stand_of taken in
+      let is : u.order.value ≡ order = same_Some _ _ (sym (ap order_in stood) ∙ going) in
       record {
         did = again key order now (state old) (state new) result (state mid) (sent_of u.awaited) same.2 same.0 numbers (ap p.log same.0) same.1
             (subst (λ (o : Order). stand_at old.slots key ≡ UnderWay o (sent_of u.awaited)) is stood) (subst (λ (o : Order). IsSentFor o (sent_of u.awaited)) is u.sends)
@@ -195,7 +195,7 @@ module _ {P C F E : Type 0} (p : Ghosts P C F E) (key : OrderKey) (now : ℕ) (o
       let here : mid.provider ≡ old.provider = ap (λ (c : Carrier P C F E p). c.provider) is ∙ same.0 in
       let over : stand_at taken.slots key ≡ Over = ap stand_of (at-put key slot.Over old.slots taken.slots slots) in
       record {
-        given_up = given-up key now (state old) (state (record mid { provider = provider })) u.order (sent_of u.awaited)
+        given_up = given-up key now (state old) (state (record mid { provider = provider })) u.order.value (sent_of u.awaited)
             (ap (λ (c : Carrier P C F E p). c.options) is ∙ same.2) (λ none. quiet none ∙ here) (ap stand_of was)
             (log ∙ ap (λ (q : P). with_entries (give_up_entry now (sent_of u.awaited)) (p.log q)) here)
             (ap (λ (c : Carrier P C F E p). c.entries) is ∙ ap (λ (n : ℕ). counted_after n (sent_of u.awaited)) same.1)

@@ -25,7 +25,7 @@ slot_at slots k = tree.get key_order.ghosts.cmp slots k
 abbrev pub stand_of : {P C F E : Type 0} {p : Ghosts P C F E} → Option (Slot P C F E p) → Stand
 stand_of None = Unseen
 stand_of (Some slot.Fresh) = Unseen
-stand_of (Some (slot.UnderWay u)) = UnderWay u.order (sent_of u.awaited)
+stand_of (Some (slot.UnderWay u)) = UnderWay u.order.value (sent_of u.awaited)
 stand_of {p = p} (Some (slot.Made c)) = Made (p.peer c.conn)
 stand_of (Some slot.Over) = Over
 

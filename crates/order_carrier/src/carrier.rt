@@ -1,5 +1,5 @@
 //! Orders that are under way over a provider, and the entries of its log.
-ghost use Rattle.std.specs.Prelude.{◌≡◌, ◌<◌, ◌+◌, ◌^◌, ◌&&◌, ◌↔◌, ℕ, IsTrue, IsSome, List, [], length, Some, is_some, unwrap_or, if◌then◌else◌};
+ghost use Rattle.std.specs.Prelude.{◌≡◌, ◌<◌, ◌≤◌, ◌+◌, ◌^◌, ◌&&◌, ◌↔◌, ℕ, IsTrue, IsSome, List, [], length, Some, None, is_some, unwrap_or, if◌then◌else◌};
 ghost use Rattle.std.specs.Result.{result_ok};
 ghost use Rattle.dns_core.specs.declared.log.LogEntry.{LogEntry};
 ghost use Rattle.order_carrier.specs.Awaited.{sent_of, counted_after, IsNamed};
@@ -116,10 +116,23 @@ impl<P: ConnectionProvider> Carrier<P> {
         }
     }
 
+    /// Whether the numbers of all orders that were started are below this one.
+    pub(crate) fn is_past(&self, number: u64) -> bool
+        ensures { IsTrue result → (k : Key) → number ≤ k.number → slot_at self.now.slots k ≡ None }
+    {
+        match self.slots.last_key_value() {
+            Some((last, _slot)) => last.number < number,
+            None => true,
+        }
+    }
+
     /// Whether no order was started under a key.
     fn is_unseen(&self, key: OrderKey) -> bool
         ensures { IsTrue result ↔ (stand_at self.now.slots key ≡ Unseen) }
     {
+        if self.is_past(key.number) {
+            return true;
+        }
         match self.slots.get(&key) {
             None | Some(Slot::Fresh) => true,
             Some(Slot::UnderWay(_) | Slot::Made(_) | Slot::Over) => false,
@@ -194,7 +207,7 @@ impl<P: ConnectionProvider> Carrier<P> {
         requires place { IsSome (slot_at self.old.slots key) }
         requires named { IsNamed P.ConnectionProvider (P.log self.old.provider) under_way.awaited }
         ensures vouches { (es : List LogEntry) → P.vouches self.new.provider es → P.vouches self.old.provider es }
-        ensures hears { Hears P.ConnectionProvider key under_way.order (sent_of under_way.awaited) now self.old self.new (result_ok result) }
+        ensures hears { Hears P.ConnectionProvider key under_way.order.value (sent_of under_way.awaited) now self.old self.new (result_ok result) }
     {
         let Polled { slot, heard } = poll_awaited(&mut self.provider, under_way, now);
         self.put(key, slot);

@@ -32,15 +32,15 @@ pub struct Polled<P: ConnectionProvider> {
 
 fn poll_connection<P: ConnectionProvider>(
     provider: &mut P,
-    order: Order,
+    order: Box<Order>,
     future: P::FutureConn,
     sent: Sent,
     now: u64,
 ) -> Polled<P>
-    requires goes { GoesFor P.ConnectionProvider order (Awaited.Connection future sent) }
+    requires goes { GoesFor P.ConnectionProvider order.value (Awaited.Connection future sent) }
     requires named { IsNamed P.ConnectionProvider (P.log provider.old) (Awaited.Connection future sent) }
     ensures vouches { (es : List LogEntry) → P.vouches provider.new es → P.vouches provider.old es }
-    ensures polled { IsPolled now order (Some sent) (P.log provider.old) (P.log provider.new) result }
+    ensures polled { IsPolled now order.value (Some sent) (P.log provider.old) (P.log provider.new) result }
 {
     let mut future = future;
     match provider.poll_connection(&mut future, now) {
@@ -71,15 +71,15 @@ fn poll_connection<P: ConnectionProvider>(
 
 fn poll_answer<P: ConnectionProvider>(
     provider: &mut P,
-    order: Order,
+    order: Box<Order>,
     exchange: P::Exchange,
     sent: Sent,
     now: u64,
 ) -> Polled<P>
-    requires goes { GoesFor P.ConnectionProvider order (Awaited.Answer exchange sent) }
+    requires goes { GoesFor P.ConnectionProvider order.value (Awaited.Answer exchange sent) }
     requires named { IsNamed P.ConnectionProvider (P.log provider.old) (Awaited.Answer exchange sent) }
     ensures vouches { (es : List LogEntry) → P.vouches provider.new es → P.vouches provider.old es }
-    ensures polled { IsPolled now order (Some sent) (P.log provider.old) (P.log provider.new) result }
+    ensures polled { IsPolled now order.value (Some sent) (P.log provider.old) (P.log provider.new) result }
 {
     let mut exchange = exchange;
     match provider.poll_exchange(&mut exchange, now) {
@@ -109,9 +109,9 @@ fn poll_answer<P: ConnectionProvider>(
 }
 
 /// A sleep rests before its moment.
-fn poll_moment<P: ConnectionProvider>(order: Order, until: u64, now: u64) -> Polled<P>
-    requires { order ≡ Order.Sleep until }
-    ensures { (log : Option (List LogEntry)) → IsPolled now order None log log result }
+fn poll_moment<P: ConnectionProvider>(order: Box<Order>, until: u64, now: u64) -> Polled<P>
+    requires { order.value ≡ Order.Sleep until }
+    ensures { (log : Option (List LogEntry)) → IsPolled now order.value None log log result }
 {
     if now < until {
         let awaited = Awaited::Moment { until };
@@ -132,7 +132,7 @@ pub fn poll_awaited<P: ConnectionProvider>(
 ) -> Polled<P>
     requires { IsNamed P.ConnectionProvider (P.log provider.old) under_way.awaited }
     ensures vouches { (es : List LogEntry) → P.vouches provider.new es → P.vouches provider.old es }
-    ensures polled { IsPolled now under_way.order (sent_of under_way.awaited) (P.log provider.old) (P.log provider.new) result }
+    ensures polled { IsPolled now under_way.order.value (sent_of under_way.awaited) (P.log provider.old) (P.log provider.new) result }
     ensures quiet { sent_of under_way.awaited ≡ None → provider.new ≡ provider.old }
 {
     let UnderWay { order, awaited } = under_way;

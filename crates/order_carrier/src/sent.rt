@@ -49,8 +49,9 @@ impl<P: ConnectionProvider> Carrier<P> {
     pub fn is_free(&self, number: u64) -> bool
         ensures { result ≡ is_free (stand_at self.now.slots) number }
     {
-        !self.has(number, Form::Open)
-            && !self.has(number, Form::Ask)
-            && !self.has(number, Form::Sleep)
+        self.is_past(number)
+            || !self.has(number, Form::Open)
+                && !self.has(number, Form::Ask)
+                && !self.has(number, Form::Sleep)
     }
 }

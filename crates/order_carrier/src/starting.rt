@@ -77,13 +77,13 @@ impl<P: ConnectionProvider> Carrier<P> {
         &mut self,
         key: OrderKey,
         order: &Order,
-    ) -> Result<(Order, Option<Query>), NoMemory>
+    ) -> Result<(Box<Order>, Option<Query>), NoMemory>
         requires { stand_at self.old.slots key ≡ Unseen }
         ensures made { IsRoomMade key self.old self.new }
         ensures room { OnOk result (HasNumbers self.old.entries × IsSome (slot_at self.new.slots key)) }
-        ensures copies { IfOk result (λ copies. (copies.0 ≡ order.now) × (copies.1 ≡ query_of order.now)) }
+        ensures copies { IfOk result (λ copies. (copies.0.value ≡ order.now) × (copies.1 ≡ query_of order.now)) }
     {
-        let copy = order.try_clone(self.alloc)?;
+        let copy = Box::new(self.alloc, order.try_clone(self.alloc)?)?;
         let query = question(self.alloc, order)?;
         if !self.has_numbers() {
             return Err(NoMemory);

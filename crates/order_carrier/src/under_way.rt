@@ -11,19 +11,19 @@ use std::net::IpAddr;
 /// An order, and what it waits for. That may be polled, goes where the order goes, and was sent for it.
 #[derive(Drop)]
 pub struct UnderWay<P: ConnectionProvider> {
-    pub order: Order,
+    pub order: Box<Order>,
     pub awaited: Awaited<P::FutureConn, P::Exchange>,
     ghost polls: { IsTrue (may_be_polled P.opens P.waits awaited) },
-    ghost goes: { aim P.opening P.question awaited ≡ aim_of order },
-    ghost sends: { IsSentFor order (sent_of awaited) },
+    ghost goes: { aim P.opening P.question awaited ≡ aim_of order.value },
+    ghost sends: { IsSentFor order.value (sent_of awaited) },
 }
 
 /// A connection, and the order that made it, which reaches its peer.
 #[derive(Drop)]
 pub struct Connection<P: ConnectionProvider> {
     pub conn: P::Conn,
-    pub order: Order,
-    ghost reaches: { aim_of order ≡ Reaches (P.peer conn) },
+    pub order: Box<Order>,
+    ghost reaches: { aim_of order.value ≡ Reaches (P.peer conn) },
 }
 
 impl<P: ConnectionProvider> Connection<P> {
@@ -34,7 +34,7 @@ impl<P: ConnectionProvider> Connection<P> {
         ensures some { IfSome result (λ conn. (conn ≡ self.now.conn) × (P.peer conn ≡ record { ip = ip; protocol = protocol })) }
         ensures none { IfNone result (P.peer self.now.conn ≢ record { ip = ip; protocol = protocol }) }
     {
-        let Order::Open { ip: at, config } = &self.order else {
+        let Order::Open { ip: at, config } = &*self.order else {
             return None;
         };
         if *at == ip && config.protocol.to_protocol() == protocol {

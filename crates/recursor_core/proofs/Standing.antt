@@ -25,8 +25,8 @@ use Rattle.recursor_core.specs.Remembered.{EntryHolds, CacheHolds}
 use Rattle.recursor_setting.specs.Setting.{with_patience as setting_with}
 use Rattle.recursor_core.specs.Machine.{Begun, begun_at, ReplyGiven, StepGives, IsNewCore}
 use Rattle.recursor_core.specs.Standing.{IsPast, Holds, Rests, Moves, ReplyTold}
-use Rattle.recursor_core.specs.Order.{TellsOutcome, is_given_up, IsGivenUpIn, LogGoesOnIf, LogGoesOn}
-use Rattle.recursor_core.specs.Runner.{RunnerHolds, RunnerMoves, polls_left, sent_by, IsLast, HasTold}
+use Rattle.recursor_core.specs.Order.{WaitsBy, TellsOutcome, is_given_up, IsGivenUpIn, LogGoesOnIf, LogGoesOn}
+use Rattle.recursor_core.specs.Runner.{RunnerHolds, RunnerMoves, polls_left, sent_by, still_awaited, IsLast, HasTold}
 use Rattle.recursor_core.specs.Turns.{due_of, TurnFalls}
 use Rattle.recursor_core.specs.declared.runner.Runner.{Runner}
 use Rattle.recursor_core.specs.declared.runner.Running.{Running}
@@ -263,6 +263,29 @@ settled_by true now (Some s) o old new is told es t =
     by_outcome (Failed entry sent refused error) before is last = absurd last
     by_outcome Slept before is last = absurd last
 
+-- a poll that found nothing is in the log, also by what is waited for still
+waits-still : (log : Log) (s : Option Sent) (o : Outcome) → WaitsBy log s o → WaitsBy log (still_awaited o s) o
+waits-still log s (Pending entry of) h = h
+waits-still log s (Connected entry sent) h = tt
+waits-still log s (Told entry sent message) h = tt
+waits-still log s (Failed entry sent refused error) h = tt
+waits-still log s Slept h = tt
+
+-- and so the log goes on
+goes-still : (given_up : Bool) (now : ℕ) (s : Option Sent) (o : Outcome) (told longer : Log) → LogGoesOnIf given_up now s o told longer
+    → LogGoesOnIf given_up now (still_awaited o s) o told longer
+goes-still false now s o told longer h = h
+goes-still true now None (Pending entry of) told longer h = h
+goes-still true now None (Connected entry sent) told longer h = h
+goes-still true now None (Told entry sent message) told longer h = h
+goes-still true now None (Failed entry sent refused error) told longer h = h
+goes-still true now None Slept told longer h = h
+goes-still true now (Some s) (Pending entry of) told longer h = h
+goes-still true now (Some s) (Connected entry sent) told longer h = h
+goes-still true now (Some s) (Told entry sent message) told longer h = h
+goes-still true now (Some s) (Failed entry sent refused error) told longer h = h
+goes-still true now (Some s) Slept told longer h = h
+
 module _ {P C F E : Type 0} (p : Ghosts P C F E) where
   -- a step of the machine alone
   pub holds_derived : (patience : ℕ) (core new : RecursorCore) (r : Runner P C F E p) → new.setting ≡ core.setting → core.moment ≤ new.moment
@@ -292,8 +315,8 @@ module _ {P C F E : Type 0} (p : Ghosts P C F E) where
   -- The machine is fed what the provider told, and its order is given up, or is not.
   pub holds_settled : (tick : Tick) (core new : RecursorCore) (r later : Runner P C F E p) (o : Outcome) (result : Result After NoMemory) → new.setting ≡ core.setting → new.moment ≡ tick.now
       → core.moment ≡ tick.now
-      → ((log told longer : Log) → core.setting.patience ≤ tick.patience → Derived core log → TellsOutcome core.moment log tick (sent_by r) o told
-      → LogGoesOn tick.now (sent_by r) o result told longer → Derived new longer)
+      → ((log told longer : Log) → core.setting.patience ≤ tick.patience → Derived core log → TellsOutcome core.moment log tick (still_awaited o (sent_by r)) o told
+      → LogGoesOn tick.now (still_awaited o (sent_by r)) o result told longer → Derived new longer)
       → p.log later.carrier.provider ≡ settled_log (is_given_up result) tick.now (sent_by r) (p.log r.carrier.provider)
       → TellsThat (p.log r.carrier.provider) (HasTold tick.now (sent_by r) o) → Holds p tick.patience core r → Holds p tick.patience core later → Holds p tick.patience new later
   holds_settled tick core new r later o result setting moment at derived log told h k = record {
@@ -303,7 +326,8 @@ module _ {P C F E : Type 0} (p : Ghosts P C F E) where
         let by = settled_by (is_given_up result) tick.now (sent_by r) o (p.log r.carrier.provider) (p.log later.carrier.provider) log told es t in
         let heard = told by.before by.was in
         derived (log_of by.before) (log_of by.before) (log_of es) h.patient (h.derived by.before by.was)
-        (record { later = omega arith; extends = Extends-refl (log_of by.before); fits = heard.fits; waits_by = heard.waits_by }) by.on;
+        (record { later = omega arith; extends = Extends-refl (log_of by.before); fits = heard.fits; waits_by = waits-still (log_of by.before) (sent_by r) o heard.waits_by })
+        (goes-still (is_given_up result) tick.now (sent_by r) o (log_of by.before) (log_of es) by.on);
     asks = subst (λ (held : Setting). TellsThat (p.log later.carrier.provider) (AsksServers (given_of (terms_with held)))) (sym setting) k.asks;
     past = IsPast-later core.moment new.moment (p.log later.carrier.provider) (omega arith) k.past;
   }

@@ -85,6 +85,14 @@ sent_for stands (Some running) = sent_in (stands (key_in running))
 abbrev pub sent_by : {P C F E : Type 0} {p : Ghosts P C F E} → Runner P C F E p → Option Sent
 sent_by r = sent_for (stand_at r.carrier.slots) r.running
 
+-- what of it is waited for still after an outcome: only a poll that found nothing goes on
+abbrev pub still_awaited : Outcome → Option Sent → Option Sent
+still_awaited (Pending entry of) s = s
+still_awaited (Connected entry sent) s = None
+still_awaited (Told entry sent message) s = None
+still_awaited (Failed entry sent refused error) s = None
+still_awaited Slept s = None
+
 -- What was sent is still waited for just where the last entry of the log says so.
 abbrev pub IsLast : Log → Option Sent → Outcome → Type 0
 IsLast log None o = Unit {0}

@@ -6,7 +6,7 @@ ghost use Rattle.order_carrier.specs.Carrying.{CarrierHolds};
 ghost use Rattle.order_carrier.specs.GivingUp.{give_up_entry};
 ghost use Rattle.order_carrier.specs.Growing.{TellsThat, with_entries};
 ghost use Rattle.order_carrier.specs.Stand.{stand_at};
-ghost use Rattle.recursor_core.specs.Runner.{key_in, RunnerHolds, CanRun, RunnerMoves, GoesRight, StartsRight, GoesNowhere, RunsUnder, polls_left, sent_by, HasTold};
+ghost use Rattle.recursor_core.specs.Runner.{key_in, RunnerHolds, CanRun, RunnerMoves, GoesRight, StartsRight, GoesNowhere, RunsUnder, polls_left, sent_by, still_awaited, HasTold};
 
 use dns_core::{ConnectionProvider, NoMemory};
 use order_carrier::Carrier;
@@ -56,12 +56,25 @@ impl<P: ConnectionProvider> Runner<P> {
     }
 
     /// What was sent for the order that runs, if it is under way still.
-    pub fn sent(&self) -> Option<&Sent>
+    fn sent(&self) -> Option<&Sent>
         ensures { option_copied result ≡ sent_by self.now }
     {
         match &self.running {
             Some(running) => self.carrier.sent(running.number, &running.order),
             None => None,
+        }
+    }
+
+    /// What was sent for the order that runs and is waited for still after this outcome of it.
+    pub fn awaited(&self, outcome: &Outcome) -> Option<&Sent>
+        ensures { option_copied result ≡ still_awaited outcome.now (sent_by self.now) }
+    {
+        match outcome {
+            Outcome::Pending { .. } => self.sent(),
+            Outcome::Connected { .. }
+            | Outcome::Told { .. }
+            | Outcome::Failed { .. }
+            | Outcome::Slept => None,
         }
     }
 

@@ -70,7 +70,7 @@ fn settle<P: ConnectionProvider>(
     ensures keeps { due tick.patience core.new runner.new ≤ due tick.patience core.old runner.old }
     ensures told { (b : Option Begun) → IfOk result (TurnedTold (terms_of core.old) tick.now (P.log runner.new.carrier.provider) b) }
 {
-    let waits = runner.sent();
+    let waits = runner.awaited(&outcome);
     match core.put(alloc, number, outcome, waits, tick) {
         Ok(After::Kept) => Ok(Turned::Pending),
         Ok(After::Ended) => Ok(Turned::Again),

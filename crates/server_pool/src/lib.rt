@@ -23,7 +23,7 @@ pub use pool_laws::a_pool_expires_after_its_ttl;
 pub use pool_lookup::PoolLookup;
 pub use pool_shared::{PoolShared, PoolStep};
 pub use retry_rules::{
-    Agenda, Candidate, Ending, Hearing, a_deadline_ends_a_lookup, a_lookup_makes_few_sends,
+    Candidate, a_deadline_ends_a_lookup, a_lookup_makes_few_sends,
     filtered, most_specific, ordered, sort_servers_by_query_statistics,
     the_earlier_negative_is_kept, the_kept_error_is_what_is_left,
 };

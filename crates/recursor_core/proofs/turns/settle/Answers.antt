@@ -8,21 +8,21 @@ use Rattle.recursor_core.proofs.turns.settle.Goals as goal
 pub returns-in-Ok-Kept-clause-holds : goal.returns-in-Ok-Kept-clause-holds
 returns-in-Ok-Kept-clause-holds g c =
     let r = c.args.runner.now in
-    let put = rw c.in-Ok-Kept.field-0-is at (rw c.sent-waits.ensures at c.in-Ok-Kept.ensures.derived) in
+    let put = rw c.in-Ok-Kept.field-0-is at (rw c.awaited-waits.ensures at c.in-Ok-Kept.ensures.derived) in
     holds_settled g.P.ConnectionProvider c.args.tick c.args.core.now c.put.new.self r r c.args.outcome (Ok after.Kept) c.put.ensures.setting (c.put.ensures.moment c.requires.moment) c.requires.moment
     put refl c.requires.told.1 c.requires.holds c.requires.holds
 
 pub returns-in-Ok-Ended-clause-holds : goal.returns-in-Ok-Ended-clause-holds
 returns-in-Ok-Ended-clause-holds g c =
     let r = c.args.runner.now in
-    let put = rw c.in-Ok-Ended.field-0-is at (rw c.sent-waits.ensures at c.in-Ok-Ended.ensures.derived) in
+    let put = rw c.in-Ok-Ended.field-0-is at (rw c.awaited-waits.ensures at c.in-Ok-Ended.ensures.derived) in
     holds_settled g.P.ConnectionProvider c.args.tick c.args.core.now c.put.new.self r r c.args.outcome (Ok after.Ended) c.put.ensures.setting (c.put.ensures.moment c.requires.moment) c.requires.moment
     put refl c.requires.told.1 c.requires.holds c.requires.holds
 
 pub returns-in-Ok-Late-clause-holds : goal.returns-in-Ok-Late-clause-holds
 returns-in-Ok-Late-clause-holds g c =
     let r = c.args.runner.now in
-    let put = rw c.in-Ok-Late.field-0-is at (rw c.sent-waits.ensures at c.in-Ok-Late.ensures.derived) in
+    let put = rw c.in-Ok-Late.field-0-is at (rw c.awaited-waits.ensures at c.in-Ok-Late.ensures.derived) in
     holds_settled g.P.ConnectionProvider c.args.tick c.args.core.now c.put.new.self r r c.args.outcome (Ok after.Late) c.put.ensures.setting (c.put.ensures.moment c.requires.moment) c.requires.moment
     put refl c.requires.told.1 c.requires.holds c.requires.holds
 
@@ -31,7 +31,7 @@ returns-in-Ok-GiveUp-clause-holds g c =
     let r = c.args.runner.now in
     let core = c.args.core.now in
     let up = c.give_up.ensures in
-    let put = rw c.in-Ok-GiveUp.field-0-is at (rw c.sent-waits.ensures at c.in-Ok-GiveUp.ensures.derived) in
+    let put = rw c.in-Ok-GiveUp.field-0-is at (rw c.awaited-waits.ensures at c.in-Ok-GiveUp.ensures.derived) in
     let later = holds_grown g.P.ConnectionProvider c.args.tick.patience core r c.give_up.new.self c.args.tick.now _ c.requires.moment up.holds (up.moves c.args.tick.patience) tt c.requires.holds in
     holds_settled g.P.ConnectionProvider c.args.tick core c.put.new.self r c.give_up.new.self c.args.outcome (Ok after.GiveUp) c.put.ensures.setting (c.put.ensures.moment c.requires.moment) c.requires.moment
     put (up.log c.requires.told.0) c.requires.told.1 c.requires.holds later
@@ -41,7 +41,7 @@ returns-in-Err-clause-holds g c =
     let r = c.args.runner.now in
     let core = c.args.core.now in
     let up = c.give_up-in-Err.ensures in
-    let put = rw c.sent-waits.ensures at c.in-Err.ensures.derived in
+    let put = rw c.awaited-waits.ensures at c.in-Err.ensures.derived in
     let later = holds_grown g.P.ConnectionProvider c.args.tick.patience core r c.give_up-in-Err.new.self c.args.tick.now _ c.requires.moment up.holds (up.moves c.args.tick.patience) tt c.requires.holds in
     holds_settled g.P.ConnectionProvider c.args.tick core c.put.new.self r c.give_up-in-Err.new.self c.args.outcome (Err (record {})) c.put.ensures.setting (c.put.ensures.moment c.requires.moment) c.requires.moment
     put (up.log c.requires.told.0) c.requires.told.1 c.requires.holds later
