@@ -17,7 +17,6 @@ use Rattle.server_core.specs.declared.server_send.Stage.{Stage}
 use Rattle.server_core.specs.declared.server_send.Stage.TheVariants as stage
 use Rattle.retry_rules.specs.declared.candidate.Candidate.{Candidate}
 use Rattle.retry_lookup.specs.declared.attempt.Attempt.{Attempt}
-use Rattle.retry_lookup.specs.declared.lookup.State.TheVariants.{Asking}
 use Rattle.retry_lookup.specs.Attempts.{is_open_at}
 use Rattle.retry_lookup.specs.Hearing.{closing_entry, after_end, after_coming, after_outcome, done_by}
 use Rattle.retry_lookup.specs.Lookup.{LookupState}

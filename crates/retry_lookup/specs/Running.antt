@@ -7,6 +7,7 @@ use Rattle.server_core.specs.Servers.{Server}
 use Rattle.server_core.specs.declared.order.Order.{Order}
 use Rattle.server_core.specs.declared.order.Order.TheVariants as order
 use Rattle.server_core.specs.declared.order.Outcome.{Outcome}
+use Rattle.server_core.specs.declared.order.Tick.{Tick}
 use Rattle.server_core.specs.declared.server_send.Stage.{Stage}
 use Rattle.server_core.specs.declared.server_send.Stage.TheVariants as stage
 use Rattle.retry_rules.specs.declared.candidate.Candidate.{Candidate}
@@ -14,9 +15,27 @@ use Rattle.retry_lookup.specs.declared.attempt.Attempt.{Attempt}
 use Rattle.retry_lookup.specs.declared.lookup.State.TheVariants.{Asking, BackingOff, Decided}
 use Rattle.retry_lookup.specs.Attempts.{is_open_at}
 use Rattle.retry_lookup.specs.Cancelling.{address_of}
-use Rattle.retry_lookup.specs.Hearing.{end_by, closing_entry}
-use Rattle.retry_lookup.specs.Holds.{HeardEnd}
+use Rattle.retry_lookup.specs.Asked.{opens}
+use Rattle.retry_lookup.specs.Giving.{Gives, GivesFor, want_of}
+use Rattle.retry_lookup.specs.Hearing.{end_by, closing_entry, after_outcome, after_out_of_memory}
+use Rattle.retry_lookup.specs.Holds.{HeardEnd, HoldsBy, IsSound}
 use Rattle.retry_lookup.specs.Lookup.{LookupState}
+use Rattle.retry_lookup.specs.Rounds.{started}
+use Rattle.retry_lookup.specs.declared.giving.LookupStep.{LookupStep}
+
+-- ---- its steps
+
+-- a step of a moment, once its round has begun
+abbrev pub Steps : ℕ → LookupState → LookupState → Type 0
+Steps now l new = (number : ℕ) × (table : List Server) × (made : LookupStep) × Gives number now table (started now l) made new
+
+-- it gives the order under the number, over a table of servers, at some moment
+abbrev pub GivesAt : List Server → ℕ → LookupState → Order → LookupState → Type 0
+GivesAt table number l order new = (now : ℕ) × GivesFor (want_of l) number now table l order new
+
+-- it is a lookup of which no order is open under the number, and gives this one
+abbrev pub GivesFirst : List Server → ℕ → LookupState → Order → LookupState → Type 0
+GivesFirst table number l order new = IsSound l × (opens number l ≡ 0) × GivesAt table number l order new
 
 -- ---- its orders
 
@@ -36,6 +55,10 @@ pub record IsOpenTo (number : ℕ) (c : Candidate) (asks : Bool) (l : LookupStat
   pub at : find (is_open_at number) l.attempts ≡ Some attempt
   pub to : attempt.candidate ≡ c
   pub form : IsFor asks attempt.send.stage
+
+-- The order of the number is open as before, to the same server.
+abbrev pub StaysOpen : ℕ → LookupState → LookupState → Type 0
+StaysOpen number old new = (c : Candidate) (asks : Bool) → IsOpenTo number c asks old → IsOpenTo number c asks new
 
 -- The order of the number is the one under which it backs off.
 pub record IsBackingOffUnder (number : ℕ) (l : LookupState) : Type 0 where
@@ -82,3 +105,11 @@ heard_after patience number o heard l = elim l.state [
 -- and where memory was wanting for it, which ends the attempt too
 abbrev pub heard_out : ℕ → Outcome → List HeardEnd → LookupState → List HeardEnd
 heard_out number o heard l = elim (find (is_open_at number) l.attempts) [ None ↦ heard | Some a ↦ with_end heard a.candidate (Err NoMemory) (closing_entry o) ]
+
+-- after the outcome it stands by these ends, with that of its attempt
+abbrev pub StandsAfter : (IpAddr → Bool) → List HeardEnd → Tick → ℕ → Outcome → LookupState → Type 0
+StandsAfter denied heard tick number o l = HoldsBy denied (heard_after tick.patience number o heard l) (after_outcome denied tick number o l)
+
+-- and so it does where memory was wanting for the outcome
+abbrev pub StandsOut : (IpAddr → Bool) → List HeardEnd → ℕ → ℕ → Outcome → LookupState → Type 0
+StandsOut denied heard number now o l = HoldsBy denied (heard_out number o heard l) (after_out_of_memory number now o l)

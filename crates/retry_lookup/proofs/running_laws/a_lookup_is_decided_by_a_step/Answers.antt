@@ -2,7 +2,7 @@ use Rattle.retry_lookup.proofs.Moments.{next_moment, outcome_moment, out_of_memo
 use Rattle.retry_lookup.proofs.running_laws.a_lookup_is_decided_by_a_step.Goals as goal
 
 pub returns-clause-next : goal.returns-clause-next
-returns-clause-next c = λ number now table l made new g. next_moment number now table l made new g
+returns-clause-next c = λ now l new s. next_moment s.0 now s.1 l s.2 new s.3
 
 pub returns-clause-put : goal.returns-clause-put
 returns-clause-put c = λ denied tick number o l. outcome_moment denied tick o l number

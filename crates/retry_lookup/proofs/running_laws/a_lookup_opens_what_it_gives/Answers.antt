@@ -5,10 +5,10 @@ pub returns-clause-begun : goal.returns-clause-begun
 returns-clause-begun c = λ k request servers together timeout now. opens_begun k request servers together timeout now
 
 pub returns-clause-order : goal.returns-clause-order
-returns-clause-order c = λ k number now table l order new g. opens_order k number now table l order new g
+returns-clause-order c = λ k number table l order new g. opens_order k number g.0 table l order new g.1
 
 pub returns-clause-put : goal.returns-clause-put
-returns-clause-put c = λ k denied tick number o heard l h. opens_outcome k denied tick number o heard l h
+returns-clause-put c = λ k denied tick number o l h. opens_outcome k denied tick number o h.0 l h.1
 
 pub returns-clause-out_of_memory : goal.returns-clause-out_of_memory
 returns-clause-out_of_memory c = λ k number now o l. opens_out_of_memory k number now o l

@@ -3,7 +3,7 @@ use Rattle.retry_lookup.proofs.Next.{next_by}
 use Rattle.retry_lookup.proofs.running_laws.a_lookup_stands_by_its_ends.Goals as goal
 
 pub returns-clause-next : goal.returns-clause-next
-returns-clause-next c = λ denied heard number now table l made new g h. next_by denied heard number now table l made new g h
+returns-clause-next c = λ denied heard now l new s h. next_by denied heard s.0 now s.1 l s.2 new s.3 h
 
 pub returns-clause-put : goal.returns-clause-put
 returns-clause-put c = λ denied heard tick number o l h. outcome_by denied tick number o heard l h

@@ -3,7 +3,7 @@ use Rattle.dns_core.specs.declared.request.DnsRequest.{DnsRequest}
 use Rattle.retry_rules.specs.Agenda.{HasRoom}
 use Rattle.retry_rules.specs.AnswerFilter.{denied_by}
 use Rattle.retry_lookup.specs.declared.attempt.Attempt.{Attempt}
-use Rattle.retry_lookup.specs.Hearing.{closed, heard, after_end}
+use Rattle.retry_lookup.specs.Hearing.{heard, after_end}
 use Rattle.retry_lookup.specs.Lookup.{LookupState, question_of}
 use Rattle.retry_lookup.specs.Rounds.{CanBegin, settled}
 use Rattle.retry_lookup.proofs.Heard.{heard_begins}

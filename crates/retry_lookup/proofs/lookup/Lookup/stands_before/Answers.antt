@@ -1,4 +1,4 @@
-use Rattle.std.proofs.Common.{◌≡◌, ◌∙◌, ◌==◌, suc, ◌+◌, ℕ, true, false, List, [], ◌∷◌, take, refl, ap, sym, arith}
+use Rattle.std.proofs.Common.{◌≡◌, ◌∙◌, ◌==◌, suc, ◌+◌, ℕ, false, List, [], ◌∷◌, take, refl, ap, sym, arith}
 use Rattle.std.specs.List.{list_any}
 use Rattle.retry_lookup.specs.Cancelling.{others_of}
 use Rattle.std.proofs.lemmas.Bool.{eq-eqb, ne_eqb}
