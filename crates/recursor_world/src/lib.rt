@@ -18,6 +18,7 @@ mod threads;
 mod upstream;
 
 pub use index::Endpoint;
+pub use late::{Late, Room, push_or_back};
 pub use laws::fronts_are_given;
 pub use provider::{ScriptExchange, ScriptOpening};
 pub use script::{Script, ScriptLine};
