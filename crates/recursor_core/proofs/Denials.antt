@@ -44,8 +44,9 @@ use Rattle.resolution.specs.Same.{Same}
 use Rattle.recursor_walk.specs.Response.{error_of}
 use Rattle.recursor_walk.proofs.Allowing.{verdict_allowed}
 use Rattle.resolution.proofs.Invented.{class_of-positive}
-use Rattle.recursor_core.specs.Replies.{Terms, given_of, IsToldAnswer, OutcomeHolds, ReplyHolds, IsReply}
-use Rattle.recursor_core.specs.Tried.{Concluded, machine_timer}
+use Rattle.walk_tables.specs.Terms.{Terms, given_of}
+use Rattle.recursor_core.specs.Replies.{IsToldAnswer, OutcomeHolds, ReplyHolds, IsReply}
+use Rattle.walk_tables.specs.Tried.{Concluded, machine_timer}
 use Rattle.recursor_core.specs.Causes.{ErrorHolds, HasFailed, HasNoAddress}
 use Rattle.resolution.specs.Walking.{Walked}
 use Rattle.resolution.specs.Serving.{Heard}
@@ -54,16 +55,17 @@ use Rattle.dns_core.specs.declared.log.ToldOutcome.{ToldOutcome}
 use Rattle.recursor_core.specs.Causes.IsDenied.{told as denial_told, made as denial_made, told_on_the_way, made_on_the_way}
 use Rattle.recursor_core.specs.Causes.IsReferred.{referred}
 use Rattle.recursor_core.specs.Counted.{Stands, Answers, IsCurrentVerdict}
-use Rattle.recursor_core.specs.Asked.{AskedAs}
-use Rattle.recursor_core.specs.SameTold.{SameIfAny, SameReferrals, SameNegative, SameVerdict, ShowsAsked, IsShown, IsMadeFor, nothing_left_for}
+use Rattle.walk_tables.specs.Asked.{AskedAs}
+use Rattle.recursor_core.specs.SameTold.{SameIfAny, SameReferrals, SameNegative, SameVerdict, ShowsAsked, IsShown, IsMadeFor}
+use Rattle.walk_tables.specs.Lookup.{nothing_left_for, left_of_class, IsTold}
 use Rattle.recursor_walk.specs.Answer.{told_data, told_negative, made_negative, ends_walk, outcome_of}
-use Rattle.recursor_core.specs.Derived.{left_of_class, IsTold, WalkComes}
+use Rattle.recursor_core.specs.Derived.{WalkComes}
 use Rattle.recursor_types.specs.declared.error.RecursorError.{RecursorError}
 use Rattle.recursor_types.specs.declared.error.RecursorError.TheVariants.{Negative, ForwardNS}
 use Rattle.recursor_types.specs.declared.reply.Reply.{Reply}
 use Rattle.recursor_core.specs.declared.walk.Walk.{Walk}
-use Rattle.recursor_core.proofs.Asked.{first-asked}
-use Rattle.recursor_core.proofs.Sends.{same_query-refl}
+use Rattle.walk_tables.proofs.Sends.{same_query-refl}
+use Rattle.walk_tables.proofs.Answering.{answer-whole}
 use Rattle.recursor_core.proofs.Lowered.{negative_same, data_same}
 
 -- ---- what counts
@@ -199,20 +201,6 @@ pub answers-of : (terms : Terms) (greatest t0 : ℕ) (log : Log) (zone : DomainN
 answers-of terms greatest t0 log zone q entry at v h walked =
     record { stands = stands-of terms greatest t0 log zone q entry at v h walked; current = current-of t0 at h.whole h.late }
 
--- an answer is not cut, and has no record of another class
-whole_by : (q : Query) (m m' : Message) (code cut bare : Bool) (o : Option Record)
-    → cond code (Code m.response_code) (cond cut Truncated (cond bare (NoData (no_records m)) (elim o [ Some r ↦ Foreign r | None ↦ Positive m ]))) ≡ Positive m' → (cut ≡ false) × (o ≡ None)
-whole_by q m m' true cut bare o e = cc
-whole_by q m m' false true bare o e = cc
-whole_by q m m' false false true o e = cc
-whole_by q m m' false false false (Some r) e = cc
-whole_by q m m' false false false None e = (refl, refl)
-
-pub answer-whole : (outcome : ToldOutcome) (q : Query) (m : Message) → class_of outcome q ≡ Some (Positive m) → (m.truncation ≡ false) × (find (is_foreign q) (records m) ≡ None)
-answer-whole outcome q m is =
-    let told : class_of_message m q ≡ Positive m = same_Some _ _ (subst (λ (o : ToldOutcome). class_of o q ≡ Some (Positive m)) (class_of-positive outcome q m is) is) in
-    whole_by q m m (not (m.response_code.code == 0 || m.response_code.code == 3)) m.truncation (has_no_data_for q m) (find (is_foreign q) (records m)) told
-
 -- what is not found is not found where less is left
 not_found_in : {X : Type 0} (p f : X → Bool) (xs : List X) → find p xs ≡ None → find p (filter f xs) ≡ None
 not_found_in p f [] e = refl
@@ -330,6 +318,10 @@ has-failed terms moment t0 log zone asked q g e same ended walked = record {
 }
 
 -- ---- negatives
+
+-- where the filter leaves nothing for a question, that question was asked
+first-asked : (log : Log) (i : ℕ) (n : NoRecords) (first : Query) → n ≡ nothing_left_for first → AskedAs log i n.query → AskedAs log i first
+first-asked log i n first is a = subst (AskedAs log i) (ap (λ (m : NoRecords). m.query) is) a
 
 -- a negative that is answered at last: itself, or a referral
 negative-by : (terms : Terms) (moment t0 : ℕ) (log : Log) (q : Query) (entry : ℕ) (zone : DomainName) (n : NoRecords) (whole : Verdict)
