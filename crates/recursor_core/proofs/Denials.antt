@@ -2,7 +2,7 @@
 use Rattle.std.proofs.Common.{◌≡◌, ℕ, Bool, true, false, cond, List, [], ◌∷◌, ◌++◌, Option, Some, None, Contains, refl, sym, ap, subst, ◌∙◌, ◌≤◌, arith, inl, inr, Result, Ok, Err, IfOk}
 use Rattle.std.proofs.lemmas.Result.{IfOk-weaker}
 use Rattle.std.proofs.lemmas.Option.{same_Some, none-some}
-use Rattle.std.specs.Prelude.{◌||◌, ◌&&◌, ◌==◌, not, find, filter, if◌then◌else◌}
+use Rattle.std.specs.Prelude.{◌&&◌, ◌==◌, not, find, filter, if◌then◌else◌}
 use Rattle.std.proofs.lemmas.List.Elements.{filter-append}
 use Rattle.std.specs.Option.{is_none}
 use Rattle.std.specs.Cmp.{second_so}
@@ -11,7 +11,6 @@ use Rattle.std.specs.declared.net.ip_addr.IpAddr.{IpAddr}
 use Rattle.dns_core.specs.Name.{DomainName}
 use Rattle.dns_core.specs.Log.{Log}
 use Rattle.dns_core.specs.Stripping.{strip_of}
-use Rattle.dns_core.specs.Classifying.{no_records}
 use Rattle.dns_core.specs.declared.message.Query.{Query}
 use Rattle.dns_core.specs.declared.message.Message.{Message}
 use Rattle.dns_core.specs.declared.record.Record.{Record}
@@ -25,7 +24,7 @@ use Rattle.dns_core.specs.declared.net_error.DnsError.TheVariants as dns
 use Rattle.resolution.specs.Names.{candidates, walk, question}
 use Rattle.resolution.specs.Records.{records, only}
 use Rattle.resolution.specs.Failing as failing
-use Rattle.resolution.specs.Class.{class_of, class_of_message, class_of_classified, has_no_data_for, is_foreign}
+use Rattle.resolution.specs.Class.{class_of, class_of_classified, is_foreign}
 use Rattle.resolution.specs.Given.{allows_all}
 use Rattle.resolver_settings.specs.Access.{denies as access_denies}
 use Rattle.resolution.specs.Verdict.{verdict, verdict_of_told, verdict_of_class, verdict_of_message, is_all_denied, without_denied, holds_denied, within, emptied}
@@ -43,7 +42,6 @@ use Rattle.resolution.proofs.SameDelegations.{Same-is_delegation, Same-glue, Sam
 use Rattle.resolution.specs.Same.{Same}
 use Rattle.recursor_walk.specs.Response.{error_of}
 use Rattle.recursor_walk.proofs.Allowing.{verdict_allowed}
-use Rattle.resolution.proofs.Invented.{class_of-positive}
 use Rattle.walk_tables.specs.Terms.{Terms, given_of}
 use Rattle.recursor_core.specs.Replies.{IsToldAnswer, OutcomeHolds, ReplyHolds, IsReply}
 use Rattle.walk_tables.specs.Tried.{Concluded, machine_timer}

@@ -1,5 +1,5 @@
 -- What the replies rest on.
-use Rattle.std.specs.Prelude.{◌≡◌, ℕ, Bool, true, List, [], ◌∷◌, Result, Ok, Err, Option, Some, None}
+use Rattle.std.specs.Prelude.{◌≡◌, ℕ, Bool, List, [], ◌∷◌, Result, Ok, Err, Option, Some, None}
 use Rattle.std.specs.Global.{Box}
 use Rattle.dns_core.specs.Name.{DomainName}
 use Rattle.dns_core.specs.Log.{Log}

@@ -1,5 +1,5 @@
 -- The same but for TTLs, as what was told reads later (RFC 1035 section 3.2.1).
-use Rattle.std.specs.Prelude.{◌≡◌, ℕ, IsTrue, List, [], Option, Some, None}
+use Rattle.std.specs.Prelude.{◌≡◌, ℕ, IsTrue, List, Option, Some, None}
 use Rattle.std.specs.List.{AllZip}
 use Rattle.dns_core.specs.Log.{Log}
 use Rattle.dns_core.specs.declared.message.Query.{Query}

@@ -1,11 +1,9 @@
 -- What was told of a question as it was asked stays so in a longer log.
-use Rattle.std.proofs.Common.{◌≡◌, ℕ, ap, subst}
+use Rattle.std.proofs.Common.{ℕ}
 use Rattle.dns_core.specs.Log.{Log, Extends}
 use Rattle.dns_core.specs.declared.message.Query.{Query}
-use Rattle.dns_core.specs.declared.net_error.NoRecords.{NoRecords}
 use Rattle.resolution.proofs.Keeping.{Logged-extend}
 use Rattle.walk_tables.specs.Asked.{AskedAs}
-use Rattle.walk_tables.specs.Lookup.{nothing_left_for}
 
 pub asked-kept : (log longer : Log) (x : Extends log longer) (i : ℕ) (q : Query) → AskedAs log i q → AskedAs longer i q
 asked-kept log longer x i q a = record {
