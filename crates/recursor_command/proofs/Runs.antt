@@ -12,7 +12,7 @@ use Rattle.resolution.specs.Asking.{AsksServers}
 use Rattle.resolution.specs.Telling.{Logged, MomentsRise}
 use Rattle.resolution.specs.Ending.{waits}
 use Rattle.order_carrier.specs.Patience.{PatientSince}
-use Rattle.recursor_core.specs.Replies.{Terms, given_of}
+use Rattle.walk_tables.specs.Terms.{Terms, given_of}
 use Rattle.recursor_core.specs.Standing.{Standing, run_terms, run_moments, LongerOver, RepliesHold}
 use Rattle.recursor_types.specs.declared.reply.Reply.{Reply}
 use Rattle.recursor_command.specs.Command.{HappensAt}

@@ -13,7 +13,7 @@ use Rattle.dns_core.specs.declared.log.LogEntry.{LogEntry}
 use Rattle.resolution.specs.Telling.{Logged, moment_of, MomentsRise}
 use Rattle.resolution.specs.Ending.{waits}
 use Rattle.resolution.specs.Asking.{AsksServers}
-use Rattle.recursor_core.specs.Replies.{Terms, given_of}
+use Rattle.walk_tables.specs.Terms.{Terms, given_of}
 use Rattle.resolver_settings.specs.Ttl.{has_reversed}
 use Rattle.recursor_types.specs.Options.{has_bad_first_delays}
 use Rattle.recursor_types.specs.Options.{server_filter_of, answer_filter_of}

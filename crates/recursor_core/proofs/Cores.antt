@@ -10,11 +10,12 @@ use Rattle.dns_core.specs.declared.request.Question.{Question}
 use Rattle.dns_core.specs.declared.errors.NoMemory.{NoMemory}
 use Rattle.resolver_cache.specs.Cached.{Cached}
 use Rattle.order_carrier.specs.Fits.{GoesToServer}
-use Rattle.recursor_core.specs.Pools.{PoolsHold}
-use Rattle.recursor_core.specs.declared.pools.Pools.{Pools}
+use Rattle.walk_tables.specs.Pools.{PoolsHold}
+use Rattle.walk_tables.specs.declared.pools.Pools.{Pools}
 use Rattle.recursor_core.specs.Remembered.{CacheHolds}
-use Rattle.recursor_core.specs.Replies.{Terms, terms_with, given_of, ReplyHolds}
-use Rattle.recursor_core.specs.Tried.{machine_timer}
+use Rattle.walk_tables.specs.Terms.{Terms, terms_with, given_of}
+use Rattle.recursor_core.specs.Replies.{ReplyHolds}
+use Rattle.walk_tables.specs.Tried.{machine_timer}
 use Rattle.recursor_core.specs.Derived.{ResolutionHolds, terms_of, Derived}
 use Rattle.recursor_core.specs.Resolving.{SameBegun}
 use Rattle.recursor_core.specs.Machine.{Begun, begun_of, begun_at, rank, GoesOn, ReplyGiven, StepGives, Gives, SameCore}

@@ -2,7 +2,7 @@
 use Rattle.std.proofs.Common.{◌≡◌, ℕ, Bool, true, false, cond, List, [], ◌∷◌, ◌++◌, Option, Some, None, Contains, refl, sym, ap, subst, ◌∙◌, ◌≤◌, arith, inl, inr, Result, Ok, Err, IfOk}
 use Rattle.std.proofs.lemmas.Result.{IfOk-weaker}
 use Rattle.std.proofs.lemmas.Option.{same_Some, none-some}
-use Rattle.std.specs.Prelude.{◌||◌, ◌&&◌, ◌==◌, not, find, filter, if◌then◌else◌}
+use Rattle.std.specs.Prelude.{◌&&◌, ◌==◌, not, find, filter, if◌then◌else◌}
 use Rattle.std.proofs.lemmas.List.Elements.{filter-append}
 use Rattle.std.specs.Option.{is_none}
 use Rattle.std.specs.Cmp.{second_so}
@@ -11,7 +11,6 @@ use Rattle.std.specs.declared.net.ip_addr.IpAddr.{IpAddr}
 use Rattle.dns_core.specs.Name.{DomainName}
 use Rattle.dns_core.specs.Log.{Log}
 use Rattle.dns_core.specs.Stripping.{strip_of}
-use Rattle.dns_core.specs.Classifying.{no_records}
 use Rattle.dns_core.specs.declared.message.Query.{Query}
 use Rattle.dns_core.specs.declared.message.Message.{Message}
 use Rattle.dns_core.specs.declared.record.Record.{Record}
@@ -25,7 +24,7 @@ use Rattle.dns_core.specs.declared.net_error.DnsError.TheVariants as dns
 use Rattle.resolution.specs.Names.{candidates, walk, question}
 use Rattle.resolution.specs.Records.{records, only}
 use Rattle.resolution.specs.Failing as failing
-use Rattle.resolution.specs.Class.{class_of, class_of_message, class_of_classified, has_no_data_for, is_foreign}
+use Rattle.resolution.specs.Class.{class_of, class_of_classified, is_foreign}
 use Rattle.resolution.specs.Given.{allows_all}
 use Rattle.resolver_settings.specs.Access.{denies as access_denies}
 use Rattle.resolution.specs.Verdict.{verdict, verdict_of_told, verdict_of_class, verdict_of_message, is_all_denied, without_denied, holds_denied, within, emptied}
@@ -43,9 +42,9 @@ use Rattle.resolution.proofs.SameDelegations.{Same-is_delegation, Same-glue, Sam
 use Rattle.resolution.specs.Same.{Same}
 use Rattle.recursor_walk.specs.Response.{error_of}
 use Rattle.recursor_walk.proofs.Allowing.{verdict_allowed}
-use Rattle.resolution.proofs.Invented.{class_of-positive}
-use Rattle.recursor_core.specs.Replies.{Terms, given_of, IsToldAnswer, OutcomeHolds, ReplyHolds, IsReply}
-use Rattle.recursor_core.specs.Tried.{Concluded, machine_timer}
+use Rattle.walk_tables.specs.Terms.{Terms, given_of}
+use Rattle.recursor_core.specs.Replies.{IsToldAnswer, OutcomeHolds, ReplyHolds, IsReply}
+use Rattle.walk_tables.specs.Tried.{Concluded, machine_timer}
 use Rattle.recursor_core.specs.Causes.{ErrorHolds, HasFailed, HasNoAddress}
 use Rattle.resolution.specs.Walking.{Walked}
 use Rattle.resolution.specs.Serving.{Heard}
@@ -54,16 +53,17 @@ use Rattle.dns_core.specs.declared.log.ToldOutcome.{ToldOutcome}
 use Rattle.recursor_core.specs.Causes.IsDenied.{told as denial_told, made as denial_made, told_on_the_way, made_on_the_way}
 use Rattle.recursor_core.specs.Causes.IsReferred.{referred}
 use Rattle.recursor_core.specs.Counted.{Stands, Answers, IsCurrentVerdict}
-use Rattle.recursor_core.specs.Asked.{AskedAs}
-use Rattle.recursor_core.specs.SameTold.{SameIfAny, SameReferrals, SameNegative, SameVerdict, ShowsAsked, IsShown, IsMadeFor, nothing_left_for}
+use Rattle.walk_tables.specs.Asked.{AskedAs}
+use Rattle.recursor_core.specs.SameTold.{SameIfAny, SameReferrals, SameNegative, SameVerdict, ShowsAsked, IsShown, IsMadeFor}
+use Rattle.walk_tables.specs.Lookup.{nothing_left_for, left_of_class, IsTold}
 use Rattle.recursor_walk.specs.Answer.{told_data, told_negative, made_negative, ends_walk, outcome_of}
-use Rattle.recursor_core.specs.Derived.{left_of_class, IsTold, WalkComes}
+use Rattle.recursor_core.specs.Derived.{WalkComes}
 use Rattle.recursor_types.specs.declared.error.RecursorError.{RecursorError}
 use Rattle.recursor_types.specs.declared.error.RecursorError.TheVariants.{Negative, ForwardNS}
 use Rattle.recursor_types.specs.declared.reply.Reply.{Reply}
 use Rattle.recursor_core.specs.declared.walk.Walk.{Walk}
-use Rattle.recursor_core.proofs.Asked.{first-asked}
-use Rattle.recursor_core.proofs.Sends.{same_query-refl}
+use Rattle.walk_tables.proofs.Sends.{same_query-refl}
+use Rattle.walk_tables.proofs.Answering.{answer-whole}
 use Rattle.recursor_core.proofs.Lowered.{negative_same, data_same}
 
 -- ---- what counts
@@ -199,20 +199,6 @@ pub answers-of : (terms : Terms) (greatest t0 : ℕ) (log : Log) (zone : DomainN
 answers-of terms greatest t0 log zone q entry at v h walked =
     record { stands = stands-of terms greatest t0 log zone q entry at v h walked; current = current-of t0 at h.whole h.late }
 
--- an answer is not cut, and has no record of another class
-whole_by : (q : Query) (m m' : Message) (code cut bare : Bool) (o : Option Record)
-    → cond code (Code m.response_code) (cond cut Truncated (cond bare (NoData (no_records m)) (elim o [ Some r ↦ Foreign r | None ↦ Positive m ]))) ≡ Positive m' → (cut ≡ false) × (o ≡ None)
-whole_by q m m' true cut bare o e = cc
-whole_by q m m' false true bare o e = cc
-whole_by q m m' false false true o e = cc
-whole_by q m m' false false false (Some r) e = cc
-whole_by q m m' false false false None e = (refl, refl)
-
-pub answer-whole : (outcome : ToldOutcome) (q : Query) (m : Message) → class_of outcome q ≡ Some (Positive m) → (m.truncation ≡ false) × (find (is_foreign q) (records m) ≡ None)
-answer-whole outcome q m is =
-    let told : class_of_message m q ≡ Positive m = same_Some _ _ (subst (λ (o : ToldOutcome). class_of o q ≡ Some (Positive m)) (class_of-positive outcome q m is) is) in
-    whole_by q m m (not (m.response_code.code == 0 || m.response_code.code == 3)) m.truncation (has_no_data_for q m) (find (is_foreign q) (records m)) told
-
 -- what is not found is not found where less is left
 not_found_in : {X : Type 0} (p f : X → Bool) (xs : List X) → find p xs ≡ None → find p (filter f xs) ≡ None
 not_found_in p f [] e = refl
@@ -330,6 +316,10 @@ has-failed terms moment t0 log zone asked q g e same ended walked = record {
 }
 
 -- ---- negatives
+
+-- where the filter leaves nothing for a question, that question was asked
+first-asked : (log : Log) (i : ℕ) (n : NoRecords) (first : Query) → n ≡ nothing_left_for first → AskedAs log i n.query → AskedAs log i first
+first-asked log i n first is a = subst (AskedAs log i) (ap (λ (m : NoRecords). m.query) is) a
 
 -- a negative that is answered at last: itself, or a referral
 negative-by : (terms : Terms) (moment t0 : ℕ) (log : Log) (q : Query) (entry : ℕ) (zone : DomainName) (n : NoRecords) (whole : Verdict)

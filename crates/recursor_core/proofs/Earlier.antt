@@ -13,10 +13,9 @@ use Rattle.resolution.specs.Given.{Given}
 use Rattle.resolution.specs.Life.{Fresh, life_in_seconds}
 use Rattle.resolution.specs.Answering.{Base, IsCurrent, Answers, Answer}
 use Rattle.resolution.specs.Answering.Answers.{direct, by_alias}
-use Rattle.resolution.specs.Lookups.{End, Answered, Rules, PoolRun}
-use Rattle.resolution.specs.Lookups.PoolRun.{decided, spent, late as timed_out}
-use Rattle.resolution.specs.declared.class.Class.{Class}
-use Rattle.recursor_core.proofs.KeptPools.{below-greater}
+use Rattle.resolution.specs.Lookups.{End, Answered}
+use Rattle.walk_tables.proofs.KeptPools.{below-greater}
+use Rattle.walk_tables.proofs.Answering.{run-later}
 use Rattle.resolution.specs.Ending.{Known, EndSends, Finished}
 use Rattle.resolution.specs.declared.verdict.Verdict.{Verdict}
 use Rattle.recursor_core.specs.Causes.{IsDenied, IsReferred, HasFailed, HasNoServer, ErrorHolds}
@@ -27,8 +26,9 @@ use Rattle.recursor_types.specs.declared.error.WalkCause.{WalkCause}
 use Rattle.recursor_types.specs.declared.error.WalkCause.TheVariants as why
 use Rattle.recursor_types.specs.declared.error.RecursorError.{RecursorError}
 use Rattle.recursor_types.specs.declared.error.RecursorError.TheVariants as error
-use Rattle.recursor_core.specs.Replies.{Terms, given_of, IsToldAnswer, OutcomeHolds, ReplyHolds}
-use Rattle.recursor_core.specs.Tried.{machine_timer}
+use Rattle.walk_tables.specs.Terms.{Terms, given_of}
+use Rattle.recursor_core.specs.Replies.{IsToldAnswer, OutcomeHolds, ReplyHolds}
+use Rattle.walk_tables.specs.Tried.{machine_timer}
 use Rattle.recursor_types.specs.declared.reply.Reply.{Reply}
 
 -- a life that lasts until late lasts until early
@@ -49,13 +49,6 @@ IsCurrent-earlier early late moment k le = ⊎_elim (λ h. inl h) (λ h. inr (om
 last_earlier : (o : Option ℕ) (early late : ℕ) → early ≤ late → IsSomeAnd o (λ m. late ≤ m) → IsSomeAnd o (λ m. early ≤ m)
 last_earlier None early late le h = h
 last_earlier (Some m) early late le h = omega arith
-
--- what was answered at a moment was so by a later one
-pub run-later : {S : Type 0} {rules : Rules S} {class : Answered → Class} {servers : List S} {ends : List (End S)} {result : Answered} {start : ℕ} (now later : ℕ) → now ≤ later
-    → PoolRun rules class servers ends result start now → PoolRun rules class servers ends result start later
-run-later now later le (decided d) = decided d
-run-later now later le (spent s) = spent s
-run-later now later le (timed_out l) = timed_out (record { none = l.none; answers = l.answers; reached = let r = l.reached in omega arith; some = l.some })
 
 -- The late moment may be the early one: then a reply holds by what else is known of moments.
 module _ (given : Given) (log : Log) (early late : ℕ) (le : early ≤ late) (known wider : Known)

@@ -23,8 +23,9 @@ use Rattle.recursor_types.specs.declared.error.WalkCause.{WalkCause}
 use Rattle.recursor_types.specs.declared.error.WalkCause.TheVariants as why
 use Rattle.recursor_types.specs.declared.error.RecursorError.{RecursorError}
 use Rattle.recursor_types.specs.declared.error.RecursorError.TheVariants as error
-use Rattle.recursor_core.specs.Replies.{Terms, given_of, IsToldAnswer, OutcomeHolds, ReplyHolds}
-use Rattle.recursor_core.specs.Tried.{machine_timer}
+use Rattle.walk_tables.specs.Terms.{Terms, given_of}
+use Rattle.recursor_core.specs.Replies.{IsToldAnswer, OutcomeHolds, ReplyHolds}
+use Rattle.walk_tables.specs.Tried.{machine_timer}
 use Rattle.recursor_core.specs.Derived.{Passed, WayHolds, StateHolds, ResolutionHolds, terms_of, Derived}
 use Rattle.recursor_types.specs.declared.reply.Reply.{Reply}
 use Rattle.recursor_core.specs.declared.walk.Walk.{Walk}
@@ -32,8 +33,8 @@ use Rattle.recursor_core.specs.declared.resolving.State.{State}
 use Rattle.recursor_core.specs.declared.resolving.State.TheVariants.{New, Under, Done, Ended}
 use Rattle.recursor_core.specs.declared.resolving.Resolution.{Resolution}
 use Rattle.recursor_core.specs.declared.machine.RecursorCore.{RecursorCore}
-use Rattle.recursor_core.proofs.Asked.{asked-kept}
-use Rattle.recursor_core.proofs.KeptPools.{finished-kept, pool-kept, lookup-kept, pools-kept}
+use Rattle.walk_tables.proofs.Asked.{asked-kept}
+use Rattle.walk_tables.proofs.KeptPools.{finished-kept, pool-kept, lookup-kept, pools-kept}
 use Rattle.recursor_core.proofs.Remembering.{cache-kept}
 
 -- a log has what it has

@@ -32,12 +32,12 @@ use Rattle.resolution.proofs.WalksCaseless.{Walked-same}
 use Rattle.recursor_walk.specs.Kept.{kept_of, verdict_kept}
 use Rattle.recursor_core.specs.Counted.{counted_for, recalled, may_answer, IsCurrentVerdict, Stands, Answers, IsRecalled}
 use Rattle.recursor_core.specs.Remembered.{EntryHolds, CacheHolds}
-use Rattle.recursor_core.specs.Replies.{Terms, given_of}
-use Rattle.recursor_core.specs.Asked.{AskedAs}
+use Rattle.walk_tables.specs.Terms.{Terms, given_of}
+use Rattle.walk_tables.specs.Asked.{AskedAs}
 use Rattle.recursor_core.specs.SameTold.{SameVerdict, IsShown, ShowsAsked}
 use Rattle.recursor_core.specs.declared.counted.Counted.{Counted}
 use Rattle.recursor_core.proofs.Lowered.{lower_message, lower_denial}
-use Rattle.recursor_core.proofs.Sends.{same_query-refl}
+use Rattle.walk_tables.proofs.Sends.{same_query-refl}
 
 -- the same question for the cache is the same question
 same_question : (a b : Query) → is_same_question a b ≡ true → same_query a b ≡ true

@@ -28,11 +28,11 @@ use Rattle.resolution.proofs.Keeping.{Heard-extend}
 use Rattle.resolution.proofs.FailuresKept.{Walked-extend}
 use Rattle.resolution.specs.Walking.{Walked}
 use Rattle.recursor_walk.specs.Kept.{kept_of, response_in}
-use Rattle.recursor_core.specs.Derived.{IsTold}
+use Rattle.walk_tables.specs.Lookup.{IsTold}
 use Rattle.recursor_core.specs.SameTold.{IsShown}
 use Rattle.recursor_core.specs.Remembered.{EntryHolds, CacheHolds, Telling, written, remembered}
-use Rattle.recursor_core.specs.Replies.{Terms, given_of}
-use Rattle.recursor_core.proofs.Asked.{asked-kept}
+use Rattle.walk_tables.specs.Terms.{Terms, given_of}
+use Rattle.walk_tables.proofs.Asked.{asked-kept}
 use Rattle.recursor_core.proofs.Denials.{counts-of}
 
 -- ---- longer logs, and less patience

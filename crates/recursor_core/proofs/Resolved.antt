@@ -8,7 +8,7 @@ use Rattle.dns_core.specs.declared.errors.NoMemory.{NoMemory}
 use Rattle.resolver_cache.specs.Cached.{Cached}
 use Rattle.recursor_core.specs.Counted.{recalled, IsRecalled}
 use Rattle.recursor_core.specs.Remembered.{CacheHolds}
-use Rattle.recursor_core.specs.Replies.{Terms}
+use Rattle.walk_tables.specs.Terms.{Terms}
 use Rattle.recursor_core.specs.Walk.{Goes}
 use Rattle.recursor_core.specs.Resolving.{state_want, state_steps, steps, IsSettled, SameBegun}
 use Rattle.recursor_core.specs.Derived.{WalkHolds, WalkComes, StateHolds, ResolutionHolds}

@@ -14,10 +14,11 @@ use Rattle.resolution.specs.Asking.{AsksServers}
 use Rattle.resolution.proofs.Keeping.{Serves-later, Serves-extend}
 use Rattle.order_carrier.specs.Fits.{GoesToServer}
 use Rattle.order_carrier.specs.GivingUp.{give_up_entry}
-use Rattle.recursor_core.specs.Replies.{Terms, terms_with, given_of, ReplyHolds}
-use Rattle.recursor_core.specs.Tried.{machine_timer}
+use Rattle.walk_tables.specs.Terms.{Terms, terms_with, given_of}
+use Rattle.recursor_core.specs.Replies.{ReplyHolds}
+use Rattle.walk_tables.specs.Tried.{machine_timer}
 use Rattle.order_carrier.specs.Growing.{TellsThat, Grown, with_entries}
-use Rattle.recursor_core.specs.Pools.{PoolsHold}
+use Rattle.walk_tables.specs.Pools.{PoolsHold}
 use Rattle.recursor_core.specs.Derived.{terms_of, Derived}
 use Rattle.order_carrier.specs.Patience.{IsPatient}
 use Rattle.resolver_cache.specs.Cached.{Cached}
@@ -25,7 +26,7 @@ use Rattle.recursor_core.specs.Remembered.{EntryHolds, CacheHolds}
 use Rattle.recursor_setting.specs.Setting.{with_patience as setting_with}
 use Rattle.recursor_core.specs.Machine.{Begun, begun_at, ReplyGiven, StepGives, IsNewCore}
 use Rattle.recursor_core.specs.Standing.{IsPast, Holds, Rests, Moves, ReplyTold}
-use Rattle.recursor_core.specs.Order.{WaitsBy, TellsOutcome, is_given_up, IsGivenUpIn, LogGoesOnIf, LogGoesOn}
+use Rattle.walk_tables.specs.Order.{WaitsBy, TellsOutcome, is_given_up, IsGivenUpIn, LogGoesOnIf, LogGoesOn}
 use Rattle.recursor_core.specs.Runner.{RunnerHolds, RunnerMoves, polls_left, sent_by, still_awaited, IsLast, HasTold}
 use Rattle.recursor_core.specs.Turns.{due_of, TurnFalls}
 use Rattle.recursor_core.specs.declared.runner.Runner.{Runner}

@@ -10,14 +10,14 @@ use Rattle.dns_core.specs.declared.request.Question.{Question}
 use Rattle.dns_core.specs.declared.errors.NoMemory.{NoMemory}
 use Rattle.resolver_cache.specs.Cached.{Cached}
 use Rattle.resolution.specs.Walking.{Walked}
-use Rattle.recursor_core.specs.Replies.{Terms, given_of}
-use Rattle.recursor_core.specs.Derived.{AskHolds, WalkHolds, StateHolds, ResolutionHolds}
-use Rattle.recursor_core.specs.Lookup.{want_of as wanted}
+use Rattle.walk_tables.specs.Terms.{Terms, given_of}
+use Rattle.walk_tables.specs.Lookup.{AskHolds, want_of as wanted}
+use Rattle.recursor_core.specs.Derived.{WalkHolds, StateHolds, ResolutionHolds}
 use Rattle.recursor_walk.specs.Stage.{IsCandidate}
 use Rattle.recursor_core.specs.Resolving.{order_of, state_want}
 use Rattle.recursor_core.specs.Remembered.{Telling, telling, telling_in, telling_of, CacheHolds, remembered}
-use Rattle.recursor_core.specs.declared.lookup.Ask.{Ask}
-use Rattle.recursor_core.specs.declared.lookup.Ask.TheVariants as ask
+use Rattle.walk_tables.specs.declared.lookup.Ask.{Ask}
+use Rattle.walk_tables.specs.declared.lookup.Ask.TheVariants as ask
 use Rattle.recursor_core.specs.declared.resolving.Need.TheVariants as need
 use Rattle.recursor_core.specs.declared.resolving.State.{State}
 use Rattle.recursor_core.specs.declared.resolving.State.TheVariants.{New, Under, Done, Ended}

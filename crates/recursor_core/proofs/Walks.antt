@@ -30,16 +30,18 @@ use Rattle.resolution.specs.declared.verdict.Cause.TheVariants.{Filter, Zone}
 use Rattle.resolution.specs.declared.verdict.Verdict.{Verdict}
 use Rattle.resolution.proofs.SameDelegations.{Same-is_delegation, Same-glue}
 use Rattle.resolution.proofs.Members.{Has-from_Contains, Contains-from_Has, Has-filter, Has-passes}
-use Rattle.recursor_core.specs.Replies.{Terms, given_of}
-use Rattle.recursor_core.specs.Tried.{Concluded, machine_timer}
+use Rattle.walk_tables.specs.Terms.{Terms, given_of}
+use Rattle.walk_tables.specs.Tried.{Concluded, machine_timer}
 use Rattle.recursor_core.specs.Causes.{HasNoServer}
 use Rattle.recursor_core.specs.Counted.{Stands, Answers, IsRecalled, may_answer}
 use Rattle.recursor_core.specs.SameTold.{SameVerdict}
 use Rattle.recursor_walk.specs.Stage.{next_stage, query_of, IsCandidate}
-use Rattle.recursor_core.specs.Derived.{ArePool, LookupHolds, StageHolds, Passed, LeavesBehind, WayHolds, WalkHolds, last_name, reached}
+use Rattle.walk_tables.specs.Pools.{ArePool}
+use Rattle.walk_tables.specs.Lookup.{LookupHolds}
+use Rattle.recursor_core.specs.Derived.{StageHolds, Passed, LeavesBehind, WayHolds, WalkHolds, last_name, reached}
 use Rattle.recursor_types.specs.declared.error.WalkCause.TheVariants as why
 use Rattle.recursor_core.specs.declared.counted.Counted.{Counted}
-use Rattle.recursor_core.specs.declared.lookup.Lookup.{Lookup}
+use Rattle.walk_tables.specs.declared.lookup.Lookup.{Lookup}
 use Rattle.recursor_types.specs.declared.reply.Reply.{Reply}
 use Rattle.recursor_walk.specs.declared.stage.Stage.{Stage}
 use Rattle.recursor_walk.specs.declared.stage.Stage.TheVariants.{Candidate, Last}

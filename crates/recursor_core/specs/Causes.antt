@@ -1,5 +1,5 @@
 -- Why a question is answered with an error.
-use Rattle.std.specs.Prelude.{◌≡◌, ℕ, Bool, true, false, IsTrue, List, [], ◌∷◌, Some, None, Contains}
+use Rattle.std.specs.Prelude.{◌≡◌, ℕ, false, IsTrue, List, [], ◌∷◌, Some, None, Contains}
 use Rattle.dns_core.specs.Name.{DomainName}
 use Rattle.dns_core.specs.Log.{Log}
 use Rattle.dns_core.specs.declared.message.Query.{Query}
@@ -8,7 +8,6 @@ use Rattle.dns_core.specs.declared.net_error.NoRecords.{NoRecords}
 use Rattle.dns_core.specs.declared.net_error.ForwardNsData.{ForwardNsData}
 use Rattle.dns_core.specs.declared.net_error.NetError.{NetError}
 use Rattle.dns_core.specs.declared.net_error.NetError.TheVariants as net
-use Rattle.dns_core.specs.declared.net_error.DnsError.TheVariants as dns
 use Rattle.resolution.specs.Names.{walk, candidates, question}
 use Rattle.resolution.specs.Given.{Given}
 use Rattle.resolution.specs.Answering.{Base}
@@ -18,7 +17,8 @@ use Rattle.resolution.specs.Failing.{Glueless, ends_walk}
 use Rattle.resolution.specs.declared.verdict.Verdict.TheVariants.{Neg, Made}
 use Rattle.resolution.specs.declared.verdict.Cause.{Cause}
 use Rattle.recursor_walk.specs.Answer.{told_data, made_data}
-use Rattle.recursor_core.specs.Asked.{AskedAs}
+use Rattle.walk_tables.specs.Asked.{AskedAs}
+use Rattle.walk_tables.specs.Lookup.{is_lookup_error}
 use Rattle.recursor_core.specs.SameTold.{SameDenial, SameReferrals, IsMadeFor}
 use Rattle.recursor_types.specs.declared.error.AuthorityData.{AuthorityData}
 use Rattle.recursor_types.specs.declared.error.MessageKind.TheVariants.{NotQualified}
@@ -53,13 +53,6 @@ pub record HasFailed (given : Given) (known : Known) (log : Log) (t0 : ℕ) (q :
   pub zone : DomainName
   pub ended : Ended given known log t0 q zone g e
   pub walked : Walked given log q zone
-
--- what a failed lookup is answered with: another server is asked where one is busy or not reached
-abbrev pub is_lookup_error : NetError → Bool
-is_lookup_error net.Busy = false
-is_lookup_error (net.Io kind) = false
-is_lookup_error (net.Dns (dns.NoRecordsFound n)) = false
-is_lookup_error _ = true
 
 -- A candidate on the way is delegated without an address that may be asked.
 pub record HasNoAddress (given : Given) (log : Log) (t0 : ℕ) (q : Query) : Type 0 where

@@ -12,7 +12,7 @@ use Rattle.resolution.specs.declared.verdict.Verdict.{Verdict}
 use Rattle.resolution.specs.declared.verdict.Verdict.TheVariants.{Pos, Neg, Made}
 use Rattle.resolution.specs.Walking.{Walked}
 use Rattle.recursor_walk.specs.Kept.{verdict_kept}
-use Rattle.recursor_core.specs.Replies.{Terms, given_of}
+use Rattle.walk_tables.specs.Terms.{Terms, given_of}
 use Rattle.recursor_core.specs.SameTold.{SameVerdict, ShowsAsked}
 use Rattle.recursor_core.specs.declared.counted.Counted.{Counted}
 

@@ -1,14 +1,9 @@
-pub mod Lookup
 pub mod Walk
 pub mod Resolving
-pub mod Order
 pub mod Runner
 pub mod SameTold
 pub mod Causes
 pub mod Replies
-pub mod Tried
-pub mod Asked
-pub mod Pools
 pub mod Counted
 pub mod Remembered
 pub mod Derived

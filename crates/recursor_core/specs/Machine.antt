@@ -7,10 +7,11 @@ use Rattle.dns_core.specs.declared.message.Query.{Query}
 use Rattle.dns_core.specs.declared.request.Question.{Question}
 use Rattle.dns_core.specs.declared.request.DnsRequest.{DnsRequest}
 use Rattle.order_carrier.specs.Fits.{GoesToServer}
-use Rattle.recursor_core.specs.Replies.{Terms, given_of, ReplyHolds}
-use Rattle.recursor_core.specs.Tried.{machine_timer}
+use Rattle.walk_tables.specs.Terms.{Terms, given_of}
+use Rattle.recursor_core.specs.Replies.{ReplyHolds}
+use Rattle.walk_tables.specs.Tried.{machine_timer}
 use Rattle.server_core.specs.declared.order.Order.{Order}
-use Rattle.recursor_core.specs.Pools.{StepGoes, PoolsHold}
+use Rattle.walk_tables.specs.Pools.{StepGoes, PoolsHold}
 use Rattle.recursor_core.specs.Derived.{terms_of}
 use Rattle.recursor_core.specs.Remembered.{Telling, telling_of, remembered}
 use Rattle.server_core.specs.declared.order.After.{After}

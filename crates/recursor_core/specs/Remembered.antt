@@ -15,12 +15,12 @@ use Rattle.resolution.specs.Life.{life_in_seconds}
 use Rattle.resolution.specs.Serving.{Heard}
 use Rattle.resolution.specs.declared.verdict.Verdict.{Verdict}
 use Rattle.resolution.specs.Walking.{Walked}
-use Rattle.recursor_core.specs.Asked.{AskedAs}
+use Rattle.walk_tables.specs.Asked.{AskedAs}
 use Rattle.recursor_walk.specs.Kept.{kept_of, response_in}
-use Rattle.recursor_core.specs.Replies.{Terms, given_of}
+use Rattle.walk_tables.specs.Terms.{Terms, given_of}
 use Rattle.recursor_core.specs.SameTold.{IsShown}
-use Rattle.recursor_core.specs.declared.lookup.Ask.{Ask}
-use Rattle.recursor_core.specs.declared.lookup.Ask.TheVariants as ask
+use Rattle.walk_tables.specs.declared.lookup.Ask.{Ask}
+use Rattle.walk_tables.specs.declared.lookup.Ask.TheVariants as ask
 use Rattle.recursor_core.specs.declared.walk.Walk.{Walk}
 use Rattle.recursor_core.specs.declared.resolving.State.{State}
 use Rattle.recursor_core.specs.declared.resolving.State.TheVariants.{New, Under, Done, Ended}

@@ -4,12 +4,12 @@ use Rattle.std.specs.Global.{Box}
 use Rattle.dns_core.specs.declared.message.Query.{Query}
 use Rattle.dns_core.specs.declared.request.DnsRequest.{DnsRequest}
 use Rattle.recursor_core.specs.Counted.{may_answer}
-use Rattle.recursor_core.specs.Lookup as lookup
+use Rattle.walk_tables.specs.Lookup as lookup
 use Rattle.recursor_core.specs.Walk as walk
 use Rattle.recursor_core.specs.declared.counted.Counted.{Counted}
 use Rattle.recursor_types.specs.declared.reply.Reply.{Reply}
 use Rattle.dns_core.specs.declared.errors.NoMemory.{NoMemory}
-use Rattle.recursor_core.specs.declared.lookup.Want.TheVariants as want
+use Rattle.walk_tables.specs.declared.lookup.Want.TheVariants as want
 use Rattle.recursor_core.specs.declared.resolving.Need.{Need}
 use Rattle.recursor_core.specs.declared.resolving.Need.TheVariants as need
 use Rattle.recursor_core.specs.declared.resolving.State.{State}

@@ -20,7 +20,7 @@ use Rattle.order_carrier.specs.Patience.{IsPatient}
 use Rattle.order_carrier.specs.Stand.{stand_at}
 use Rattle.order_carrier.specs.declared.carrier.Carrier.{Carrier}
 use Rattle.order_carrier.specs.declared.key.OrderKey.{OrderKey}
-use Rattle.recursor_core.specs.Order.{WaitsBy}
+use Rattle.walk_tables.specs.Order.{WaitsBy}
 use Rattle.recursor_core.specs.declared.runner.Running.{Running}
 use Rattle.recursor_core.specs.declared.runner.Runner.{Runner}
 

@@ -1,5 +1,5 @@
 -- The same but for TTLs, as what was told reads later (RFC 1035 section 3.2.1).
-use Rattle.std.specs.Prelude.{◌≡◌, ℕ, IsTrue, List, [], Option, Some, None}
+use Rattle.std.specs.Prelude.{◌≡◌, ℕ, IsTrue, List, Option, Some, None}
 use Rattle.std.specs.List.{AllZip}
 use Rattle.dns_core.specs.Log.{Log}
 use Rattle.dns_core.specs.declared.message.Query.{Query}
@@ -11,7 +11,8 @@ use Rattle.resolution.specs.declared.verdict.Verdict.{Verdict}
 use Rattle.resolution.specs.declared.verdict.Verdict.TheVariants.{Pos, Neg, Made}
 use Rattle.resolution.specs.declared.verdict.Cause.{Cause}
 use Rattle.resolution.specs.declared.verdict.Cause.TheVariants.{Filter, Zone}
-use Rattle.recursor_core.specs.Asked.{AskedAs}
+use Rattle.walk_tables.specs.Asked.{AskedAs}
+use Rattle.walk_tables.specs.Lookup.{nothing_left_for}
 use Rattle.recursor_types.specs.declared.error.AuthorityData.{AuthorityData}
 
 -- both or none
@@ -41,10 +42,6 @@ pub record SameDenial (a b : AuthorityData) : Type 0 where
   pub soa : SameIfAny SameRecord a.soa b.soa
   pub authorities : SameRecords a.authorities b.authorities
   pub rest : a ≡ record b { soa = a.soa; authorities = a.authorities }
-
--- what is left for a question where the filter of answers leaves nothing
-abbrev pub nothing_left_for : Query → NoRecords
-nothing_left_for q = record { query = q; soa = None; ns = None; response_code = record { code = 3 }; authorities = [] }
 
 -- It is that, for the question as it was first asked.
 pub record IsNothingLeft (q : Query) (n : NoRecords) : Type 0 where

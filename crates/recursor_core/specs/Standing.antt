@@ -12,12 +12,13 @@ use Rattle.server_core.specs.Context.{Context}
 use Rattle.resolution.specs.Telling.{Logged, moment_of, MomentsRise}
 use Rattle.resolution.specs.Asking.{AsksServers}
 use Rattle.resolution.specs.Timing.{known_to_drive}
-use Rattle.recursor_core.specs.Replies.{Terms, Timer, given_of, ReplyHolds}
-use Rattle.recursor_core.specs.Tried.{machine_timer}
+use Rattle.walk_tables.specs.Terms.{Terms, given_of}
+use Rattle.walk_tables.specs.Tried.{Timer, machine_timer}
+use Rattle.recursor_core.specs.Replies.{ReplyHolds}
 use Rattle.order_carrier.specs.Growing.{TellsThat, Grown}
 use Rattle.recursor_core.specs.Derived.{terms_of, Derived}
 use Rattle.order_carrier.specs.Patience.{IsPatient}
-use Rattle.recursor_core.specs.Pools.{PoolsHold}
+use Rattle.walk_tables.specs.Pools.{PoolsHold}
 use Rattle.recursor_core.specs.Remembered.{CacheHolds}
 use Rattle.recursor_core.specs.Runner.{RunnerHolds}
 use Rattle.recursor_core.specs.declared.runner.Runner.{Runner}

@@ -6,7 +6,7 @@ use Rattle.resolution.specs.Names.{walk as name_walked}
 use Rattle.dns_core.specs.declared.errors.NoMemory.{NoMemory}
 use Rattle.recursor_walk.specs.Stage.{IsCandidate, lookups_after}
 use Rattle.recursor_core.specs.Counted.{may_answer}
-use Rattle.recursor_core.specs.Lookup as lookup
+use Rattle.walk_tables.specs.Lookup as lookup
 use Rattle.recursor_core.specs.declared.counted.Counted.{Counted}
 use Rattle.recursor_types.specs.declared.reply.Reply.{Reply}
 use Rattle.recursor_core.specs.declared.walk.Walk.{Walk}

@@ -2,8 +2,9 @@
 //! into the reply.
 ghost use Rattle.std.specs.Prelude.{◌≤◌, ℕ, IfOk, IfSome};
 ghost use Rattle.dns_core.specs.Log.{Log};
-ghost use Rattle.recursor_core.specs.Replies.{Terms, ReplyHolds};
-ghost use Rattle.recursor_core.specs.Tried.{machine_timer};
+ghost use Rattle.walk_tables.specs.Terms.{Terms};
+ghost use Rattle.recursor_core.specs.Replies.{ReplyHolds};
+ghost use Rattle.walk_tables.specs.Tried.{machine_timer};
 ghost use Rattle.recursor_core.specs.Remembered.{CacheHolds};
 
 use dns_core::{NoMemory, Question};

@@ -4,9 +4,7 @@
 mod counted;
 mod driving;
 mod kept_answer;
-mod lookup;
 mod machine;
-mod pools;
 mod recursor;
 mod resolving;
 mod runner;

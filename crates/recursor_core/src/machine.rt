@@ -2,18 +2,16 @@
 ghost use Rattle.std.specs.Prelude.{◌≡◌, ◌≢◌, ◌≤◌, ◌<◌, ◌+◌, ◌⊎◌, ◌↔◌, ℕ, [], true, false, max, length, None, Some, Ok, Err, IfOk, IfSome, IfNone, IfErr, IsSome, OnOk, OnErr, IsTrue, option_copied, if◌then◌else◌};
 ghost use Rattle.dns_core.specs.Log.{Log};
 ghost use Rattle.server_core.specs.Order.{entry_of};
-ghost use Rattle.recursor_core.specs.Order.{IsNext, is_given_up, closing_of, last_entry, TellsOutcome, LogGoesOn, IsPut};
+ghost use Rattle.walk_tables.specs.Order.{IsNext, is_given_up, closing_of, last_entry, TellsOutcome, LogGoesOn, IsPut};
 ghost use Rattle.resolver_settings.specs.Ttl.{has_reversed};
 ghost use Rattle.recursor_setting.specs.Asking.{connect_of};
 ghost use Rattle.recursor_setting.specs.Setting.{with_patience};
-ghost use Rattle.recursor_core.specs.declared.lookup.Want.TheVariants as want;
-ghost use Rattle.recursor_core.specs.Pools.{PoolsHold};
+ghost use Rattle.walk_tables.specs.declared.lookup.Want.TheVariants as want;
+ghost use Rattle.walk_tables.specs.Pools.{PoolsHold};
 ghost use Rattle.recursor_core.specs.Remembered.{CacheHolds, remembered};
 ghost use Rattle.recursor_core.specs.Derived.{terms_of, Derived};
 ghost use Rattle.recursor_core.specs.Machine.{need_at, order_at, begun_at, IsRequestAt, rank, GoesOn, Steps, Gives, StepGives, IsAwaited, IsNewError, IsBeginError, IsNewCore, SameCore, LookupGives, IsBegunAt, telling_at, Writes};
 
-use crate::lookup::Want;
-use crate::pools::Pools;
 use crate::resolving::{Need, Resolution, State};
 use dns_core::{ConnectOptions, DnsRequest, NoMemory, Question, TryClone};
 use recursor_setting::{Setting, connect_options, request_options};
@@ -22,6 +20,7 @@ use resolver_cache::ResponseCache;
 use server_core::{After, Order, Outcome, PoolContext, Sent, Tick};
 use std::alloc::Global;
 use std::net::IpAddr;
+use walk_tables::{Pools, Want};
 
 /// What a resolution has for whoever steps it.
 #[derive(Drop, Debug)]

@@ -2,22 +2,21 @@
 ghost use Rattle.std.specs.Prelude.{max, ◌≡◌, ◌≢◌, ◌≤◌, ◌<◌, ◌+◌, ℕ, true, length, Some, None, Ok, IfOk, IfSome, IsSome, OnOk, OnErr, is_ok, option_copied};
 ghost use Rattle.std.specs.declared.net.ip_addr.IpAddr.{IpAddr};
 ghost use Rattle.dns_core.specs.Log.{Log};
-ghost use Rattle.recursor_core.specs.Order.{last_entry, IsPut};
-ghost use Rattle.recursor_core.specs.Replies.{Terms, given_of, ReplyHolds};
-ghost use Rattle.recursor_core.specs.Tried.{machine_timer};
+ghost use Rattle.walk_tables.specs.Order.{last_entry, IsPut};
+ghost use Rattle.walk_tables.specs.Terms.{Terms, given_of};
+ghost use Rattle.recursor_core.specs.Replies.{ReplyHolds};
+ghost use Rattle.walk_tables.specs.Tried.{machine_timer};
 ghost use Rattle.recursor_core.specs.Counted.{IsRecalled, recalled};
 ghost use Rattle.recursor_core.specs.Remembered.{CacheHolds, telling_in, remembered};
-ghost use Rattle.recursor_core.specs.Lookup.{want_of as wanted};
-ghost use Rattle.recursor_core.specs.Pools.{PoolsHold, StepGoes};
-ghost use Rattle.recursor_core.specs.declared.lookup.Want.TheVariants as want;
+ghost use Rattle.walk_tables.specs.Lookup.{want_of as wanted};
+ghost use Rattle.walk_tables.specs.Pools.{PoolsHold, StepGoes};
+ghost use Rattle.walk_tables.specs.declared.lookup.Want.TheVariants as want;
 ghost use Rattle.recursor_core.specs.Derived.{WalkHolds, WalkComes, StateHolds, ResolutionHolds, ResolutionTaken};
 ghost use Rattle.recursor_core.specs.Walk.{begin_steps, Goes};
 ghost use Rattle.recursor_core.specs.Resolving.{want_of, waits_for, state_steps, steps, IsSettled, SameBegun, asked_of, AsksFor, IsAnswered};
 
 use crate::counted::{Counted, recalled};
 use crate::kept_answer::kept_answer;
-use crate::lookup::Want;
-use crate::pools::Pools;
 use crate::walk::{Walk, answer_with};
 use dns_core::{DnsRequest, Ips, NoMemory, Query, Question, TryClone};
 use recursor_types::Reply;
@@ -26,6 +25,7 @@ use resolver_settings::AccessControlSet;
 use server_core::{After, Order, Outcome, Sent, Tick};
 use std::alloc::Global;
 use std::mem;
+use walk_tables::{Pools, Want};
 
 /// Not begun, under way to its servers, answered, or ended.
 #[derive(Drop, Debug)]

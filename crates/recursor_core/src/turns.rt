@@ -4,7 +4,7 @@ ghost use Rattle.dns_core.specs.Log.{Log};
 ghost use Rattle.dns_core.specs.declared.log.LogEntry.{LogEntry};
 ghost use Rattle.dns_core.specs.declared.request.Question.{Question};
 ghost use Rattle.dns_core.specs.declared.request.Turn.{Turn};
-ghost use Rattle.recursor_core.specs.Replies.{given_of};
+ghost use Rattle.walk_tables.specs.Terms.{given_of};
 ghost use Rattle.order_carrier.specs.Growing.{TellsThat};
 ghost use Rattle.recursor_core.specs.Derived.{terms_of, Derived};
 ghost use Rattle.recursor_core.specs.Machine.{rank, Begun, begun_at};

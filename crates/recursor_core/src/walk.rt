@@ -3,21 +3,20 @@
 ghost use Rattle.std.specs.Prelude.{◌≡◌, max, ◌<◌, ◌≤◌, ◌+◌, [], ℕ, true, length, Ok, Err, Some, None, IfOk, IfSome, IsSome, OnOk, OnErr, option_copied};
 ghost use Rattle.dns_core.specs.Log.{Log};
 ghost use Rattle.dns_core.specs.declared.message.Query.{Query};
-ghost use Rattle.recursor_core.specs.Replies.{Terms, given_of, ReplyHolds, IsReply};
-ghost use Rattle.recursor_core.specs.Tried.{machine_timer};
-ghost use Rattle.recursor_core.specs.Lookup.{want_of, IsWaiting};
-ghost use Rattle.recursor_core.specs.Pools.{PoolsHold, StepGoes};
-ghost use Rattle.recursor_core.specs.Order.{last_entry, IsPut};
+ghost use Rattle.walk_tables.specs.Terms.{Terms, given_of};
+ghost use Rattle.recursor_core.specs.Replies.{ReplyHolds, IsReply};
+ghost use Rattle.walk_tables.specs.Tried.{machine_timer};
+ghost use Rattle.walk_tables.specs.Lookup.{want_of, IsWaiting, FoundHolds};
+ghost use Rattle.walk_tables.specs.Pools.{PoolsHold, StepGoes};
+ghost use Rattle.walk_tables.specs.Order.{last_entry, IsPut};
 ghost use Rattle.recursor_walk.specs.Stage.{IsCandidate};
 ghost use Rattle.recursor_core.specs.Walk.{steps, begin_steps, Goes, Recalls};
 ghost use Rattle.recursor_core.specs.Counted.{Stands, Answers, IsRecalled, may_answer};
 ghost use Rattle.recursor_core.specs.Remembered.{telling_of_walk, remembered};
-ghost use Rattle.recursor_core.specs.declared.lookup.Want.TheVariants as want;
-ghost use Rattle.recursor_core.specs.Derived.{FoundHolds, WayHolds, WalkHolds, WalkTaken, WalkComes, LeavesBehind};
+ghost use Rattle.walk_tables.specs.declared.lookup.Want.TheVariants as want;
+ghost use Rattle.recursor_core.specs.Derived.{WayHolds, WalkHolds, WalkTaken, WalkComes, LeavesBehind};
 
 use crate::counted::Counted;
-use crate::lookup::{Ask, Found, Lookup};
-use crate::pools::Pools;
 use dns_core::{
     DnsError, DnsRequest, Ips, Message, Name, NetError, NoMemory, NoRecords, Numbers, Question,
     RecordType, TryClone,
@@ -33,6 +32,7 @@ use resolver_settings::AccessControlSet;
 use server_core::{After, Order, Outcome, Sent, Tick};
 use std::alloc::Global;
 use std::mem;
+use walk_tables::{Ask, Found, Lookup, Pools};
 
 /// The way of a question: `name` is what it is walked to, and `servers` serve `zone`, the deepest zone that was found at or above the
 /// name walked to.

@@ -3,7 +3,7 @@ use Rattle.std.proofs.lemmas.Result.{IfOk-weaker}
 use Rattle.order_carrier.specs.Growing.{TellsThat}
 use Rattle.recursor_core.specs.Standing.{RepliesHold, last_moment, run_moments}
 use Rattle.recursor_setting.specs.declared.setting.Setting.{Setting}
-use Rattle.recursor_core.specs.Replies.{terms_with}
+use Rattle.walk_tables.specs.Terms.{terms_with}
 use Rattle.order_carrier.proofs.Waiting.{IsPatient-trans}
 use Rattle.recursor_core.proofs.Playing.{plays_wait, replies_hold}
 use Rattle.recursor_core.proofs.Timed.{run_first, run_turns, run_last, contains_max, contains_moment}

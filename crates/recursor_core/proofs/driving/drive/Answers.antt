@@ -2,7 +2,7 @@ use Rattle.std.proofs.Common.{◌<◌, ◌∙◌, ℕ, length, IfOk, sym, subst}
 use Rattle.order_carrier.specs.Growing.{TellsThat}
 use Rattle.recursor_core.specs.Standing.{Standing, run_terms, run_moments, RepliesHold, IsPast}
 use Rattle.recursor_core.proofs.Moments.{rises_over}
-use Rattle.recursor_core.specs.Replies.{terms_with}
+use Rattle.walk_tables.specs.Terms.{terms_with}
 use Rattle.recursor_setting.specs.Setting.{with_patience}
 use Rattle.recursor_setting.specs.declared.setting.Setting.{Setting}
 use Rattle.recursor_core.proofs.Standing.{rests_holds, holds_rests}

@@ -1,7 +1,7 @@
 use Rattle.std.proofs.Common.{subst, Option, IfSome}
 use Rattle.std.specs.Global.{Box}
 use Rattle.recursor_core.specs.Replies.{ReplyHolds}
-use Rattle.recursor_core.specs.Tried.{machine_timer}
+use Rattle.walk_tables.specs.Tried.{machine_timer}
 use Rattle.recursor_types.specs.declared.reply.Reply.{Reply}
 use Rattle.recursor_core.proofs.Resolved.{recalled-for}
 use Rattle.recursor_core.proofs.resolving.begun.Goals as goal

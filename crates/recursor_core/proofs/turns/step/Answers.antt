@@ -6,7 +6,7 @@ use Rattle.recursor_core.specs.Standing.{ReplyTold, TurnedTold}
 use Rattle.recursor_core.specs.Turns.{due}
 use Rattle.recursor_core.specs.declared.machine.Step.{Step}
 use Rattle.recursor_setting.specs.declared.setting.Setting.{Setting}
-use Rattle.recursor_core.specs.Replies.{terms_with}
+use Rattle.walk_tables.specs.Terms.{terms_with}
 use Rattle.recursor_core.proofs.Standing.{holds_derived, step_goes, step_replies, turn_falls, turn_same, due_falls, due_keeps, polls_few}
 use Rattle.recursor_core.proofs.turns.step.Goals as goal
 

@@ -4,7 +4,7 @@ use Rattle.recursor_core.specs.Derived.{terms_of}
 use Rattle.recursor_core.specs.Standing.{ReplyTold}
 use Rattle.recursor_core.specs.Turns.{due}
 use Rattle.recursor_setting.specs.declared.setting.Setting.{Setting}
-use Rattle.recursor_core.specs.Replies.{terms_with}
+use Rattle.walk_tables.specs.Terms.{terms_with}
 use Rattle.recursor_core.proofs.Standing.{moves_trans, ReplyTold-later}
 use Rattle.recursor_core.proofs.turns.turn.Goals as goal
 

@@ -1,6 +1,7 @@
 use Rattle.std.proofs.Common.{sym, subst, [], ◌∷◌}
-use Rattle.recursor_core.specs.Replies.{given_of, OutcomeHolds}
-use Rattle.recursor_core.specs.Tried.{machine_timer}
+use Rattle.walk_tables.specs.Terms.{given_of}
+use Rattle.recursor_core.specs.Replies.{OutcomeHolds}
+use Rattle.walk_tables.specs.Tried.{machine_timer}
 use Rattle.recursor_core.proofs.Denials.{answered-by, replies}
 use Rattle.recursor_core.proofs.walk.answer_with.Goals as goal
 

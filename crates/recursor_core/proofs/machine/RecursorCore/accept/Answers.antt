@@ -1,8 +1,8 @@
 use Rattle.std.proofs.Common.{◌≡◌, max, refl, arith}
 use Rattle.std.specs.Prelude.{option_copied}
-use Rattle.recursor_core.specs.Order.{last_entry}
+use Rattle.walk_tables.specs.Order.{last_entry}
 use Rattle.recursor_core.proofs.Cores.{derived-is}
-use Rattle.recursor_core.proofs.Puts.{last-chosen}
+use Rattle.walk_tables.proofs.Puts.{last-chosen}
 use Rattle.recursor_core.proofs.machine.RecursorCore.accept.Goals as goal
 
 pub returns-clause-derived : goal.returns-clause-derived

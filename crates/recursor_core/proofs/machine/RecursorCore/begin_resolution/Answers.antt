@@ -6,7 +6,7 @@ use Rattle.recursor_core.specs.declared.resolving.Resolution.{Resolution}
 use Rattle.std.proofs.lemmas.List.Elements.{All-push}
 use Rattle.recursor_core.specs.Derived.{terms_of, ResolutionHolds}
 use Rattle.recursor_core.proofs.Kept.{same-log, resolutions-kept}
-use Rattle.recursor_core.proofs.KeptPools.{pools-kept}
+use Rattle.walk_tables.proofs.KeptPools.{pools-kept}
 use Rattle.recursor_core.proofs.Cores.{derived-is, begun-push, begun-last}
 use Rattle.recursor_core.proofs.machine.RecursorCore.begin_resolution.Goals as goal
 

@@ -1,8 +1,8 @@
 use Rattle.std.proofs.Common.{◌<◌, min, length, sym, ap, subst, arith}
 use Rattle.recursor_core.specs.Derived.{terms_of}
-use Rattle.recursor_core.specs.Pools.{PoolsHold}
+use Rattle.walk_tables.specs.Pools.{PoolsHold}
 use Rattle.recursor_core.specs.Remembered.{CacheHolds}
-use Rattle.recursor_core.specs.Replies.{terms_with}
+use Rattle.walk_tables.specs.Terms.{terms_with}
 use Rattle.recursor_setting.specs.declared.setting.Setting.{Setting}
 use Rattle.recursor_core.proofs.Kept.{same-log}
 use Rattle.recursor_core.proofs.Remembering.{cache-on}

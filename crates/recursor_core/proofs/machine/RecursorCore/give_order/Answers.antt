@@ -3,7 +3,7 @@ use Rattle.std.proofs.lemmas.Result.{IfOk-from_err}
 use Rattle.server_core.specs.declared.order.Order.{Order}
 use Rattle.order_carrier.specs.Fits.{GoesToServer}
 use Rattle.recursor_core.specs.Derived.{terms_of}
-use Rattle.recursor_core.specs.Replies.{given_of}
+use Rattle.walk_tables.specs.Terms.{given_of}
 use Rattle.recursor_core.proofs.Cores.{goes-err}
 use Rattle.recursor_core.proofs.machine.RecursorCore.give_order.Goals as goal
 

@@ -4,9 +4,9 @@ use Rattle.dns_core.specs.declared.errors.NoMemory.{NoMemory}
 use Rattle.server_core.specs.declared.order.After.{After}
 use Rattle.server_core.specs.declared.order.After.TheVariants as after
 use Rattle.server_core.specs.Order.{entry_of}
-use Rattle.recursor_core.specs.Order.{IsNext, IsPut}
+use Rattle.walk_tables.specs.Order.{IsNext, IsPut}
 use Rattle.recursor_core.proofs.Kept.{Derived-extends}
-use Rattle.recursor_core.proofs.Puts.{kept-extends, err-goes, was-put}
+use Rattle.walk_tables.proofs.Puts.{kept-extends, err-goes, was-put}
 use Rattle.recursor_core.proofs.machine.RecursorCore.put.Goals as goal
 
 -- what is late changes nothing

@@ -1,6 +1,6 @@
 use Rattle.std.proofs.Common.{◌∙◌, ap, arith}
 use Rattle.std.proofs.lemmas.Result.{IfOk-from_err}
-use Rattle.recursor_core.specs.declared.lookup.Want.{Want}
+use Rattle.walk_tables.specs.declared.lookup.Want.{Want}
 use Rattle.recursor_core.specs.declared.resolving.Need.TheVariants as need
 use Rattle.recursor_core.specs.Resolving.{order_of}
 use Rattle.recursor_core.proofs.machine.RecursorCore.send.Goals as goal

@@ -2,9 +2,9 @@ use Rattle.std.proofs.Common.{◌<◌, max, length, arith, refl}
 use Rattle.std.specs.Prelude.{option_copied}
 use Rattle.std.proofs.lemmas.List.Elements.{All-set}
 use Rattle.recursor_core.specs.Derived.{terms_of, ResolutionHolds}
-use Rattle.recursor_core.specs.Order.{last_entry}
+use Rattle.walk_tables.specs.Order.{last_entry}
 use Rattle.recursor_core.proofs.Kept.{resolutions-kept}
-use Rattle.recursor_core.proofs.Puts.{longer-put, last-within}
+use Rattle.walk_tables.proofs.Puts.{longer-put, last-within}
 use Rattle.recursor_core.proofs.Remembering.{cache-kept}
 use Rattle.recursor_core.proofs.Tellings.{late-untold}
 use Rattle.recursor_core.proofs.Ranks.{order_within, sum_keeps}

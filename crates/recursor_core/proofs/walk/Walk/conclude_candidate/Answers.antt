@@ -6,8 +6,8 @@ use Rattle.dns_core.specs.declared.net_error.NetError.{NetError}
 use Rattle.dns_core.specs.declared.net_error.NetError.TheVariants as net
 use Rattle.dns_core.specs.declared.errors.NoMemory.{NoMemory}
 use Rattle.resolution.specs.Ending.{is_timeout}
-use Rattle.recursor_core.specs.Replies.{Terms}
-use Rattle.recursor_core.specs.Tried.{Concluded}
+use Rattle.walk_tables.specs.Terms.{Terms}
+use Rattle.walk_tables.specs.Tried.{Concluded}
 use Rattle.recursor_core.specs.Derived.{WalkComes}
 use Rattle.recursor_core.specs.declared.walk.Walk.{Walk}
 use Rattle.recursor_types.specs.declared.error.RecursorError.TheVariants.{NoNameServer}

@@ -3,8 +3,8 @@ use Rattle.dns_core.specs.declared.message.Query.{Query}
 use Rattle.resolution.specs.declared.verdict.Verdict.TheVariants.{Neg}
 use Rattle.recursor_core.specs.Causes.{ErrorHolds}
 use Rattle.recursor_core.specs.Counted.{Stands}
-use Rattle.recursor_core.specs.Replies.{given_of}
-use Rattle.recursor_core.specs.Tried.{machine_timer}
+use Rattle.walk_tables.specs.Terms.{given_of}
+use Rattle.walk_tables.specs.Tried.{machine_timer}
 use Rattle.recursor_core.proofs.Denials.{answers-on-the-way, denied}
 use Rattle.recursor_core.proofs.Walks.{candidate-asked, candidate-on-the-way, leaves-told}
 use Rattle.recursor_core.proofs.walk.Walk.deny_candidate.Goals as goal

@@ -2,7 +2,7 @@ use Rattle.std.proofs.Common.{sym, subst}
 use Rattle.dns_core.specs.declared.message.Query.{Query}
 use Rattle.resolution.specs.Walking.{Walked}
 use Rattle.resolver_settings.specs.Access.{denies}
-use Rattle.recursor_core.specs.Replies.{given_of}
+use Rattle.walk_tables.specs.Terms.{given_of}
 use Rattle.recursor_core.proofs.Denials.{counts-of, stands-of, left-no-error}
 use Rattle.recursor_core.proofs.Walks.{candidate-asked, candidate-walked}
 use Rattle.recursor_core.proofs.walk.Walk.hear_candidate.Goals as goal

@@ -4,8 +4,8 @@ use Rattle.resolution.specs.declared.verdict.Verdict.{Verdict}
 use Rattle.resolution.specs.declared.verdict.Verdict.TheVariants.{Made}
 use Rattle.recursor_core.specs.Causes.{ErrorHolds}
 use Rattle.recursor_core.specs.Counted.{Stands}
-use Rattle.recursor_core.specs.Replies.{given_of}
-use Rattle.recursor_core.specs.Tried.{machine_timer}
+use Rattle.walk_tables.specs.Terms.{given_of}
+use Rattle.walk_tables.specs.Tried.{machine_timer}
 use Rattle.recursor_walk.specs.Answer.{made_negative}
 use Rattle.recursor_core.proofs.Denials.{made-on-the-way, denied}
 use Rattle.recursor_core.proofs.Walks.{candidate-asked, candidate-on-the-way}

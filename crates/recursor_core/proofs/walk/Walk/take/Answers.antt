@@ -1,6 +1,6 @@
 use Rattle.std.proofs.Common.{arith}
 use Rattle.recursor_core.proofs.Kept.{way-kept}
-use Rattle.recursor_core.proofs.Puts.{longer-put}
+use Rattle.walk_tables.proofs.Puts.{longer-put}
 use Rattle.recursor_core.proofs.Walks.{way-looked}
 use Rattle.recursor_core.proofs.walk.Walk.take.Goals as goal
 

@@ -1,4 +1,0 @@
-use Rattle.recursor_core.proofs.lookup.Lookup.leave.Goals as goal
-
-pub returns-in-Under-clause-pools : goal.returns-in-Under-clause-pools
-returns-in-Under-clause-pools c terms greatest moment log h = c.leave.ensures.holds terms greatest moment log h

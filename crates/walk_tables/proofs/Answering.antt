@@ -1,0 +1,512 @@
+-- What a lookup that was answered came to, as the log shows it.
+use Rattle.std.proofs.Common.{◌≡◌, ℕ, suc, ◌≤◌, ◌<◌, Bool, true, false, not, ◌||◌, cond, List, [], ◌∷◌, ◌++◌, map, find, length, Contains, Option, Some, None, IfSome, IsSomeAnd, Result, Ok, Err, ◌⊎◌, inl, inr, refl, sym, ap, subst, ◌∙◌, arith}
+use Rattle.std.specs.Prelude.{IsTrue, nat_le, option_and_then, ◌==◌, if◌then◌else◌}
+use Rattle.std.specs.List.{list_any, list_all, last_or, before_first, after_first, filter_map, AllByRecursion}
+use Rattle.std.specs.List.Sorted.{IsPermutation}
+use Rattle.std.proofs.lemmas.Bool.{and_parts, leb-true}
+use Rattle.std.proofs.lemmas.Option.{same_Some}
+use Rattle.std.proofs.lemmas.List.Elements.{All-weaker, All-from_recursion, recursion_from_All}
+use Rattle.std.proofs.lemmas.List.Folds.{list_all-append, list_all-map}
+use Rattle.std.proofs.lemmas.List.Sorted.{All-permutation, IsPermutation-sym}
+use Rattle.std.specs.declared.net.ip_addr.IpAddr.{IpAddr}
+use Rattle.dns_core.specs.Name.{DomainName}
+use Rattle.dns_core.specs.Log.{Log}
+use Rattle.dns_core.specs.declared.message.Query.{Query}
+use Rattle.dns_core.specs.declared.message.Message.{Message}
+use Rattle.dns_core.specs.declared.record.Record.{Record}
+use Rattle.dns_core.specs.declared.log.ToldOutcome.{ToldOutcome}
+use Rattle.dns_core.specs.declared.net_error.NoRecords.{NoRecords}
+use Rattle.dns_core.specs.declared.net_error.NetError.{NetError}
+use Rattle.dns_core.specs.declared.net_error.NetError.TheVariants as net
+use Rattle.dns_core.specs.declared.net_error.DnsError.{DnsError}
+use Rattle.dns_core.specs.declared.net_error.DnsError.TheVariants as dns
+use Rattle.resolver_settings.specs.Access.{denies}
+use Rattle.dns_core.specs.Classifying.{no_records}
+use Rattle.resolution.specs.Class.{class_of, class_of_error, class_of_message, has_no_data_for, is_foreign}
+use Rattle.resolution.specs.Records.{records}
+use Rattle.resolution.specs.Verdict.{is_all_denied, without_denied}
+use Rattle.resolution.specs.Given.{Given}
+use Rattle.resolution.specs.Serving.{Heard}
+use Rattle.resolution.specs.Lookups.{Answered, class_of_answer, End, Rules, is_retryable, answer_of, negative_of, is_timed_out, least_bad, class_of_end, turns, the_turn, but_turn, retries, none_is_final, all_were_tried, what_is_left, IsDecided, PoolRun, IsBounded}
+use Rattle.resolution.specs.Lookups.PoolRun.{decided, spent, late}
+use Rattle.resolution.specs.Ending.{by_address, EndSends}
+use Rattle.resolution.specs.Ending.EndSends.{no_send, and_send}
+use Rattle.resolution.specs.declared.class.Class.{Class}
+use Rattle.resolution.specs.declared.class.Class.TheVariants.{Error, Code, Truncated, Negative, Foreign, Positive}
+use Rattle.resolution.proofs.Caseless.{both}
+use Rattle.resolution.proofs.Invented.{class_of-positive}
+use Rattle.retry_rules.specs.Agenda.{rules_of, class_of_sent}
+use Rattle.retry_rules.specs.AnswerFilter.{foreign_class, nothing_left}
+use Rattle.retry_lookup.specs.Asked.{answer_in, answer_of as answer_of_state}
+use Rattle.retry_lookup.specs.Hearing.{left_of}
+use Rattle.retry_lookup.specs.Holds.{HeardEnd, ends_of, entries_of, IsRun, IsAt as IsAt_state, out_of_memory}
+use Rattle.retry_lookup.specs.Lookup.{LookupState, question_of}
+use Rattle.retry_lookup.specs.declared.lookup.State.{State}
+use Rattle.retry_lookup.specs.declared.lookup.State.TheVariants.{Asking, BackingOff, Decided}
+use Rattle.server_pool.specs.Lookups.{closed_by}
+use Rattle.server_pool.specs.Shared.{lookup_at}
+use Rattle.server_pool.specs.declared.open_lookup.OpenLookup.{OpenLookup}
+use Rattle.retry_rules.specs.declared.candidate.Candidate.{Candidate}
+use Rattle.retry_rules.proofs.Plans.{same_self, same_is}
+use Rattle.retry_rules.proofs.Turning.{but_none}
+use Rattle.server_pool.specs.ByAddress.{at_address}
+use Rattle.server_pool.proofs.ByAddress.{IsTrustedBeyondUdp, run_by_address}
+use Rattle.walk_tables.specs.Lookup.{is_lookup_error, last_of, failed_by, answered_by, nothing_left_for, left_of_class, IsTold, AskHolds}
+use Rattle.walk_tables.specs.Terms.{Terms, given_of}
+use Rattle.walk_tables.specs.Tried.{Began, is_response, told_of, AreHeard, Concluded}
+use Rattle.walk_tables.specs.Pools.{IsAt, SoughtHolds, PoolsHold, Seeks}
+use Rattle.walk_tables.specs.Asked.{AskedAs}
+use Rattle.walk_tables.specs.declared.pools.Pools.{Pools}
+use Rattle.walk_tables.specs.declared.pools.Sought.{Sought}
+use Rattle.walk_tables.proofs.Bounding.{bounded-images, bounded-permuted}
+
+-- ---- whole answers
+
+-- an answer is not cut, and has no record of another class
+whole_by : (q : Query) (m m' : Message) (code cut bare : Bool) (o : Option Record)
+    → cond code (Code m.response_code) (cond cut Truncated (cond bare (Negative (no_records m)) (elim o [ Some r ↦ Foreign r | None ↦ Positive m ]))) ≡ Positive m' → (cut ≡ false) × (o ≡ None)
+whole_by q m m' true cut bare o e = cc
+whole_by q m m' false true bare o e = cc
+whole_by q m m' false false true o e = cc
+whole_by q m m' false false false (Some r) e = cc
+whole_by q m m' false false false None e = (refl, refl)
+
+pub answer-whole : (outcome : ToldOutcome) (q : Query) (m : Message) → class_of outcome q ≡ Some (Positive m) → (m.truncation ≡ false) × (find (is_foreign q) (records m) ≡ None)
+answer-whole outcome q m is =
+    let told : class_of_message m q ≡ Positive m = same_Some _ _ (subst (λ (o : ToldOutcome). class_of o q ≡ Some (Positive m)) (class_of-positive outcome q m is) is) in
+    whole_by q m m (not (m.response_code.code == 0 || m.response_code.code == 3)) m.truncation (has_no_data_for q m) (find (is_foreign q) (records m)) told
+
+-- ---- the servers in another order
+
+passes : {X : Type 0} (p : X → Bool) (xs : List X) → list_all p xs ≡ true → AllByRecursion (λ x. p x ≡ true) xs
+passes p [] h = tt
+passes p (x ∷ xs) h = let b = and_parts (p x) (list_all p xs) h in (b.0, passes p xs b.1)
+
+passed : {X : Type 0} (p : X → Bool) (xs : List X) → AllByRecursion (λ x. p x ≡ true) xs → list_all p xs ≡ true
+passed p [] a = refl
+passed p (x ∷ xs) a = both (p x) (list_all p xs) a.0 (passed p xs a.1)
+
+all-permuted : {X : Type 0} (p : X → Bool) (xs ys : List X) → IsPermutation xs ys → list_all p xs ≡ true → list_all p ys ≡ true
+all-permuted p xs ys same h =
+    passed p ys (recursion_from_All (λ x. p x ≡ true) ys (All-permutation (λ x. p x ≡ true) xs ys same (All-from_recursion (λ x. p x ≡ true) xs (passes p xs h))))
+
+-- a lookup at servers is one at the same servers in another order
+pub PoolRun-permuted : {S : Type 0} {rules : Rules S} {class : Answered → Class} {ends : List (End S)} {result : Answered} {start now : ℕ} (xs ys : List S) → IsPermutation xs ys
+    → PoolRun rules class xs ends result start now → PoolRun rules class ys ends result start now
+PoolRun-permuted xs ys same (decided d) = decided d
+PoolRun-permuted xs ys same (spent s) =
+    spent (record { none = s.none; tried = all-permuted _ xs ys same s.tried; again = s.again; busy = all-permuted _ xs ys same s.busy; answers = s.answers })
+PoolRun-permuted xs ys same (late l) = late l
+
+-- what was answered at a moment was so by a later one
+pub run-later : {S : Type 0} {rules : Rules S} {class : Answered → Class} {servers : List S} {ends : List (End S)} {result : Answered} {start : ℕ} (now later : ℕ) → now ≤ later
+    → PoolRun rules class servers ends result start now → PoolRun rules class servers ends result start later
+run-later now later le (decided d) = decided d
+run-later now later le (spent s) = spent s
+run-later now later le (late l) = late (record { none = l.none; answers = l.answers; reached = let r = l.reached in omega arith; some = l.some })
+
+-- ---- what is left where no end decides
+
+-- none of those that another server is asked after is a denial, where denials are trusted
+no_negatives : (cs : List Class) → list_all (is_retryable true) cs ≡ true → filter_map negative_of cs ≡ []
+no_negatives [] h = refl
+no_negatives (Error e ∷ cs) h = no_negatives cs (and_parts (is_retryable true (Error e)) (list_all (is_retryable true) cs) h).1
+no_negatives (Negative n ∷ cs) h =
+    let final = (and_parts (n.response_code.code == 3) false (and_parts (is_retryable true (Negative n)) (list_all (is_retryable true) cs) h).0).1 in cc
+no_negatives (Code c ∷ cs) h = cc
+no_negatives (Truncated ∷ cs) h = cc
+no_negatives (Foreign r ∷ cs) h = cc
+no_negatives (Positive m ∷ cs) h = cc
+
+least_by : (ns : List NoRecords) (silent cut : Bool) → ns ≡ []
+    → IsTrue (is_lookup_error (elim ns [ n ∷ rest ↦ net.Dns (dns.NoRecordsFound n) | [] ↦ if silent then net.Timeout else (if cut then net.Truncated else net.NoConnections) ]))
+least_by [] true cut is = refl
+least_by [] false true is = refl
+least_by [] false false is = refl
+least_by (n ∷ ns) silent cut is = cc
+
+least-lookup : (cut : Bool) (cs : List Class) → list_all (is_retryable true) cs ≡ true → IsTrue (is_lookup_error (least_bad cut cs))
+least-lookup cut cs h = least_by (filter_map negative_of cs) (list_any is_timed_out cs) cut (no_negatives cs h)
+
+none_any : {X : Type 0} (p : X → Bool) (xs : List X) → find p xs ≡ None → list_any p xs ≡ false
+none_any p [] e = refl
+none_any {X} p (x ∷ xs) e = at_head (p x) e (none_any p xs)
+  where
+    at_head : (b : Bool) → cond b (Some x) (find p xs) ≡ None → (find p xs ≡ None → list_any p xs ≡ false) → (b || list_any p xs) ≡ false
+    at_head true h next = cc
+    at_head false h next = next h
+
+module _ (timeout : ℕ) (q : Query) where
+  abbrev rules : Rules IpAddr
+  rules = by_address timeout
+
+  abbrev class : Answered → Class
+  class = class_of_answer q
+
+  abbrev classes : List (End IpAddr) → List Class
+  classes ends = map (class_of_end rules class) ends
+
+  retry-classes : (ends : List (End IpAddr)) → list_all (retries rules class) ends ≡ true → list_all (is_retryable true) (classes ends) ≡ true
+  retry-classes ends h = list_all-map (is_retryable true) (class_of_end rules class) ends ∙ h
+
+  after-retries : (ends : List (End IpAddr)) → none_is_final rules class ends ≡ true → list_all (retries rules class) (after_first (turns rules class) ends) ≡ true
+  after-retries ends h =
+      let before = before_first (turns rules class) ends in
+      let after = after_first (turns rules class) ends in
+      (and_parts (list_all (retries rules class) before) (list_all (retries rules class) after) (sym (list_all-append (retries rules class) before after) ∙ h)).1
+
+  left-after : (after but : List Class) (c : Class) → list_all (is_retryable true) after ≡ true → list_all (is_retryable true) but ≡ true
+      → IsTrue (is_lookup_error (elim c [ Truncated ↦ least_bad true after | _ ↦ least_bad false but ]))
+  left-after after but Truncated a b = least-lookup true after a
+  left-after after but (Error e) a b = least-lookup false but b
+  left-after after but (Code c) a b = least-lookup false but b
+  left-after after but (Negative n) a b = least-lookup false but b
+  left-after after but (Foreign r) a b = least-lookup false but b
+  left-after after but (Positive m) a b = least-lookup false but b
+
+  left-by : (ends : List (End IpAddr)) (o : Option (End IpAddr)) → the_turn rules class ends ≡ o → none_is_final rules class ends ≡ true
+      → IsTrue (is_lookup_error (elim o [
+        | None ↦ least_bad false (classes ends)
+        | Some e ↦ elim (class_of_end rules class e) [ Truncated ↦ least_bad true (classes (after_first (turns rules class) ends)) | _ ↦ least_bad false (classes (but_turn rules class ends)) ]
+      ]))
+  left-by ends None is h =
+      let all = but_none (turns rules class) ends (none_any (turns rules class) ends is) in
+      least-lookup false (classes ends) (retry-classes ends (sym (ap (list_all (retries rules class)) all) ∙ h))
+  left-by ends (Some e) is h =
+      left-after (classes (after_first (turns rules class) ends)) (classes (but_turn rules class ends)) (class_of_end rules class e)
+      (retry-classes (after_first (turns rules class) ends) (after-retries ends h)) (retry-classes (but_turn rules class ends) h)
+
+  -- what is left is answered, and is no denial
+  pub left-lookup : (ends : List (End IpAddr)) → none_is_final rules class ends ≡ true → IsTrue (is_lookup_error (what_is_left rules class ends))
+  left-lookup ends h = left-by ends (the_turn rules class ends) refl h
+
+  -- where no server is left, one was asked
+  spent-some : (ips : List IpAddr) (ends : List (End IpAddr)) → 0 < length ips → all_were_tried rules class ips ends ≡ true → 0 < length ends
+  spent-some [] ends some h = absurd (omega (arith, some))
+  spent-some (ip ∷ ips) [] some h = cc
+  spent-some (ip ∷ ips) (e ∷ ends) some h = omega arith
+
+-- ---- what an end answers that decides
+
+-- an error that ends a lookup: it is none by which another server is asked, and no denial
+final-error : (q : Query) (o : Answered) (e : NetError) → class_of_answer q o ≡ Error e → is_retryable true (Error e) ≡ false → IsTrue (is_lookup_error e)
+final-error q o net.Busy is final = cc
+final-error q o (net.Io kind) is final = cc
+final-error q o net.NoConnections is final = cc
+final-error q o net.Timeout is final = cc
+final-error q o net.Truncated is final = refl
+final-error q o net.QueryCaseMismatch is final = refl
+final-error q o (net.ForeignClassRecord n c t) is final = refl
+final-error q o (net.Msg text) is final = refl
+final-error q o net.NoMemory is final = refl
+final-error q o (net.Dns (dns.ResponseCode code)) is final = refl
+final-error q (Err f) (net.Dns (dns.NoRecordsFound n)) is final = absurd (error-no_denial f n is)
+  where
+    error-no_denial : (f : NetError) (n : NoRecords) → class_of_error f ≡ Error (net.Dns (dns.NoRecordsFound n)) → ⊥
+    error-no_denial net.Busy n is = cc
+    error-no_denial (net.Io kind) n is = cc
+    error-no_denial net.NoConnections n is = cc
+    error-no_denial net.Timeout n is = cc
+    error-no_denial net.Truncated n is = cc
+    error-no_denial net.QueryCaseMismatch n is = cc
+    error-no_denial (net.ForeignClassRecord m c t) n is = cc
+    error-no_denial (net.Msg text) n is = cc
+    error-no_denial net.NoMemory n is = cc
+    error-no_denial (net.Dns (dns.ResponseCode code)) n is = cc
+    error-no_denial (net.Dns (dns.NoRecordsFound m)) n is = cc
+final-error q (Ok m) (net.Dns (dns.NoRecordsFound n)) is final =
+    absurd (by_tests m (not (m.response_code.code == 0 || m.response_code.code == 3)) m.truncation (has_no_data_for q m) (find (is_foreign q) (records m)) _ is)
+  where
+    by_tests : (m : Message) (code cut bare : Bool) (o : Option Record) (f : NetError)
+        → cond code (Code m.response_code) (cond cut Truncated (cond bare (Negative (no_records m)) (elim o [ Some r ↦ Foreign r | None ↦ Positive m ]))) ≡ Error f → ⊥
+    by_tests m true cut bare o f e = cc
+    by_tests m false true bare o f e = cc
+    by_tests m false false true o f e = cc
+    by_tests m false false false (Some r) f e = cc
+    by_tests m false false false None f e = cc
+
+-- what was told is of the class of the answer
+class-told : (q : Query) (o : Answered) → class_of (told_of o) q ≡ Some (class_of_answer q o)
+class-told q (Ok m) = refl
+class-told q (Err e) = refl
+
+-- ---- the entries of the ends
+
+-- there is one for each end, at one moment
+sends-length : {given : Given} {log : Log} {q : Query} {ips : List IpAddr} {g moments : List ℕ} {ends : List (End IpAddr)} → EndSends given log q ips g ends moments
+    → (length g ≡ length ends) × (length moments ≡ length ends)
+sends-length no_send = (refl, refl)
+sends-length (and_send s c rest) = let more = sends-length rest in (ap suc more.0, ap suc more.1)
+
+last-later : (xs : List ℕ) (k n : ℕ) → last_or None xs ≡ Some n → last_or (Some k) xs ≡ Some n
+last-later [] k n h = cc
+last-later (x ∷ xs) k n h = h
+
+-- the last end: its entry, its moment, and what was heard by it
+pub record LastEnd (terms : Terms) (log : Log) (zone : DomainName) (q : Query) (g moments : List ℕ) (e : End IpAddr) : Type 0 where
+  pub entry : ℕ
+  pub moment : ℕ
+  pub at_entry : last_or None g ≡ Some entry
+  pub at_moment : last_or None moments ≡ Some moment
+  pub heard : IsTrue (is_response (class_of_answer q e.outcome)) → Heard (given_of terms) log entry q (told_of e.outcome) moment zone × AskedAs log entry q
+
+last-end : (terms : Terms) (log : Log) (zone : DomainName) (q : Query) {ips : List IpAddr} {g moments : List ℕ} {ends : List (End IpAddr)} (earlier : List (End IpAddr)) (e : End IpAddr)
+    → EndSends (given_of terms) log q ips g ends moments → AreHeard terms log zone q g ends moments → ends ≡ earlier ++ e ∷ [] → LastEnd terms log zone q g moments e
+last-end terms log zone q [] e no_send heard is = cc
+last-end terms log zone q (x ∷ earlier) e no_send heard is = cc
+last-end terms log zone q [] e (and_send {n = n} {moment = m} {e = f} s c no_send) heard is =
+    let same : f ≡ e = cc in
+    record {
+      entry = n;
+      moment = m;
+      at_entry = refl;
+      at_moment = refl;
+      heard = subst (λ (x : End IpAddr). IsTrue (is_response (class_of_answer q x.outcome)) → Heard (given_of terms) log n q (told_of x.outcome) m zone × AskedAs log n q) same heard.0;
+    }
+last-end terms log zone q [] e (and_send s c (and_send t d rest)) heard is = cc
+last-end terms log zone q (x ∷ earlier) e (and_send {n = n} {moment = m} {g = g} {moments = moments} {ends = ends} s c rest) heard is =
+    let tail : ends ≡ earlier ++ e ∷ [] = cc in
+    let last = last-end terms log zone q earlier e rest heard.1 tail in
+    record {
+      entry = last.entry;
+      moment = last.moment;
+      at_entry = last-later g n last.entry last.at_entry;
+      at_moment = last-later moments m last.moment last.at_moment;
+      heard = last.heard;
+    }
+
+-- what holds of each holds of the last
+last-holds : (p : ℕ → Bool) (xs : List ℕ) (o : Option ℕ) (n : ℕ) → IfSome o (λ x. p x ≡ true) → list_all p xs ≡ true → last_or o xs ≡ Some n → p n ≡ true
+last-holds p [] (Some x) n before all is = subst (λ (y : ℕ). p y ≡ true) (same_Some _ _ is) before
+last-holds p [] None n before all is = cc
+last-holds p (x ∷ xs) o n before all is = let h = and_parts (p x) (list_all p xs) all in last-holds p xs (Some x) n h.0 h.1 is
+
+-- a list with an element has a last one
+last-there : (xs : List ℕ) (o : Option ℕ) (P : ℕ → Type 0) (p : ℕ → Bool) → ((n : ℕ) → p n ≡ true → P n) → IsSomeAnd o P → list_all p xs ≡ true → IsSomeAnd (last_or o xs) P
+last-there [] o P p f h all = h
+last-there (x ∷ xs) o P p f h all = let a = and_parts (p x) (list_all p xs) all in last-there xs (Some x) P p f (f x a.0) a.1
+
+last-since : (moments : List ℕ) (begun start : ℕ) → begun ≤ start → 0 < length moments → list_all (nat_le start) moments ≡ true → IsSomeAnd (last_or None moments) (λ m. begun ≤ m)
+last-since [] begun start le some all = absurd (omega (arith, some))
+last-since (m ∷ ms) begun start le some all =
+    let a = and_parts (nat_le start m) (list_all (nat_le start) ms) all in
+    let first : start ≤ m = leb-true start m a.0 in
+    last-there ms (Some m) (λ n. begun ≤ n) (nat_le start) (λ n k. let late = leb-true start n k in omega (arith, le, late)) (omega (arith, le, first)) a.1
+
+began-ended : (log : Log) (q : Query) (greatest : ℕ) (first : Option IpAddr) (g : List ℕ) (ends : List (End IpAddr)) (start : ℕ) → 0 < length g
+    → Began log q greatest first g ends start → Began log q 0 None g ends start
+began-ended log q greatest first [] ends start some b = absurd (omega (arith, some))
+began-ended log q greatest first (n ∷ g) [] start some b = b
+began-ended log q greatest first (n ∷ g) (e ∷ ends) start some b = b
+
+some-last : (ends earlier : List (End IpAddr)) (e : End IpAddr) → ends ≡ earlier ++ e ∷ [] → 0 < length ends
+some-last [] [] e is = cc
+some-last [] (x ∷ earlier) e is = cc
+some-last (f ∷ ends) earlier e is = omega arith
+
+late-some : (ends : List (End IpAddr)) → (not (length ends == 0) || 5000000 == 0) ≡ true → 0 < length ends
+late-some [] some = cc
+late-some (e ∷ ends) some = omega arith
+
+not_false : (b : Bool) → not b ≡ true → b ≡ false
+not_false true h = cc
+not_false false h = refl
+
+-- ---- a lookup that was answered
+
+ends-from : (servers : List Candidate) (heard : List HeardEnd) → AllByRecursion (λ h. Contains servers h.end.server) heard → AllByRecursion (λ e. Contains servers e.server) (ends_of heard)
+ends-from servers [] a = tt
+ends-from servers (h ∷ heard) a = (a.0, ends-from servers heard a.1)
+
+-- each address has few ends, as each candidate has
+bounded-of : (terms : Terms) (greatest moment : ℕ) (log : Log) (pools : Pools) (n : ℕ) (s : Sought) (h : SoughtHolds terms greatest moment log pools n s) → IsBounded (by_address 5000000) (class_of_answer s.query) h.ips h.ends
+bounded-of terms greatest moment log pools n s h =
+    let l = h.shared_by.lookup in
+    let at_time = subst (λ (t : ℕ). IsBounded (rules_of t) (class_of_sent (question_of l)) l.servers (ends_of h.heard)) h.time h.stands.keeps.each in
+    let asked = subst (λ (q : Query). IsBounded (rules_of 5000000) (class_of_sent q) l.servers (ends_of h.heard)) h.asks at_time in
+    let from = ends-from l.servers h.heard h.stands.keeps.from_pool in
+    let by_ip = bounded-images (rules_of 5000000) (by_address 5000000) (class_of_sent s.query) (class_of_answer s.query) (at_address h.ip_of) same_self same_is l.servers from h.beside asked in
+    bounded-permuted (by_address 5000000) (class_of_answer s.query) h.ends (map (at_address h.ip_of) l.servers) h.ips (IsPermutation-sym h.ips (map (at_address h.ip_of) l.servers) h.whole) by_ip
+
+-- by addresses, in the order of the list, no later than the moment
+run-of : (terms : Terms) (greatest moment : ℕ) (log : Log) (pools : Pools) (n : ℕ) (s : Sought) (h : SoughtHolds terms greatest moment log pools n s) (answer : Answered) (at : ℕ) → at ≤ moment
+    → PoolRun (rules_of h.shared_by.lookup.timeout) (class_of_sent (question_of h.shared_by.lookup)) h.shared_by.lookup.servers (ends_of h.heard) answer h.shared_by.lookup.start at
+    → PoolRun (by_address 5000000) (class_of_answer s.query) h.ips h.ends answer s.start moment
+run-of terms greatest moment log pools n s h answer at early ran =
+    let l = h.shared_by.lookup in
+    let at_time = subst (λ (t : ℕ). PoolRun (rules_of t) (class_of_sent (question_of l)) l.servers (ends_of h.heard) answer l.start at) h.time ran in
+    let asked = subst (λ (q : Query). PoolRun (rules_of 5000000) (class_of_sent q) l.servers (ends_of h.heard) answer l.start at) h.asks at_time in
+    let run = subst (λ (t : ℕ). PoolRun (rules_of 5000000) (class_of_sent s.query) l.servers (ends_of h.heard) answer t at) h.starts asked in
+    let plain = recursion_from_All IsTrustedBeyondUdp l.servers
+    (All-weaker (λ c. IsAt pools.shared.table (h.ip_of c.server) c) IsTrustedBeyondUdp (λ c at. record { beyond_udp = at.beyond_udp; trusted = at.trusted }) l.servers h.known) in
+    let from = ends-from l.servers h.heard h.stands.keeps.from_pool in
+    let by_ip = run_by_address 5000000 h.ip_of l.servers (class_of_sent s.query) (class_of_answer s.query) plain from h.beside run in
+    run-later at moment early (PoolRun-permuted (map (at_address h.ip_of) l.servers) h.ips (IsPermutation-sym h.ips (map (at_address h.ip_of) l.servers) h.whole) by_ip)
+
+module _ (terms : Terms) (greatest moment : ℕ) (log : Log) (pools : Pools) (n : ℕ) (s : Sought) (h : SoughtHolds terms greatest moment log pools n s) (begun : ℕ) (since : begun ≤ s.start) where
+  abbrev g : List ℕ
+  g = entries_of h.heard
+
+  abbrev denied : IpAddr → Bool
+  denied = denies terms.answer_filter
+
+  -- it came to this by its entries
+  concluded : (answer : Answered) → 0 < length h.ends → PoolRun (by_address 5000000) (class_of_answer s.query) h.ips h.ends answer s.start moment
+      → Concluded terms moment begun log s.zone s.query g answer
+  concluded answer some run =
+      let t = h.tried in
+      let lengths = sends-length t.logged in
+      let entries : 0 < length g = omega (arith, some, lengths.0) in
+      let moments : 0 < length t.moments = omega (arith, some, lengths.1) in
+      let past = h.past in
+      record {
+        ips = h.ips;
+        ends = h.ends;
+        moments = t.moments;
+        start = s.start;
+        now = moment;
+        above = h.above;
+        listed = h.listed;
+        rises = t.rises;
+        logged = t.logged;
+        run = run;
+        bounded = bounded-of terms greatest moment log pools n s h;
+        since = t.since;
+        till = t.till;
+        asked = omega (arith, since, past);
+        timed = record { some = entries; began = began-ended log s.query greatest s.first g h.ends s.start entries t.began; since = since; answered = omega arith };
+        fresh = inl (last-since t.moments begun s.start since moments t.since);
+      }
+
+  -- it failed
+  failed : (error : NetError) → IsTrue (is_lookup_error error) → Concluded terms moment begun log s.zone s.query g (Err error)
+      → AskHolds terms greatest moment begun log s.zone s.query g (failed_by (last_of g) s.at error)
+  failed (net.Dns (dns.NoRecordsFound found)) is c = cc
+  failed (net.Dns (dns.ResponseCode code)) is c = record { is = is; concluded = c }
+  failed net.Busy is c = cc
+  failed (net.Io kind) is c = cc
+  failed net.NoConnections is c = record { is = is; concluded = c }
+  failed net.Timeout is c = record { is = is; concluded = c }
+  failed net.Truncated is c = record { is = is; concluded = c }
+  failed net.QueryCaseMismatch is c = record { is = is; concluded = c }
+  failed (net.ForeignClassRecord name class kind) is c = record { is = is; concluded = c }
+  failed (net.Msg text) is c = record { is = is; concluded = c }
+  failed net.NoMemory is c = record { is = is; concluded = c }
+
+  -- the last end told a response
+  told : (earlier : List (End IpAddr)) (last : End IpAddr) (response : Class) (class : Result Message DnsError) → h.ends ≡ earlier ++ last ∷ [] → class_of_answer s.query last.outcome ≡ response
+      → IsTrue (is_response response) → left_of_class denied s.query response ≡ Some class → IsTold terms greatest begun log s.zone s.query (last_of g) s.at class
+  told earlier last response class whole is counts left =
+      let t = h.tried in
+      let end = last-end terms log s.zone s.query earlier last t.logged t.heard whole in
+      let entry : last_of g ≡ end.entry = ap (λ (o : Option ℕ). elim o [ Some entry ↦ entry | None ↦ 0 ]) end.at_entry in
+      let at : end.moment ≡ s.at = t.last end.moment end.at_moment in
+      let heard = end.heard (subst (λ (c : Class). IsTrue (is_response c)) (sym is) counts) in
+      let early : end.entry ≤ greatest = leb-true end.entry greatest (last-holds (λ k. nat_le k greatest) g None end.entry tt t.early end.at_entry) in
+      let late : s.start ≤ end.moment = leb-true s.start end.moment (last-holds (nat_le s.start) t.moments None end.moment tt t.since end.at_moment) in
+      record {
+        outcome = told_of last.outcome;
+        response = response;
+        early = omega (arith, early, entry);
+        heard = subst (λ (k : ℕ). Heard (given_of terms) log k s.query (told_of last.outcome) s.at s.zone) (sym entry)
+            (subst (λ (m : ℕ). Heard (given_of terms) log end.entry s.query (told_of last.outcome) m s.zone) at heard.0);
+        asked = subst (λ (k : ℕ). AskedAs log k s.query) (sym entry) heard.1;
+        late = omega (arith, since, late, at);
+        is = class-told s.query last.outcome ∙ ap Some is;
+        left = left;
+      }
+
+  -- where a lookup stands that was answered so
+  abbrev Comes : Answered → Type 0
+  Comes a = AskHolds terms greatest moment begun log s.zone s.query g (answered_by (last_of g) s.at (left_of s.query denied a))
+
+  abbrev Run : Answered → Type 0
+  Run a = PoolRun (by_address 5000000) (class_of_answer s.query) h.ips h.ends a s.start moment
+
+  -- it was answered with an error that is no denial
+  ended : (answer : Answered) (error : NetError) → answer ≡ Err error → IsTrue (is_lookup_error error) → 0 < length h.ends → Run answer → Comes answer
+  ended answer error is fails some run = subst Comes (sym is) (failed error fails (concluded (Err error) some (subst Run is run)))
+
+  -- an answer, where the filter leaves something of it or nothing
+  positive : (earlier : List (End IpAddr)) (last : End IpAddr) (m : Message) → h.ends ≡ earlier ++ last ∷ [] → class_of_answer s.query last.outcome ≡ Positive m
+      → (all : Bool) → is_all_denied denied m ≡ all
+      → AskHolds terms greatest moment begun log s.zone s.query g (answered_by (last_of g) s.at (if all then Err (nothing_left s.query) else Ok (without_denied denied m)))
+  positive earlier last m whole is true left =
+      told earlier last (Positive m) (Err (dns.NoRecordsFound (nothing_left_for s.query))) whole is refl
+      (ap (λ (b : Bool). Some (if b then Err (dns.NoRecordsFound (nothing_left_for s.query)) else Ok (without_denied denied m))) left)
+  positive earlier last m whole is false left =
+      told earlier last (Positive m) (Ok (without_denied denied m)) whole is refl
+      (ap (λ (b : Bool). Some (if b then Err (dns.NoRecordsFound (nothing_left_for s.query)) else Ok (without_denied denied m))) left)
+
+  decided-by : (answer : Answered) (d : IsDecided (by_address 5000000) (class_of_answer s.query) h.ends answer) (c : Class) → class_of_answer s.query d.last.outcome ≡ c
+      → is_retryable true c ≡ false → Comes answer
+  decided-by answer d (Positive m) is final =
+      let whole = answer-whole (told_of d.last.outcome) s.query m (class-told s.query d.last.outcome ∙ ap Some is) in
+      let left = positive d.earlier d.last m d.whole is (is_all_denied denied m) refl in
+      subst Comes (sym (d.answers ∙ ap answer_of is))
+      (subst (λ (o : Option Record). AskHolds terms greatest moment begun log s.zone s.query g (answered_by (last_of g) s.at (elim o [
+        | Some r ↦ Err (foreign_class r)
+        | None ↦ if is_all_denied denied m then Err (nothing_left s.query) else Ok (without_denied denied m)
+      ]))) (sym whole.1) left)
+  decided-by answer d (Negative n) is final =
+      subst Comes (sym (d.answers ∙ ap answer_of is)) (told d.earlier d.last (Negative n) (Err (dns.NoRecordsFound n)) d.whole is refl refl)
+  decided-by answer d (Error e) is final =
+      ended answer e (d.answers ∙ ap answer_of is) (final-error s.query d.last.outcome e is final) (some-last h.ends d.earlier d.last d.whole) (decided d)
+  decided-by answer d (Code c) is final =
+      ended answer (net.Dns (dns.ResponseCode c)) (d.answers ∙ ap answer_of is) refl (some-last h.ends d.earlier d.last d.whole) (decided d)
+  decided-by answer d Truncated is final = ended answer net.Truncated (d.answers ∙ ap answer_of is) refl (some-last h.ends d.earlier d.last d.whole) (decided d)
+  decided-by answer d (Foreign r) is final =
+      ended answer (net.ForeignClassRecord r.name r.dns_class r.record_type) (d.answers ∙ ap answer_of is) refl (some-last h.ends d.earlier d.last d.whole) (decided d)
+
+  answered-by : (answer : Answered) → Run answer → Comes answer
+  answered-by answer (decided d) =
+      let c = class_of_answer s.query d.last.outcome in
+      decided-by answer d c refl (not_false (is_retryable true c) (and_parts (not (is_retryable true c)) _ d.final).0)
+  answered-by answer (spent e) =
+      ended answer (what_is_left (by_address 5000000) (class_of_answer s.query) h.ends) e.answers (left-lookup 5000000 s.query h.ends e.none)
+      (spent-some 5000000 s.query h.ips h.ends h.some e.tried) (spent e)
+  answered-by answer (late l) = ended answer net.Timeout l.answers refl (late-some h.ends l.some) (late l)
+
+  -- What a lookup came to that was answered.
+  pub answered : (answer : Answered) → Run answer → Comes answer
+  answered answer run = answered-by answer run
+
+-- ---- as it is read
+
+-- A step no later than the moment answered it so, by its ends.
+pub record WasAnswered (denied : IpAddr → Bool) (heard : List HeardEnd) (moment : ℕ) (told : Answered) (l : LookupState) : Type 0 where
+  pub at : ℕ
+  pub early : at ≤ moment
+  pub run : IsRun denied heard told at l
+
+was-answered : (denied : IpAddr → Bool) (heard : List HeardEnd) (moment : ℕ) (told : Answered) (l : LookupState) → answer_in l.state ≡ Some told → out_of_memory told ≡ false → IsAt_state denied heard l.state l
+    → ((answer : Answered) (at : ℕ) → l.state ≡ Decided answer at → at ≤ moment) → WasAnswered denied heard moment told l
+was-answered denied heard moment told l is kept at decided_at = by l.state refl is at
+  where
+    run-so : (answer : Answered) (at : ℕ) → l.state ≡ Decided answer at → answer ≡ told → IsRun denied heard answer at l ⊎ IsTrue (out_of_memory answer) → WasAnswered denied heard moment told l
+    run-so answer at was same (inl run) = record { at = at; early = decided_at answer at was; run = subst (λ (a : Answered). IsRun denied heard a at l) same run }
+    run-so answer at was same (inr out) = let wrong : true ≡ false = sym out ∙ ap out_of_memory same ∙ kept in cc
+
+    by : (s : State) → l.state ≡ s → answer_in s ≡ Some told → IsAt_state denied heard s l → WasAnswered denied heard moment told l
+    by Asking was e k = cc
+    by (BackingOff until order polls) was e k = cc
+    by (Decided answer at) was e k = run-so answer at was (same_Some _ _ e) k
+
+-- What a lookup came to, as it is read for a question at the servers of a zone.
+pub answer-holds : (terms : Terms) (greatest moment : ℕ) (log : Log) (pools : Pools) (n : ℕ) (q : Query) (zone : DomainName) (begun at : ℕ) (told : Answered) (ends : List ℕ)
+    → PoolsHold terms greatest moment log pools → Seeks pools n q zone begun at → Some told ≡ option_and_then (λ (l : OpenLookup). answer_of_state l.lookup) (lookup_at pools.shared n) → out_of_memory told ≡ false
+    → ends ≡ closed_by (lookup_at pools.shared n) → AskHolds terms greatest moment begun log zone q ends (answered_by (last_of ends) at told)
+answer-holds terms greatest moment log pools n q zone begun at told ends holds k answers kept entries =
+    let s = k.sought in
+    let h = holds.lookups n s k.is in
+    let l = h.shared_by.lookup in
+    let is : answer_in l.state ≡ Some told = sym (answers ∙ ap (option_and_then (λ (l : OpenLookup). answer_of_state l.lookup)) h.there) in
+    let a = was-answered (denies terms.answer_filter) h.heard moment told l is kept h.stands.at h.decided in
+    let came = answered terms greatest moment log pools n s h begun k.since a.run.whole (run-of terms greatest moment log pools n s h a.run.whole a.at a.early a.run.run) in
+    let read : left_of s.query (denies terms.answer_filter) a.run.whole ≡ told = ap (λ (p : Query). left_of p (denies terms.answer_filter) a.run.whole) (sym h.asks) ∙ sym a.run.left in
+    let by : entries_of h.heard ≡ ends = sym (entries ∙ ap closed_by h.there ∙ h.stands.keeps.entries) in
+    let as_told = subst (λ (t : Answered). AskHolds terms greatest moment begun log s.zone s.query (entries_of h.heard) (answered_by (last_of (entries_of h.heard)) s.at t)) read came in
+    let as_read = subst (λ (g : List ℕ). AskHolds terms greatest moment begun log s.zone s.query g (answered_by (last_of g) s.at told)) by as_told in
+    let at_last = subst (λ (m : ℕ). AskHolds terms greatest moment begun log s.zone s.query ends (answered_by (last_of ends) m told)) k.last as_read in
+    let for_query = subst (λ (p : Query). AskHolds terms greatest moment begun log s.zone p ends (answered_by (last_of ends) at told)) k.query at_last in
+    subst (λ (z : DomainName). AskHolds terms greatest moment begun log z q ends (answered_by (last_of ends) at told)) k.zone_is for_query

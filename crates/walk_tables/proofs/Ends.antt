@@ -1,0 +1,305 @@
+-- What a send of a lookup ended with, as the log shows it.
+use Rattle.std.proofs.Common.{◌≡◌, ℕ, ◌+◌, ◌-◌, ◌^◌, ◌≤◌, min, Bool, true, false, cond, Option, Some, None, Result, Ok, Err, refl, sym, ap, subst, ◌∙◌, arith}
+use Rattle.std.specs.Prelude.{IsTrue, if◌then◌else◌}
+use Rattle.std.proofs.lemmas.Bool.{leb-true}
+use Rattle.std.proofs.lemmas.Option.{same_Some, none-some}
+use Rattle.std.specs.declared.net.ip_addr.IpAddr.{IpAddr}
+use Rattle.dns_core.specs.Name.{DomainName}
+use Rattle.dns_core.specs.Log.{Log}
+use Rattle.dns_core.specs.Classifying.{classify_of}
+use Rattle.dns_core.specs.declared.connection.Protocol.{Protocol}
+use Rattle.dns_core.specs.declared.errors.NoMemory.{NoMemory}
+use Rattle.dns_core.specs.declared.message.Query.{Query}
+use Rattle.dns_core.specs.declared.message.Message.{Message}
+use Rattle.dns_core.specs.declared.net_error.NetError.{NetError}
+use Rattle.dns_core.specs.declared.net_error.NetError.TheVariants as net
+use Rattle.dns_core.specs.declared.net_error.DnsError.TheVariants as dns
+use Rattle.dns_core.specs.declared.log.LogEntry.TheVariants as line
+use Rattle.dns_core.specs.declared.log.ToldOutcome.{ToldOutcome}
+use Rattle.dns_core.specs.declared.log.ToldOutcome.TheVariants as said
+use Rattle.resolution.specs.Names.{is_above, walk}
+use Rattle.resolution.specs.Class.{class_of_error}
+use Rattle.resolution.specs.Lookups.{Answered, class_of_answer}
+use Rattle.resolution.specs.Ending.{waits, EndsSend}
+use Rattle.resolution.specs.Ending.EndsSend.{answered}
+use Rattle.resolution.specs.Serving.{Serves, Heard}
+use Rattle.resolution.specs.Serving.Heard.{heard}
+use Rattle.resolution.proofs.Keeping.{Serves-later}
+use Rattle.server_core.specs.Sending.{is_open, asked_of, opening_of, pendings, end_of, is_last_poll, after_put, is_tried_again, after_error, after_opening, response_end, result_of, lost, polled, polled_once, taken, come_to}
+use Rattle.server_core.specs.declared.order.After.{After}
+use Rattle.server_core.specs.declared.order.After.TheVariants as after
+use Rattle.server_core.specs.declared.order.Sent.{Sent}
+use Rattle.server_core.specs.declared.order.Outcome.{Outcome}
+use Rattle.server_core.specs.declared.order.Outcome.TheVariants.{Pending, Connected, Told, Failed, Slept}
+use Rattle.server_core.specs.declared.server_send.Asked.{Asked}
+use Rattle.server_core.specs.declared.server_send.Stage.{Stage}
+use Rattle.server_core.specs.declared.server_send.Stage.TheVariants as stage
+use Rattle.server_core.specs.declared.server_send.ServerSend.{ServerSend}
+use Rattle.retry_rules.specs.Agenda.{class_of_sent}
+use Rattle.retry_lookup.specs.Hearing.{closing_entry}
+use Rattle.retry_lookup.specs.Running.{IsFor as IsAt_stage}
+use Rattle.order_carrier.specs.Fits.{Closes, OutcomeIs}
+use Rattle.server_pool.proofs.ByAddress.{told_class_itself}
+use Rattle.walk_tables.specs.Order.{IsFor, WaitsBy, IsGivenUpIn, is_given_up, LogGoesOnIf, LogGoesOn, last_entry}
+use Rattle.walk_tables.specs.Asked.{AskedAs}
+use Rattle.walk_tables.specs.Terms.{Terms, given_of}
+use Rattle.walk_tables.specs.Tried.{is_response, told_of}
+use Rattle.walk_tables.specs.Pools.{is_denial, IsSentOver, MayTake, sent_to}
+use Rattle.walk_tables.proofs.Sends.{asked-entry, same_query-refl, lost-failed, lost-gave_up}
+
+-- The send to the address ended so, by the entry, at the moment; what is a response was heard from a server of the zone.
+pub record IsEndedBy (terms : Terms) (log : Log) (now entry : ℕ) (zone : DomainName) (q : Query) (ip : IpAddr) (result : Answered) : Type 0 where
+  pub outcome : Answered
+  pub class : class_of_sent q result ≡ class_of_answer q outcome
+  pub ends : EndsSend (given_of terms) log q entry (record { server = ip; outcome = outcome }) now
+  pub heard : IsTrue (is_response (class_of_answer q outcome)) → Heard (given_of terms) log entry q (told_of outcome) now zone × AskedAs log entry q
+
+-- what was sent is for the question
+pub sent-for : (asks : Bool) (ip : IpAddr) (q : Query) (since : ℕ) (sent : Sent) → IsSentOver asks ip q since sent → IsFor sent.query q
+sent-for false ip q since sent over = subst (λ (o : Option Query). IsFor o q) (sym over.1) tt
+sent-for true ip q since sent over = subst (λ (o : Option Query). IsFor o q) (sym over.1) refl
+
+sent-to : (asks : Bool) (ip : IpAddr) (q : Query) (since : ℕ) (sent : Sent) → IsSentOver asks ip q since sent → sent.ip ≡ ip
+sent-to false ip q since sent over = over.0
+sent-to true ip q since sent over = over.0
+
+-- an error that is a response is a denial
+error-denial : (e : NetError) → is_response (class_of_error e) ≡ true → is_denial e ≡ true
+error-denial (net.Dns (dns.NoRecordsFound n)) h = refl
+error-denial (net.Dns (dns.ResponseCode code)) h = cc
+error-denial net.Busy h = cc
+error-denial (net.Io kind) h = cc
+error-denial net.Timeout h = cc
+error-denial net.NoConnections h = cc
+error-denial net.Truncated h = cc
+error-denial net.QueryCaseMismatch h = cc
+error-denial (net.ForeignClassRecord n c t) h = cc
+error-denial (net.Msg text) h = cc
+error-denial net.NoMemory h = cc
+
+-- ---- how an outcome ends a send
+
+-- what an order that was lost leaves
+lost-by : (o : Option Asked) (error : NetError) (s : ServerSend) (result : Answered) → end_of (after_error o error s).stage ≡ Some result → Err error ≡ result
+lost-by None error s result is = same_Some _ _ is
+lost-by (Some asked) error s result is = by (is_tried_again s.retried asked error) is
+  where
+    by : (again : Bool) → end_of (cond again (record s { retried = true; stage = stage.Ready }) (record s { stage = stage.Ended (Err error) })).stage ≡ Some result → Err error ≡ result
+    by true h = cc
+    by false h = same_Some _ _ h
+
+lost-end : (error : NetError) (s : ServerSend) (result : Answered) → end_of (lost error s).stage ≡ Some result → Err error ≡ result
+lost-end error s result is = lost-by (asked_of s.stage) error s result is
+
+-- a poll before the last one ends nothing
+pub once-open : (at : Stage) → is_open at ≡ true → end_of (polled_once at) ≡ None
+once-open stage.Ready opened = cc
+once-open (stage.Opening protocol order polls) opened = refl
+once-open (stage.Opened protocol conn) opened = cc
+once-open (stage.Asking asked polls) opened = refl
+once-open (stage.Ended result) opened = cc
+once-open stage.Over opened = cc
+
+-- the last poll ends it with a timeout
+pub polled-end : (patience : ℕ) (s : ServerSend) (result : Answered) → is_open s.stage ≡ true → end_of (polled patience s).stage ≡ Some result → (is_last_poll patience s.stage ≡ true) × (Err net.Timeout ≡ result)
+polled-end patience s result opened is = by (is_last_poll patience s.stage) refl is
+  where
+    by : (b : Bool) → is_last_poll patience s.stage ≡ b → end_of (cond b (lost net.Timeout s) (record s { stage = polled_once s.stage })).stage ≡ Some result
+        → (is_last_poll patience s.stage ≡ true) × (Err net.Timeout ≡ result)
+    by true e h = (e, lost-end net.Timeout s result h)
+    by false e h = absurd (none-some result (sym (once-open s.stage opened) ∙ h))
+
+-- an order to open or to ask is open
+pub is-open : (asks : Bool) (at : Stage) → IsAt_stage asks at → is_open at ≡ true
+is-open asks stage.Ready for = absurd for
+is-open asks (stage.Opening protocol order polls) for = refl
+is-open asks (stage.Opened protocol conn) for = absurd for
+is-open asks (stage.Asking asked polls) for = refl
+is-open asks (stage.Ended r) for = absurd for
+is-open asks stage.Over for = absurd for
+
+-- what it comes to is what the outcome makes of it
+pub come-open : (patience : ℕ) (o : Outcome) (s : ServerSend) → is_open s.stage ≡ true → come_to patience o s ≡ taken patience o s
+come-open patience o s opened = ap (λ (b : Bool). cond b (taken patience o s) s) opened
+
+-- one that opens has an opening
+opening-there : (at : Stage) → IsAt_stage false at → (x : Protocol × ℕ) × (opening_of at ≡ Some x)
+opening-there stage.Ready for = absurd for
+opening-there (stage.Opening protocol order polls) for = ((protocol, order), refl)
+opening-there (stage.Opened protocol conn) for = absurd for
+opening-there (stage.Asking asked polls) for = cc
+opening-there (stage.Ended r) for = absurd for
+opening-there stage.Over for = absurd for
+
+-- and one that asks a question
+asked-there : (at : Stage) → IsAt_stage true at → (x : Asked) × (asked_of at ≡ Some x)
+asked-there stage.Ready for = absurd for
+asked-there (stage.Opening protocol order polls) for = cc
+asked-there (stage.Opened protocol conn) for = absurd for
+asked-there (stage.Asking asked polls) for = (asked, refl)
+asked-there (stage.Ended r) for = absurd for
+asked-there stage.Over for = absurd for
+
+connected-goes_on : (s : ServerSend) (result : Answered) → IsAt_stage false s.stage → end_of (after_opening (opening_of s.stage) s).stage ≡ Some result → ⊥
+connected-goes_on s result for is =
+    let x = opening-there s.stage for in
+    none-some result (subst (λ (o : Option (Protocol × ℕ)). end_of (after_opening o s).stage ≡ Some result) x.1 is)
+
+-- ---- what the order of it came to
+
+-- that it was done, as it is told
+abbrev pub done-so : After → Result After NoMemory
+done-so did = Ok did
+
+module _ (terms : Terms) (log : Log) (now since : ℕ) (zone : DomainName) (q : Query) (ip : IpAddr) (serves : Serves (given_of terms) log (since + 1) ip zone) (above : IsTrue (is_above zone (walk q))) where
+  -- what was told of a question was told of it as it was asked
+  asked-as : (entry : ℕ) (sent : Sent) (outcome : ToldOutcome) → Closes log sent entry (line.Told sent.of now outcome) → sent.query ≡ Some q → AskedAs log entry q
+  asked-as entry sent outcome closes is = record {
+    ask = sent.of;
+    moment = now;
+    outcome = outcome;
+    ip = sent.ip;
+    protocol = closes.sent.protocol;
+    asked_at = sent.moment;
+    told = closes.logged;
+    question = asked-entry log q sent closes.sent.protocol None is closes.sent.logged;
+  }
+
+  -- a message
+  told-end : (entry : ℕ) (sent : Sent) (message : Message) → IsSentOver true ip q since sent → OutcomeIs log now (Told entry sent message)
+      → IsEndedBy terms log now entry zone q ip (result_of (classify_of message))
+  told-end entry sent message over fits =
+      let question = asked-entry log q sent fits.0.sent.protocol None over.1 fits.0.sent.logged in
+      let itself : message.query ≡ q = same_Some _ _ (sym fits.1 ∙ over.1) in
+      let here = subst (λ (x : IpAddr). Serves (given_of terms) log (since + 1) x zone) (sym over.0) serves in
+      let late = over.2 in
+      subst (λ (x : IpAddr). IsEndedBy terms log now entry zone q x (result_of (classify_of message))) over.0 (record {
+        outcome = Ok message;
+        class = told_class_itself q message itself;
+        ends = answered fits.0.logged question (same_query-refl q);
+        heard = λ response. (
+          heard (record {
+            protocol = fits.0.sent.protocol;
+            asked = q;
+            asked_at = sent.moment;
+            told = fits.0.logged;
+            question = question;
+            before = fits.0.before;
+            same = same_query-refl q;
+          }) (Serves-later (given_of terms) log (omega (arith, late)) here) above,
+          asked-as entry sent _ fits.0 over.1,
+        );
+      })
+
+  -- an error
+  denial-heard : (entry : ℕ) (sent : Sent) (error : NetError) → IsSentOver true ip q since sent → OutcomeIs log now (Failed entry sent false error)
+      → Heard (given_of terms) log entry q (said.Error error) now zone × AskedAs log entry q
+  denial-heard entry sent error over fits =
+      let question = asked-entry log q sent fits.sent.protocol None over.1 fits.sent.logged in
+      let here = subst (λ (x : IpAddr). Serves (given_of terms) log (since + 1) x zone) (sym over.0) serves in
+      let late = over.2 in (
+        heard (record {
+          protocol = fits.sent.protocol;
+          asked = q;
+          asked_at = sent.moment;
+          told = fits.logged;
+          question = question;
+          before = fits.before;
+          same = same_query-refl q;
+        }) (Serves-later (given_of terms) log (omega (arith, late)) here) above,
+        asked-as entry sent _ fits over.1,
+      )
+
+  failed-end : (asks : Bool) (entry : ℕ) (sent : Sent) (refused : Bool) (error : NetError) → (IsTrue (is_denial error) → (asks ≡ true) × (refused ≡ false))
+      → IsSentOver asks ip q since sent → OutcomeIs log now (Failed entry sent refused error) → IsEndedBy terms log now entry zone q ip (Err error)
+  failed-end asks entry sent refused error may over fits =
+      let lost = lost-failed (given_of terms) log now entry sent refused error fits in record {
+        outcome = Err error;
+        class = refl;
+        ends = subst (λ (x : IpAddr). EndsSend (given_of terms) log q entry (record { server = x; outcome = Err error }) now) (sent-to asks ip q since sent over)
+            (lost.ends q (sent-for asks ip q since sent over));
+        heard = λ response.
+            let m = may (error-denial error response) in
+            denial-heard entry sent error (subst (λ (b : Bool). IsSentOver b ip q since sent) m.0 over) (subst (λ (b : Bool). OutcomeIs log now (Failed entry sent b error)) m.1 fits);
+      }
+
+  gave_up-end : (asks : Bool) (entry : ℕ) (sent : Sent) (told : Log) → terms.patience ≤ waits log sent.of (entry + 1) → IsSentOver asks ip q since sent → Closes told sent entry (line.Waited sent.of)
+      → IsGivenUpIn sent.of entry now told log → IsEndedBy terms log now (entry + 1) zone q ip (Err net.Timeout)
+  gave_up-end asks entry sent told enough over waited up =
+      let lost = lost-gave_up (given_of terms) told log now entry sent enough waited up in record {
+        outcome = Err net.Timeout;
+        class = refl;
+        ends = subst (λ (x : IpAddr). EndsSend (given_of terms) log q (entry + 1) (record { server = x; outcome = Err net.Timeout }) now) (sent-to asks ip q since sent over)
+            (lost.ends q (sent-for asks ip q since sent over));
+        heard = λ response. cc;
+      }
+
+  module _ (patience start : ℕ) (first : Option IpAddr) (ended asks : Bool) (before : Option ℕ) (s : ServerSend) (told : Log) (did : After) (result : Answered) (patient : terms.patience ≤ patience)
+      (for : IsAt_stage asks s.stage) where
+    opened : is_open s.stage ≡ true
+    opened = is-open asks s.stage for
+
+    taken-end : (o : Outcome) → end_of (come_to patience o s).stage ≡ Some result → end_of (taken patience o s).stage ≡ Some result
+    taken-end o is = sym (ap (λ (x : ServerSend). end_of x.stage) (come-open patience o s opened)) ∙ is
+
+    -- a poll that found nothing was the last one
+    gives-up : (entry of : ℕ) → did ≡ after_put patience s.stage (Pending entry of) → is_last_poll patience s.stage ≡ true → did ≡ after.GiveUp
+    gives-up entry of is last =
+        is ∙ ap (λ (b : Bool). if b then (if is_last_poll patience s.stage then after.GiveUp else after.Kept) else after.Late) opened
+        ∙ ap (λ (b : Bool). if b then after.GiveUp else after.Kept) last
+
+    up-in : (entry of : ℕ) (w : Sent) → did ≡ after.GiveUp → LogGoesOn now (Some w) (Pending entry of) (done-so did) told log → IsGivenUpIn w.of entry now told log
+    up-in entry of w is goes = subst (λ (d : After). LogGoesOnIf (is_given_up (done-so d)) now (Some w) (Pending entry of) told log) is goes
+
+    pending-end : (w : Option Sent) (entry of : ℕ) → MayTake start q first ended since before asks ip w (Pending entry of) → WaitsBy told w (Pending entry of)
+        → LogGoesOn now w (Pending entry of) (done-so did) told log → did ≡ after_put patience s.stage (Pending entry of) → pendings s.stage + 1 ≤ waits log of (entry + 1)
+        → end_of (come_to patience (Pending entry of) s).stage ≡ Some result → IsEndedBy terms log now (closing_entry (Pending entry of)) zone q ip result × (sent_to w (Pending entry of) ≡ Some ip)
+    pending-end None entry of may by goes is enough end = absurd may
+    pending-end (Some w) entry of may by goes is enough end =
+        let p = polled-end patience s result opened (taken-end (Pending entry of) end) in
+        let up = up-in entry of w (gives-up entry of is p.0) goes in
+        let most : patience ≤ pendings s.stage + 1 = leb-true patience (pendings s.stage + 1) p.0 in
+        let many : terms.patience ≤ waits log w.of (entry + 1) = subst (λ (k : ℕ). terms.patience ≤ waits log k (entry + 1)) (sym may.0) (omega (arith, patient, most, enough)) in
+        let waited : Closes told w entry (line.Waited w.of) = subst (λ (k : ℕ). Closes told w entry (line.Waited k)) (sym may.0) (by may.0) in
+        let numbered = up.numbered in
+        let closing : entry + 1 ≡ min (entry + 1) (2 ^ 64 - 1) = omega (arith, numbered) in (
+          subst (λ (r : Answered). IsEndedBy terms log now (min (entry + 1) (2 ^ 64 - 1)) zone q ip r) p.1
+              (subst (λ (k : ℕ). IsEndedBy terms log now k zone q ip (Err net.Timeout)) closing (gave_up-end asks entry w told many may.2.over waited up)),
+          ap (λ (x : IpAddr). Some x) (sent-to asks ip q since w may.2.over),
+        )
+
+    -- What a send ended with by an outcome of its order.
+    pub ended-by : (w : Option Sent) (o : Outcome) → MayTake start q first ended since before asks ip w o → OutcomeIs log now o → WaitsBy told w o → LogGoesOn now w o (done-so did) told log
+        → did ≡ after_put patience s.stage o → ((entry of : ℕ) → o ≡ Pending entry of → pendings s.stage + 1 ≤ waits log of (entry + 1)) → end_of (come_to patience o s).stage ≡ Some result
+        → IsEndedBy terms log now (closing_entry o) zone q ip result × (sent_to w o ≡ Some ip)
+    ended-by w (Pending entry of) may fits by goes is enough end = pending-end w entry of may by goes is (enough entry of refl) end
+    ended-by w (Connected entry sent) may fits by goes is enough end =
+        absurd (connected-goes_on s result (subst (λ (b : Bool). IsAt_stage b s.stage) may.0 for) (taken-end (Connected entry sent) end))
+    ended-by w (Told entry sent message) may fits by goes is enough end =
+        let x = asked-there s.stage (subst (λ (b : Bool). IsAt_stage b s.stage) may.0 for) in
+        let told_end : response_end (asked_of s.stage) (classify_of message) ≡ result = same_Some _ _ (taken-end (Told entry sent message) end) in
+        let result_is : result_of (classify_of message) ≡ result = sym (ap (λ (o : Option Asked). response_end o (classify_of message)) x.1) ∙ told_end in (
+          subst (λ (r : Answered). IsEndedBy terms log now entry zone q ip r) result_is
+              (told-end entry sent message (subst (λ (b : Bool). IsSentOver b ip q since sent) may.0 may.1.over) fits),
+          ap (λ (x : IpAddr). Some x) (sent-to asks ip q since sent may.1.over),
+        )
+    ended-by w (Failed entry sent refused error) may fits by goes is enough end = (
+      subst (λ (r : Answered). IsEndedBy terms log now entry zone q ip r) (lost-end error s result (taken-end (Failed entry sent refused error) end)) (failed-end asks entry sent refused error may.0 may.1.over fits),
+      ap (λ (x : IpAddr). Some x) (sent-to asks ip q since sent may.1.over),
+    )
+    ended-by w Slept may fits by goes is enough end = absurd may
+
+    -- an outcome that is no poll ends its order
+    ended-is : did ≡ (if is_open s.stage then after.Ended else after.Late) → did ≡ after.Ended
+    ended-is is = is ∙ ap (λ (b : Bool). if b then after.Ended else after.Late) opened
+
+    -- The entry by which it ended is the last one that is put.
+    pub ended-last : (w : Option Sent) (o : Outcome) → MayTake start q first ended since before asks ip w o → did ≡ after_put patience s.stage o → end_of (come_to patience o s).stage ≡ Some result
+        → last_entry (done-so did) w o ≡ closing_entry o
+    ended-last None (Pending entry of) may is end = absurd may
+    ended-last (Some w) (Pending entry of) may is end =
+        ap (λ (d : After). last_entry (done-so d) (Some w) (Pending entry of)) (gives-up entry of is (polled-end patience s result opened (taken-end (Pending entry of) end)).0)
+    ended-last w (Connected entry sent) may is end = ap (λ (d : After). last_entry (done-so d) w (Connected entry sent)) (ended-is is)
+    ended-last w (Told entry sent message) may is end = ap (λ (d : After). last_entry (done-so d) w (Told entry sent message)) (ended-is is)
+    ended-last w (Failed entry sent refused error) may is end = ap (λ (d : After). last_entry (done-so d) w (Failed entry sent refused error)) (ended-is is)
+    ended-last w Slept may is end = absurd may

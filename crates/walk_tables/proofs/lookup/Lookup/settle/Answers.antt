@@ -1,0 +1,16 @@
+use Rattle.walk_tables.proofs.Heard.{answered-hears}
+use Rattle.walk_tables.proofs.lookup.Lookup.settle.Goals as goal
+
+pub returns-clause-falls : goal.returns-clause-falls
+returns-clause-falls c = rw c.answered_by.ensures (answered-hears _ _ _)
+
+pub returns-clause-holds : goal.returns-clause-holds
+returns-clause-holds c terms greatest moment log pools h =
+    let came = rw c.in-Some.is at c.in_ok-answer.ensures terms greatest moment log pools in
+    let same = c.leave.ensures.same in (
+      record {
+        above = rw same.0 h.above;
+        ask = rw (same.0, same.1, c.answered_by.ensures, c.last_of-entry.ensures, c.items.ensures) came;
+      },
+      c.leave.ensures.pools terms greatest moment log pools,
+    )

@@ -1,0 +1,14 @@
+use Rattle.std.proofs.Common.{refl}
+use Rattle.walk_tables.proofs.Pooling.{pools-forgotten, pools-left}
+use Rattle.walk_tables.proofs.pools.Pools.leave.Goals as goal
+
+pub returns : goal.returns
+returns c = record {
+  holds = λ terms greatest moment log h.
+      let n = c.args.lookup.number in
+      let mid = c.forget.new.self in
+      let forgotten = rw c.number.ensures at c.forget.ensures in
+      pools-left terms greatest moment log n mid _ (record { left = c.leave.ensures.left; last = c.leave.ensures.last; numbers = refl; sought = λ m. refl }) forgotten.none
+      (pools-forgotten terms greatest moment log n c.args.self.now mid forgotten h);
+  gone = (rw c.number.ensures at c.forget.ensures).none;
+}

@@ -1,0 +1,13 @@
+use Rattle.std.proofs.Common.{take}
+use Rattle.std.specs.List.{AllZip}
+use Rattle.walk_tables.specs.Terms.{Terms}
+use Rattle.walk_tables.specs.Pools.{IsGrown, IsMet, ServersHold}
+use Rattle.walk_tables.proofs.pools.Pools.meet_all.Given as goal
+
+-- those before are met, and only servers came
+abbrev pub invariant-loop-ip : goal.invariant-loop-ip
+invariant-loop-ip l = record {
+  grown : IsGrown l.fn.self l.self;
+  servers : (terms : Terms) → ServersHold terms l.fn.self → ServersHold terms l.self;
+  met : (terms : Terms) → ServersHold terms l.fn.self → AllZip (IsMet l.self) (take l.ip-index l.ips) l.servers.items;
+}

@@ -1,0 +1,6 @@
+pub mod Terms
+pub mod Asked
+pub mod Order
+pub mod Tried
+pub mod Pools
+pub mod Lookup

@@ -1,0 +1,166 @@
+-- Where a lookup stands, how much of it is left, and what it came to.
+use Rattle.std.specs.Prelude.{◌≡◌, ℕ, ◌+◌, ◌^◌, ◌≤◌, Bool, true, false, IsTrue, if◌then◌else◌, List, [], Option, Some, None, Result, Ok, Err}
+use Rattle.std.specs.List.{last_or}
+use Rattle.std.specs.declared.net.ip_addr.IpAddr.{IpAddr}
+use Rattle.dns_core.specs.Name.{DomainName}
+use Rattle.dns_core.specs.Log.{Log}
+use Rattle.dns_core.specs.declared.message.Query.{Query}
+use Rattle.dns_core.specs.declared.message.Message.{Message as Response}
+use Rattle.dns_core.specs.declared.net_error.NoRecords.{NoRecords}
+use Rattle.dns_core.specs.declared.net_error.DnsError.{DnsError}
+use Rattle.dns_core.specs.declared.log.ToldOutcome.{ToldOutcome}
+use Rattle.resolver_settings.specs.Access.{denies}
+use Rattle.resolution.specs.Names.{is_above, walk}
+use Rattle.resolution.specs.Class.{class_of}
+use Rattle.resolution.specs.Verdict.{is_all_denied, without_denied}
+use Rattle.resolution.specs.Serving.{Heard}
+use Rattle.resolution.specs.declared.class.Class.{Class}
+use Rattle.resolution.specs.declared.class.Class.TheVariants.{Error, Code, Truncated, Negative, Foreign, Positive}
+use Rattle.dns_core.specs.declared.net_error.NetError.{NetError}
+use Rattle.dns_core.specs.declared.net_error.NetError.TheVariants as net
+use Rattle.dns_core.specs.declared.net_error.DnsError.TheVariants as dns
+use Rattle.resolution.specs.Lookups.{Answered}
+use Rattle.server_core.specs.declared.order.After.{After}
+use Rattle.server_core.specs.declared.order.After.TheVariants as after
+use Rattle.walk_tables.specs.Asked.{AskedAs}
+use Rattle.walk_tables.specs.Terms.{Terms, given_of}
+use Rattle.walk_tables.specs.Tried.{Concluded}
+use Rattle.walk_tables.specs.Pools.{PoolsHold}
+use Rattle.walk_tables.specs.declared.pools.Answer.{Answer}
+use Rattle.walk_tables.specs.declared.pools.Pools.{Pools}
+use Rattle.walk_tables.specs.declared.lookup.Ask.{Ask}
+use Rattle.walk_tables.specs.declared.lookup.Ask.TheVariants as ask
+use Rattle.walk_tables.specs.declared.lookup.Under.{Under}
+use Rattle.walk_tables.specs.declared.lookup.Want.{Want}
+use Rattle.walk_tables.specs.declared.lookup.Want.TheVariants.{Recall, Begin, Step, Wait, Hear}
+use Rattle.walk_tables.specs.declared.lookup.Lookup.{Lookup}
+use Rattle.walk_tables.specs.declared.lookup.Found.{Found}
+use Rattle.walk_tables.specs.declared.lookup.Found.TheVariants as found
+
+abbrev pub under_want : Option ℕ → Want
+under_want None = Step
+under_want (Some order) = Wait order
+
+abbrev pub want_of : Ask → Want
+want_of ask.Fresh = Recall
+want_of ask.Ready = Begin
+want_of (ask.Under under) = under_want under.order
+want_of (ask.Told entry at class) = Hear
+want_of (ask.Failed error) = Hear
+want_of ask.Heard = Step
+
+-- the last of the entries, 0 where there is none
+abbrev pub last_of : List ℕ → ℕ
+last_of g = elim (last_or None g) [ Some entry ↦ entry | None ↦ 0 ]
+
+-- where a lookup stands that failed, whose last end was by an entry, at a moment: a denial is told by it
+abbrev pub failed_by : ℕ → ℕ → NetError → Ask
+failed_by entry at (net.Dns (dns.NoRecordsFound found)) = ask.Told entry at (Err (dns.NoRecordsFound found))
+failed_by entry at error = ask.Failed error
+
+-- where one stands that was answered so
+abbrev pub answered_by : ℕ → ℕ → Answered → Ask
+answered_by entry at (Ok message) = ask.Told entry at (Ok message)
+answered_by entry at (Err error) = failed_by entry at error
+
+-- how many steps it has before it: one for each order that it may still give
+abbrev pub ask_steps : Ask → ℕ
+ask_steps ask.Fresh = 2 ^ 66 + 1
+ask_steps ask.Ready = 2 ^ 66
+ask_steps (ask.Under under) = 2 + under.left
+ask_steps (ask.Told entry at class) = 1
+ask_steps (ask.Failed error) = 1
+ask_steps ask.Heard = 0
+
+abbrev pub steps : Lookup → ℕ
+steps l = ask_steps l.ask
+
+-- an order of it is open
+abbrev pub IsOpen : Option ℕ → Type 0
+IsOpen None = ⊥
+IsOpen (Some order) = Unit {0}
+
+abbrev pub IsWaiting : Ask → Type 0
+IsWaiting ask.Fresh = ⊥
+IsWaiting ask.Ready = ⊥
+IsWaiting (ask.Under under) = IsOpen under.order
+IsWaiting (ask.Told entry at class) = ⊥
+IsWaiting (ask.Failed error) = ⊥
+IsWaiting ask.Heard = ⊥
+
+-- no order of it is open once it has ended
+abbrev pub noted : After → Under → Under
+noted after.Kept u = u
+noted after.Ended u = record u { order = None }
+noted after.GiveUp u = record u { order = None }
+noted after.Late u = u
+
+-- ---- what it came to
+
+-- what is left for a question where the filter of answers leaves nothing
+abbrev pub nothing_left_for : Query → NoRecords
+nothing_left_for q = record { query = q; soa = None; ns = None; response_code = record { code = 3 }; authorities = [] }
+
+-- what a failed lookup is answered with: another server is asked where one is busy or not reached
+abbrev pub is_lookup_error : NetError → Bool
+is_lookup_error net.Busy = false
+is_lookup_error (net.Io kind) = false
+is_lookup_error (net.Dns (dns.NoRecordsFound n)) = false
+is_lookup_error _ = true
+
+-- what the filter of answers leaves of an answer
+abbrev pub left_of_answer : (IpAddr → Bool) → Query → Response → Result Response DnsError
+left_of_answer denied q m = if is_all_denied denied m then Err (dns.NoRecordsFound (nothing_left_for q)) else Ok (without_denied denied m)
+
+-- what it leaves of a response; of anything else there is nothing
+abbrev pub left_of_class : (IpAddr → Bool) → Query → Class → Option (Result Response DnsError)
+left_of_class denied q (Positive m) = Some (left_of_answer denied q m)
+left_of_class denied q (Negative n) = Some (Err (dns.NoRecordsFound n))
+left_of_class denied q (Error e) = None
+left_of_class denied q (Code c) = None
+left_of_class denied q Truncated = None
+left_of_class denied q (Foreign r) = None
+
+-- Entry i, no later than the greatest, tells an answer or a denial for the question as it was asked, by a server of the zone, at this moment, at or after t0;
+-- the class is what the filter of answers leaves of it.
+pub record IsTold (terms : Terms) (greatest t0 : ℕ) (log : Log) (zone : DomainName) (q : Query) (entry at : ℕ) (class : Result Response DnsError) : Type 0 where
+  pub outcome : ToldOutcome
+  pub response : Class
+  pub early : entry ≤ greatest
+  pub heard : Heard (given_of terms) log entry q outcome at zone
+  pub asked : AskedAs log entry q
+  pub late : t0 ≤ at
+  pub is : class_of outcome q ≡ Some response
+  pub left : left_of_class (denies terms.answer_filter) q response ≡ Some class
+
+-- A lookup failed with the error, which is none of a server that is busy or not reached, and no denial.
+pub record HasFailedBy (terms : Terms) (moment t0 : ℕ) (log : Log) (zone : DomainName) (q : Query) (g : List ℕ) (error : NetError) : Type 0 where
+  pub is : IsTrue (is_lookup_error error)
+  pub concluded : Concluded terms moment t0 log zone q g (Err error)
+
+-- Nothing is known here of a lookup before it was answered: what its pool does for it is known of the pool.
+abbrev pub AskHolds : Terms → ℕ → ℕ → ℕ → Log → DomainName → Query → List ℕ → Ask → Type 0
+AskHolds terms greatest moment t0 log zone q g ask.Fresh = Unit {0}
+AskHolds terms greatest moment t0 log zone q g ask.Ready = Unit {0}
+AskHolds terms greatest moment t0 log zone q g (ask.Under under) = Unit {0}
+AskHolds terms greatest moment t0 log zone q g (ask.Told entry at class) = IsTold terms greatest t0 log zone q entry at class
+AskHolds terms greatest moment t0 log zone q g (ask.Failed error) = HasFailedBy terms moment t0 log zone q g error
+AskHolds terms greatest moment t0 log zone q g ask.Heard = Unit {0}
+
+-- what a lookup came to at its pool
+abbrev pub AnswerHolds : Terms → ℕ → ℕ → ℕ → Log → DomainName → Query → Answer → Type 0
+AnswerHolds terms greatest moment t0 log zone q a = AskHolds terms greatest moment t0 log zone q a.ends (answered_by (last_of a.ends) a.at a.told)
+
+-- The zone is at or above the name of the question.
+pub record LookupHolds (terms : Terms) (greatest moment t0 : ℕ) (log : Log) (zone : DomainName) (l : Lookup) : Type 0 where
+  pub above : IsTrue (is_above zone (walk l.query))
+  pub ask : AskHolds terms greatest moment t0 log zone l.query l.ends l.ask
+
+-- So it is with it and with the pools, after an outcome.
+abbrev pub TakenHolds : Terms → ℕ → ℕ → ℕ → Log → DomainName → Lookup → Pools → Type 0
+TakenHolds terms greatest moment t0 log zone l pools = LookupHolds terms greatest moment t0 log zone l × PoolsHold terms greatest moment log pools
+
+-- A response was told by a server of the zone; or the lookup failed by these entries.
+abbrev pub FoundHolds : Terms → ℕ → ℕ → ℕ → Log → DomainName → Query → List ℕ → Found → Type 0
+FoundHolds terms greatest moment t0 log zone q g (found.Told entry at class) = IsTold terms greatest t0 log zone q entry at class
+FoundHolds terms greatest moment t0 log zone q g (found.Error error) = HasFailedBy terms moment t0 log zone q g error

@@ -1,0 +1,11 @@
+//! What the walks of a recursor stand on: the servers by their addresses, the pools of them, and the
+//! lookups that are under way at these.
+#![tactic(auto)]
+
+mod lookup;
+mod pools;
+mod threads;
+
+pub use lookup::{Ask, Found, Lookup, Under, Want};
+pub use pools::{Answer, Pools};
+pub use threads::tables_cross_threads;

@@ -1,0 +1,370 @@
+//! One question put to the servers of a zone.
+ghost use Rattle.std.specs.Prelude.{◌≡◌, ◌≤◌, ◌<◌, ◌+◌, ◌^◌, ℕ, max, None, Ok, IfOk, IfSome, IsSome, OnOk, OnErr, IsTrue, MatchBool, option_copied};
+ghost use Rattle.dns_core.specs.Name.{DomainName};
+ghost use Rattle.dns_core.specs.Log.{Log};
+ghost use Rattle.resolution.specs.Names.{is_above, walk};
+ghost use Rattle.walk_tables.specs.Order.{last_entry, IsPut};
+ghost use Rattle.walk_tables.specs.Terms.{Terms, given_of};
+ghost use Rattle.walk_tables.specs.Pools.{PoolsHold, StepGoes, ArePool};
+ghost use Rattle.walk_tables.specs.Lookup.{want_of, answered_by, failed_by, last_of, ask_steps, steps, IsWaiting, noted, LookupHolds, TakenHolds, FoundHolds};
+ghost use Rattle.walk_tables.specs.declared.lookup.Ask.TheVariants as ask;
+
+use crate::pools::{Answer, Pools};
+use dns_core::{DnsError, DnsRequest, Message, Name, NetError, NoMemory, Numbers, Query};
+use server_core::{After, Order, Outcome, Sent, Tick};
+use server_pool::PoolLookup;
+use std::alloc::Global;
+use std::mem;
+use std::net::IpAddr;
+
+/// A lookup that is under way at a pool: the number of its open order, and how many it may still give,
+/// which are more than any lookup gives.
+#[derive(Drop, Debug)]
+pub struct Under {
+    pub lookup: PoolLookup,
+    pub order: Option<u64>,
+    pub left: u64,
+}
+
+/// Where a lookup stands. At first the cache was not looked at; then it is to begin, or is under way at
+/// a pool; at last a response was told by an entry, at a moment, or it failed, and that was heard.
+#[derive(Drop, Debug)]
+pub enum Ask {
+    Fresh,
+    Ready,
+    Under(Under),
+    Told {
+        entry: u64,
+        at: u64,
+        class: Result<Message, DnsError>,
+    },
+    Failed(NetError),
+    Heard,
+}
+
+/// What a lookup wants next: what the cache has, to begin at its servers, its next step there, an
+/// outcome to be waited for, or one that came to be heard.
+#[derive(Clone, Copy, Debug)]
+pub enum Want {
+    Recall,
+    Begin,
+    Step,
+    Wait { order: u64 },
+    Hear,
+}
+
+/// A lookup: its question, where it stands, and the entries by which its sends ended.
+#[derive(Drop, Debug)]
+pub struct Lookup {
+    pub query: Query,
+    pub ask: Ask,
+    pub ends: Numbers,
+}
+
+/// What a lookup came to.
+#[derive(Drop, Debug)]
+pub enum Found {
+    Told {
+        entry: u64,
+        at: u64,
+        class: Result<Message, DnsError>,
+    },
+    Error(NetError),
+}
+
+/// More orders than a lookup at so many servers gives: it makes five sends to each and one more, each of
+/// which opens and asks twice at most, and it sleeps four times.
+fn most_orders(servers: usize) -> u64 {
+    (servers as u64).saturating_mul(20).saturating_add(8)
+}
+
+/// The last of these numbers, 0 where there is none.
+fn last_of(numbers: &[u64]) -> u64
+    ensures { result ≡ last_of numbers.now }
+{
+    match numbers.last() {
+        Some(number) => *number,
+        None => 0,
+    }
+}
+
+/// Where a lookup stands that failed so, whose last end was by an entry, at a moment.
+fn failed_by(entry: u64, at: u64, error: NetError) -> Ask
+    ensures { result ≡ failed_by entry at error }
+{
+    match error {
+        NetError::Dns(DnsError::NoRecordsFound(found)) => Ask::Told {
+            entry,
+            at,
+            class: Err(DnsError::NoRecordsFound(found)),
+        },
+        error => Ask::Failed(error),
+    }
+}
+
+/// Where a lookup stands that was answered so.
+fn answered_by(entry: u64, at: u64, told: Result<Message, NetError>) -> Ask
+    ensures { result ≡ answered_by entry at told }
+{
+    match told {
+        Ok(message) => Ask::Told {
+            entry,
+            at,
+            class: Ok(message),
+        },
+        Err(error) => failed_by(entry, at, error),
+    }
+}
+
+impl Under {
+    /// Takes note of what an outcome did to its open order.
+    fn note(&mut self, after: After)
+        ensures { self.new ≡ noted after self.old }
+    {
+        match after {
+            After::Ended | After::GiveUp => self.order = None,
+            After::Kept | After::Late => {}
+        }
+    }
+
+    /// Takes the outcome of its open order, and takes note of what that did.
+    fn put(
+        &mut self,
+        alloc: Global,
+        pools: &mut Pools,
+        outcome: Outcome,
+        waits: Option<&Sent>,
+        tick: Tick,
+    ) -> Result<After, NoMemory>
+        ensures noted { IfOk result (λ did. self.new ≡ noted did self.old) }
+        ensures err { OnErr result (self.new ≡ self.old) }
+        ensures holds { (terms : Terms) (greatest moment : ℕ) (log longer : Log) → terms.patience ≤ tick.patience
+            → IsPut greatest moment log tick (option_copied waits.entry) outcome result longer
+            → PoolsHold terms greatest moment log pools.old
+            → PoolsHold terms (max greatest (last_entry result (option_copied waits.entry) outcome)) tick.now longer pools.new }
+    {
+        let did = pools.put(alloc, &self.lookup, outcome, waits, tick)?;
+        self.note(did);
+        Ok(did)
+    }
+
+    /// Its next order, with its number; none where the lookup has its answer.
+    fn next(
+        &mut self,
+        alloc: Global,
+        pools: &mut Pools,
+        since: u64,
+        tick: Tick,
+    ) -> Result<Option<(u64, Order)>, NoMemory>
+        requires { self.old.order ≡ None }
+        ensures falls { IfOk result (λ given. IfSome given (λ g. ask_steps (ask.Under self.new) < ask_steps (ask.Under self.old))) }
+        ensures keeps { ask_steps (ask.Under self.new) ≤ ask_steps (ask.Under self.old) }
+        ensures holds { (terms : Terms) (log : Log) → PoolsHold terms since tick.now log pools.old → PoolsHold terms since tick.now log pools.new }
+        ensures goes { (terms : Terms) (log : Log) → PoolsHold terms since tick.now log pools.old → IfOk result (StepGoes (given_of terms) log (since + 1)) }
+    {
+        if self.left == 0 {
+            return Err(NoMemory);
+        }
+        let given = pools.next(alloc, &mut self.lookup, since, tick)?;
+        if let Some((number, _)) = &given {
+            self.left -= 1;
+            self.order = Some(*number);
+        }
+        Ok(given)
+    }
+}
+
+impl Lookup {
+    /// A lookup of a question, in the cache first.
+    pub fn new(alloc: Global, query: Query) -> Lookup
+        ensures steps { steps result ≡ 2 ^ 66 + 1 }
+        ensures holds { (terms : Terms) (greatest moment t0 : ℕ) (log : Log) (zone : DomainName)
+            → IsTrue (is_above zone (walk query)) → LookupHolds terms greatest moment t0 log zone result }
+        ensures query { result.query ≡ query }
+    {
+        Lookup {
+            query,
+            ask: Ask::Fresh,
+            ends: Numbers::empty(alloc),
+        }
+    }
+
+    pub fn want(&self) -> Want
+        ensures { result ≡ want_of self.now.ask }
+    {
+        match &self.ask {
+            Ask::Fresh => Want::Recall,
+            Ask::Ready => Want::Begin,
+            Ask::Under(under) => match under.order {
+                Some(order) => Want::Wait { order },
+                None => Want::Step,
+            },
+            Ask::Told { .. } | Ask::Failed(_) => Want::Hear,
+            Ask::Heard => Want::Step,
+        }
+    }
+
+    /// The cache has nothing for the question.
+    pub fn begin(&mut self)
+        requires { want_of self.old.ask ≡ Want.Recall }
+        ensures falls { steps self.new < steps self.old }
+        ensures holds { (terms : Terms) (greatest moment t0 : ℕ) (log : Log) (zone : DomainName)
+            → LookupHolds terms greatest moment t0 log zone self.old → LookupHolds terms greatest moment t0 log zone self.new }
+        ensures query { self.new.query ≡ self.old.query }
+    {
+        self.ask = Ask::Ready;
+    }
+
+    /// Begins at all servers of its zone, with a request of its question.
+    pub fn send(
+        &mut self,
+        alloc: Global,
+        pools: &mut Pools,
+        zone: &Name,
+        ips: &[IpAddr],
+        request: DnsRequest,
+        tick: Tick,
+    ) -> Result<(), NoMemory>
+        requires want { want_of self.old.ask ≡ Want.Begin }
+        requires asks { request.query ≡ self.old.query }
+        ensures falls { OnOk result (steps self.new < steps self.old) }
+        ensures err { OnErr result (self.new ≡ self.old) }
+        ensures holds { (terms : Terms) (greatest moment t0 : ℕ) (log : Log)
+            → LookupHolds terms greatest moment t0 log zone.now self.old → LookupHolds terms greatest moment t0 log zone.now self.new }
+        ensures pools { (terms : Terms) (greatest : ℕ) (log : Log) → IsTrue (is_above zone.now (walk self.old.query)) → ArePool terms log (greatest + 1) zone.now ips.now
+            → PoolsHold terms greatest tick.now log pools.old → PoolsHold terms greatest tick.now log pools.new }
+        ensures query { self.new.query ≡ self.old.query }
+    {
+        let lookup = pools.begin(alloc, zone, ips, request, tick)?;
+        self.ask = Ask::Under(Under {
+            lookup,
+            order: None,
+            left: most_orders(ips.len()),
+        });
+        Ok(())
+    }
+
+    /// Takes what its pool answered, if it did: then it is no longer under way there.
+    fn settle(
+        &mut self,
+        alloc: Global,
+        pools: &mut Pools,
+        zone: &Name,
+        begun: u64,
+    ) -> Result<bool, NoMemory>
+        ensures falls { IfOk result (λ settled. MatchBool settled (want_of self.new.ask ≡ Want.Hear) (self.new ≡ self.old)) }
+        ensures err { OnErr result (self.new ≡ self.old) }
+        ensures holds { (terms : Terms) (greatest moment : ℕ) (log : Log) → PoolsHold terms greatest moment log pools.old
+            → LookupHolds terms greatest moment begun log zone.now self.old → LookupHolds terms greatest moment begun log zone.now self.new × PoolsHold terms greatest moment log pools.new }
+        ensures query { self.new.query ≡ self.old.query }
+    {
+        let Ask::Under(under) = &self.ask else {
+            return Ok(false);
+        };
+        let answer = pools.answer(alloc, &under.lookup, &self.query, zone, begun)?;
+        let Some(Answer { told, ends, at }) = answer else {
+            return Ok(false);
+        };
+        let entry = last_of(ends.items());
+        self.ends = ends;
+        self.leave(pools);
+        self.ask = answered_by(entry, at, told);
+        Ok(true)
+    }
+
+    /// Ends the interest in the lookup at its pool, if there is one.
+    pub fn leave(&mut self, pools: &mut Pools)
+        ensures pools { (terms : Terms) (greatest moment : ℕ) (log : Log) → PoolsHold terms greatest moment log pools.old → PoolsHold terms greatest moment log pools.new }
+        ensures same { (self.new.query ≡ self.old.query) × (self.new.ends ≡ self.old.ends) }
+    {
+        match mem::replace(&mut self.ask, Ask::Ready) {
+            Ask::Under(under) => pools.leave(under.lookup),
+            other => self.ask = other,
+        }
+    }
+
+    /// The next step at the pool: an order with its number, which no entry was put after, or none where
+    /// the lookup has its answer.
+    pub fn step(
+        &mut self,
+        alloc: Global,
+        pools: &mut Pools,
+        zone: &Name,
+        begun: u64,
+        since: u64,
+        tick: Tick,
+    ) -> Result<Option<(u64, Order)>, NoMemory>
+        requires { want_of self.old.ask ≡ Want.Step }
+        ensures falls { OnOk result (steps self.new < steps self.old) }
+        ensures keeps { OnErr result (steps self.new ≤ steps self.old) }
+        ensures holds { (terms : Terms) (log : Log) → PoolsHold terms since tick.now log pools.old
+            → LookupHolds terms since tick.now begun log zone.now self.old → LookupHolds terms since tick.now begun log zone.now self.new × PoolsHold terms since tick.now log pools.new }
+        ensures goes { (terms : Terms) (log : Log) → PoolsHold terms since tick.now log pools.old → IfOk result (StepGoes (given_of terms) log (since + 1)) }
+        ensures query { self.new.query ≡ self.old.query }
+    {
+        let Ask::Under(under) = &mut self.ask else {
+            return Err(NoMemory);
+        };
+        if let Some(given) = under.next(alloc, pools, since, tick)? {
+            return Ok(Some(given));
+        }
+        if self.settle(alloc, pools, zone, begun)? {
+            Ok(None)
+        } else {
+            Err(NoMemory)
+        }
+    }
+
+    /// Takes the outcome of the order that it waits for. Where that decides the lookup, it has its
+    /// answer from then on. One that is not of this order is late, and changes nothing.
+    pub fn take(
+        &mut self,
+        alloc: Global,
+        pools: &mut Pools,
+        zone: &Name,
+        begun: u64,
+        outcome: Outcome,
+        waits: Option<&Sent>,
+        tick: Tick,
+    ) -> Result<After, NoMemory>
+        requires { IsWaiting self.old.ask }
+        ensures keeps { steps self.new ≤ steps self.old }
+        ensures late { result ≡ Ok After.Late → self.new ≡ self.old }
+        ensures holds { (terms : Terms) (greatest moment : ℕ) (log longer : Log) → terms.patience ≤ tick.patience
+            → IsPut greatest moment log tick (option_copied waits.entry) outcome result longer
+            → PoolsHold terms greatest moment log pools.old → LookupHolds terms greatest moment begun log zone.now self.old
+            → TakenHolds terms (max greatest (last_entry result (option_copied waits.entry) outcome)) tick.now begun longer zone.now self.new pools.new }
+        ensures query { self.new.query ≡ self.old.query }
+    {
+        let Ask::Under(under) = &mut self.ask else {
+            return Ok(After::Late);
+        };
+        let did = under.put(alloc, pools, outcome, waits, tick)?;
+        match did {
+            After::Ended | After::GiveUp => {
+                let _settled = self.settle(alloc, pools, zone, begun)?;
+                Ok(did)
+            }
+            After::Kept | After::Late => Ok(did),
+        }
+    }
+
+    /// Hears what came.
+    pub fn hear(&mut self) -> Option<Found>
+        requires { want_of self.old.ask ≡ Want.Hear }
+        ensures falls { steps self.new < steps self.old }
+        ensures found { IsSome result }
+        ensures holds { (terms : Terms) (greatest moment t0 : ℕ) (log : Log) (zone : DomainName)
+            → LookupHolds terms greatest moment t0 log zone self.old → IfSome result (FoundHolds terms greatest moment t0 log zone self.new.query self.new.ends) }
+        ensures query { self.new.query ≡ self.old.query }
+    {
+        match mem::replace(&mut self.ask, Ask::Heard) {
+            Ask::Told { entry, at, class } => Some(Found::Told { entry, at, class }),
+            Ask::Failed(error) => Some(Found::Error(error)),
+            other => {
+                self.ask = other;
+                None
+            }
+        }
+    }
+}

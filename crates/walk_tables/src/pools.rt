@@ -1,0 +1,594 @@
+//! The servers that were met, each under its address, the pools of them, and the lookups that are under
+//! way at these.
+ghost use Rattle.std.specs.Prelude.{◌≡◌, ◌≢◌, ◌≤◌, ◌<◌, ◌+◌, ◌==◌, ℕ, [], max, true, false, length, Some, None, Ok, Err, IfOk, IfSome, OnOk, OnErr, IsTrue, All, if◌then◌else◌, option_copied};
+ghost use Rattle.std.specs.List.{AllZip};
+ghost use Rattle.std.specs.declared.net.ip_addr.IpAddr.{IpAddr};
+ghost use Rattle.dns_core.specs.Name.{DomainName};
+ghost use Rattle.dns_core.specs.Log.{Log, Extends};
+ghost use Rattle.dns_core.specs.declared.message.Query.{Query};
+ghost use Rattle.server_core.specs.Servers.{IsFirstDelay};
+ghost use Rattle.order_carrier.specs.Fits.{GoesToServer};
+ghost use Rattle.retry_lookup.specs.Holds.{out_of_memory};
+ghost use Rattle.walk_tables.specs.Order.{last_entry, IsPut};
+ghost use Rattle.walk_tables.specs.Terms.{Terms, given_of};
+ghost use Rattle.recursor_types.specs.Options.{answer_filter_of};
+ghost use Rattle.recursor_setting.specs.Setting.{context_of};
+ghost use Rattle.recursor_setting.specs.Delays.{turn_at, delay_at};
+ghost use Rattle.walk_tables.specs.Pools.{number_of, config_at, first_delay_at, server_at, sought_at, ServersHold, SoughtHolds, PoolsHold, IsSentOver, IsFirst, IsOf, IsStill, MayTake, MayTakeBy, is_denial, IsMet, IsGrown, HasForgotten, HasNoted, HasKept, HasLeft, noted, aim_of, sent_to, first_of, polled_by, StepGoes, IsGivenFor, NotesOutcome, Seeks, ArePool};
+ghost use Rattle.walk_tables.specs.Lookup.{AnswerHolds};
+ghost use Rattle.resolution.specs.Names.{is_above, walk};
+
+use dns_core::{
+    Delays, DnsError, DnsRequest, Message, Name, NetError, NoMemory, Numbers, Query, TryClone,
+};
+use recursor_setting::{FirstDelay, first_delay, pool_context};
+use recursor_types::RecursorOptions;
+use resolver_settings::NameServerConfig;
+use server_core::{After, NameServer, Order, Outcome, Sent, Tick};
+use server_pool::{NameServerPool, PoolLookup, PoolShared, PoolStep};
+use std::alloc::Global;
+use std::collections::BTreeMap;
+use std::net::IpAddr;
+
+/// What an order does: it opens a connection to an address, asks there, or sleeps.
+#[derive(Clone, Copy, Debug, PartialEq, Eq)]
+pub enum Aim {
+    Open { ip: IpAddr },
+    Ask { ip: IpAddr },
+    Sleep,
+}
+
+/// An order that is open: its number, what it does, the greatest number of a log entry that was put
+/// before it was given, and the entry that sent what its polls wait for, once one of them was put.
+#[derive(Clone, Copy, Debug, PartialEq, Eq)]
+pub struct Given {
+    pub number: u64,
+    pub aim: Aim,
+    pub since: u64,
+    pub polled: Option<u64>,
+}
+
+/// What a lookup is for: a question at the servers of a zone, since a moment. `given` is its open order,
+/// `first` the address to which its first send goes, where that is known, and `at` the moment of the
+/// last end of a send.
+#[derive(Drop, Debug)]
+pub struct Sought {
+    pub query: Query,
+    pub zone: Name,
+    pub start: u64,
+    pub given: Option<Given>,
+    pub first: Option<IpAddr>,
+    pub at: u64,
+}
+
+/// What a lookup came to: what its pool answered, by the entries of its ends, and the moment of the last
+/// of them.
+#[derive(Drop, Debug)]
+pub struct Answer {
+    pub told: Result<Message, NetError>,
+    pub ends: Numbers,
+    pub at: u64,
+}
+
+/// What the pools share, the number of each server under its address, and what is sought by each lookup
+/// that is under way, under its number. New servers take the first delays in turn, of which `turn` is
+/// the next.
+#[derive(Drop, Debug)]
+pub struct Pools {
+    shared: PoolShared,
+    numbers: BTreeMap<IpAddr, u32>,
+    first_delays: Delays,
+    turn: usize,
+    sought: BTreeMap<u64, Sought>,
+}
+
+/// Whether an error is a denial in place of a message.
+fn is_denial(error: &NetError) -> bool
+    ensures { result ≡ is_denial error.now }
+{
+    matches!(error, NetError::Dns(DnsError::NoRecordsFound(_)))
+}
+
+/// Whether what a lookup was answered is that memory was wanting for it.
+fn is_memory(told: &Result<Message, NetError>) -> bool
+    ensures { result ≡ out_of_memory told.now }
+{
+    match told {
+        Ok(_) => false,
+        Err(error) => error.is_memory(),
+    }
+}
+
+/// Whether two questions are equal, also in the case of their names.
+fn is_identical(left: &Query, right: &Query) -> bool
+    ensures { IsTrue result → left.now ≡ right.now }
+{
+    left.query_type == right.query_type
+        && left.query_class == right.query_class
+        && left.name.eq_case(&right.name)
+}
+
+/// What an order does.
+fn aim_of(order: &Order) -> Aim
+    ensures { result ≡ aim_of order.now }
+{
+    match order {
+        Order::Open { ip, .. } => Aim::Open { ip: *ip },
+        Order::Ask { ip, .. } => Aim::Ask { ip: *ip },
+        Order::Sleep { .. } => Aim::Sleep,
+    }
+}
+
+/// To which address what came of an order was sent, or what it waits for, where that is known.
+fn sent_to(outcome: &Outcome, waits: Option<&Sent>) -> Option<IpAddr>
+    ensures { result ≡ sent_to (option_copied waits.entry) outcome.now }
+{
+    match outcome {
+        Outcome::Connected { sent, .. } => Some(sent.ip),
+        Outcome::Told { sent, .. } => Some(sent.ip),
+        Outcome::Failed { sent, .. } => Some(sent.ip),
+        Outcome::Pending { .. } => match waits {
+            Some(sent) => Some(sent.ip),
+            None => None,
+        },
+        Outcome::Slept => None,
+    }
+}
+
+/// To which address the first send of a lookup goes, where an outcome of its open order says so.
+fn first_of(given: &Given, outcome: &Outcome, waits: Option<&Sent>) -> Option<IpAddr>
+    ensures { result ≡ first_of given.now.aim (option_copied waits.entry) outcome.now }
+{
+    match given.aim {
+        Aim::Sleep => None,
+        Aim::Open { .. } | Aim::Ask { .. } => sent_to(outcome, waits),
+    }
+}
+
+/// The entry that sent what a poll waits for, if the outcome is one that found nothing.
+fn polled_by(outcome: &Outcome) -> Option<u64>
+    ensures { result ≡ polled_by outcome.now }
+{
+    match outcome {
+        Outcome::Pending { of, .. } => Some(*of),
+        Outcome::Connected { .. }
+        | Outcome::Told { .. }
+        | Outcome::Failed { .. }
+        | Outcome::Slept => None,
+    }
+}
+
+/// Whether what a poll waits for is what the polls before it waited for.
+fn is_still(polled: Option<u64>, of: u64) -> bool
+    ensures { IsTrue result → IsStill polled of }
+{
+    match polled {
+        None => true,
+        Some(before) => before == of,
+    }
+}
+
+/// A copy of numbers.
+fn copy_of(alloc: Global, numbers: &[u64]) -> Result<Numbers, NoMemory>
+    ensures { IfOk result (λ copy. copy ≡ numbers.now) }
+{
+    Ok(Numbers::new(Vec::from_slice(alloc, numbers)?))
+}
+
+impl Sought {
+    /// Whether this was sent for its open order: to the address, and where it asks with the question
+    /// and later than what was put before.
+    fn sends(&self, asks: bool, ip: IpAddr, since: u64, sent: &Sent) -> bool
+        ensures { IsTrue result → IsSentOver asks ip self.now.query since sent.now }
+    {
+        if sent.ip != ip {
+            return false;
+        }
+        match &sent.query {
+            None => !asks,
+            Some(query) => asks && since < sent.of && is_identical(query, &self.query),
+        }
+    }
+
+    /// Whether the first send began with this, at the start of the lookup, or is known to go there.
+    fn begins(&self, ended: bool, sent: &Sent) -> bool
+        ensures { IsTrue result → IsFirst self.now.start self.now.first ended sent.now }
+    {
+        match &self.first {
+            None => sent.moment == self.start,
+            Some(ip) => ended || sent.ip == *ip,
+        }
+    }
+
+    fn is_of(&self, ended: bool, asks: bool, ip: IpAddr, since: u64, sent: &Sent) -> bool
+        ensures { IsTrue result → IsOf self.now.start self.now.query self.now.first ended since asks ip sent.now }
+    {
+        self.sends(asks, ip, since, sent) && self.begins(ended, sent)
+    }
+
+    /// Whether a poll that found nothing is one of its order to open or to ask: it waits for what was
+    /// sent for that order, as those before it did.
+    fn is_polled(
+        &self,
+        ended: bool,
+        asks: bool,
+        ip: IpAddr,
+        given: &Given,
+        of: u64,
+        waits: Option<&Sent>,
+    ) -> bool
+        ensures { IsTrue result → (entry : ℕ) → MayTake self.now.start self.now.query self.now.first ended given.now.since given.now.polled asks ip (option_copied waits.entry) (Outcome.Pending entry of) }
+    {
+        match waits {
+            Some(sent) => {
+                sent.of == of
+                    && is_still(given.polled, of)
+                    && self.is_of(ended, asks, ip, given.since, sent)
+            }
+            None => false,
+        }
+    }
+
+    /// Whether this is an outcome of its order to open or to ask: a denial only where it was asked for.
+    fn fits(
+        &self,
+        ended: bool,
+        asks: bool,
+        ip: IpAddr,
+        given: &Given,
+        outcome: &Outcome,
+        waits: Option<&Sent>,
+    ) -> bool
+        ensures { IsTrue result → MayTake self.now.start self.now.query self.now.first ended given.now.since given.now.polled asks ip (option_copied waits.entry) outcome.now }
+    {
+        match outcome {
+            Outcome::Pending { of, .. } => self.is_polled(ended, asks, ip, given, *of, waits),
+            Outcome::Connected { sent, .. } => {
+                !asks && self.is_of(ended, asks, ip, given.since, sent)
+            }
+            Outcome::Told { sent, .. } => asks && self.is_of(ended, asks, ip, given.since, sent),
+            Outcome::Failed {
+                sent,
+                refused,
+                error,
+                ..
+            } => {
+                (!is_denial(error) || asks && !*refused)
+                    && self.is_of(ended, asks, ip, given.since, sent)
+            }
+            Outcome::Slept => false,
+        }
+    }
+
+    /// Whether this is an outcome of an order that it gave; a sleep may end by any.
+    fn may_take(&self, ended: bool, given: &Given, outcome: &Outcome, waits: Option<&Sent>) -> bool
+        ensures { IsTrue result → MayTakeBy self.now ended given.now given.now.aim (option_copied waits.entry) outcome.now }
+    {
+        match &given.aim {
+            Aim::Open { ip } => {
+                outcome.entry() != 0 && self.fits(ended, false, *ip, given, outcome, waits)
+            }
+            Aim::Ask { ip } => {
+                outcome.entry() != 0 && self.fits(ended, true, *ip, given, outcome, waits)
+            }
+            Aim::Sleep => true,
+        }
+    }
+
+    /// Whether it is for this question at the servers of this zone, since no earlier than the moment.
+    fn is_for(&self, query: &Query, zone: &Name, begun: u64) -> bool
+        ensures { IsTrue result → (self.now.query ≡ query.now) × (self.now.zone ≡ zone.now) × (begun ≤ self.now.start) }
+    {
+        begun <= self.start && is_identical(&self.query, query) && self.zone.eq_case(zone)
+    }
+}
+
+impl Pools {
+    /// Without servers. The first of them begins with the first of the delays.
+    pub fn new(alloc: Global, options: &RecursorOptions) -> Result<Pools, NoMemory>
+        ensures holds { (terms : Terms) (greatest moment : ℕ) (log : Log) → terms.answer_filter ≡ answer_filter_of options.now → IfOk result (PoolsHold terms greatest moment log) }
+        ensures context { IfOk result (λ pools. pools.shared.context ≡ context_of options.now) }
+        ensures delays { IfOk result (λ pools. (pools.first_delays ≡ options.now.first_delays) × (pools.turn ≡ 0)) }
+    {
+        let context = pool_context(alloc, options)?;
+        Ok(Pools {
+            shared: PoolShared::new(alloc, context),
+            numbers: BTreeMap::new(alloc),
+            first_delays: options.first_delays.try_clone(alloc)?,
+            turn: 0,
+            sought: BTreeMap::new(alloc),
+        })
+    }
+
+    /// The delay with which the next server begins, in microseconds.
+    fn take_first_delay(&mut self) -> u8
+        ensures first { IsFirstDelay result }
+        ensures delay { result ≡ delay_at self.old.first_delays (turn_at (length self.old.first_delays) self.old.turn) }
+        ensures turn { self.new.turn ≡ turn_at (length self.old.first_delays) self.old.turn + 1 }
+        ensures delays { self.new.first_delays ≡ self.old.first_delays }
+        ensures same { (self.new.shared ≡ self.old.shared) × (self.new.numbers ≡ self.old.numbers) × (self.new.sought ≡ self.old.sought) }
+    {
+        let FirstDelay { micros, next } = first_delay(self.first_delays.items(), self.turn);
+        self.turn = next;
+        micros
+    }
+
+    /// Makes the server of an address that has none yet. It begins with the delay whose turn it is.
+    fn add(&mut self, alloc: Global, ip: IpAddr) -> Result<u32, NoMemory>
+        requires { number_of self.old ip ≡ None }
+        ensures grown { IsGrown self.old self.new }
+        ensures servers { (terms : Terms) → ServersHold terms self.old → ServersHold terms self.new }
+        ensures met { IfOk result (λ number. IsMet self.new ip number) }
+        ensures delay { IfOk result (λ number. first_delay_at self.new.shared.table number ≡ Some (delay_at self.old.first_delays (turn_at (length self.old.first_delays) self.old.turn))) }
+    {
+        let config = NameServerConfig::udp_and_tcp(alloc, ip)?;
+        let delay = self.take_first_delay();
+        let options = self.shared.context().options();
+        let server = NameServer::new(alloc, Vec::new(alloc), config, options, delay)?;
+        let number = self.shared.add(alloc, server)?;
+        let _before = self.numbers.insert(ip, number)?;
+        Ok(number)
+    }
+
+    /// The number of the server of an address, which is a new one where it was not met.
+    fn meet(&mut self, alloc: Global, ip: IpAddr) -> Result<u32, NoMemory>
+        ensures grown { IsGrown self.old self.new }
+        ensures servers { (terms : Terms) → ServersHold terms self.old → ServersHold terms self.new }
+        ensures met { (terms : Terms) → ServersHold terms self.old → IfOk result (λ number. IsMet self.new ip number) }
+    {
+        match self.numbers.get(&ip) {
+            Some(number) => Ok(*number),
+            None => self.add(alloc, ip),
+        }
+    }
+
+    /// The numbers of the servers of these addresses, in their order.
+    fn meet_all(&mut self, alloc: Global, ips: &[IpAddr]) -> Result<Vec<u32>, NoMemory>
+        ensures grown { IsGrown self.old self.new }
+        ensures servers { (terms : Terms) → ServersHold terms self.old → ServersHold terms self.new }
+        ensures met { (terms : Terms) → ServersHold terms self.old → IfOk result (λ numbers. AllZip (IsMet self.new) ips.now numbers.items) }
+    {
+        let mut servers = Vec::with_capacity(alloc, ips.len())?;
+        for ip in ips {
+            let number = self.meet(alloc, *ip)?;
+            servers.push(number)?;
+        }
+        Ok(servers)
+    }
+}
+
+impl Pools {
+    /// Keeps what is sought by a lookup, which is left where memory is wanting.
+    fn keep(&mut self, lookup: PoolLookup, sought: Sought) -> Result<PoolLookup, NoMemory>
+        ensures ok { IfOk result (λ kept. HasKept lookup.number sought self.old self.new × (kept ≡ lookup)) }
+        ensures err { OnErr result (HasLeft lookup.number self.old self.new) }
+    {
+        match self.sought.insert(lookup.number(), sought) {
+            Ok(_before) => Ok(lookup),
+            Err(_) => {
+                lookup.leave(&mut self.shared);
+                Err(NoMemory)
+            }
+        }
+    }
+
+    /// Begins a lookup of a request at all servers of a zone, at a moment.
+    pub fn begin(
+        &mut self,
+        alloc: Global,
+        zone: &Name,
+        ips: &[IpAddr],
+        request: DnsRequest,
+        tick: Tick,
+    ) -> Result<PoolLookup, NoMemory>
+        ensures holds { (terms : Terms) (greatest : ℕ) (log : Log) → IsTrue (is_above zone.now (walk request.query)) → ArePool terms log (greatest + 1) zone.now ips.now
+            → PoolsHold terms greatest tick.now log self.old → PoolsHold terms greatest tick.now log self.new }
+    {
+        let sought = Sought {
+            query: request.query.try_clone(alloc)?,
+            zone: zone.try_clone(alloc)?,
+            start: tick.now,
+            given: None,
+            first: None,
+            at: tick.now,
+        };
+        let servers = self.meet_all(alloc, ips)?;
+        let pool = NameServerPool::from_nameservers(alloc, servers, &mut self.shared)?;
+        let lookup = pool.send(alloc, &mut self.shared, request, tick)?;
+        self.keep(lookup, sought)
+    }
+
+    /// Forgets what is sought by the lookup of a number.
+    fn forget(&mut self, lookup: u64)
+        ensures { HasForgotten lookup self.old self.new }
+    {
+        let _sought = self.sought.remove(&lookup);
+    }
+
+    /// Keeps which order of a lookup is open, to which address its first send goes, where that was not
+    /// known, and when its last end came, where it is another.
+    fn note(&mut self, lookup: u64, given: Option<Given>, first: Option<IpAddr>, at: Option<u64>)
+        ensures { HasNoted lookup (noted given first at) self.old self.new }
+    {
+        match self.sought.get_mut(&lookup) {
+            Some(sought) => {
+                sought.given = given;
+                sought.first = sought.first.or(first);
+                sought.at = at.unwrap_or(sought.at);
+            }
+            None => {}
+        }
+    }
+
+    /// The next order of a lookup, which no entry was put after; none where the lookup has its answer.
+    /// Where memory is wanting, it is no longer under way.
+    pub fn next(
+        &mut self,
+        alloc: Global,
+        lookup: &mut PoolLookup,
+        since: u64,
+        tick: Tick,
+    ) -> Result<Option<(u64, Order)>, NoMemory>
+        ensures holds { (terms : Terms) (log : Log) → PoolsHold terms since tick.now log self.old → PoolsHold terms since tick.now log self.new }
+        ensures goes { (terms : Terms) (log : Log) → PoolsHold terms since tick.now log self.old → IfOk result (StepGoes (given_of terms) log (since + 1)) }
+    {
+        let n = lookup.number();
+        if !self.sought.contains_key(&n) {
+            return Err(NoMemory);
+        }
+        match lookup.next(alloc, &mut self.shared, tick) {
+            Ok(PoolStep::Order { number, order }) => {
+                let aim = aim_of(&order);
+                let given = Given {
+                    number,
+                    aim,
+                    since,
+                    polled: None,
+                };
+                self.note(n, Some(given), None, None);
+                Ok(Some((number, order)))
+            }
+            Ok(PoolStep::Done(_)) => {
+                self.note(n, None, None, None);
+                Ok(None)
+            }
+            Ok(PoolStep::Waiting) | Err(_) => {
+                self.forget(n);
+                Err(NoMemory)
+            }
+        }
+    }
+
+    /// The open order of a lookup, where this is an outcome of it.
+    fn given_for(
+        &self,
+        lookup: &PoolLookup,
+        outcome: &Outcome,
+        waits: Option<&Sent>,
+    ) -> Option<Given>
+        ensures { IfSome result (IsGivenFor self.now lookup.now.number (option_copied waits.entry) outcome.now) }
+    {
+        let ended = !lookup.ends(&self.shared).is_empty();
+        let sought = self.sought.get(&lookup.number())?;
+        let given = sought.given?;
+        if sought.may_take(ended, &given, outcome, waits) {
+            Some(given)
+        } else {
+            None
+        }
+    }
+
+    /// Keeps what an outcome did to a lookup that had so many ends before.
+    fn note_outcome(
+        &mut self,
+        lookup: &PoolLookup,
+        given: Given,
+        first: Option<IpAddr>,
+        before: usize,
+        after: After,
+        now: u64,
+    )
+        ensures { NotesOutcome lookup.now.number given first before after now self.old self.new }
+    {
+        let ended = before < lookup.ends(&self.shared).len();
+        let given = match after {
+            After::Kept => Some(given),
+            After::GiveUp | After::Ended | After::Late => None,
+        };
+        let at = if ended { Some(now) } else { None };
+        self.note(lookup.number(), given, first, at);
+    }
+
+    /// Takes the outcome of the open order of a lookup. A poll that found nothing waits for what was
+    /// sent for the order, which is handed in with it. An outcome that is not of this order is late, and
+    /// changes nothing. Where memory is wanting, the lookup is no longer under way.
+    pub fn put(
+        &mut self,
+        alloc: Global,
+        lookup: &PoolLookup,
+        outcome: Outcome,
+        waits: Option<&Sent>,
+        tick: Tick,
+    ) -> Result<After, NoMemory>
+        ensures holds { (terms : Terms) (greatest moment : ℕ) (log longer : Log) → terms.patience ≤ tick.patience
+            → IsPut greatest moment log tick (option_copied waits.entry) outcome result longer
+            → PoolsHold terms greatest moment log self.old
+            → PoolsHold terms (max greatest (last_entry result (option_copied waits.entry) outcome)) tick.now longer self.new }
+    {
+        let Some(given) = self.given_for(lookup, &outcome, waits) else {
+            return Ok(After::Late);
+        };
+        let first = first_of(&given, &outcome, waits);
+        let given = Given {
+            polled: polled_by(&outcome),
+            ..given
+        };
+        let before = lookup.ends(&self.shared).len();
+        match self.shared.put(alloc, given.number, outcome, tick) {
+            Ok(after) => {
+                self.note_outcome(lookup, given, first, before, after, tick.now);
+                Ok(after)
+            }
+            Err(_) => {
+                self.forget(lookup.number());
+                Err(NoMemory)
+            }
+        }
+    }
+
+    /// Whether a lookup is for this question at the servers of this zone, since no earlier than the
+    /// moment.
+    fn seeks(&self, lookup: u64, query: &Query, zone: &Name, begun: u64) -> Option<u64>
+        ensures { IfSome result (λ at. Seeks self.now lookup query.now zone.now begun at) }
+    {
+        let sought = self.sought.get(&lookup)?;
+        if sought.is_for(query, zone, begun) {
+            Some(sought.at)
+        } else {
+            None
+        }
+    }
+
+    /// What a lookup for a question at the servers of a zone, since no earlier than a moment, came to;
+    /// none where it goes on. One for which memory was wanting has no answer.
+    pub fn answer(
+        &self,
+        alloc: Global,
+        lookup: &PoolLookup,
+        query: &Query,
+        zone: &Name,
+        begun: u64,
+    ) -> Result<Option<Answer>, NoMemory>
+        ensures { (terms : Terms) (greatest moment : ℕ) (log : Log) → PoolsHold terms greatest moment log self.now
+            → IfOk result (λ answer. IfSome answer (AnswerHolds terms greatest moment begun log zone.now query.now)) }
+    {
+        let Some(at) = self.seeks(lookup.number(), query, zone, begun) else {
+            return Err(NoMemory);
+        };
+        let Some(told) = lookup.answer(alloc, &self.shared)? else {
+            return Ok(None);
+        };
+        if is_memory(&told) {
+            return Err(NoMemory);
+        }
+        let ends = copy_of(alloc, lookup.ends(&self.shared))?;
+        Ok(Some(Answer { told, ends, at }))
+    }
+
+    /// Ends the interest in a lookup.
+    pub fn leave(&mut self, lookup: PoolLookup)
+        ensures holds { (terms : Terms) (greatest moment : ℕ) (log : Log) → PoolsHold terms greatest moment log self.old → PoolsHold terms greatest moment log self.new }
+        ensures gone { sought_at self.new lookup.number ≡ None }
+    {
+        self.forget(lookup.number());
+        lookup.leave(&mut self.shared);
+    }
+
+    /// Ends the interest in all lookups.
+    pub fn clear(&mut self)
+        ensures holds { (terms : Terms) (less greatest moment : ℕ) (log : Log) → PoolsHold terms greatest moment log self.old → PoolsHold (record terms { patience = less }) greatest moment log self.new }
+        ensures gone { (n : ℕ) → sought_at self.new n ≡ None }
+    {
+        self.sought.clear();
+    }
+}

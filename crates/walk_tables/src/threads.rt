@@ -1,0 +1,17 @@
+//! Each type of this crate may go to another thread, and be shared among threads.
+
+use crate::lookup::{Ask, Found, Lookup, Under, Want};
+use crate::pools::{Answer, Pools};
+
+fn crosses<T: Send + Sync>() {}
+
+/// The types cross threads.
+pub fn tables_cross_threads() {
+    crosses::<Answer>();
+    crosses::<Ask>();
+    crosses::<Found>();
+    crosses::<Lookup>();
+    crosses::<Pools>();
+    crosses::<Under>();
+    crosses::<Want>();
+}
