@@ -1,0 +1,2 @@
+mod FormLaws
+mod Keys

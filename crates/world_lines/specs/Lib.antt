@@ -1,1 +1,4 @@
 pub mod Lines
+pub mod Listed
+pub mod Steps
+pub mod Spelling
