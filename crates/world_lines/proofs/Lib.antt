@@ -1,2 +1,4 @@
+mod DraftLaws
 mod FormLaws
 mod Keys
+mod RunLaws

@@ -76,22 +76,25 @@ pub record IsHost (zones : ℕ) (h : Host) : Type 0 where
   pub some : 0 < length h.zones
   pub rise : RiseWithin 1 zones h.zones
 
--- no zone has the apex of one before it, nor of these
-abbrev pub ApexesDiffer : List Zone → List Zone → Type 0
-ApexesDiffer before [] = Unit {0}
-ApexesDiffer before (z ∷ zs) = (has_apex before z.apex ≡ false) × ApexesDiffer (before ++ z ∷ []) zs
+-- none is like one before it, nor like these
+abbrev pub Differ : {X : Type 0} → (List X → X → Bool) → List X → List X → Type 0
+Differ like before [] = Unit {0}
+Differ like before (x ∷ xs) = (like before x ≡ false) × Differ like (before ++ x ∷ []) xs
 
--- no host has the address of one before it, nor of these
-abbrev pub AddressesDiffer : List Host → List Host → Type 0
-AddressesDiffer before [] = Unit {0}
-AddressesDiffer before (h ∷ hs) = (has_address before h.ip ≡ false) × AddressesDiffer (before ++ h ∷ []) hs
+-- no two zones have one apex
+abbrev pub ApexesDiffer : List Zone → Type 0
+ApexesDiffer zones = Differ (λ before z. has_apex before z.apex) [] zones
+
+-- no two hosts have one address
+abbrev pub AddressesDiffer : List Host → Type 0
+AddressesDiffer hosts = Differ (λ before h. has_address before h.ip) [] hosts
 
 pub record IsWorld (w : World) : Type 0 where
   pub soon : w.delay ≤ most_delay
   pub some_zones : 0 < length w.zones
   pub few_zones : length w.zones ≤ most_zones
   pub zones : AllByRecursion IsZone w.zones
-  pub apexes : ApexesDiffer [] w.zones
+  pub apexes : ApexesDiffer w.zones
   pub few_hosts : length w.hosts ≤ most_hosts
   pub hosts : AllByRecursion (IsHost (length w.zones)) w.hosts
-  pub addresses : AddressesDiffer [] w.hosts
+  pub addresses : AddressesDiffer w.hosts

@@ -90,3 +90,8 @@ taken d line = taken_at d.pending d line
 -- the world, with the zones and the hosts that are there
 abbrev pub world_of : WorldDraft → World
 world_of d = record { zones = d.zones; hosts = d.hosts; chain = d.chain; delay = d.delay }
+
+-- these lines, one after the other
+abbrev pub run : WorldDraft → List (List ℕ) → Option WorldDraft
+run d [] = Some d
+run d (line ∷ lines) = taken d line >>= λ e. run e lines

@@ -174,9 +174,7 @@ impl WorldDraft {
         ensures { Steps result self.new (put self.old (form.Zone head)) }
     {
         pass(
-            self.stage.may_zone()
-                && self.zones.len() < MOST_ZONES
-                && !self.zones.has(&head.apex),
+            self.stage.may_zone() && self.zones.len() < MOST_ZONES && !self.zones.has(&head.apex),
         )?;
         self.stage = WorldStage::Zoned;
         self.settle(alloc, opened(alloc, head))?;
