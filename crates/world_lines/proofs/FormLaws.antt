@@ -17,7 +17,7 @@ use Rattle.line_forms.specs.Spelling.{most_delay}
 use Rattle.world_lines.specs.declared.lines.ZoneHead.{ZoneHead}
 use Rattle.world_lines.specs.declared.lines.WorldForm.{WorldForm}
 use Rattle.world_lines.specs.declared.lines.WorldForm.TheVariants as form
-use Rattle.world_lines.specs.Lines.{most_zones, most_records, alias_words, count_field, zone_fields, head_from, rising, zone_numbers, delay_of, aliases_of, zone_of, host_of, world_forms_of, world_form_of}
+use Rattle.world_lines.specs.Lines.{most_zones, most_records, alias_words, count_field, zone_fields, head_from, rising, zone_numbers, delay_of, aliases_of, zone_of, host_of, world_forms_of, world_form_of, starts_world, is_world_line}
 use Rattle.world_lines.specs.Spelling.{delay_words, alias_text, aliases_words, zone_words, host_words, RiseWithin}
 use Rattle.text_words.proofs.AddressLaws.{ip_field}
 use Rattle.text_words.proofs.Binds.{bind_some, guard_some, some_is, chosen}
@@ -180,3 +180,16 @@ form_some (form.Host h) = omega arith
 
 pub form_again : (z : WorldForm) → IsForm z → world_form_of (spelled (form_words z)) ≡ Some z
 form_again z fits = ap world_forms_of (words_again (form_words z) (form_some z) (form_plain z fits)) ∙ forms_again z fits
+
+words_start : (z : WorldForm) → starts_world (form_words z) ≡ true
+unfolding starts_world
+words_start (form.Delay n) = refl
+words_start (form.Aliases chain) = refl
+words_start (form.Zone h) = refl
+words_start (form.Host h) = refl
+
+-- a line that is read has the first word of one
+pub form_starts : (line : List ℕ) (z : WorldForm) → world_form_of line ≡ Some z → is_world_line line ≡ true
+form_starts line z e =
+    let t = form_takes line z e in
+    ap is_world_line t.0 ∙ ap starts_world (words_again (form_words z) (form_some z) (form_plain z t.1)) ∙ words_start z

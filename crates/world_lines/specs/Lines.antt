@@ -1,5 +1,5 @@
 -- What each line of a world says that is no record line.
-use Rattle.std.specs.Prelude.{ℕ, ◌+◌, List, [], ◌∷◌, Bool, true, false, Option, Some, None, if◌then◌else◌, codes}
+use Rattle.std.specs.Prelude.{ℕ, ◌+◌, List, [], ◌∷◌, Bool, true, false, ◌||◌, Option, Some, None, if◌then◌else◌, codes}
 use Rattle.std.specs.Str.{bytes_eq}
 use Rattle.dns_core.specs.Name.{DomainName}
 use Rattle.zone_worlds.specs.declared.world.Host.{Host}
@@ -55,6 +55,18 @@ zone_of = whole zone_fields (λ x. form.Zone (head_from x))
 
 unfoldable pub host_of : List (List ℕ) → Option WorldForm
 host_of ws = field ip_of ws >>= λ x. zone_numbers 1 x.1 >>= λ ns. Some (form.Host (record { ip = x.0; zones = ns }))
+
+-- the word that a line of a world begins with
+abbrev pub is_world_word : List ℕ → Bool
+is_world_word w = bytes_eq w (codes "host") || bytes_eq w (codes "zone") || bytes_eq w (codes "delay") || bytes_eq w (codes "aliases")
+
+-- the first of these words is such a one
+unfoldable pub starts_world : List (List ℕ) → Bool
+starts_world [] = false
+starts_world (w ∷ ws) = is_world_word w
+
+abbrev pub is_world_line : List ℕ → Bool
+is_world_line line = starts_world (pieces 32 line)
 
 -- the line of the kind that the first word names
 unfoldable pub world_forms_of : List (List ℕ) → Option WorldForm

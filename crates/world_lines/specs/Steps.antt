@@ -18,7 +18,7 @@ use Rattle.world_lines.specs.Lines.{most_zones, world_form_of}
 use Rattle.world_lines.specs.Listed.{has_apex, has_address}
 
 -- What a step did is what it should do, unless memory ran out.
-abbrev pub Steps : {X : Type 0} → Result X LineError → WorldDraft → Option WorldDraft → Type 0
+abbrev pub Steps : {X D : Type 0} → Result X LineError → D → Option D → Type 0
 Steps (Ok x) new read = read ≡ Some new
 Steps (Err Refused) new read = read ≡ None
 Steps (Err NoMemory) new read = Unit {0}

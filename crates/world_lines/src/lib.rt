@@ -8,5 +8,5 @@ mod listed;
 
 pub use draft::{OpenZone, WorldDraft, WorldStage};
 pub use laws::{a_line_is_taken_where_it_can_stand, a_world_is_what_its_lines_say};
-pub use lines::{WorldForm, ZoneHead, world_line};
+pub use lines::{WorldForm, ZoneHead, is_world_line, world_line};
 pub use listed::{HostList, ZoneList};

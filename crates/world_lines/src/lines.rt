@@ -1,6 +1,7 @@
 //! The lines of a world that are no record lines, each read on its own.
+ghost use Rattle.std.specs.Prelude.{◌≡◌};
 ghost use Rattle.text_words.specs.Fields.{Gives, GivesFields, field, in_table};
-ghost use Rattle.world_lines.specs.Lines.{alias_words, count_field, zone_numbers, delay_of, aliases_of, zone_of, host_of, world_form_of};
+ghost use Rattle.world_lines.specs.Lines.{alias_words, count_field, zone_numbers, delay_of, aliases_of, zone_of, host_of, world_form_of, is_world_line};
 
 use dns_core::{Items, Name};
 use line_forms::delay;
@@ -130,4 +131,21 @@ pub fn world_line(alloc: Global, line: &[u8]) -> Result<WorldForm, LineError>
         return aliases_line(&mut words);
     }
     Err(LineError::Refused)
+}
+
+/// Whether the first word of a line is that of a line of a world which is no record line.
+#[tactic(auto, unfolding(crate::specs::Lines::starts_world))]
+pub fn is_world_line(line: &[u8]) -> bool
+    ensures { result ≡ is_world_line line.now }
+{
+    let mut words = Words::new(line);
+    match words.next() {
+        Some(word) => {
+            word == b"host".as_slice()
+                || word == b"zone".as_slice()
+                || word == b"delay".as_slice()
+                || word == b"aliases".as_slice()
+        }
+        None => false,
+    }
 }
