@@ -1,4 +1,4 @@
-mod DraftLaws
-mod FormLaws
+pub mod DraftLaws
+pub mod FormLaws
 mod Keys
-mod RunLaws
+pub mod RunLaws
