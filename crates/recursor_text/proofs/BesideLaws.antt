@@ -1,7 +1,6 @@
 -- What a draft holds beside a world is what the lines so far say.
-use Rattle.std.proofs.Common.{◌≡◌, ℕ, ◌<◌, ◌≤◌, Bool, true, false, not, ◌&&◌, ◌||◌, cond, ltb, leb, List, [], ◌∷◌, ◌++◌, length, Option, Some, None, refl, sym, ap, subst, ◌∙◌, arith, append_assoc, lit<, inl, inr}
+use Rattle.std.proofs.Common.{◌≡◌, ℕ, ◌<◌, ◌≤◌, true, ◌&&◌, cond, ltb, leb, List, [], ◌∷◌, ◌++◌, length, Option, Some, None, refl, sym, ap, subst, ◌∙◌, arith, append_assoc, lit<, inl, inr}
 use Rattle.std.specs.Prelude.{codes}
-use Rattle.std.specs.Str.{bytes_eq}
 use Rattle.std.proofs.lemmas.Bool.{and_parts, ltb-true, leb-true}
 use Rattle.std.proofs.lemmas.List.{append-nil}
 use Rattle.text_words.specs.Numbers.{◌>>=◌}
@@ -14,7 +13,6 @@ use Rattle.line_forms.specs.Lines.{form_of}
 use Rattle.line_forms.specs.Spelling.{question_line, turn_line, end_words}
 use Rattle.line_forms.proofs.LineLaws.{form_words, IsForm, form_takes}
 use Rattle.world_lines.specs.declared.draft.WorldDraft.{WorldDraft}
-use Rattle.world_lines.specs.Spelling.{world_lines}
 use Rattle.world_lines.specs.Steps.{may_close, world_of}
 use Rattle.world_lines.specs.Steps as world
 use Rattle.world_lines.proofs.DraftLaws as told

@@ -1,13 +1,12 @@
 -- The lines of a scenario are taken again, and each draft can be brought to its end, also beside a world.
-use Rattle.std.proofs.Common.{◌≡◌, ℕ, ◌+◌, ◌<◌, ◌≤◌, Bool, true, false, not, ◌&&◌, ◌||◌, ltb, List, [], ◌∷◌, ◌++◌, length, map, Option, Some, None, refl, sym, ap, subst, ◌∙◌, arith, append_assoc, lit<, inl, inr}
+use Rattle.std.proofs.Common.{◌≡◌, ℕ, ◌+◌, ◌<◌, ◌≤◌, Bool, true, false, not, ◌&&◌, ◌||◌, List, [], ◌∷◌, ◌++◌, length, map, Option, Some, None, refl, sym, ap, subst, ◌∙◌, arith, append_assoc, lit<, inl, inr}
 use Rattle.std.specs.Prelude.{codes, is_some}
 use Rattle.std.specs.List.{AllByRecursion}
-use Rattle.std.proofs.lemmas.Bool.{and_parts, cases_Bool, lt-ltb}
+use Rattle.std.proofs.lemmas.Bool.{and_parts, cases_Bool}
 use Rattle.std.proofs.lemmas.List.{append-nil, length_push}
 use Rattle.dns_core.specs.declared.request.Question.{Question}
 use Rattle.dns_core.specs.declared.request.Turn.{Turn}
 use Rattle.text_words.specs.Numbers.{◌>>=◌}
-use Rattle.text_words.specs.Pieces.{pieces}
 use Rattle.text_words.specs.Spelling.{spelled}
 use Rattle.text_words.proofs.Binds.{bind_some}
 use Rattle.text_words.proofs.FieldLaws.{bytes_same}
@@ -17,7 +16,7 @@ use Rattle.line_forms.specs.declared.lines.Form.TheVariants as form
 use Rattle.line_forms.specs.declared.option_form.OptionLine.{OptionLine}
 use Rattle.line_forms.specs.declared.rules.OpenRule.{OpenRule}
 use Rattle.line_forms.specs.Lines.{form_of, forms_of, told_of}
-use Rattle.line_forms.specs.RecordLines.{record_of, records_of, record_head}
+use Rattle.line_forms.specs.RecordLines.{records_of, record_head}
 use Rattle.line_forms.specs.Spelling.{question_line, turn_line, end_words, options_with, IsQuestion, IsTurn}
 use Rattle.line_forms.proofs.LineLaws.{form_words, IsForm, form_plain, form_again}
 use Rattle.zone_worlds.specs.declared.world.World.{World}
@@ -42,7 +41,6 @@ use Rattle.recursor_text.specs.Steps.{may_tell, may_reply, may_end, put, taken_a
 use Rattle.recursor_text.specs.Whole.{is_late, is_told_world, in_world, beside, start, taken, scenario_of}
 use Rattle.recursor_text.proofs.TurnLaws.{moment_push}
 use Rattle.recursor_text.proofs.DraftLaws.{rank}
-use Rattle.recursor_text.proofs.DraftLaws as plain
 use Rattle.recursor_text.proofs.AgainLaws.{waiting, asking, turning, turning_at, puts_question, puts_turn, puts_end, with_rules, patience_again}
 use Rattle.recursor_text.proofs.AgainLaws as again
 use Rattle.recursor_text.proofs.CompleteLaws as complete

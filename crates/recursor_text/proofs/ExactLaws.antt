@@ -1,42 +1,24 @@
 -- The line that is named is the first that cannot stand.
-use Rattle.std.proofs.Common.{◌≡◌, ◌≢◌, ℕ, zero, suc, ◌+◌, ◌-◌, ◌≤◌, true, false, eqb, ltb, List, [], ◌∷◌, ◌++◌, length, Option, Some, None, Result, Ok, Err, refl, sym, ap, subst, ◌∙◌, arith, append_assoc, inl, inr, lit≤}
-use Rattle.std.specs.Prelude.{IfSome, IfErr}
-use Rattle.std.proofs.lemmas.Bool.{lt-ltb, le-ltb, ltb-true, ltb-false, eqb-false, cases_Bool, cases_lt}
+use Rattle.std.proofs.Common.{◌≡◌, ℕ, ◌+◌, ◌≤◌, true, false, eqb, ltb, List, [], ◌∷◌, ◌++◌, length, Option, Some, None, Result, Ok, Err, refl, sym, ap, subst, ◌∙◌, arith, append_assoc, inl, inr}
+use Rattle.std.specs.Prelude.{IfErr}
+use Rattle.std.proofs.lemmas.Bool.{ltb-true, ltb-false, eqb-false, cases_Bool}
 use Rattle.std.proofs.lemmas.List.{append-nil, length_push}
-use Rattle.std.specs.declared.net.ipv4_addr.Ipv4Addr.{Ipv4Addr}
-use Rattle.std.specs.declared.net.ip_addr.IpAddr.TheVariants.{V4}
-use Rattle.std.specs.Net.Addr.{IsIpv4Addr}
-use Rattle.dns_core.specs.Name.{DomainName}
-use Rattle.dns_core.specs.declared.codes.RecordType.{RecordType}
-use Rattle.dns_core.specs.declared.record.RData.TheVariants.{A}
-use Rattle.dns_core.specs.declared.record.Record.{Record}
 use Rattle.recursor_text.specs.declared.scenario.Scenario.{Scenario}
 use Rattle.recursor_text.specs.declared.scenario.ScenarioError.{ScenarioError}
 use Rattle.recursor_text.specs.declared.scenario.Cause.{Cause}
 use Rattle.recursor_text.specs.declared.scenario.Cause.TheVariants as cause
-use Rattle.line_forms.specs.declared.lines.Form.{Form}
-use Rattle.line_forms.specs.declared.lines.Form.TheVariants as form
-use Rattle.line_forms.specs.declared.rules.Counts.{Counts}
-use Rattle.line_forms.specs.declared.rules.OpenRule.{OpenRule}
-use Rattle.recursor_text.specs.declared.reading.draft.Stage.{Stage}
-use Rattle.recursor_text.specs.declared.reading.draft.Stage.TheVariants.{Start, Headed, Rooted, Optioned, Patient, Scripted, Asked, Turned, Ended}
 use Rattle.recursor_text.specs.declared.reading.whole.WholeDraft.{WholeDraft}
 use Rattle.recursor_text.specs.declared.reading.draft.Refusal.{Refusal}
 use Rattle.recursor_text.specs.declared.reading.draft.Refusal.TheVariants.{Bad, NotBuilt}
 use Rattle.text_words.specs.Pieces.{pieces}
 use Rattle.text_words.specs.Numbers.{◌>>=◌}
-use Rattle.text_words.specs.Codes.{class_in}
 use Rattle.recursor_text.specs.Steps.{is_ended}
 use Rattle.recursor_text.specs.Whole.{start, taken, scenario_of, refusal_of}
 use Rattle.recursor_text.specs.Reading.{cause_of, step_by, finish, onward, read_from, scenario_in, GivesScenario, FailsBy}
 use Rattle.recursor_text.specs.Faults.{CanStand, IsWhole, IsFirstBad, FaultIn, HasFault}
-use Rattle.text_words.specs.Spelling.{spelled}
-use Rattle.line_forms.specs.Spelling.{record_text, IsRecord}
 use Rattle.recursor_text.specs.Spelling.{scenario_lines}
 use Rattle.text_words.proofs.Binds.{bind_some}
 use Rattle.text_words.proofs.Cuts.{split_cons}
-use Rattle.text_words.proofs.NumberLaws.{octet_fits}
-use Rattle.line_forms.proofs.LineLaws.{form_words, IsForm}
 use Rattle.recursor_text.proofs.BesideLaws.{Good, so_far, taken_takes, start_good, ended_is}
 use Rattle.recursor_text.proofs.BesideRuns.{run, run_append, run_again, draft_is, completes}
 
