@@ -122,4 +122,3 @@ completes Scripted d is g = from_told d.pending d refl is g
 completes Asked d is g = from_script d (ap may_end is) (other Asked d is g (λ e. omega arith))
 completes Turned d is g = from_script d (ap may_end is) (other Turned d is g (λ e. omega arith))
 completes Ended d is g = ([], d, refl, is)
-

@@ -20,7 +20,12 @@ fn fails_at(line: u32, cause: Cause) -> Result<Scenario, ScenarioError>
 }
 
 /// The end of a text, where `rest` follows its last line feed.
-fn finish(alloc: Global, draft: WholeDraft, line: u32, rest: &[u8]) -> Result<Scenario, ScenarioError>
+fn finish(
+    alloc: Global,
+    draft: WholeDraft,
+    line: u32,
+    rest: &[u8],
+) -> Result<Scenario, ScenarioError>
     ensures { GivesScenario result (finish draft line rest.now) }
 {
     if !draft.is_ended() {

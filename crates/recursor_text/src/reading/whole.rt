@@ -114,12 +114,7 @@ impl WholeDraft {
     }
 
     /// Takes a line after those of this world, where it is whole.
-    fn take_late(
-        &mut self,
-        alloc: Global,
-        told: WorldDraft,
-        line: &[u8],
-    ) -> Result<(), LineError>
+    fn take_late(&mut self, alloc: Global, told: WorldDraft, line: &[u8]) -> Result<(), LineError>
         ensures { Steps result self.new (late_taken told self.old.draft line.now) }
     {
         pass(told.may_close())?;
@@ -129,12 +124,7 @@ impl WholeDraft {
     }
 
     /// Takes the next line, where this world is told.
-    fn take_beside(
-        &mut self,
-        alloc: Global,
-        told: WorldDraft,
-        line: &[u8],
-    ) -> Result<(), LineError>
+    fn take_beside(&mut self, alloc: Global, told: WorldDraft, line: &[u8]) -> Result<(), LineError>
         ensures { Steps result self.new (beside_taken told self.old.draft line.now) }
     {
         if in_world(&told, &self.draft, line) {
