@@ -4,7 +4,7 @@ use crate::failure::Failure;
 use dns_core::{Items, Question};
 use recursor_core::{Recursor, Reply, drive};
 use recursor_text::{Scenario, Upstream, read_scenario};
-use recursor_world::ScriptUpstream;
+use recursor_world::{Script, ScriptUpstream};
 use std::alloc::Global;
 
 /// A recursor over a script, and its question.
@@ -12,6 +12,14 @@ use std::alloc::Global;
 struct Bench {
     recursor: Recursor<ScriptUpstream>,
     questions: Items<Question>,
+}
+
+/// The script of a scenario; none is told a world here.
+fn script_of(upstream: Upstream) -> Result<Script, Failure> {
+    match upstream {
+        Upstream::Script(script) => Ok(script),
+        Upstream::World(_) => Err(Failure::Refused),
+    }
 }
 
 fn bench_over(alloc: Global, scenario: Scenario) -> Result<Bench, Failure> {
@@ -23,7 +31,7 @@ fn bench_over(alloc: Global, scenario: Scenario) -> Result<Bench, Failure> {
         questions,
         turns: _,
     } = scenario;
-    let Upstream::Script(script) = upstream;
+    let script = script_of(upstream)?;
     if !script.is_qualified() {
         return Err(Failure::Unqualified);
     }

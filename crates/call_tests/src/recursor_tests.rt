@@ -56,6 +56,14 @@ fn recursor_over(
     }
 }
 
+/// The script of a scenario; none is told a world here.
+fn script_of(upstream: Upstream) -> Result<Script, Fail> {
+    match upstream {
+        Upstream::Script(script) => Ok(script),
+        Upstream::World(_) => Err(Fail::new(format_args!("a world is told"))),
+    }
+}
+
 /// What is driven of a scenario.
 fn driven(alloc: Global, scenario: Scenario) -> Result<Transcript, Fail> {
     let Scenario {
@@ -66,7 +74,7 @@ fn driven(alloc: Global, scenario: Scenario) -> Result<Transcript, Fail> {
         questions,
         turns,
     } = scenario;
-    let Upstream::Script(script) = upstream;
+    let script = script_of(upstream)?;
     let mut recursor = recursor_over(alloc, &roots, options, script)?;
     let replies = drive(
         alloc,

@@ -35,6 +35,7 @@ struct Set(Scenario);
 fn rules(upstream: &Upstream) -> &[ScriptLine] {
     match upstream {
         Upstream::Script(script) => script.lines.items(),
+        Upstream::World(_) => &[],
     }
 }
 

@@ -12,7 +12,7 @@ use Rattle.recursor_world.specs.declared.script.ScriptLine.{ScriptLine}
 use Rattle.recursor_world.specs.declared.script.ScriptLine.TheVariants.{Connect, Refuse, Reply}
 use Rattle.recursor_world.specs.Script.{is_qualified_line, is_qualified_script}
 use Rattle.recursor_text.specs.declared.scenario.Upstream.{Upstream}
-use Rattle.recursor_text.specs.declared.scenario.Upstream.TheVariants.{Script as FromScript}
+use Rattle.recursor_text.specs.declared.scenario.Upstream.TheVariants.{Script as FromScript, World as FromWorld}
 use Rattle.line_forms.specs.Spelling.{IsData, IsRecord, IsScriptLine}
 use Rattle.recursor_text.specs.Spelling.{rules_of}
 use Rattle.recursor_command.specs.Command.{script_of}
@@ -54,3 +54,4 @@ lines_qualified (line ∷ lines) h = both (is_qualified_line line) (list_all is_
 
 pub script_qualified : (u : Upstream) → AllByRecursion IsScriptLine (rules_of u) → IsTrue (is_qualified_script (script_of u))
 script_qualified (FromScript script) h = lines_qualified script.lines h
+script_qualified (FromWorld w) h = refl

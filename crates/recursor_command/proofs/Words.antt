@@ -8,7 +8,7 @@ use Rattle.line_forms.specs.Spelling.{IsScriptLine}
 use Rattle.recursor_text.specs.Spelling.{rules_of}
 use Rattle.recursor_text.specs.declared.scenario.Scenario.{Scenario}
 use Rattle.recursor_text.specs.declared.scenario.Upstream.{Upstream}
-use Rattle.recursor_text.specs.declared.scenario.Upstream.TheVariants.{Script as FromScript}
+use Rattle.recursor_text.specs.declared.scenario.Upstream.TheVariants.{Script as FromScript, World as FromWorld}
 use Rattle.transcript_printer.specs.declared.transcript.Transcript.{Transcript}
 use Rattle.recursor_command.specs.Command.{script_of, terms_of, IsRunnable, Ran}
 use Rattle.recursor_command.proofs.LogWords.{log_worded, entry_worded}
@@ -19,6 +19,7 @@ both a b p q = ap (λ x. x && b) p ∙ q
 
 lines_of : (u : Upstream) → AllByRecursion IsScriptLine (rules_of u) → AllByRecursion IsScriptLine (script_of u).lines
 lines_of (FromScript script) h = h
+lines_of (FromWorld w) h = tt
 
 pub transcript_worded : (s : Scenario) (t : Transcript) → IsRunnable s → Ran s t → IsTrue (has_transcript_words t)
 transcript_worded s t can ran =

@@ -1,5 +1,5 @@
 -- What the command writes for what it reads.
-use Rattle.std.specs.Prelude.{◌≡◌, ◌≢◌, ◌≤◌, ◌⊎◌, ℕ, max, Contains, Some, Bool, true, false, List, [], ◌∷◌, length, codes, IfSome}
+use Rattle.std.specs.Prelude.{◌≡◌, ◌≢◌, ◌≤◌, ◌⊎◌, ℕ, max, Contains, Some, Bool, true, false, List, [], ◌∷◌, length, codes, IfSome, ◌+◌, if◌then◌else◌}
 use Rattle.std.specs.declared.option.Option.{Option}
 use Rattle.std.specs.List.{AllByRecursion}
 use Rattle.std.specs.Io.KnownBytes.{Appends, Keeps}
@@ -29,6 +29,7 @@ use Rattle.recursor_text.specs.declared.scenario.Upstream.TheVariants as upstrea
 use Rattle.transcript_printer.specs.declared.transcript.Transcript.{Transcript}
 use Rattle.line_forms.specs.Spelling.{IsScriptLine}
 use Rattle.recursor_text.specs.Spelling.{Reads, rules_of}
+use Rattle.text_words.specs.Pieces.{pieces}
 use Rattle.recursor_text.specs.Reading.{fails_at, scenario_in}
 use Rattle.recursor_text.specs.Faults.{HasFault}
 use Rattle.transcript_printer.specs.Transcript.{transcript_text}
@@ -45,12 +46,19 @@ are_words [] = false
 are_words (w ∷ []) = bytes_eq w (codes "resolve")
 are_words (w ∷ v ∷ ws) = false
 
+-- the script of an upstream; that of a world has no lines
 abbrev pub script_of : Told → Script
 script_of (upstream.Script s) = s
+script_of (upstream.World w) = record { lines = [] }
+
+abbrev pub is_script : Told → Bool
+is_script (upstream.Script s) = true
+is_script (upstream.World w) = false
 
 -- What a run needs of a scenario: there is a root, no least life is above its greatest, servers may start with the first delays,
--- and its script has lines of the format.
+-- and it is told a script, which has lines of the format.
 pub record IsRunnable (s : Scenario) : Type 0 where
+  pub scripted : is_script s.upstream ≡ true
   pub rooted : s.roots ≢ []
   pub ordered : has_reversed s.options.cache_policy ≡ false
   pub delayed : has_bad_first_delays s.options.first_delays ≡ false
@@ -69,11 +77,12 @@ terms_of s = record { roots = s.roots; server_filter = server_filter_of s.option
 abbrev pub HappensAt : List ℕ → Log → Type 0
 HappensAt moments log = (i moment : ℕ) (e : LogEntry) → Logged log i e → moment_of e ≡ Some moment → Contains moments moment
 
--- A run of a scenario: its log is one that the script gives, and each question has its reply, in order. Only servers were asked,
+-- A run of a scenario that is told a script: its log is one that the script gives, and each question has its reply, in order. Only servers were asked,
 -- by what was told before, each a root or at an address that is not denied; at moments of its turns, which do not fall; and none was waited for more
 -- often than patience allows. A reply with a message is what counts of a response that a server of a zone at or above the name told since the question
 -- began, or within its life before that; the walk went down to this zone. Each error has its cause.
 pub record Ran (s : Scenario) (t : Transcript) : Type 0 where
+  pub scripted : is_script s.upstream ≡ true
   pub gives : Gives (script_of s.upstream) t.log
   pub answered : length t.replies ≡ length s.questions
   pub asks : AsksServers (given_of (terms_of s)) (log_of t.log)
@@ -105,11 +114,23 @@ fault_of e = fault_by e.cause e.line
 abbrev pub IsRefusedAs : List ℕ → ℕ → Cause → Type 0
 IsRefusedAs bytes n why = HasFault bytes n why × (scenario_in bytes ≡ fails_at n why)
 
--- the bytes are no scenario for this fault
+-- the number of the first of these lines that tells a world, where they are counted from this number; 0 where there is none
+abbrev pub told_line : ℕ → List (List ℕ) → ℕ
+told_line n [] = 0
+told_line n (line ∷ lines) = if bytes_eq line (codes "told world") then n else told_line (n + 1) lines
+
+-- The bytes are a scenario that is told a world, by the line of this number. It is read, and no command runs it yet.
+pub record IsToldWorld (bytes : List ℕ) (n : ℕ) : Type 0 where
+  pub scenario : Scenario
+  pub reads : Reads bytes scenario
+  pub world : is_script scenario.upstream ≡ false
+  pub line : n ≡ told_line 1 (pieces 10 bytes)
+
+-- the bytes are no scenario that is run, for this fault
 abbrev pub IsFaultOf : List ℕ → Fault → Type 0
 IsFaultOf bytes Words = ⊥
 IsFaultOf bytes (Line n) = IsRefusedAs bytes n cause.Line ⊎ (HasFault bytes n cause.Cut ⊎ HasFault bytes n cause.Long)
-IsFaultOf bytes (NotBuilt n) = IsRefusedAs bytes n cause.NotBuilt
+IsFaultOf bytes (NotBuilt n) = IsRefusedAs bytes n cause.NotBuilt ⊎ IsToldWorld bytes n
 IsFaultOf bytes Read = ⊥
 IsFaultOf bytes Memory = Unit {0}
 
@@ -127,7 +148,7 @@ pub record Tells (fault : Fault) (result : Status) (old new : Option (List ℕ))
 abbrev pub HasWritten : List ℕ → Option (List ℕ) → Option (List ℕ) → Type 0
 HasWritten bytes old new = (text : List ℕ) × HasOutput bytes text × Appends old new text
 
--- the bytes are no scenario of the forms that are built, and what is wrong with them was appended
+-- the bytes are no scenario of the forms that are run, and what is wrong with them was appended
 abbrev pub HasRefused : List ℕ → Option (List ℕ) → Option (List ℕ) → Type 0
 HasRefused bytes old new = (fault : Fault) × IsFaultOf bytes fault × (status_of fault ≡ status.BadScenario) × Appends old new (fault_text fault)
 

@@ -1,5 +1,5 @@
 //! The command over any source and sink.
-ghost use Rattle.std.specs.Prelude.{min, ◌≡◌, ◌≢◌, false, [], IfOk, IfErr, IfSome, IsTrue};
+ghost use Rattle.std.specs.Prelude.{min, ◌≡◌, ◌≢◌, ◌≤◌, length, false, [], IfOk, IfErr, IfSome, IsTrue};
 ghost use Rattle.std.specs.Io.KnownBytes.{IsAtEnd, Appends};
 ghost use Rattle.dns_core.specs.Faults.{Rose};
 ghost use Rattle.dns_core.specs.WholeStreams.{TakesAtMost};
@@ -8,8 +8,10 @@ ghost use Rattle.recursor_world.specs.Upstream.{told_by};
 ghost use Rattle.resolver_settings.specs.Ttl.{has_reversed};
 ghost use Rattle.recursor_types.specs.Options.{has_bad_first_delays};
 ghost use Rattle.transcript_printer.specs.Transcript.{has_transcript_words, transcript_text};
+ghost use Rattle.text_words.specs.Pieces.{pieces};
+ghost use Rattle.recursor_text.specs.Spelling.{Reads};
 ghost use Rattle.recursor_command.specs.Faults.{fault_text};
-ghost use Rattle.recursor_command.specs.Command.{are_words, script_of, fault_of, IsNewOver, IsRunnable, Ran, HasRun, HasOutput, IsFaultOf, Tells, HasWritten, HasRefused, IsTextFor, IsTextOf, WrotePart, ToldMemory, IsRefusal};
+ghost use Rattle.recursor_command.specs.Command.{are_words, script_of, is_script, told_line, fault_of, IsNewOver, IsRunnable, Ran, HasRun, HasOutput, IsFaultOf, Tells, HasWritten, HasRefused, IsTextFor, IsTextOf, WrotePart, ToldMemory, IsRefusal};
 
 use crate::faults::{Fault, say};
 use crate::status::Status;
@@ -20,6 +22,7 @@ use recursor_text::{
 };
 use recursor_world::{Script, ScriptUpstream};
 use std::alloc::Global;
+use text_words::cut;
 
 /// One byte more than a scenario may have, so that one that is too long shows.
 const MOST: usize = 16_777_217;
@@ -73,12 +76,41 @@ fn log_of(alloc: Global, mut upstream: ScriptUpstream) -> Result<Log, NoMemory>
     upstream.log().try_clone(alloc)
 }
 
-/// The script of an upstream, of which there is no other kind yet.
-fn script_from(upstream: Upstream) -> Script
+fn is_script(upstream: &Upstream) -> bool
+    ensures { result ≡ is_script upstream.now }
+{
+    matches!(upstream, Upstream::Script(_))
+}
+
+/// The script of an upstream; that of a world has no lines.
+fn script_from(alloc: Global, upstream: Upstream) -> Script
     ensures { result ≡ script_of upstream }
 {
     match upstream {
         Upstream::Script(script) => script,
+        Upstream::World(_) => Script {
+            lines: Items::empty(alloc),
+        },
+    }
+}
+
+/// The number of the first line that tells a world, and 0 where there is none.
+fn told_line(bytes: &[u8]) -> u32
+    requires { length bytes.now ≤ 16777216 }
+    ensures { result ≡ told_line 1 (pieces 10 bytes.now) }
+{
+    let mut rest = bytes;
+    let mut number: u32 = 1;
+    'lines: loop {
+        let (line, after) = cut(rest, b'\n');
+        if line == b"told world".as_slice() {
+            return number;
+        }
+        let Some(after) = after else {
+            return 0;
+        };
+        number += 1;
+        rest = after;
     }
 }
 
@@ -103,7 +135,7 @@ fn ran(alloc: Global, scenario: Scenario) -> Result<Transcript, NoMemory>
         questions,
         turns,
     } = scenario;
-    let script = script_from(upstream);
+    let script = script_from(alloc, upstream);
     let mut recursor = recursor_over(alloc, &roots, options, script)?;
     let replies = drive(
         alloc,
@@ -148,16 +180,28 @@ fn fault_of(error: ScenarioError) -> Fault
     }
 }
 
+/// What is written for a scenario, or that it is told a world, which no command runs yet.
+fn answered(alloc: Global, bytes: &[u8], scenario: Scenario) -> Result<Vec<u8>, Fault>
+    requires { Reads bytes.now scenario }
+    ensures ok { IfOk result (λ text. HasOutput bytes.now text.items) }
+    ensures err { IfErr result (IsFaultOf bytes.now) }
+{
+    if !is_script(&scenario.upstream) {
+        return Err(Fault::NotBuilt(told_line(bytes)));
+    }
+    match resolved(alloc, scenario) {
+        Ok(text) => Ok(text),
+        Err(_) => Err(Fault::Memory),
+    }
+}
+
 /// What is written for the bytes of a scenario, or the fault that ends the run.
 fn output(alloc: Global, bytes: &[u8]) -> Result<Vec<u8>, Fault>
     ensures ok { IfOk result (λ text. HasOutput bytes.now text.items) }
     ensures err { IfErr result (IsFaultOf bytes.now) }
 {
     match read_scenario(alloc, bytes) {
-        Ok(scenario) => match resolved(alloc, scenario) {
-            Ok(text) => Ok(text),
-            Err(_) => Err(Fault::Memory),
-        },
+        Ok(scenario) => answered(alloc, bytes, scenario),
         Err(error) => Err(fault_of(error)),
     }
 }
@@ -202,7 +246,7 @@ pub fn run<S: Source, K: Sink>(
     // No more bytes are taken than show that a scenario is too long.
     ensures bound { TakesAtMost 16777217 (S.left source.old) (S.left source.new) }
 
-    // What the source held is no scenario of the forms that are built, and its fault was written.
+    // What the source held is no scenario of the forms that are run, and its fault was written.
     ensures scenario { result ≡ Status.BadScenario → IfSome (S.left source.old) (λ bytes. HasRefused bytes (K.written sink.old) (K.written sink.new)) }
 
     // The words are none of the command's, which was written; and nothing was read.

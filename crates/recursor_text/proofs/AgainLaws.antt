@@ -14,7 +14,6 @@ use Rattle.dns_core.specs.declared.request.Turn.{Turn}
 use Rattle.recursor_world.specs.declared.script.ScriptLine.{ScriptLine}
 use Rattle.recursor_world.specs.declared.script.ScriptLine.TheVariants.{Connect, Refuse, Reply}
 use Rattle.recursor_text.specs.declared.scenario.Scenario.{Scenario}
-use Rattle.recursor_text.specs.declared.scenario.Upstream.{Upstream}
 use Rattle.recursor_text.specs.declared.scenario.Upstream.TheVariants.{Script as FromScript}
 use Rattle.line_forms.specs.declared.lines.Form.{Form}
 use Rattle.line_forms.specs.declared.lines.Form.TheVariants as form
@@ -91,7 +90,7 @@ options_again roots front (o ∷ os) rise all =
     ∙ options_again roots (front ++ o ∷ []) os (subst (λ (n : ℕ). RiseAbove n os) (sym (last_push 0 front o)) rise.1) all.1
     ∙ ap (λ (l : List OptionLine). Some (with_options roots l)) (append_assoc front (o ∷ []) os)
 
-abbrev waiting : List IpAddr → List OptionLine → ℕ → Draft
+abbrev pub waiting : List IpAddr → List OptionLine → ℕ → Draft
 waiting roots written patience = record { stage = Patient; roots = roots; written = written; patience = patience; rules = []; pending = None; questions = []; turns = [] }
 
 puts_patience : (roots : List IpAddr) (written : List OptionLine) (n : ℕ) → put (with_options roots written) (form.Patience n) ≡ Some (waiting roots written n)
@@ -219,14 +218,14 @@ rules_again roots written patience front (r ∷ rules) all =
 
 -- ---- questions and turns
 
-abbrev stage_asked : List Question → Stage
+abbrev pub stage_asked : List Question → Stage
 stage_asked [] = Scripted
 stage_asked (q ∷ qs) = Asked
 
-abbrev asking : List OptionLine → Scenario → List Question → Draft
+abbrev pub asking : List OptionLine → Scenario → List Question → Draft
 asking written sc questions = record { stage = stage_asked questions; roots = sc.roots; written = written; patience = sc.patience; rules = rules_of sc.upstream; pending = None; questions = questions; turns = [] }
 
-puts_question : (written : List OptionLine) (sc : Scenario) (front : List Question) (q : Question) → length front < most_questions → put (asking written sc front) (form.Question q) ≡ Some (asking written sc (front ++ q ∷ []))
+pub puts_question : (written : List OptionLine) (sc : Scenario) (front : List Question) (q : Question) → length front < most_questions → put (asking written sc front) (form.Question q) ≡ Some (asking written sc (front ++ q ∷ []))
 puts_question written sc [] q lt = refl
 puts_question written sc (p ∷ ps) q lt = let room : ltb (length (p ∷ ps)) most_questions ≡ true = lt-ltb _ _ lt in rw room refl
 
@@ -239,7 +238,7 @@ questions_again written sc front (q ∷ qs) few all =
     ∙ ap (λ (l : List Question). Some (asking written sc l)) (append_assoc front (q ∷ []) qs)
 
 -- the stage after turns that follow a stage
-abbrev stage_turned : Stage → List Turn → Stage
+abbrev pub stage_turned : Stage → List Turn → Stage
 stage_turned s [] = s
 stage_turned s (t ∷ ts) = Turned
 
@@ -257,13 +256,13 @@ end_may [] [] = refl
 end_may (q ∷ qs) [] = refl
 end_may qs (t ∷ ts) = refl
 
-abbrev turning_at : Stage → List OptionLine → Scenario → List Turn → Draft
+abbrev pub turning_at : Stage → List OptionLine → Scenario → List Turn → Draft
 turning_at s written sc turns = record { stage = s; roots = sc.roots; written = written; patience = sc.patience; rules = rules_of sc.upstream; pending = None; questions = sc.questions; turns = turns }
 
-abbrev turning : List OptionLine → Scenario → List Turn → Draft
+abbrev pub turning : List OptionLine → Scenario → List Turn → Draft
 turning written sc turns = turning_at (stage_turned (stage_asked sc.questions) turns) written sc turns
 
-puts_turn : (written : List OptionLine) (sc : Scenario) (front : List Turn) (t : Turn) → length front < most_turns → last_moment 0 front ≤ t.moment → put (turning written sc front) (form.Turn t) ≡ Some (turning written sc (front ++ t ∷ []))
+pub puts_turn : (written : List OptionLine) (sc : Scenario) (front : List Turn) (t : Turn) → length front < most_turns → last_moment 0 front ≤ t.moment → put (turning written sc front) (form.Turn t) ≡ Some (turning written sc (front ++ t ∷ []))
 puts_turn written sc front t lt le =
     let room : ltb (length front) most_turns ≡ true = lt-ltb _ _ lt in
     let rises : leb (last_moment 0 front) t.moment ≡ true = le-leb _ _ le in
@@ -277,7 +276,7 @@ turns_again written sc front (t ∷ ts) few all timed =
     ∙ turns_again written sc (front ++ t ∷ []) ts (omega (arith, length_push front t)) all.1 (subst (λ (n : ℕ). NoneFalls n ts) (sym (moment_push 0 front t)) timed.1)
     ∙ ap (λ (l : List Turn). Some (turning written sc l)) (append_assoc front (t ∷ []) ts)
 
-puts_end : (written : List OptionLine) (sc : Scenario) → put (turning written sc sc.turns) form.End ≡ Some (turning_at Ended written sc sc.turns)
+pub puts_end : (written : List OptionLine) (sc : Scenario) → put (turning written sc sc.turns) form.End ≡ Some (turning_at Ended written sc sc.turns)
 puts_end written sc = rw (end_may sc.questions sc.turns) refl
 
 -- ---- all of it
@@ -289,28 +288,35 @@ first_root (ip ∷ roots) some few all =
     ∙ takes_form (record start { stage = Headed }) (with_roots (ip ∷ [])) (form.Root ip) (map root_line roots) refl all.0 refl
     ∙ roots_again (ip ∷ []) roots (omega arith) all.1
 
-upstream_is : (u : Upstream) → FromScript (record { lines = rules_of u }) ≡ u
-upstream_is (FromScript s) = refl
+-- told these rules
+abbrev pub with_rules : Scenario → List ScriptLine → Scenario
+with_rules sc rules = record sc { upstream = FromScript (record { lines = rules }) }
 
-scenario_is : (written : List OptionLine) (sc : Scenario) → sc.options ≡ options_with written → scenario_of (turning_at Ended written sc sc.turns) ≡ sc
-scenario_is written sc is = λ i. record { roots = sc.roots; options = sym is i; patience = sc.patience; upstream = upstream_is sc.upstream i; questions = sc.questions; turns = sc.turns }
+options_are : (written : List OptionLine) (sc : Scenario) (rules : List ScriptLine) → sc.options ≡ options_with written → scenario_of (turning_at Ended written (with_rules sc rules) sc.turns) ≡ with_rules sc rules
+options_are written sc rules is = λ i. record { roots = sc.roots; options = sym is i; patience = sc.patience; upstream = FromScript (record { lines = rules }); questions = sc.questions; turns = sc.turns }
 
-pub run_again : (written : List OptionLine) (sc : Scenario) → IsScenario written sc → (d : Draft) × (run start (scenario_lines written sc) ≡ Some d) × (d.stage ≡ Ended) × (scenario_of d ≡ sc)
-run_again written sc fits =
+-- the lines up to the patience
+pub patience_again : (written : List OptionLine) (sc : Scenario) → IsScenario written sc → run start (to_patience sc.roots written sc.patience) ≡ Some (waiting sc.roots written sc.patience)
+patience_again written sc fits =
     let r1 = first_root sc.roots fits.rooted fits.few_roots fits.roots in
     let r0 : run start (to_options sc.roots written) ≡ Some (with_options sc.roots written) = run_append start (with_roots sc.roots) (to_roots sc.roots) (map option_line written) r1
     ∙ options_again sc.roots [] written fits.ordered fits.valued in
+    run_append start (with_options sc.roots written) (to_options sc.roots written) (spelled (patience_words sc.patience) ∷ []) r0
+    ∙ takes_form (with_options sc.roots written) (waiting sc.roots written sc.patience) (form.Patience sc.patience) [] refl fits.patience (puts_patience sc.roots written sc.patience)
+
+pub run_again : (written : List OptionLine) (of : Scenario) (rules : List ScriptLine) → IsScenario written (with_rules of rules) → (d : Draft) × (run start (scenario_lines written (with_rules of rules)) ≡ Some d) × (d.stage ≡ Ended) × (scenario_of d ≡ with_rules of rules)
+run_again written of rules fits =
+    let sc = with_rules of rules in
     let rested = waiting sc.roots written sc.patience in
-    let r2 : run start (to_patience sc.roots written sc.patience) ≡ Some rested = run_append start (with_options sc.roots written) (to_options sc.roots written) (spelled (patience_words sc.patience) ∷ []) r0
-    ∙ takes_form (with_options sc.roots written) rested (form.Patience sc.patience) [] refl fits.patience (puts_patience sc.roots written sc.patience) in
+    let r2 = patience_again written sc fits in
     let r3 : run start (to_told sc.roots written sc.patience) ≡ Some (scripted sc.roots written sc.patience []) = run_append start rested (to_patience sc.roots written sc.patience) (spelled told_words ∷ []) r2
     ∙ takes_form rested (scripted sc.roots written sc.patience []) form.ToldScript [] refl tt refl in
     let r4 : run start (to_rules written sc) ≡ Some (scripted sc.roots written sc.patience (rules_of sc.upstream)) = run_append start (scripted sc.roots written sc.patience []) (to_told sc.roots written sc.patience) (flat_map script_lines (rules_of sc.upstream)) r3
-    ∙ rules_again sc.roots written sc.patience [] (rules_of sc.upstream) fits.rules in
+    ∙ rules_again sc.roots written sc.patience [] (rules_of sc.upstream) fits.upstream in
     let r5 : run start (to_questions written sc) ≡ Some (turning written sc []) = run_append start (scripted sc.roots written sc.patience (rules_of sc.upstream)) (to_rules written sc) (map question_line sc.questions) r4
     ∙ questions_again written sc [] sc.questions (omega (arith, fits.few_questions)) fits.questions in
     let r6 : run start (to_turns written sc) ≡ Some (turning written sc sc.turns) = run_append start (turning written sc []) (to_questions written sc) (map turn_line sc.turns) r5
     ∙ turns_again written sc [] sc.turns (omega (arith, fits.few_turns)) fits.turns fits.timed in
     let r7 : run start (scenario_lines written sc) ≡ Some (turning_at Ended written sc sc.turns) = run_append start (turning written sc sc.turns) (to_turns written sc) (spelled end_words ∷ []) r6
     ∙ takes_form (turning written sc sc.turns) (turning_at Ended written sc sc.turns) form.End [] refl tt (puts_end written sc) in
-    (turning_at Ended written sc sc.turns, r7, refl, scenario_is written sc fits.options)
+    (turning_at Ended written sc sc.turns, r7, refl, options_are written of rules fits.options)

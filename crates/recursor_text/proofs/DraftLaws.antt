@@ -98,7 +98,7 @@ head_rank Asked e = absurd cc
 head_rank Turned e = absurd cc
 head_rank Ended e = absurd cc
 
-tell_rank : (s : Stage) → may_tell s ≡ true → s ≡ Patient
+pub tell_rank : (s : Stage) → may_tell s ≡ true → s ≡ Patient
 tell_rank Patient e = refl
 tell_rank Start e = absurd cc
 tell_rank Headed e = absurd cc
@@ -109,7 +109,7 @@ tell_rank Asked e = absurd cc
 tell_rank Turned e = absurd cc
 tell_rank Ended e = absurd cc
 
-reply_rank : (s : Stage) → may_reply s ≡ true → s ≡ Scripted
+pub reply_rank : (s : Stage) → may_reply s ≡ true → s ≡ Scripted
 reply_rank Scripted e = refl
 reply_rank Start e = absurd cc
 reply_rank Headed e = absurd cc
@@ -120,7 +120,7 @@ reply_rank Asked e = absurd cc
 reply_rank Turned e = absurd cc
 reply_rank Ended e = absurd cc
 
-end_rank : (s : Stage) → is_ended s ≡ true → s ≡ Ended
+pub end_rank : (s : Stage) → is_ended s ≡ true → s ≡ Ended
 end_rank Ended e = refl
 end_rank Start e = absurd cc
 end_rank Headed e = absurd cc
@@ -326,7 +326,7 @@ patient d n g fits e shut =
 nothing_told : (d : Draft) → d.rules ≡ [] → d.pending ≡ None → so_far_at Scripted d ≡ to_patience d.roots d.written d.patience ++ spelled told_words ∷ []
 nothing_told d none shut = rw (none, shut) (append-nil (to_told d.roots d.written d.patience ++ []) ∙ append-nil (to_told d.roots d.written d.patience))
 
-told : (d : Draft) → Good d → may_tell d.stage ≡ true → d.pending ≡ None → Takes d (spelled told_words) (record d { stage = Scripted })
+pub told : (d : Draft) → Good d → may_tell d.stage ≡ true → d.pending ≡ None → Takes d (spelled told_words) (record d { stage = Scripted })
 told d g e shut =
     let is : d.stage ≡ Patient = tell_rank d.stage e in
     let r : rank d.stage ≡ 4 = ap rank is in
@@ -492,10 +492,10 @@ ruled d line g fits e shut =
           ∙ sym (ap (λ (l : List (List ℕ)). l ++ spelled (rule_words line) ∷ []) before),
     )
 
-abbrev with_question : Draft → Question → Draft
+abbrev pub with_question : Draft → Question → Draft
 with_question d q = record d { stage = Asked; questions = d.questions ++ q ∷ [] }
 
-asked : (d : Draft) (q : Question) → Good d → IsQuestion q → may_ask d.stage ≡ true → length d.questions < most_questions → d.pending ≡ None → Takes d (question_line q) (with_question d q)
+pub asked : (d : Draft) (q : Question) → Good d → IsQuestion q → may_ask d.stage ≡ true → length d.questions < most_questions → d.pending ≡ None → Takes d (question_line q) (with_question d q)
 asked d q g fits e room shut =
     let at = at_questions d.stage d e shut g.no_questions in (
       record {
@@ -523,10 +523,10 @@ asked d q g fits e room shut =
       mapped_push question_line (to_rules d.written (scenario_of d)) d.questions q ∙ sym (ap (λ (l : List (List ℕ)). l ++ question_line q ∷ []) at.1),
     )
 
-abbrev with_turn : Draft → Turn → Draft
+abbrev pub with_turn : Draft → Turn → Draft
 with_turn d t = record d { stage = Turned; turns = d.turns ++ t ∷ [] }
 
-turned : (d : Draft) (t : Turn) → Good d → IsTurn t → may_turn d.stage ≡ true → length d.turns < most_turns → last_moment 0 d.turns ≤ t.moment → d.pending ≡ None → Takes d (turn_line t) (with_turn d t)
+pub turned : (d : Draft) (t : Turn) → Good d → IsTurn t → may_turn d.stage ≡ true → length d.turns < most_turns → last_moment 0 d.turns ≤ t.moment → d.pending ≡ None → Takes d (turn_line t) (with_turn d t)
 turned d t g fits e room rises shut =
     let at = at_turns d.stage d e shut g.no_questions g.no_turns in (
       record {
@@ -554,7 +554,7 @@ turned d t g fits e room rises shut =
       mapped_push turn_line (to_questions d.written (scenario_of d)) d.turns t ∙ sym (ap (λ (l : List (List ℕ)). l ++ turn_line t ∷ []) at.1),
     )
 
-ended : (d : Draft) → Good d → may_end d.stage ≡ true → d.pending ≡ None → Takes d (spelled end_words) (record d { stage = Ended })
+pub ended : (d : Draft) → Good d → may_end d.stage ≡ true → d.pending ≡ None → Takes d (spelled end_words) (record d { stage = Ended })
 ended d g e shut =
     let at = at_turns d.stage d (sym (end_as d.stage) ∙ e) shut g.no_questions g.no_turns in (
       record {
@@ -721,7 +721,7 @@ ended_is d g e =
         valued = g.valued;
         options = refl;
         patience = g.patient (omega arith);
-        rules = g.rules;
+        upstream = g.rules;
         few_questions = g.few_questions;
         questions = g.questions;
         few_turns = g.few_turns;

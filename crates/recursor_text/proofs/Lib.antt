@@ -1,4 +1,7 @@
 pub mod AgainLaws
+pub mod BesideLaws
+pub mod BesideRuns
+pub mod CompleteLaws
 pub mod DraftLaws
 pub mod ExactLaws
 pub mod OneLine

@@ -4,20 +4,20 @@ use Rattle.std.specs.List.{join_with_byte}
 use Rattle.std.proofs.lemmas.Bool.{ltb-false, eqb-true}
 use Rattle.std.proofs.lemmas.List.{nil_from_length, append-nil}
 use Rattle.text_words.specs.Pieces.{pieces}
-use Rattle.recursor_text.specs.declared.reading.draft.Draft.{Draft}
+use Rattle.recursor_text.specs.declared.reading.whole.WholeDraft.{WholeDraft}
 use Rattle.line_forms.specs.declared.option_form.OptionLine.{OptionLine}
 use Rattle.recursor_text.specs.declared.reading.draft.Refusal.{Refusal}
 use Rattle.recursor_text.specs.declared.scenario.Scenario.{Scenario}
 use Rattle.recursor_text.specs.declared.scenario.ScenarioError.{ScenarioError}
 use Rattle.recursor_text.specs.declared.scenario.Cause.{Cause}
 use Rattle.recursor_text.specs.declared.scenario.Cause.TheVariants as cause
-use Rattle.recursor_text.specs.Steps.{start, taken, is_ended, scenario_of}
-use Rattle.recursor_text.specs.Unbuilt.{refusal_of}
+use Rattle.recursor_text.specs.Steps.{is_ended}
+use Rattle.recursor_text.specs.Whole.{start, taken, scenario_of, refusal_of}
 use Rattle.recursor_text.specs.Reading.{fails_at, step_by, finish, onward, read_from, scenario_in}
 use Rattle.recursor_text.specs.Spelling.{scenario_lines, text_of, IsScenario, Reads}
 use Rattle.text_words.proofs.Cuts.{split_cons}
 use Rattle.text_words.proofs.PlainLaws.{pieces_take}
-use Rattle.recursor_text.proofs.DraftLaws.{Good, so_far, taken_takes, start_good, ended_is}
+use Rattle.recursor_text.proofs.BesideLaws.{Good, so_far, taken_takes, start_good, ended_is}
 
 abbrev Read : Type 0
 Read = Result Scenario ScenarioError
@@ -36,25 +36,25 @@ ok s = Ok s
 ok_is : (s t : Scenario) → ok s ≡ ok t → s ≡ t
 ok_is s t e = cc
 
-finish_takes : (d : Draft) (n : ℕ) (rest : List ℕ) (s : Scenario) → Good d → finish d n rest ≡ Ok s → (rest ≡ []) × (so_far d ≡ scenario_lines d.written s) × IsScenario d.written s
+finish_takes : (d : WholeDraft) (n : ℕ) (rest : List ℕ) (s : Scenario) → Good d → finish d n rest ≡ Ok s → (rest ≡ []) × (so_far d ≡ scenario_lines d.draft.written s) × IsScenario d.draft.written s
 finish_takes d n rest s g e =
-    let a = ok_in (is_ended d.stage) (cond (eqb (length rest) 0) (Ok (scenario_of d)) (fails_at n cause.Line)) n cause.Cut s e in
+    let a = ok_in (is_ended d.draft.stage) (cond (eqb (length rest) 0) (Ok (scenario_of d)) (fails_at n cause.Line)) n cause.Cut s e in
     let b = ok_in (eqb (length rest) 0) (Ok (scenario_of d)) n cause.Line s a.1 in
     let nothing : rest ≡ [] = nil_from_length rest (eqb-true _ _ b.0) in
     let is : scenario_of d ≡ s = ok_is (scenario_of d) s b.1 in
     let t = ended_is d g a.0 in
-    (nothing, t.1 ∙ ap (scenario_lines d.written) is, subst (IsScenario d.written) is t.0)
+    (nothing, t.1 ∙ ap (scenario_lines d.draft.written) is, subst (IsScenario d.draft.written) is t.0)
 
-took : (n : ℕ) (o : Option Draft) (why : Refusal) (next : Draft → Read) (s : Scenario) → onward n (step_by o why) next ≡ Ok s → (e : Draft) × (o ≡ Some e) × (next e ≡ Ok s)
+took : (n : ℕ) (o : Option WholeDraft) (why : Refusal) (next : WholeDraft → Read) (s : Scenario) → onward n (step_by o why) next ≡ Ok s → (e : WholeDraft) × (o ≡ Some e) × (next e ≡ Ok s)
 took n None why next s e = absurd cc
 took n (Some d) why next s e = (d, refl, e)
 
-read_takes : (d : Draft) (n : ℕ) (line : List ℕ) (more : List (List ℕ)) (s : Scenario) → Good d → read_from d n (line ∷ more) ≡ Ok s
+read_takes : (d : WholeDraft) (n : ℕ) (line : List ℕ) (more : List (List ℕ)) (s : Scenario) → Good d → read_from d n (line ∷ more) ≡ Ok s
     → (written : List OptionLine) × (ls : List (List ℕ)) × (line ∷ more ≡ ls ++ [] ∷ []) × (so_far d ++ ls ≡ scenario_lines written s) × IsScenario written s
 unfolding read_from
 read_takes d n line [] s g e =
     let t = finish_takes d n line s g e in
-    (d.written, [], ap (λ (l : List ℕ). l ∷ []) t.0, append-nil (so_far d) ∙ t.1, t.2)
+    (d.draft.written, [], ap (λ (l : List ℕ). l ∷ []) t.0, append-nil (so_far d) ∙ t.1, t.2)
 read_takes d n line (next ∷ more) s g e =
     let t = took n (taken d line) (refusal_of d line) (λ e. read_from e (n + 1) (next ∷ more)) s e in
     let p = taken_takes d line t.0 g t.1 in

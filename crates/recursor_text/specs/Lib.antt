@@ -5,3 +5,4 @@ pub mod Reading
 pub mod Spelling
 pub mod Steps
 pub mod Unbuilt
+pub mod Whole

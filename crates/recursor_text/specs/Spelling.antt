@@ -1,20 +1,23 @@
 -- The one text of each scenario.
-use Rattle.std.specs.Prelude.{◌≡◌, ℕ, ◌<◌, ◌≤◌, List, [], ◌∷◌, ◌++◌, length, map}
+use Rattle.std.specs.Prelude.{◌≡◌, ℕ, ◌<◌, ◌≤◌, List, [], ◌∷◌, ◌++◌, length, map, codes}
 use Rattle.std.specs.List.{flat_map, AllByRecursion}
 use Rattle.std.specs.declared.net.ip_addr.IpAddr.{IpAddr}
 use Rattle.dns_core.specs.declared.request.Turn.{Turn}
 use Rattle.recursor_world.specs.declared.script.ScriptLine.{ScriptLine}
 use Rattle.line_forms.specs.declared.option_form.OptionLine.{OptionLine}
+use Rattle.world_lines.specs.Spelling.{world_lines, IsWorld}
 use Rattle.recursor_text.specs.declared.scenario.Scenario.{Scenario}
 use Rattle.recursor_text.specs.declared.scenario.Upstream.{Upstream}
-use Rattle.recursor_text.specs.declared.scenario.Upstream.TheVariants.{Script as FromScript}
+use Rattle.recursor_text.specs.declared.scenario.Upstream.TheVariants.{Script as FromScript, World as FromWorld}
 use Rattle.text_words.specs.Spelling.{spelled, IsAddress}
 use Rattle.line_forms.specs.Spelling.{head_words, patience_words, told_words, end_words, script_lines, root_line, option_line, question_line, turn_line, IsScriptLine, IsQuestion, IsTurn, IsOption, RiseAbove, options_with}
 
 -- ---- the lines of a scenario, in order
 
+-- the rules of a script; a world has none
 abbrev pub rules_of : Upstream → List ScriptLine
 rules_of (FromScript script) = script.lines
+rules_of (FromWorld w) = []
 
 abbrev pub to_roots : List IpAddr → List (List ℕ)
 to_roots roots = spelled head_words ∷ map root_line roots
@@ -28,8 +31,19 @@ to_patience roots written patience = to_options roots written ++ spelled (patien
 abbrev pub to_told : List IpAddr → List OptionLine → ℕ → List (List ℕ)
 to_told roots written patience = to_patience roots written patience ++ spelled told_words ∷ []
 
+abbrev pub told_world_words : List (List ℕ)
+told_world_words = codes "told" ∷ codes "world" ∷ []
+
+abbrev pub to_world : List IpAddr → List OptionLine → ℕ → List (List ℕ)
+to_world roots written patience = to_patience roots written patience ++ spelled told_world_words ∷ []
+
+-- up to the lines of a script or of a world, and with these
+abbrev pub to_upstream : List IpAddr → List OptionLine → ℕ → Upstream → List (List ℕ)
+to_upstream roots written patience (FromScript script) = to_told roots written patience ++ flat_map script_lines script.lines
+to_upstream roots written patience (FromWorld w) = to_world roots written patience ++ world_lines w
+
 abbrev pub to_rules : List OptionLine → Scenario → List (List ℕ)
-to_rules written s = to_told s.roots written s.patience ++ flat_map script_lines (rules_of s.upstream)
+to_rules written s = to_upstream s.roots written s.patience s.upstream
 
 abbrev pub to_questions : List OptionLine → Scenario → List (List ℕ)
 to_questions written s = to_rules written s ++ map question_line s.questions
@@ -69,6 +83,10 @@ most_questions = 10000
 abbrev pub most_turns : ℕ
 most_turns = 100000
 
+abbrev pub IsUpstream : Upstream → Type 0
+IsUpstream (FromScript script) = AllByRecursion IsScriptLine script.lines
+IsUpstream (FromWorld w) = IsWorld w
+
 -- the scenario has the options that these lines say
 pub record IsScenario (written : List OptionLine) (s : Scenario) : Type 0 where
   pub rooted : 0 < length s.roots
@@ -78,7 +96,7 @@ pub record IsScenario (written : List OptionLine) (s : Scenario) : Type 0 where
   pub valued : AllByRecursion IsOption written
   pub options : s.options ≡ options_with written
   pub patience : (1 ≤ s.patience) × (s.patience ≤ 1000)
-  pub rules : AllByRecursion IsScriptLine (rules_of s.upstream)
+  pub upstream : IsUpstream s.upstream
   pub few_questions : length s.questions ≤ most_questions
   pub questions : AllByRecursion IsQuestion s.questions
   pub few_turns : length s.turns ≤ most_turns

@@ -1,12 +1,10 @@
 -- What the lines so far say, and what the next may say.
-use Rattle.std.specs.Prelude.{◌≡◌, ℕ, ◌-◌, List, [], ◌∷◌, ◌++◌, length, ◌&&◌, ◌==◌, nat_lt, nat_le, Bool, true, false, Option, Some, None, Result, Ok, Err, if◌then◌else◌}
+use Rattle.std.specs.Prelude.{ℕ, ◌-◌, List, [], ◌∷◌, ◌++◌, length, ◌&&◌, ◌==◌, nat_lt, nat_le, Bool, true, false, Option, Some, None, Ok, if◌then◌else◌}
 use Rattle.dns_core.specs.declared.record.Record.{Record}
 use Rattle.recursor_world.specs.declared.script.ScriptLine.{ScriptLine}
 use Rattle.recursor_world.specs.declared.script.ScriptLine.TheVariants.{Reply}
 use Rattle.recursor_text.specs.declared.scenario.Scenario.{Scenario}
 use Rattle.recursor_text.specs.declared.scenario.Upstream.TheVariants.{Script as FromScript}
-use Rattle.text_words.specs.declared.words.LineError.{LineError}
-use Rattle.text_words.specs.declared.words.LineError.TheVariants.{Refused, NoMemory}
 use Rattle.line_forms.specs.declared.lines.Form.{Form}
 use Rattle.line_forms.specs.declared.lines.Form.TheVariants as form
 use Rattle.line_forms.specs.declared.rules.Counts.{Counts}
@@ -19,12 +17,6 @@ use Rattle.line_forms.specs.Lines.{form_of}
 use Rattle.line_forms.specs.RecordLines.{record_of}
 use Rattle.line_forms.specs.Spelling.{option_rank, last_rank, options_with}
 use Rattle.recursor_text.specs.Spelling.{last_moment, most_roots, most_questions, most_turns}
-
--- What a step did is what it should do, unless memory ran out.
-abbrev pub Steps : {X : Type 0} → Result X LineError → Draft → Option Draft → Type 0
-Steps (Ok x) new read = read ≡ Some new
-Steps (Err Refused) new read = read ≡ None
-Steps (Err NoMemory) new read = Unit {0}
 
 abbrev pub may_head : Stage → Bool
 may_head Start = true

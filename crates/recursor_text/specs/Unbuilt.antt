@@ -1,16 +1,17 @@
--- Lines that the format has and that are not read yet. A root, a turn and the end are read wherever
--- the format has them.
-use Rattle.std.specs.Prelude.{ℕ, Bool, true, false, ◌&&◌, nat_lt, List, [], ◌∷◌, length, Option, None, is_some, if◌then◌else◌, codes}
+-- Lines that the format has and that are not read yet. A root, a turn, the end and the lines of a
+-- world but its records are read wherever the format has them.
+use Rattle.std.specs.Prelude.{ℕ, Bool, true, false, not, ◌&&◌, ◌||◌, ◌==◌, nat_lt, List, [], ◌∷◌, length, Option, None, is_some, if◌then◌else◌, codes}
 use Rattle.std.specs.Str.{bytes_eq}
+use Rattle.dns_core.specs.declared.codes.DnsClass.{DnsClass}
 use Rattle.recursor_text.specs.declared.reading.draft.Draft.{Draft}
 use Rattle.recursor_text.specs.declared.reading.draft.Stage.{Stage}
-use Rattle.recursor_text.specs.declared.reading.draft.Stage.TheVariants.{Rooted, Optioned, Patient, Scripted, Asked}
+use Rattle.recursor_text.specs.declared.reading.draft.Stage.TheVariants.{Rooted, Optioned, Scripted, Asked}
 use Rattle.recursor_text.specs.declared.reading.draft.Place.{Place}
 use Rattle.recursor_text.specs.declared.reading.draft.Refusal.{Refusal}
 use Rattle.recursor_text.specs.declared.reading.draft.Refusal.TheVariants.{Bad, NotBuilt}
 use Rattle.text_words.specs.Addresses.{ip_of, ipv6_of}
 use Rattle.text_words.specs.Codes.{type_of, class_of}
-use Rattle.text_words.specs.Fields.{checked, field, both, skip, whole, nothing, wide_field}
+use Rattle.text_words.specs.Fields.{checked, field, kept, both, whole, wide_field}
 use Rattle.text_words.specs.Hex.{bytes_of}
 use Rattle.line_forms.specs.Lines.{delay_field, connected_fields, answered_fields}
 use Rattle.text_words.specs.Names.{full_name, relaxed_name}
@@ -34,9 +35,6 @@ unfoldable pub is_dnssec : List ℕ → Bool
 is_dnssec w = is_among (codes "plain" ∷ codes "dnssec" ∷ []) w
 
 -- ---- lines, each after its first word
-
-unfoldable pub told_line : Line
-told_line = whole (skip (codes "world") nothing) (λ x. tt)
 
 unfoldable pub refuse_line : Line
 refuse_line = whole (both (field ip_of) (checked is_protocol)) (λ x. tt)
@@ -83,8 +81,12 @@ data_line (w ∷ ws) =
     else if is_some (type_of w) then bytes_data ws
     else None
 
-unfoldable pub record_line : Line
-record_line ws = both (field full_name) (both wide_field (field class_of)) ws >>= λ x. data_line x.1
+-- IN, or any class where it need not be
+abbrev pub is_allowed_class : Bool → DnsClass → Bool
+is_allowed_class internet c = not internet || c.code == 1
+
+unfoldable pub record_line : Bool → Line
+record_line internet ws = both (field full_name) (both wide_field (field (kept (is_allowed_class internet) class_of))) ws >>= λ x. data_line x.1
 
 -- ---- where a line can stand
 
@@ -92,10 +94,6 @@ abbrev pub is_at_options : Stage → Bool
 is_at_options Rooted = true
 is_at_options Optioned = true
 is_at_options _ = false
-
-abbrev pub is_at_told : Stage → Bool
-is_at_told Patient = true
-is_at_told _ = false
 
 abbrev pub is_at_rules : Stage → Bool
 is_at_rules Scripted = true
@@ -128,21 +126,16 @@ unfoldable pub other_line : Place → Line
 other_line place [] = None
 other_line place (w ∷ ws) =
     if bytes_eq w (codes "option") then stands (is_at_options place.stage) (option_line place.option ws)
-    else if bytes_eq w (codes "told") then stands (is_at_told place.stage) (told_line ws)
     else late_line place w ws
 
 -- a line of the format, where it stands
 unfoldable pub line_at : Place → List ℕ → Option (Unit {0})
-line_at place line = if place.owes then record_line (pieces 32 line) else other_line place (pieces 32 line)
+line_at place line = if place.owes then record_line place.internet (pieces 32 line) else other_line place (pieces 32 line)
 
 -- ---- refusals
 
 abbrev pub place_of : Draft → Place
-place_of d = record { stage = d.stage; option = last_rank 0 d.written; owes = is_some d.pending; room = nat_lt (length d.questions) most_questions }
+place_of d = record { stage = d.stage; option = last_rank 0 d.written; owes = is_some d.pending; internet = false; room = nat_lt (length d.questions) most_questions }
 
 abbrev pub refusal_at : Place → List ℕ → Refusal
 refusal_at place line = if is_some (line_at place line) then NotBuilt else Bad
-
--- how a line that a draft does not take is refused
-unfoldable pub refusal_of : Draft → List ℕ → Refusal
-refusal_of d line = refusal_at (place_of d) line

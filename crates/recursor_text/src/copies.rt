@@ -8,6 +8,7 @@ impl TryClone for Upstream {
     fn try_clone(&self, alloc: Global) -> Result<Self, NoMemory> {
         match self {
             Upstream::Script(script) => Ok(Upstream::Script(script.try_clone(alloc)?)),
+            Upstream::World(world) => Ok(Upstream::World(world.try_clone(alloc)?)),
         }
     }
 }

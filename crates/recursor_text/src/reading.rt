@@ -5,3 +5,4 @@ pub mod draft;
 pub mod option_lines;
 pub mod refusal;
 pub mod text;
+pub mod whole;

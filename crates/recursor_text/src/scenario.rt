@@ -9,6 +9,7 @@ use dns_core::{Ips, Items, Question, Turn};
 use recursor_types::RecursorOptions;
 use recursor_world::Script;
 use std::alloc::Global;
+use zone_worlds::World;
 
 /// What a whole text says: the roots, how the recursor is set, what it is told, and what it is
 /// asked in which turns. `patience` is how often an order is polled in vain before it is given up.
@@ -26,6 +27,7 @@ pub struct Scenario {
 #[derive(Drop, Debug)]
 pub enum Upstream {
     Script(Script),
+    World(World),
 }
 
 /// Why a text is no scenario.

@@ -2,9 +2,12 @@
 ghost use Rattle.std.specs.Prelude.{◌≡◌, Some, None, OnOk, IfOk, if◌then◌else◌};
 ghost use Rattle.line_forms.specs.declared.lines.Form.TheVariants as form;
 ghost use Rattle.text_words.specs.Fields.{Gives};
+ghost use Rattle.world_lines.specs.Steps.{Steps};
 ghost use Rattle.recursor_text.specs.Spelling.{last_moment};
+ghost use Rattle.recursor_text.specs.Whole.{is_late, late};
+ghost use Rattle.recursor_text.specs.declared.reading.draft.Stage.TheVariants.{Scripted};
 ghost use Rattle.recursor_text.specs.Unbuilt.{place_of};
-ghost use Rattle.recursor_text.specs.Steps.{Steps, may_head, may_root, may_option, may_wait, may_tell, may_reply, may_ask, may_turn, may_end, is_ended, start, put, settle, add, taken, scenario_of, is_settled, rule_of};
+ghost use Rattle.recursor_text.specs.Steps.{may_head, may_root, may_option, may_wait, may_tell, may_reply, may_ask, may_turn, may_end, is_ended, start, put, settle, add, taken, scenario_of, is_settled, rule_of};
 
 use crate::scenario::{Scenario, Upstream};
 use dns_core::{Ips, Items, NoMemory, Question, Record, TryClone, Turn};
@@ -31,12 +34,14 @@ pub enum Refusal {
 }
 
 /// Where the next line stands: after which kind of line, behind the rank of which option (0 for
-/// none), whether a rule owes it, and whether there is room for a question more.
+/// none), whether it is owed as a record, and then whether only one of class IN is, and whether there
+/// is room for a question more.
 #[derive(Clone, Copy, Debug, PartialEq, Eq)]
 pub struct Place {
     pub stage: Stage,
     pub option: u8,
     pub owes: bool,
+    pub internet: bool,
     pub room: bool,
 }
 
@@ -149,6 +154,24 @@ fn add(partial: OpenRule, entry: Record) -> Result<OpenRule, LineError>
     Ok(open)
 }
 
+/// Whether it comes after the lines of the upstream.
+fn is_late(form: &Form) -> bool
+    ensures { result ≡ is_late form.now }
+{
+    matches!(form, Form::Question(_) | Form::Turn(_) | Form::End)
+}
+
+/// Passes it where it is such a one.
+fn late_form(form: Form) -> Result<Form, LineError>
+    ensures { Gives result (if is_late form then Some form else None) }
+{
+    if is_late(&form) {
+        Ok(form)
+    } else {
+        Err(LineError::Refused)
+    }
+}
+
 fn is_settled(owed: Counts) -> bool
     ensures { result ≡ is_settled owed }
 {
@@ -209,6 +232,27 @@ impl Draft {
         self.stage.is_ended()
     }
 
+    /// Whether the next line may say where answers are told from.
+    pub fn may_tell(&self) -> bool
+        ensures { result ≡ may_tell self.now.stage }
+    {
+        self.stage.may_tell()
+    }
+
+    /// Whether the lines of the upstream may stand next.
+    pub fn is_told(&self) -> bool
+        ensures { result ≡ may_reply self.now.stage }
+    {
+        self.stage.may_reply()
+    }
+
+    /// Goes on to the lines of the upstream.
+    pub fn tell(&mut self)
+        ensures { self.new ≡ record self.old { stage = Scripted } }
+    {
+        self.stage = Stage::Scripted;
+    }
+
     /// Where the next line stands.
     pub fn place(&self) -> Place
         ensures { result ≡ place_of self.now }
@@ -217,6 +261,7 @@ impl Draft {
             stage: self.stage,
             option: last_rank(self.written.items()),
             owes: self.pending.is_some(),
+            internet: false,
             room: self.questions.len() < MOST_QUESTIONS,
         }
     }
@@ -365,5 +410,14 @@ impl Draft {
                 self.put(alloc, form)
             }
         }
+    }
+
+    /// Takes the next line, which comes after those of the upstream.
+    pub fn take_late(&mut self, alloc: Global, line: &[u8]) -> Result<(), LineError>
+        ensures { Steps result self.new (late self.old line.now) }
+    {
+        let form = form_line(alloc, line)?;
+        let form = late_form(form)?;
+        self.put(alloc, form)
     }
 }

@@ -1,11 +1,12 @@
 //! Lines that are not taken: which of them the format has, though they are not read yet.
 ghost use Rattle.std.specs.Prelude.{◌≡◌, Option, IfOk};
-ghost use Rattle.text_words.specs.Fields.{Gives, GivesFields, checked};
-ghost use Rattle.recursor_text.specs.Unbuilt.{is_protocol, is_dnssec, told_line, refuse_line, connect_line, reply_line, question_line, ipv4_data, ipv6_data, name_data, soa_data, signature_data, bytes_data, data_line, stands, record_line, is_at_options, is_at_told, is_at_rules, is_at_questions, rule_line, late_line, other_line, line_at, refusal_at};
+ghost use Rattle.text_words.specs.Codes.{class_of};
+ghost use Rattle.text_words.specs.Fields.{Gives, GivesFields, checked, field, kept};
+ghost use Rattle.recursor_text.specs.Unbuilt.{is_protocol, is_dnssec, refuse_line, connect_line, reply_line, question_line, ipv4_data, ipv6_data, name_data, soa_data, signature_data, bytes_data, data_line, stands, is_allowed_class, record_line, is_at_options, is_at_rules, is_at_questions, rule_line, late_line, other_line, line_at, refusal_at};
 
 use super::draft::{Place, Refusal, Stage};
 use super::option_lines::option_line;
-use dns_core::NoMemory;
+use dns_core::{DnsClass, NoMemory};
 use line_forms::{answered, connected, delay};
 use std::alloc::Global;
 use text_words::{LineError, Words, pass, record_type};
@@ -52,15 +53,6 @@ fn dnssec(words: &mut Words) -> Result<(), LineError>
 }
 
 // ---- lines, each after its first word
-
-#[tactic(auto, unfolding(crate::specs::Unbuilt::told_line))]
-fn told_line(words: &mut Words) -> Result<(), LineError>
-    ensures { Gives result (told_line words.old) }
-{
-    words.literal(b"world")?;
-    words.end()?;
-    Ok(())
-}
 
 #[tactic(auto, unfolding(crate::specs::Unbuilt::refuse_line))]
 fn refuse_line(alloc: Global, words: &mut Words) -> Result<(), LineError>
@@ -203,13 +195,22 @@ fn data_line(alloc: Global, words: &mut Words) -> Result<(), LineError>
     Err(LineError::Refused)
 }
 
+/// A class, and IN alone where it must be.
+fn class(words: &mut Words, internet: bool) -> Result<DnsClass, LineError>
+    ensures { GivesFields result words.new (field (kept (is_allowed_class internet) class_of) words.old) }
+{
+    let found = words.dns_class()?;
+    pass(!internet || found.code == 1)?;
+    Ok(found)
+}
+
 #[tactic(auto, unfolding(crate::specs::Unbuilt::record_line))]
-fn record_line(alloc: Global, words: &mut Words) -> Result<(), LineError>
-    ensures { Gives result (record_line words.old) }
+fn record_line(alloc: Global, internet: bool, words: &mut Words) -> Result<(), LineError>
+    ensures { Gives result (record_line internet words.old) }
 {
     let _name = words.full_name(alloc)?;
     words.number(0, 4_294_967_295)?;
-    words.dns_class()?;
+    class(words, internet)?;
     data_line(alloc, words)
 }
 
@@ -219,12 +220,6 @@ fn is_at_options(stage: Stage) -> bool
     ensures { result ≡ is_at_options stage }
 {
     matches!(&stage, Stage::Rooted | Stage::Optioned)
-}
-
-fn is_at_told(stage: Stage) -> bool
-    ensures { result ≡ is_at_told stage }
-{
-    matches!(&stage, Stage::Patient)
 }
 
 fn is_at_rules(stage: Stage) -> bool
@@ -293,9 +288,6 @@ fn other_line(alloc: Global, place: Place, words: &mut Words) -> Result<(), Line
             option_line(alloc, place.option, words),
         );
     }
-    if word == b"told".as_slice() {
-        return stands(is_at_told(stage), told_line(words));
-    }
     late_line(alloc, place, word, words)
 }
 
@@ -305,7 +297,7 @@ fn line_at(alloc: Global, place: Place, line: &[u8]) -> Result<(), LineError>
 {
     let mut words = Words::new(line);
     if place.owes {
-        record_line(alloc, &mut words)
+        record_line(alloc, place.internet, &mut words)
     } else {
         other_line(alloc, place, &mut words)
     }

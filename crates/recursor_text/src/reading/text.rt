@@ -3,8 +3,9 @@ ghost use Rattle.std.specs.Prelude.{◌≡◌};
 ghost use Rattle.recursor_text.specs.Reading.{GivesScenario, finish, fails_at, cause_of, scenario_in};
 ghost use Rattle.recursor_text.specs.Unbuilt.{refusal_at};
 
-use super::draft::{Draft, Place, Refusal};
+use super::draft::{Place, Refusal};
 use super::refusal::refusal;
+use super::whole::WholeDraft;
 use crate::scenario::{Cause, Scenario, ScenarioError};
 use std::alloc::Global;
 use text_words::{LineError, cut};
@@ -19,7 +20,12 @@ fn fails_at(line: u32, cause: Cause) -> Result<Scenario, ScenarioError>
 }
 
 /// The end of a text, where `rest` follows its last line feed.
-fn finish(alloc: Global, draft: Draft, line: u32, rest: &[u8]) -> Result<Scenario, ScenarioError>
+fn finish(
+    alloc: Global,
+    draft: WholeDraft,
+    line: u32,
+    rest: &[u8],
+) -> Result<Scenario, ScenarioError>
     ensures { GivesScenario result (finish draft line rest.now) }
 {
     if !draft.is_ended() {
@@ -53,7 +59,7 @@ pub fn read_lines(alloc: Global, bytes: &[u8]) -> Result<Scenario, ScenarioError
     if bytes.len() > MOST {
         return fails_at(0, Cause::Long);
     }
-    let mut draft = Draft::new(alloc);
+    let mut draft = WholeDraft::new(alloc);
     let mut rest = bytes;
     let mut number: u32 = 1;
     'lines: loop {

@@ -28,6 +28,7 @@ returns c =
     let first : min r.patience p ≡ s.patience = rw (new.5, c.first_patience.ensures.same) c.first_patience.ensures.first in
     let terms : run_terms p r ≡ terms_of s = terms-are p s.patience r s.roots (server_filter_of s.options) (answer_filter_of s.options) s.options.cache_policy new.1 new.2 new.6 new.4 first in
     record {
+      scripted = c.requires.scripted;
       gives = given;
       answered = omega (arith, replied, asked, answered);
       asks = asks-of (terms_of s) (run_terms p r) log (told_by provider) terms is (c.drive.ensures.asks (told_by provider) refl);

@@ -1,6 +1,6 @@
 use Rattle.std.proofs.Common.{◌≡◌, ◌+◌, ◌≤◌, length}
 use Rattle.text_words.specs.Pieces.{pieces}
-use Rattle.recursor_text.specs.Steps.{start}
+use Rattle.recursor_text.specs.Whole.{start}
 use Rattle.recursor_text.specs.Reading.{read_from}
 use Rattle.recursor_text.proofs.reading.text.read_lines.Given as goal
 

@@ -1,0 +1,4 @@
+pub mod DraftLaws
+pub mod FormLaws
+mod Keys
+pub mod RunLaws

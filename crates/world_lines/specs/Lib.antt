@@ -1,0 +1,5 @@
+pub mod Lines
+pub mod Listed
+pub mod Reading
+pub mod Spelling
+pub mod Steps
