@@ -1,0 +1,4 @@
+pub mod Book
+pub mod Giving
+pub mod Late
+pub mod Upstream
