@@ -4,7 +4,7 @@ ghost use Rattle.std.specs.Option.{option_map, option_copied};
 ghost use Rattle.dns_core.specs.Log.{numbered};
 ghost use Rattle.dns_core.specs.Message.{is_qualified_message};
 ghost use Rattle.dns_core.specs.declared.log.LogEntry.TheVariants.{Waited, Told, GaveUp};
-ghost use Rattle.dns_core.specs.declared.log.ToldOutcome.TheVariants.{Connected, Message};
+ghost use Rattle.dns_core.specs.declared.log.ToldOutcome.TheVariants.{Connected, Message as Answered};
 
 use crate::late::{Late, Room, push_or_back};
 use dns_core::{Items, Log, LogEntry, Message, NoMemory, Query, ToldOutcome, TryClone};
@@ -169,7 +169,7 @@ impl Book {
     /// What the entry of a number is told that asked this question.
     fn message(&self, alloc: Global, number: u64, query: &Query) -> Result<Message, NoMemory>
         requires { IsTrue (is_qualified_world self.now.world) }
-        ensures comes { IfOk result (λ m. IsSomeAnd (numbered (told self.now) number) (ComesTo self.now.world (Message m))) }
+        ensures comes { IfOk result (λ m. IsSomeAnd (numbered (told self.now) number) (ComesTo self.now.world (Answered m))) }
         ensures query { IfOk result (λ m. m.query ≡ query.now) }
         ensures qualified { IfOk result (λ m. IsTrue (is_qualified_message m)) }
     {
@@ -237,7 +237,7 @@ impl Book {
         requires due { open_at self.old number ≡ Some 0 }
         ensures holds { Holds self.new }
         ensures world { self.new.world ≡ self.old.world }
-        ensures ok { IfOk result (λ m. told self.new ≡ told self.old ++ Told number now (Message m) ∷ []) }
+        ensures ok { IfOk result (λ m. told self.new ≡ told self.old ++ Told number now (Answered m) ∷ []) }
         ensures err { OnErr result (told self.new ≡ told self.old) }
         ensures query { IfOk result (λ m. m.query ≡ query.now) }
         ensures qualified { IfOk result (λ m. IsTrue (is_qualified_message m)) }
