@@ -1,6 +1,6 @@
 -- What a world tells is of the question that was asked, and names fully qualified names alone where the world does.
 use Rattle.std.proofs.Common.{◌≡◌, ℕ, zero, suc, ◌-◌, Bool, true, false, cond, List, [], ◌∷◌, ◌++◌, length, Option, Some, None, slice_get, refl, sym, ap, ◌∙◌, IsTrue}
-use Rattle.std.specs.Prelude.{filter, find, ◌==◌, ◌&&◌, not, nat_le}
+use Rattle.std.specs.Prelude.{Result, Ok, Err, IfOk, filter, find, ◌==◌, ◌&&◌, not, nat_le}
 use Rattle.std.specs.Option.{option_or, option_to_list, is_some}
 use Rattle.std.specs.List.{list_all, list_any}
 use Rattle.std.specs.Cmp.{first_so, second_so}
@@ -37,22 +37,19 @@ all_at p (y ∷ ys) (suc i) x h e = all_at p ys i x (second_so (p y) (list_all p
 
 all_found : {X : Type 0} (p t : X → Bool) (xs : List X) (x : X) → list_all p xs ≡ true → find t xs ≡ Some x → p x ≡ true
 all_found p t [] x h e = cc
-all_found p t (y ∷ ys) x h e = at_head (t y) e
+all_found p t (y ∷ ys) x h e = at_head (t y) e (all_found p t ys x (second_so (p y) (list_all p ys) h))
   where
-    at_head : (b : Bool) → cond b (Some y) (find t ys) ≡ Some x → p x ≡ true
-    at_head true e = let same : y ≡ x = cc in ap p (sym same) ∙ (first_so (p y) (list_all p ys) h)
-    at_head false e = all_found p t ys x (second_so (p y) (list_all p ys) h) e
+    at_head : (b : Bool) → cond b (Some y) (find t ys) ≡ Some x → (find t ys ≡ Some x → p x ≡ true) → p x ≡ true
+    at_head true e next = let same : y ≡ x = cc in ap p (sym same) ∙ first_so (p y) (list_all p ys) h
+    at_head false e next = next e
 
 all_filter : {X : Type 0} (p t : X → Bool) (xs : List X) → list_all p xs ≡ true → list_all p (filter t xs) ≡ true
 all_filter p t [] h = refl
-all_filter {X} p t (y ∷ ys) h = at_head (t y)
+all_filter p t (y ∷ ys) h = at_head (t y) (all_filter p t ys (second_so (p y) (list_all p ys) h))
   where
-    rest : list_all p (filter t ys) ≡ true
-    rest = all_filter p t ys (second_so (p y) (list_all p ys) h)
-
-    at_head : (b : Bool) → list_all p (cond b (y ∷ filter t ys) (filter t ys)) ≡ true
-    at_head true = ap (λ (a : Bool). a && list_all p (filter t ys)) (first_so (p y) (list_all p ys) h) ∙ rest
-    at_head false = rest
+    at_head : (b : Bool) → list_all p (filter t ys) ≡ true → list_all p (cond b (y ∷ filter t ys) (filter t ys)) ≡ true
+    at_head true rest = ap (λ (a : Bool). a && list_all p (filter t ys)) (first_so (p y) (list_all p ys) h) ∙ rest
+    at_head false rest = rest
 
 all_append : {X : Type 0} (p : X → Bool) (xs ys : List X) → list_all p xs ≡ true → list_all p ys ≡ true → list_all p (xs ++ ys) ≡ true
 all_append p xs ys h k = list_all-append p xs ys ∙ ap (λ (a : Bool). a && list_all p ys) h ∙ k
@@ -103,18 +100,17 @@ zone_asked_qualified w ip q z h e = at_flag (q.name).fqdn e
 
 first_cut_qualified : (zones : List Zone) (apex : ℕ) (ls : List (List ℕ)) (z : Zone) → AreQualified zones → first_cut zones apex ls ≡ Some z → IsQualified z
 first_cut_qualified zones apex [] z h e = cc
-first_cut_qualified zones apex (l ∷ ls) z h e = at_depth (nat_le (length (l ∷ ls)) apex) e
+first_cut_qualified zones apex (l ∷ ls) z h e = at_depth (nat_le (length (l ∷ ls)) apex) e (first_cut_qualified zones apex ls z h)
   where
-    at_depth : (b : Bool) → cond b None (option_or (first_cut zones apex ls) (zone_at zones (l ∷ ls))) ≡ Some z → IsQualified z
-    at_depth true e = cc
-    at_depth false e = either (first_cut zones apex ls) (zone_at zones (l ∷ ls)) z e (first_cut_qualified zones apex ls z h) (zone_at_qualified zones (l ∷ ls) z h)
+    at_depth : (b : Bool) → cond b None (option_or (first_cut zones apex ls) (zone_at zones (l ∷ ls))) ≡ Some z → (first_cut zones apex ls ≡ Some z → IsQualified z) → IsQualified z
+    at_depth true e next = cc
+    at_depth false e next = either (first_cut zones apex ls) (zone_at zones (l ∷ ls)) z e next (zone_at_qualified zones (l ∷ ls) z h)
 
 -- ---- what a zone tells
 
-reply_qualified : (q : Query) (code : ℕ) (authoritative : Bool) (answers authorities additionals : List Record) → are_qualified answers ≡ true → are_qualified authorities ≡ true → are_qualified additionals ≡ true
-    → is_qualified_message (reply q code authoritative answers authorities additionals) ≡ true
-reply_qualified q code authoritative answers authorities additionals a b c =
-    ap (λ (x : Bool). x && are_qualified authorities && are_qualified additionals) a ∙ ap (λ (x : Bool). x && are_qualified additionals) b ∙ c
+reply_qualified : (q : Query) (code : ℕ) (authoritative : Bool) (xs ys zs : List Record) → are_qualified xs ≡ true → are_qualified ys ≡ true → are_qualified zs ≡ true → is_qualified_message (reply q code authoritative xs ys zs) ≡ true
+reply_qualified q code authoritative xs ys zs a b c =
+    ap (λ (x : Bool). x && are_qualified ys && are_qualified zs) a ∙ ap (λ (x : Bool). x && are_qualified zs) b ∙ c
 
 server_addresses_qualified : (z : Zone) (owner : DomainName) → IsQualified z → are_qualified (server_addresses z owner) ≡ true
 server_addresses_qualified z owner h = all_filter is_qualified_record (λ r. is_address r && is_above z.apex r.name && list_any (names_server owner r.name) z.records) z.records h
@@ -193,3 +189,11 @@ tells_question w ip q m t = at t
     at (refuses z) = refl
     at (refers a c) = refl
     at (answers a c r) = replies_question r
+
+pub told_question : {E : Type 0} (w : World) (ip : IpAddr) (q : Query) (r : Result Message E) → IfOk r (Tells w ip q) → IfOk r (λ m. m.query ≡ q)
+told_question w ip q (Ok m) t = tells_question w ip q m t
+told_question w ip q (Err e) t = tt
+
+pub told_qualified : {E : Type 0} (w : World) (ip : IpAddr) (q : Query) (r : Result Message E) → IsTrue (is_qualified_world w) → IfOk r (Tells w ip q) → IfOk r (λ m. IsTrue (is_qualified_message m))
+told_qualified w ip q (Ok m) h t = tells_qualified w ip q m h t
+told_qualified w ip q (Err e) h t = tt

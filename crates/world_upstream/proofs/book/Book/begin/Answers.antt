@@ -26,10 +26,9 @@ returns-in_err-note-clause-holds c =
     let next = c.next_number.ensures in
     let same = c.expect.ensures.same in
     let last = c.in_err-note.ensures.err in
-    let put = λ n. c.in_ok-expect.ensures.ok n ∙ ap (λ m. cond (nat_eq k n) (Some c.args.polls) (get nat_eq m n)) next.open in
     hold _ b.world (told b) (ap (λ x. x.world) last ∙ ap (λ x. x.world) same ∙ next.world) (ap told last ∙ ap told same ∙ next.told)
     (kept_fewer b.world (told b) (open_at b) (open_at c.note.new.self) k c.requires.holds.keeps
-    (λ n. put_back (nat_eq k n) (Some c.args.polls) (open_at b n) (open_at c.expect.new.self n) (open_at c.note.new.self n) (put n) (c.in_err-note.ensures.fewer n))) c.requires.holds.qualified
+    (λ n. put_back (nat_eq k n) (Some c.args.polls) (open_at b n) (open_at c.expect.new.self n) (open_at c.note.new.self n) (c.in_ok-expect.ensures.ok n ∙ ap (λ m. cond (nat_eq k n) (Some c.args.polls) (get nat_eq m n)) next.open) (c.in_err-note.ensures.fewer n))) c.requires.holds.qualified
 
 pub returns-clause-holds : goal.returns-clause-holds
 returns-clause-holds c =
@@ -40,7 +39,6 @@ returns-clause-holds c =
     let same = c.expect.ensures.same in
     let last = c.in_ok-note.ensures.ok in
     let late = ap (λ x. x.late) last ∙ ap (λ x. x.late) same in
-    let put = λ n. ap (λ x. open_at x n) last ∙ c.in_ok-expect.ensures.ok n ∙ ap (λ m. cond (nat_eq k n) (Some c.args.polls) (get nat_eq m n)) next.open ∙ ap (λ j. cond (nat_eq j n) (Some c.args.polls) (open_at b n)) c.in_ok-number.ensures.number in
     hold _ b.world (told b ++ e ∷ []) (ap (λ x. x.world) last ∙ ap (λ x. x.world) same ∙ next.world)
     (pushed (told b) c.next_number.new.self.log c.note.new.self.late c.note.new.self.log e (ap (λ l. c.next_number.new.self.log ++ l) late ∙ next.told) (late ∙ c.in_ok-number.ensures.late) (ap (λ x. x.log) last ∙ ap (λ x. x.log ++ e ∷ []) same))
-    (kept_begun b.world (told b) e (open_at b) (open_at c.note.new.self) c.args.polls c.requires.holds.keeps c.requires.begins c.requires.polls put) c.requires.holds.qualified
+    (kept_begun b.world (told b) e (open_at b) (open_at c.note.new.self) c.args.polls c.requires.holds.keeps c.requires.begins c.requires.polls (λ n. ap (λ x. open_at x n) last ∙ c.in_ok-expect.ensures.ok n ∙ ap (λ m. cond (nat_eq k n) (Some c.args.polls) (get nat_eq m n)) next.open ∙ ap (λ j. cond (nat_eq j n) (Some c.args.polls) (open_at b n)) c.in_ok-number.ensures.number)) c.requires.holds.qualified
