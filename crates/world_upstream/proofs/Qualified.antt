@@ -1,7 +1,7 @@
 -- What a world tells is of the question that was asked, and names fully qualified names alone where the world does.
 use Rattle.std.proofs.Common.{◌≡◌, ℕ, zero, suc, ◌-◌, Bool, true, false, cond, List, [], ◌∷◌, ◌++◌, length, Option, Some, None, slice_get, refl, sym, ap, ◌∙◌, IsTrue}
 use Rattle.std.specs.Prelude.{Result, Ok, Err, IfOk, filter, find, ◌==◌, ◌&&◌, not, nat_le}
-use Rattle.std.specs.Option.{option_or, option_to_list, is_some}
+use Rattle.std.specs.Option.{option_or, option_to_list}
 use Rattle.std.specs.List.{list_all, list_any}
 use Rattle.std.specs.Cmp.{first_so, second_so}
 use Rattle.std.proofs.lemmas.Option.{option_and_then_some}
@@ -16,7 +16,7 @@ use Rattle.dns_core.specs.declared.record.Record.{Record}
 use Rattle.resolution.specs.Names.{is_above, walk}
 use Rattle.zone_worlds.specs.Tree.{qualified, zone_at, nearest, first_cut, host_of, numbered, has_apex, zone_among}
 use Rattle.zone_worlds.specs.Choosing.{is_of, owned, is_alias, alias_in, soa_of, servers, names_server, server_addresses}
-use Rattle.zone_worlds.specs.Telling.{zone_asked, child_of, reply, referral, negative, positive, next_alias, Follows, AnswersByAlias, IsByAlias, Replies, Tells}
+use Rattle.zone_worlds.specs.Telling.{zone_asked, reply, referral, negative, positive, next_alias, Follows, AnswersByAlias, Replies, Tells}
 use Rattle.zone_worlds.specs.Telling.Follows.{ends, leads}
 use Rattle.zone_worlds.specs.Telling.AnswersByAlias.{alone, chained}
 use Rattle.zone_worlds.specs.Telling.IsByAlias.{is_by_alias}
@@ -28,7 +28,6 @@ use Rattle.zone_worlds.specs.declared.world.World.{World}
 use Rattle.world_upstream.specs.Giving.{is_qualified_world}
 
 -- ---- what all elements pass
-
 
 all_at : {X : Type 0} (p : X → Bool) (xs : List X) (i : ℕ) (x : X) → list_all p xs ≡ true → slice_get xs i ≡ Some x → p x ≡ true
 all_at p [] i x h e = cc

@@ -1,5 +1,5 @@
 -- The logs that a world gives.
-use Rattle.std.specs.Prelude.{◌≡◌, ℕ, ◌-◌, ◌<◌, Bool, List, Option, Some, None, take, IsSomeAnd}
+use Rattle.std.specs.Prelude.{◌≡◌, ℕ, ◌-◌, ◌<◌, Bool, List, Some, None, take, IsSomeAnd}
 use Rattle.std.specs.List.{list_all}
 use Rattle.std.specs.declared.net.IpAddr.{IpAddr}
 use Rattle.dns_core.specs.Log.{numbered}

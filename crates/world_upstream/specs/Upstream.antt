@@ -6,7 +6,7 @@ use Rattle.dns_core.specs.declared.message.Query.{Query}
 use Rattle.dns_core.specs.declared.message.Message.{Message as Response}
 use Rattle.dns_core.specs.declared.provider.Poll.{Poll}
 use Rattle.dns_core.specs.declared.provider.Poll.TheVariants.{Ready, Pending}
-use Rattle.dns_core.specs.declared.log.ToldOutcome.TheVariants.{Connected, Message}
+use Rattle.dns_core.specs.declared.log.ToldOutcome.TheVariants.{Message}
 use Rattle.dns_core.specs.declared.log.LogEntry.{LogEntry}
 use Rattle.dns_core.specs.declared.log.LogEntry.TheVariants.{Waited, Told}
 use Rattle.zone_worlds.specs.declared.world.World.{World}

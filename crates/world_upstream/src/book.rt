@@ -174,7 +174,13 @@ impl Book {
         ensures qualified { IfOk result (λ m. IsTrue (is_qualified_message m)) }
     {
         match self.entry(number) {
-            Some(LogEntry::Asked { ip, query: asked, .. }) => {
+            Some(
+                LogEntry::Asked {
+                    ip,
+                    query: asked,
+                    ..
+                },
+            ) => {
                 if is_same_query(asked, query) {
                     told(alloc, &self.world, *ip, query)
                 } else {

@@ -1,7 +1,5 @@
-use Rattle.std.proofs.Common.{◌≡◌, ◌-◌, ◌∷◌, ◌++◌, [], None, Some, cond, nat_eq, refl, sym, ◌∙◌, ap}
-use Rattle.std.specs.Option.{option_map}
+use Rattle.std.proofs.Common.{◌∷◌, ◌++◌, [], Some, cond, nat_eq, ◌∙◌, ap}
 use Rattle.std.specs.HashMap.{get}
-use Rattle.dns_core.specs.declared.log.LogEntry.TheVariants.{Waited, Told, GaveUp}
 use Rattle.world_upstream.specs.Book.{told, open_at}
 use Rattle.world_upstream.proofs.Keeping.{hold, hold_still, pushed, put_back, kept_same, kept_fewer, kept_begun}
 use Rattle.world_upstream.proofs.book.Book.begin.Goals as goal

@@ -1,7 +1,6 @@
-use Rattle.std.proofs.Common.{◌≡◌, ◌-◌, ◌∷◌, ◌++◌, [], None, Some, cond, nat_eq, refl, sym, ◌∙◌, ap}
-use Rattle.std.specs.Option.{option_map}
+use Rattle.std.proofs.Common.{◌∷◌, ◌++◌, [], nat_eq, refl, ◌∙◌, ap}
 use Rattle.std.specs.HashMap.{get}
-use Rattle.dns_core.specs.declared.log.LogEntry.TheVariants.{Waited, Told, GaveUp}
+use Rattle.dns_core.specs.declared.log.LogEntry.TheVariants.{GaveUp}
 use Rattle.world_upstream.specs.Book.{told, open_at}
 use Rattle.world_upstream.proofs.Keeping.{hold, kept_ended}
 use Rattle.world_upstream.proofs.book.Book.give_up.Goals as goal

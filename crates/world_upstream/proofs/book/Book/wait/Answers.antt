@@ -1,7 +1,7 @@
-use Rattle.std.proofs.Common.{◌≡◌, ◌-◌, ◌∷◌, ◌++◌, [], None, Some, cond, nat_eq, refl, sym, ◌∙◌, ap}
+use Rattle.std.proofs.Common.{◌-◌, ◌∷◌, ◌++◌, [], cond, nat_eq, ◌∙◌, ap}
 use Rattle.std.specs.Option.{option_map}
 use Rattle.std.specs.HashMap.{get}
-use Rattle.dns_core.specs.declared.log.LogEntry.TheVariants.{Waited, Told, GaveUp}
+use Rattle.dns_core.specs.declared.log.LogEntry.TheVariants.{Waited}
 use Rattle.world_upstream.specs.Book.{told, open_at}
 use Rattle.world_upstream.proofs.Keeping.{hold, hold_still, pushed, kept_waited, waits_some}
 use Rattle.world_upstream.proofs.book.Book.wait.Goals as goal
