@@ -9,7 +9,8 @@ use Rattle.dns_core.specs.declared.log.LogEntry.{LogEntry}
 use Rattle.dns_core.specs.declared.log.LogEntry.TheVariants.{Opened, Asked, Waited, Told, GaveUp}
 use Rattle.dns_core.specs.declared.log.ToldOutcome.{ToldOutcome}
 use Rattle.recursor_world.specs.Script.{waits, waits_of, ends}
-use Rattle.world_upstream.specs.Giving.{Gives, Fits, ComesTo, delay, is_qualified_world}
+use Rattle.world_upstream.specs.Giving.{Gives, Fits, ComesTo, delay}
+use Rattle.world_upstream.specs.Qualified.{is_qualified_world}
 use Rattle.world_upstream.specs.Book.{told, open_at, IsKept, Awaits, Begins, Holds}
 use Rattle.world_upstream.specs.declared.book.Book.{Book}
 use Rattle.zone_worlds.specs.declared.world.World.{World}

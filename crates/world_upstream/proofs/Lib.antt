@@ -1,3 +1,3 @@
 pub mod Logs
 pub mod Keeping
-pub mod Qualified
+pub mod ToldNames

@@ -6,7 +6,8 @@ use Rattle.dns_core.specs.declared.log.LogEntry.{LogEntry}
 use Rattle.dns_core.specs.declared.log.LogEntry.TheVariants.{Opened, Asked, Waited, Told, GaveUp}
 use Rattle.dns_core.specs.declared.log.ToldOutcome.{ToldOutcome}
 use Rattle.recursor_world.specs.Script.{waits, HasNoEnd}
-use Rattle.world_upstream.specs.Giving.{Gives, ComesTo, delay, is_qualified_world}
+use Rattle.world_upstream.specs.Giving.{Gives, ComesTo, delay}
+use Rattle.world_upstream.specs.Qualified.{is_qualified_world}
 use Rattle.world_upstream.specs.declared.book.Book.{Book}
 use Rattle.zone_worlds.specs.declared.world.World.{World}
 

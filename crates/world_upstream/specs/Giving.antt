@@ -1,9 +1,7 @@
 -- The logs that a world gives.
-use Rattle.std.specs.Prelude.{◌≡◌, ℕ, ◌-◌, ◌<◌, Bool, List, Some, None, take, IsSomeAnd}
-use Rattle.std.specs.List.{list_all}
+use Rattle.std.specs.Prelude.{◌≡◌, ℕ, ◌-◌, ◌<◌, List, Some, None, take, IsSomeAnd}
 use Rattle.std.specs.declared.net.IpAddr.{IpAddr}
 use Rattle.dns_core.specs.Log.{numbered}
-use Rattle.dns_core.specs.Message.{is_qualified_record}
 use Rattle.dns_core.specs.declared.message.Query.{Query}
 use Rattle.dns_core.specs.declared.log.ToldOutcome.{ToldOutcome}
 use Rattle.dns_core.specs.declared.log.ToldOutcome.TheVariants.{Connected, Message, Error}
@@ -12,10 +10,6 @@ use Rattle.dns_core.specs.declared.log.LogEntry.TheVariants.{Opened, Asked, Wait
 use Rattle.recursor_world.specs.Script.{waits, HasNoEnd}
 use Rattle.zone_worlds.specs.Telling.{Tells}
 use Rattle.zone_worlds.specs.declared.world.World.{World}
-
--- every name in the records of the world is fully qualified
-abbrev pub is_qualified_world : World → Bool
-is_qualified_world w = list_all (λ z. list_all is_qualified_record z.records) w.zones
 
 -- how many polls find nothing yet: none of a connection, and of a question the delay of the world
 abbrev pub delay : World → LogEntry → ℕ

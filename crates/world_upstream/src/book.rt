@@ -23,7 +23,8 @@ pub struct Book {
 
 impl Book {
     ghost use Rattle.world_upstream.specs.Book.{told, open_at, Holds, Begins, Waits, IsDue};
-    ghost use Rattle.world_upstream.specs.Giving.{is_qualified_world, delay, ComesTo};
+    ghost use Rattle.world_upstream.specs.Giving.{delay, ComesTo};
+    ghost use Rattle.world_upstream.specs.Qualified.{is_qualified_world};
 
     pub fn new(alloc: Global, world: World) -> Book
         requires { IsTrue (is_qualified_world world) }

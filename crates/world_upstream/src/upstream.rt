@@ -34,7 +34,8 @@ impl Model for WorldUpstream {
 
 impl WorldUpstream {
     ghost use Rattle.world_upstream.specs.Upstream.{told_by, Notes, NotesNothing, Polls};
-    ghost use Rattle.world_upstream.specs.Giving.{is_qualified_world, Gives};
+    ghost use Rattle.world_upstream.specs.Giving.{Gives};
+    ghost use Rattle.world_upstream.specs.Qualified.{is_qualified_world};
 
     /// An upstream of a world, with an empty log.
     pub fn new(alloc: Global, world: World) -> Self

@@ -1,4 +1,4 @@
-use Rattle.world_upstream.proofs.Qualified.{told_question, told_qualified}
+use Rattle.world_upstream.proofs.ToldNames.{told_question, told_qualified}
 use Rattle.world_upstream.proofs.book.Book.message.Goals as goal
 
 pub returns-then-is_same_query-clause-query : goal.returns-then-is_same_query-clause-query

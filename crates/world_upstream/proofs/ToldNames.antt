@@ -25,7 +25,7 @@ use Rattle.zone_worlds.specs.Telling.Tells.{refuses, refers, answers}
 use Rattle.zone_worlds.specs.declared.world.Zone.{Zone}
 use Rattle.zone_worlds.specs.declared.world.Host.{Host}
 use Rattle.zone_worlds.specs.declared.world.World.{World}
-use Rattle.world_upstream.specs.Giving.{is_qualified_world}
+use Rattle.world_upstream.specs.Qualified.{is_qualified_world}
 
 -- ---- what all elements pass
 
