@@ -1,4 +1,5 @@
 //! What a world as an upstream notes and tells.
+ghost use Rattle.std.specs.Prelude.{IfOk, IsTrue};
 
 use crate::world_samples::{Sight, ip, query, seen, world};
 use dns_core::{
@@ -7,7 +8,7 @@ use dns_core::{
 };
 use std::alloc::Global;
 use std::test::Fail;
-use world_upstream::{WorldExchange, WorldUpstream, is_qualified_world};
+use world_upstream::{WorldUpstream, is_qualified_world};
 
 /// A kind of entry.
 #[derive(Clone, Copy, Debug, PartialEq, Eq)]
@@ -80,32 +81,50 @@ fn request(alloc: Global, name: &str) -> Result<DnsRequest, Fail> {
 }
 
 /// Asks an address for a name over a connection that is opened for it.
-fn asked(
+fn asked<P: ConnectionProvider>(
     alloc: Global,
-    upstream: &mut WorldUpstream,
+    provider: &mut P,
     server: u8,
     name: &str,
-) -> Result<WorldExchange, Fail> {
+) -> Result<P::Exchange, Fail>
+    ensures { IfOk result (λ e. IsTrue (P.waits e)) }
+{
     let request = request(alloc, name)?;
-    let Ok(mut opening) = upstream.new_connection(ip(server), &udp(), &options(alloc), 1) else {
+    let Ok(mut opening) = provider.new_connection(ip(server), &udp(), &options(alloc), 1) else {
         return Err(Fail::new(format_args!("a connection was refused")));
     };
-    let Poll::Ready(Ok(connection)) = upstream.poll_connection(&mut opening, 2) else {
+    let Poll::Ready(Ok(connection)) = provider.poll_connection(&mut opening, 2) else {
         return Err(Fail::new(format_args!("a connection waits")));
     };
-    let Ok(exchange) = upstream.send(connection, &request, 3) else {
+    let Ok(exchange) = provider.send(connection, &request, 3) else {
         return Err(Fail::new(format_args!("a question was refused")));
     };
     Ok(exchange)
+}
+
+/// The code that is told at the first poll.
+fn first<P: ConnectionProvider>(provider: &mut P, mut exchange: P::Exchange) -> Code
+    requires { IsTrue (P.waits exchange) }
+{
+    seen(provider.poll_exchange(&mut exchange, 4))
+}
+
+/// The code that is told at the second poll, where the first finds nothing yet.
+fn second<P: ConnectionProvider>(provider: &mut P, mut exchange: P::Exchange) -> Code
+    requires { IsTrue (P.waits exchange) }
+{
+    match provider.poll_exchange(&mut exchange, 4) {
+        Poll::Pending => seen(provider.poll_exchange(&mut exchange, 5)),
+        Poll::Ready(_) => None,
+    }
 }
 
 #[test]
 fn a_question_waits_and_is_told(rt: HostRuntime) -> Result<(), Fail> {
     let alloc = rt.alloc();
     let mut upstream = upstream(alloc, 1)?;
-    let mut exchange = asked(alloc, &mut upstream, 3, "no.example.com.")?;
-    assert!(rt; seen(upstream.poll_exchange(&mut exchange, 4)) == None);
-    assert!(rt; seen(upstream.poll_exchange(&mut exchange, 5)) == Some(3));
+    let exchange = asked(alloc, &mut upstream, 3, "no.example.com.")?;
+    assert!(rt; second(&mut upstream, exchange) == Some(3));
     assert!(rt; kind_at(&upstream, 0) == Kind::Opened);
     assert!(rt; kind_at(&upstream, 1) == Kind::Told);
     assert!(rt; kind_at(&upstream, 2) == Kind::Asked);
@@ -119,7 +138,7 @@ fn a_question_waits_and_is_told(rt: HostRuntime) -> Result<(), Fail> {
 fn an_address_without_a_host_refuses(rt: HostRuntime) -> Result<(), Fail> {
     let alloc = rt.alloc();
     let mut upstream = upstream(alloc, 0)?;
-    let mut exchange = asked(alloc, &mut upstream, 9, "www.example.com.")?;
-    assert!(rt; seen(upstream.poll_exchange(&mut exchange, 4)) == Some(5));
+    let exchange = asked(alloc, &mut upstream, 9, "www.example.com.")?;
+    assert!(rt; first(&mut upstream, exchange) == Some(5));
     Ok(())
 }
