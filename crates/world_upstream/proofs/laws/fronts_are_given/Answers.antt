@@ -1,0 +1,5 @@
+use Rattle.world_upstream.proofs.Logs.{gives_front}
+use Rattle.world_upstream.proofs.laws.fronts_are_given.Goals as goal
+
+pub returns : goal.returns
+returns c = gives_front

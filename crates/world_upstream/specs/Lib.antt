@@ -1,0 +1,5 @@
+pub mod Book
+pub mod Giving
+pub mod Late
+pub mod Qualified
+pub mod Upstream
