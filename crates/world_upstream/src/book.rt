@@ -6,8 +6,8 @@ ghost use Rattle.dns_core.specs.Message.{is_qualified_message};
 ghost use Rattle.dns_core.specs.declared.log.LogEntry.TheVariants.{Waited, Told, GaveUp};
 ghost use Rattle.dns_core.specs.declared.log.ToldOutcome.TheVariants.{Connected, Message as Answered};
 
-use crate::late::{Late, Room, push_or_back};
 use dns_core::{Items, Log, LogEntry, Message, NoMemory, Query, ToldOutcome, TryClone};
+use recursor_world::{Late, Room, push_or_back};
 use std::alloc::Global;
 use std::collections::HashMap;
 use zone_worlds::{World, told};

@@ -6,7 +6,6 @@
 #![tactic(auto)]
 
 mod book;
-mod late;
 mod laws;
 mod provider;
 mod qualified;

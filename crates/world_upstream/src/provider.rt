@@ -1,13 +1,12 @@
 //! The calls of a world as an upstream.
 ghost use Rattle.std.specs.Prelude.{◌≡◌, false, Some, None, IfOk};
 
-use crate::late::Room;
 use crate::upstream::WorldUpstream;
 use dns_core::{
     ConnectOptions, ConnectionConfig, ConnectionProvider, DnsRequest, Message, NetError, NoMemory,
     Poll, Query, TryClone,
 };
-use recursor_world::Endpoint;
+use recursor_world::{Endpoint, Room};
 use std::net::IpAddr;
 
 /// A connection that is being opened.

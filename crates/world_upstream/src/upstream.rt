@@ -5,9 +5,8 @@ ghost use Rattle.dns_core.specs.declared.log.ToldOutcome.TheVariants.{Connected}
 ghost use Rattle.dns_core.specs.declared.log.LogEntry.TheVariants.{Opened, Asked, Told, GaveUp};
 
 use crate::book::Book;
-use crate::late::Room;
 use dns_core::{Log, LogEntry, Message, NoMemory, Poll, Query, TryClone};
-use recursor_world::Endpoint;
+use recursor_world::{Endpoint, Room};
 use std::alloc::Global;
 use std::marker::Model;
 use zone_worlds::World;
