@@ -1,13 +1,12 @@
 -- What a draft of a world holds is what the lines so far say.
 use Rattle.std.proofs.Common.{◌≡◌, ◌≢◌, ℕ, ◌+◌, ◌-◌, ◌<◌, ◌≤◌, Bool, true, false, not, ◌&&◌, cond, eqb, ltb, leb, List, [], ◌∷◌, ◌++◌, length, map, Option, Some, None, refl, sym, ap, subst, ◌∙◌, arith, inl, inr, append_assoc, lit<, lit≤}
 use Rattle.std.specs.Prelude.{IfSome}
-use Rattle.std.specs.List.{AllByRecursion, list_all}
+use Rattle.std.specs.List.{AllByRecursion}
 use Rattle.std.proofs.lemmas.Bool.{and_parts, ltb-true, leb-true, eqb-true, eqb-false, cases_Bool}
 use Rattle.std.proofs.lemmas.List.{append-nil, map_push, flat_map_more, length_push}
 use Rattle.dns_core.specs.declared.record.Record.{Record}
 use Rattle.dns_core.specs.declared.codes.DnsClass.{DnsClass}
 use Rattle.text_words.specs.Codes.{class_in}
-use Rattle.text_words.specs.Numbers.{◌>>=◌}
 use Rattle.text_words.specs.Spelling.{spelled, IsFullName}
 use Rattle.line_forms.specs.RecordLines.{record_of}
 use Rattle.line_forms.specs.Spelling.{record_text, most_delay}

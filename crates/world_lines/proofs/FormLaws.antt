@@ -1,9 +1,8 @@
 -- Each line of a world that is no record line is read exactly where it is spelled so.
-use Rattle.std.proofs.Common.{◌≡◌, ℕ, ◌+◌, ◌<◌, ◌≤◌, Bool, true, false, List, [], ◌∷◌, ◌++◌, length, map, Option, Some, None, refl, sym, ap, subst, ◌∙◌, arith, lit<, inl, inr}
+use Rattle.std.proofs.Common.{◌≡◌, ℕ, ◌+◌, ◌<◌, ◌≤◌, Bool, true, false, List, [], ◌∷◌, length, map, Some, refl, sym, ap, subst, ◌∙◌, arith, lit<, inl, inr}
 use Rattle.std.specs.Prelude.{codes, decimal}
 use Rattle.std.specs.Str.{bytes_eq}
 use Rattle.std.specs.declared.net.ip_addr.IpAddr.{IpAddr}
-use Rattle.dns_core.specs.Name.{DomainName}
 use Rattle.dns_core.specs.NameText.{text_of as name_text}
 use Rattle.zone_worlds.specs.declared.world.Host.{Host}
 use Rattle.text_words.specs.Addresses.{ip_of}
@@ -14,10 +13,9 @@ use Rattle.text_words.specs.Spelling.{spelled, IsFullName, IsAddress}
 use Rattle.text_words.specs.Texts.{ip_text}
 use Rattle.line_forms.specs.Lines.{delay_field}
 use Rattle.line_forms.specs.Spelling.{most_delay}
-use Rattle.world_lines.specs.declared.lines.ZoneHead.{ZoneHead}
 use Rattle.world_lines.specs.declared.lines.WorldForm.{WorldForm}
 use Rattle.world_lines.specs.declared.lines.WorldForm.TheVariants as form
-use Rattle.world_lines.specs.Lines.{most_zones, most_records, alias_words, count_field, zone_fields, head_from, rising, zone_numbers, delay_of, aliases_of, zone_of, host_of, world_forms_of, world_form_of, starts_world, is_world_line}
+use Rattle.world_lines.specs.Lines.{most_zones, most_records, alias_words, zone_fields, head_from, rising, zone_numbers, delay_of, aliases_of, zone_of, host_of, world_forms_of, world_form_of, starts_world, is_world_line}
 use Rattle.world_lines.specs.Spelling.{delay_words, alias_text, aliases_words, zone_words, host_words, RiseWithin}
 use Rattle.text_words.proofs.AddressLaws.{ip_field}
 use Rattle.text_words.proofs.Binds.{bind_some, guard_some, some_is, chosen}

@@ -1,12 +1,10 @@
 -- A set of the keys of a list, where an item is added at its end.
-use Rattle.std.proofs.Common.{◌≡◌, Bool, true, false, ◌||◌, cond, List, [], ◌∷◌, ◌++◌, refl, sym, ap, ◌∙◌}
+use Rattle.std.proofs.Common.{◌≡◌, Bool, true, false, ◌||◌, cond, refl, sym, ap, ◌∙◌}
 use Rattle.std.specs.BTreeMap.{is_at}
-use Rattle.std.specs.List.{list_any}
 use Rattle.std.specs.declared.net.ip_addr.IpAddr.{IpAddr}
 use Rattle.std.specs.contracts.net.ip_addr.IpAddrPartialEq.TheImpl as address
 use Rattle.std.specs.contracts.net.ip_addr.IpAddrOrd.TheImpl as order
 use Rattle.std.specs.contracts.net.ip_addr.IpAddrOrd.TheImpl.Laws as laws
-use Rattle.std.proofs.lemmas.List.Folds.{list_any-append}
 use Rattle.dns_core.specs.Name.{DomainName, same_names, names_cmp}
 use Rattle.dns_core.specs.NameLaws.{names_tie}
 

@@ -1,5 +1,5 @@
 -- The lines of a world are taken again, and each draft can be brought to the end of a world.
-use Rattle.std.proofs.Common.{◌≡◌, ◌≢◌, ℕ, zero, suc, ◌+◌, ◌-◌, ◌<◌, ◌≤◌, Bool, true, false, not, ◌&&◌, eqb, ltb, leb, List, [], ◌∷◌, ◌++◌, length, map, Option, Some, None, refl, sym, ap, subst, ◌∙◌, arith, append_assoc, lit<, lit≤, inl, inr}
+use Rattle.std.proofs.Common.{◌≡◌, ◌≢◌, ℕ, zero, suc, ◌+◌, ◌-◌, ◌<◌, ◌≤◌, Bool, true, false, eqb, ltb, List, [], ◌∷◌, ◌++◌, length, map, Option, Some, None, refl, sym, ap, subst, ◌∙◌, arith, append_assoc, lit≤, inl, inr}
 use Rattle.std.specs.Prelude.{IfSome}
 use Rattle.std.specs.List.{flat_map, AllByRecursion}
 use Rattle.std.proofs.lemmas.Bool.{lt-ltb, le-leb, ne_eqb, eqb-false, cases_Bool}
@@ -14,7 +14,7 @@ use Rattle.text_words.proofs.NumberLaws.{octet_fits}
 use Rattle.text_words.specs.Numbers.{◌>>=◌}
 use Rattle.text_words.specs.Spelling.{spelled}
 use Rattle.text_words.proofs.Binds.{bind_some}
-use Rattle.line_forms.specs.Spelling.{record_text, most_delay}
+use Rattle.line_forms.specs.Spelling.{record_text}
 use Rattle.line_forms.proofs.RecordLaws.{record_again}
 use Rattle.zone_worlds.specs.declared.world.Zone.{Zone}
 use Rattle.zone_worlds.specs.declared.world.Host.{Host}
@@ -26,7 +26,7 @@ use Rattle.world_lines.specs.declared.draft.WorldStage.{WorldStage}
 use Rattle.world_lines.specs.declared.draft.WorldStage.TheVariants.{Start, Delayed, Aliased, Zoned, Hosted}
 use Rattle.world_lines.specs.declared.draft.OpenZone.{OpenZone}
 use Rattle.world_lines.specs.declared.draft.WorldDraft.{WorldDraft}
-use Rattle.world_lines.specs.Lines.{most_zones, most_records}
+use Rattle.world_lines.specs.Lines.{most_zones}
 use Rattle.world_lines.specs.Listed.{has_apex, has_address}
 use Rattle.world_lines.specs.Steps.{may_zone, may_host, most_hosts, start, may_close, opened, filled, settled, name_zones, put, taken_at, taken, world_of, run}
 use Rattle.world_lines.specs.Spelling.{zone_lines, host_line, to_aliases, to_zones, world_lines, IsZoneRecord, IsZone, RiseWithin, IsHost, Differ, IsWorld}

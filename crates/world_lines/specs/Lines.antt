@@ -2,7 +2,6 @@
 use Rattle.std.specs.Prelude.{ℕ, ◌+◌, List, [], ◌∷◌, Bool, true, false, ◌||◌, Option, Some, None, if◌then◌else◌, codes}
 use Rattle.std.specs.Str.{bytes_eq}
 use Rattle.dns_core.specs.Name.{DomainName}
-use Rattle.zone_worlds.specs.declared.world.Host.{Host}
 use Rattle.text_words.specs.Addresses.{ip_of}
 use Rattle.text_words.specs.Fields.{Fields, field, in_table, both, whole}
 use Rattle.text_words.specs.Names.{full_name}
