@@ -196,6 +196,7 @@ fn answered(alloc: Global, bytes: &[u8], scenario: Scenario) -> Result<Vec<u8>, 
 }
 
 /// What is written for the bytes of a scenario, or the fault that ends the run.
+#[tactic(auto, using(crate::proofs::Held::fault_fits))]
 fn output(alloc: Global, bytes: &[u8]) -> Result<Vec<u8>, Fault>
     ensures ok { IfOk result (λ text. HasOutput bytes.now text.items) }
     ensures err { IfErr result (IsFaultOf bytes.now) }

@@ -1,4 +1,4 @@
-use Rattle.std.proofs.Common.{◌∙◌, inl, inr, sym}
+use Rattle.std.proofs.Common.{◌∙◌, sym}
 use Rattle.recursor_command.proofs.Runnable.{runnable}
 use Rattle.recursor_command.proofs.command.answered.Goals as goal
 
