@@ -84,11 +84,6 @@ labels_step : (a ls : List (List ℕ)) → (length ls == 0) ≡ false → is_suf
 labels_step a [] h = cc
 labels_step a (l ∷ ls) h = suffix_step a l ls
 
-labels_root : (a ls : List (List ℕ)) → (length ls == 0) ≡ true → is_suffix a ls ≡ same_labels ls a
-labels_root [] [] h = refl
-labels_root (x ∷ xs) [] h = ap (λ (b : Bool). b && same_labels (x ∷ xs) (last_labels (length (x ∷ xs)) [])) (not_le (suc (length xs)) 0 (omega arith))
-labels_root a (l ∷ ls) h = let no : suc (length ls) ≡ 0 = grind (arith, nat_tests) in absurd (omega arith)
-
 -- of fully qualified names only the labels count
 plain_above : (n m : DomainName) → n.fqdn ≡ true → m.fqdn ≡ true → is_above n m ≡ is_suffix n.labels m.labels
 plain_above n m hn hm = ap (λ (b : Bool). b && m.fqdn && is_suffix n.labels m.labels) hn ∙ ap (λ (b : Bool). b && is_suffix n.labels m.labels) hm
@@ -105,9 +100,6 @@ above_step n m hn hm h =
     plain_above n m hn hm ∙ labels_step n.labels m.labels h ∙ sym (ap (λ (b : Bool). b || is_suffix n.labels (drop 1 m.labels)) (plain_same m n hm hn))
     ∙ sym (ap (λ (b : Bool). same_names m n || b) (plain_above n (base m) hn hm))
 
-above_root : (n m : DomainName) → n.fqdn ≡ true → m.fqdn ≡ true → (length m.labels == 0) ≡ true → is_above n m ≡ same_names m n
-above_root n m hn hm h = plain_above n m hn hm ∙ labels_root n.labels m.labels h ∙ sym (plain_same m n hm hn)
-
 -- ---- names that were put in
 
 put_or : (b x y : Bool) → (cond b true x || y) ≡ (x || (b || y))
@@ -118,23 +110,6 @@ put_or false x y = refl
 pub put_base : (n m : DomainName) (old mid new : Bool) → n.fqdn ≡ true → m.fqdn ≡ true → (length m.labels == 0) ≡ false → mid ≡ cond (same_names m n) true old → new ≡ (mid || is_above n (base m)) → new ≡ (old || is_above n m)
 put_base n m old mid new hn hm h e f =
     f ∙ ap (λ (b : Bool). b || is_above n (base m)) e ∙ put_or (same_names m n) old (is_above n (base m)) ∙ sym (ap (λ (b : Bool). old || b) (above_step n m hn hm h))
-
-pub put_root : (n m : DomainName) (old new : Bool) → n.fqdn ≡ true → m.fqdn ≡ true → (length m.labels == 0) ≡ true → new ≡ cond (same_names m n) true old → new ≡ (old || is_above n m)
-put_root n m old new hn hm h e = e ∙ put (same_names m n) old ∙ sym (ap (λ (b : Bool). old || b) (above_root n m hn hm h))
-  where
-    put : (b x : Bool) → cond b true x ≡ (x || b)
-    put true true = refl
-    put true false = refl
-    put false true = refl
-    put false false = refl
-
--- a name that is not fully qualified is above none
-pub not_above : (n m : DomainName) (old : Bool) → m.fqdn ≡ false → n.fqdn ≡ true → old ≡ (old || is_above n m)
-not_above n m old h hn = or_no old (is_above n m) (ap (λ (b : Bool). b && m.fqdn && is_suffix n.labels m.labels) hn ∙ ap (λ (b : Bool). b && is_suffix n.labels m.labels) h)
-  where
-    or_no : (a b : Bool) → b ≡ false → a ≡ (a || b)
-    or_no true b e = refl
-    or_no false b e = sym e
 
 any_none : {X : Type 0} (p : X → Bool) (xs : List X) → ((x : X) → p x ≡ false) → list_any p xs ≡ false
 any_none p [] h = refl
@@ -177,14 +152,6 @@ pub zones_more : {S : Type 0} (zones seen : List Zone) (old new : HashMap Domain
 zones_more zones seen old new z i h put e = λ n.
     ap (option_map (slice_get zones)) (put n) ∙ found_more (slice_get zones) (same_names z.apex n) (get same_names old n) (find (λ y. same_names y.apex n) seen) i z e (h n)
     ∙ sym (ap (option_map Some) (find-append (λ y. same_names y.apex n) seen (z ∷ [])))
-
-pub found_some : {L : Type 0} (f : Option L) (x : Option L) → Some x ≡ option_map Some f → x ≡ f
-found_some None x h = cc
-found_some (Some y) x h = cc
-
-pub found_none : {L : Type 0} (f : Option L) → None ≡ option_map Some f → None ≡ f
-found_none None h = refl
-found_none (Some y) h = cc
 
 -- what follows where a call went well
 pub on_ok : {T E P Q : Type 0} (r : Result T E) → OnOk r P → (P → Q) → OnOk r Q

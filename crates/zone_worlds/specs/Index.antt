@@ -1,12 +1,11 @@
 -- What an index of a world finds.
-use Rattle.std.specs.Prelude.{◌≡◌, ℕ, true, List, Option, Some, find, slice_get}
+use Rattle.std.specs.Prelude.{◌≡◌, ℕ, true, List, Some, find, slice_get}
 use Rattle.std.specs.Option.{option_map}
 use Rattle.std.specs.List.{list_any}
 use Rattle.std.specs.HashMap as map
 use Rattle.std.specs.HashSet as set
 use Rattle.dns_core.specs.Name.{DomainName, same_names}
 use Rattle.resolution.specs.Names.{is_above}
-use Rattle.zone_worlds.specs.Tree.{exists_in}
 use Rattle.zone_worlds.specs.declared.world.Zone.{Zone}
 use Rattle.zone_worlds.specs.declared.world.World.{World}
 use Rattle.zone_worlds.specs.declared.index.Index.{Index}

@@ -15,5 +15,5 @@ loop-place-preserved c =
     let here = slice_get_read zones _ i x refl c.loop-place-test.true c.index-zones-place.is in
     let more = take_more zones i x c.loop-place-test.true in
     let next = zones_more zones _ c.loop-place.places c.put_first.new.zones x i c.loop-place.invariant
-        (λ n. c.in_ok-put_first.ensures n ∙ ap (λ k. option_or (get same_names c.loop-place.places n) (cond (same_names k n) (Some i) None)) c.in_ok-try_clone.ensures) here in
+    (λ n. c.in_ok-put_first.ensures n ∙ ap (λ k. option_or (get same_names c.loop-place.places n) (cond (same_names k n) (Some i) None)) c.in_ok-try_clone.ensures) here in
     rw more (rw (← c.index-zones-place.is) next)
