@@ -51,7 +51,7 @@ fn upstream(alloc: Global, delay: u32) -> Result<WorldUpstream, Fail> {
     if !is_qualified_world(&world) {
         return Err(Fail::new(format_args!("a name is not fully qualified")));
     }
-    Ok(WorldUpstream::new(alloc, world))
+    Ok(WorldUpstream::new(alloc, world)?)
 }
 
 fn udp() -> ConnectionConfig {

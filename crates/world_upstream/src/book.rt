@@ -10,12 +10,12 @@ use dns_core::{Items, Log, LogEntry, Message, NoMemory, Query, ToldOutcome, TryC
 use recursor_world::{Late, Room, push_or_back};
 use std::alloc::Global;
 use std::collections::HashMap;
-use zone_worlds::{World, told};
+use zone_worlds::IndexedWorld;
 
 /// A world, how many polls of each open entry find nothing yet, and the log.
 #[derive(Drop, Debug)]
 pub struct Book {
-    pub world: World,
+    pub world: IndexedWorld,
     pub open: HashMap<u64, u32>,
     pub log: Log,
     pub late: Late,
@@ -26,7 +26,7 @@ impl Book {
     ghost use Rattle.world_upstream.specs.Giving.{delay, ComesTo};
     ghost use Rattle.world_upstream.specs.Qualified.{is_qualified_world};
 
-    pub fn new(alloc: Global, world: World) -> Book
+    pub fn new(alloc: Global, world: IndexedWorld) -> Book
         requires { IsTrue (is_qualified_world world) }
         ensures holds { Holds result }
         ensures world { result.world ≡ world }
@@ -183,7 +183,7 @@ impl Book {
                 },
             ) => {
                 if is_same_query(asked, query) {
-                    told(alloc, &self.world, *ip, query)
+                    self.world.told(alloc, *ip, query)
                 } else {
                     Err(NoMemory)
                 }

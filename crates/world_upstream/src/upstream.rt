@@ -9,7 +9,7 @@ use dns_core::{Log, LogEntry, Message, NoMemory, Poll, Query, TryClone};
 use recursor_world::{Endpoint, Room};
 use std::alloc::Global;
 use std::marker::Model;
-use zone_worlds::World;
+use zone_worlds::{IndexedWorld, World};
 
 /// An upstream that answers as its world does. Contracts see the world, the log with the entries that
 /// wait for memory, and how many polls found nothing yet.
@@ -36,17 +36,17 @@ impl WorldUpstream {
     ghost use Rattle.world_upstream.specs.Giving.{Gives};
     ghost use Rattle.world_upstream.specs.Qualified.{is_qualified_world};
 
-    /// An upstream of a world, with an empty log.
-    pub fn new(alloc: Global, world: World) -> Self
+    /// An upstream of a world, with an empty log. Its index of the world wants memory.
+    pub fn new(alloc: Global, world: World) -> Result<Self, NoMemory>
         requires { IsTrue (is_qualified_world world) }
-        ensures { result ≡ record { world = world; noted = []; late = []; pendings = 0 } }
+        ensures { IfOk result (λ u. u ≡ record { world = world; noted = []; late = []; pendings = 0 }) }
     {
-        let book = Book::new(alloc, world);
-        WorldUpstream {
+        let world = IndexedWorld::new(alloc, world)?;
+        Ok(WorldUpstream {
             alloc,
-            book,
+            book: Book::new(alloc, world),
             pendings: 0,
-        }
+        })
     }
 
     /// The log, without the give-ups that wait for memory, which `gather` brings in.
@@ -92,7 +92,7 @@ impl WorldUpstream {
         ensures err { OnErr result (NotesNothing self.old self.new) }
     {
         let query = query.try_clone(self.alloc)?;
-        let polls = self.book.world.delay;
+        let polls = self.book.world.world().delay;
         let entry = LogEntry::Asked {
             ip: endpoint.ip,
             protocol: endpoint.protocol,

@@ -4,3 +4,4 @@ pub mod Choosing
 pub mod Telling
 pub mod Answer
 pub mod Valid
+pub mod Index

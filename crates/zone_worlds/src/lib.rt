@@ -2,12 +2,15 @@
 //!
 //! `told` is what an address tells for a question (`Tells`), and `world_answer` what the world answers
 //! to it, whoever is asked (`Answers`). `valid_question` says which questions a recursor must answer as
-//! the world does (`IsValid`). Each goes through the zones name by name, as its definition does.
+//! the world does (`IsValid`). Each goes through the zones name by name, as its definition does; an
+//! `IndexedWorld` tells the same by look-ups.
 #![tactic(auto)]
 
 mod answer;
 mod choosing;
 mod copies;
+mod index;
+mod indexed;
 mod laws;
 mod telling;
 mod threads;
@@ -17,6 +20,7 @@ mod world;
 
 pub use answer::world_answer;
 pub use choosing::{is_alias, is_ns_of, is_soa_of};
+pub use indexed::IndexedWorld;
 pub use laws::{a_world_answers_once, an_address_tells_one_message};
 pub use telling::told;
 pub use threads::worlds_cross_threads;

@@ -18,7 +18,7 @@ use std::alloc::Global;
 use std::net::IpAddr;
 
 /// The deepest zone at or above the question's name that the address serves, for DS strictly above.
-fn zone_asked<'w>(world: &'w World, ip: IpAddr, query: &Query) -> Option<&'w Zone>
+pub(crate) fn zone_asked<'w>(world: &'w World, ip: IpAddr, query: &Query) -> Option<&'w Zone>
     ensures { option_copied result ≡ zone_asked world.now ip query.now }
 {
     if !query.name.is_fqdn() {
@@ -41,7 +41,7 @@ fn child_of<'w>(world: &'w World, zone: &Zone, query: &Query) -> Option<&'w Zone
     first_cut(world.zones.items(), apex, walked(&query.name, query))
 }
 
-fn refusal(alloc: Global, query: &Query) -> Result<Message, NoMemory>
+pub(crate) fn refusal(alloc: Global, query: &Query) -> Result<Message, NoMemory>
     ensures { IfOk result (λ m. m ≡ refusal query.now) }
 {
     Ok(Message {
@@ -55,7 +55,7 @@ fn refusal(alloc: Global, query: &Query) -> Result<Message, NoMemory>
     })
 }
 
-fn referral(alloc: Global, child: &Zone, query: &Query) -> Result<Message, NoMemory>
+pub(crate) fn referral(alloc: Global, child: &Zone, query: &Query) -> Result<Message, NoMemory>
     ensures { IfOk result (λ m. m ≡ referral child.now query.now) }
 {
     let authorities = servers(alloc, child, &child.apex)?;
@@ -224,11 +224,18 @@ fn alias_of<'w>(zone: &'w Zone, query: &Query) -> Option<Alias<'w>>
     }
 }
 
-/// What the zone answers of itself.
-fn reply_of(alloc: Global, world: &World, zone: &Zone, query: &Query) -> Result<Message, NoMemory>
+/// What the zone answers of itself, where it is known whether the name exists.
+pub(crate) fn reply_of(
+    alloc: Global,
+    world: &World,
+    zone: &Zone,
+    query: &Query,
+    exists: bool,
+) -> Result<Message, NoMemory>
+    requires { exists ≡ exists_in world.now query.now.name }
     ensures { IfOk result (Replies world.now zone.now query.now) }
 {
-    if !world.exists(&query.name) {
+    if !exists {
         return negative(alloc, zone, query, ResponseCode::NXDomain);
     }
     if let Some(alias) = alias_of(zone, query) {
@@ -253,5 +260,5 @@ pub fn told(alloc: Global, world: &World, ip: IpAddr, query: &Query) -> Result<M
     if let Some(child) = child_of(world, zone, query) {
         return referral(alloc, child, query);
     }
-    reply_of(alloc, world, zone, query)
+    reply_of(alloc, world, zone, query, world.exists(&query.name))
 }
