@@ -23,9 +23,9 @@ pub use pool_laws::a_pool_expires_after_its_ttl;
 pub use pool_lookup::PoolLookup;
 pub use pool_shared::{PoolShared, PoolStep};
 pub use retry_rules::{
-    Candidate, a_deadline_ends_a_lookup, a_lookup_makes_few_sends,
-    filtered, most_specific, ordered, sort_servers_by_query_statistics,
-    the_earlier_negative_is_kept, the_kept_error_is_what_is_left,
+    Candidate, a_deadline_ends_a_lookup, a_lookup_makes_few_sends, filtered, most_specific,
+    ordered, sort_servers_by_query_statistics, the_earlier_negative_is_kept,
+    the_kept_error_is_what_is_left,
 };
 pub use table_laws::{
     a_lookup_runs_by_its_ends, a_step_changes_one_lookup, an_order_goes_to_a_server,
