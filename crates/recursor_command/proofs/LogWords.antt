@@ -122,5 +122,5 @@ pub all_at_places : {X : Type 0} (p : X → Bool) (xs : List X) → ((i : ℕ) (
 all_at_places p [] h = refl
 all_at_places p (x ∷ xs) h = and_true (p x) (list_all p xs) (h zero x refl) (all_at_places p xs (λ i y e. h (suc i) y e))
 
-pub log_worded : (s : Script) (es : List LogEntry) → AllByRecursion IsScriptLine s.lines → Gives s es → has_log_words es ≡ true
-log_worded s es h g = all_at_places has_entry_words es (λ i e at. entry_worded s es (suc i) e h g at)
+pub log_worded : (es : List LogEntry) → ((n : ℕ) (e : LogEntry) → numbered es n ≡ Some e → has_entry_words e ≡ true) → has_log_words es ≡ true
+log_worded es h = all_at_places has_entry_words es (λ i e at. h (suc i) e at)

@@ -12,11 +12,8 @@ use Rattle.line_forms.specs.declared.option_form.OptionLine.TheVariants.{Respons
 use Rattle.recursor_text.specs.declared.scenario.Scenario.{Scenario}
 use Rattle.text_words.specs.Spelling.{AreFirstDelays}
 use Rattle.line_forms.specs.Spelling.{IsOption, IsBounds, standard_options, changed, changed_by, options_with}
-use Rattle.line_forms.specs.Spelling.{IsScriptLine}
-use Rattle.recursor_text.specs.declared.scenario.Upstream.{Upstream}
-use Rattle.recursor_text.specs.declared.scenario.Upstream.TheVariants.{Script as FromScript, World as FromWorld}
-use Rattle.recursor_text.specs.Spelling.{Reads, IsUpstream, rules_of}
-use Rattle.recursor_command.specs.Command.{is_script, IsRunnable}
+use Rattle.recursor_text.specs.Spelling.{Reads}
+use Rattle.recursor_command.specs.Command.{IsRunnable}
 
 neither : (a b : Bool) → a ≡ false → b ≡ false → (a || b) ≡ false
 neither a b p q = ap (λ x. x || b) p ∙ q
@@ -79,11 +76,7 @@ in_order o h =
 has_root : (roots : List IpAddr) → 0 < length roots → roots ≢ []
 has_root roots some = λ none. let count = ap length none in omega (arith, some, count)
 
-rules_fit : (u : Upstream) → IsUpstream u → AllByRecursion IsScriptLine (rules_of u)
-rules_fit (FromScript script) h = h
-rules_fit (FromWorld w) h = tt
-
-pub runnable : (bytes : List ℕ) (s : Scenario) → Reads bytes s → is_script s.upstream ≡ true → IsRunnable s
-runnable bytes s r scripted =
+pub runnable : (bytes : List ℕ) (s : Scenario) → Reads bytes s → IsRunnable s
+runnable bytes s r =
     let right = subst IsRight (sym r.fits.options) (changes_right standard_options r.written standard_right r.fits.valued) in
-    record { scripted = scripted; rooted = has_root s.roots r.fits.rooted; ordered = in_order s.options right; delayed = right.delays; rules = rules_fit s.upstream r.fits.upstream }
+    record { rooted = has_root s.roots r.fits.rooted; ordered = in_order s.options right; delayed = right.delays; upstream = r.fits.upstream }
