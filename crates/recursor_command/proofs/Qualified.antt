@@ -1,5 +1,5 @@
 -- The script or the world of a scenario has fully qualified names alone.
-use Rattle.std.proofs.Common.{◌≡◌, Bool, true, List, [], ◌∷◌, Some, None, Ok, Err, refl, ap, ◌∙◌}
+use Rattle.std.proofs.Common.{◌≡◌, Bool, true, List, [], ◌∷◌, Some, None, Ok, Err, refl, ap, ◌∙◌, subst}
 use Rattle.std.specs.Prelude.{IsTrue, ◌&&◌, not}
 use Rattle.std.specs.List.{list_all, AllByRecursion}
 use Rattle.dns_core.specs.Record.{is_qualified_data}
@@ -17,6 +17,9 @@ use Rattle.zone_worlds.specs.declared.world.World.{World}
 use Rattle.world_upstream.specs.Qualified.{is_qualified_world}
 use Rattle.line_forms.specs.Spelling.{IsData, IsRecord, IsScriptLine}
 use Rattle.world_lines.specs.Spelling.{IsZoneRecord, IsZone, IsWorld}
+use Rattle.recursor_text.specs.Spelling.{IsUpstream}
+use Rattle.recursor_text.specs.declared.scenario.Upstream.{Upstream}
+use Rattle.recursor_text.specs.declared.scenario.Upstream.TheVariants.{Script as FromScript, World as FromWorld}
 use Rattle.recursor_command.proofs.Failures.{failure_qualified, failure_no_records}
 
 both : (a b : Bool) → a ≡ true → b ≡ true → (a && b) ≡ true
@@ -53,7 +56,7 @@ lines_qualified : (lines : List ScriptLine) → AllByRecursion IsScriptLine line
 lines_qualified [] h = refl
 lines_qualified (line ∷ lines) h = both (is_qualified_line line) (list_all is_qualified_line lines) (line_qualified line h.0) (lines_qualified lines h.1)
 
-pub script_qualified : (script : Script) → AllByRecursion IsScriptLine script.lines → IsTrue (is_qualified_script script)
+script_qualified : (script : Script) → AllByRecursion IsScriptLine script.lines → IsTrue (is_qualified_script script)
 script_qualified script h = lines_qualified script.lines h
 
 zone_qualified : (rs : List Record) → AllByRecursion IsZoneRecord rs → list_all is_qualified_record rs ≡ true
@@ -64,5 +67,12 @@ zones_qualified : (zones : List Zone) → AllByRecursion IsZone zones → list_a
 zones_qualified [] h = refl
 zones_qualified (z ∷ zs) h = both (list_all is_qualified_record z.records) (list_all (λ z. list_all is_qualified_record z.records) zs) (zone_qualified z.records h.0.records) (zones_qualified zs h.1)
 
-pub world_qualified : (w : World) → IsWorld w → IsTrue (is_qualified_world w)
+world_qualified : (w : World) → IsWorld w → IsTrue (is_qualified_world w)
 world_qualified w h = zones_qualified w.zones h.zones
+
+-- the script or the world that an upstream is
+pub upstream_script : (u : Upstream) (script : Script) → IsUpstream u → u ≡ FromScript script → IsTrue (is_qualified_script script)
+upstream_script u script h is = script_qualified script (subst IsUpstream is h)
+
+pub upstream_world : (u : Upstream) (w : World) → IsUpstream u → u ≡ FromWorld w → IsTrue (is_qualified_world w)
+upstream_world u w h is = world_qualified w (subst IsUpstream is h)

@@ -77,10 +77,10 @@ HappensAt moments log = (i moment : ℕ) (e : LogEntry) → Logged log i e → m
 -- that is not denied; at moments of its turns, which do not fall; and none was waited for more often than patience allows. A reply with a message is
 -- what counts of a response that a server of a zone at or above the name told since the question began, or within its life before that; the walk went
 -- down to this zone. Each error has its cause.
-pub record Resolves (terms : Terms) (questions : List Question) (turns : List Turn) (log : List LogEntry) (replies : List Reply) : Type 0 where
-  pub answered : length replies ≡ length questions
+pub record Resolves (terms : Terms) (questions : List Question) (turns : List Turn) (log : List LogEntry) (answers : List Reply) : Type 0 where
+  pub answered : length answers ≡ length questions
   pub asks : AsksServers (given_of terms) (log_of log)
-  pub replies : RepliesHold terms (log_of log) 0 turns questions replies
+  pub replies : RepliesHold terms (log_of log) 0 turns questions answers
   pub moments : HappensAt (run_moments 0 turns) (log_of log)
   pub rises : MomentsRise (log_of log)
   pub patient : (of : ℕ) → waits (log_of log) of (log_of log).next ≤ max 1 terms.patience

@@ -145,13 +145,10 @@ fn ran_script(
     ensures resolves { IfOk result (λ t. Resolves (terms_by roots.now options patience) questions.now turns.now t.log t.replies) }
 {
     let provider = ScriptUpstream::new(alloc, script)?;
-    let (provider, replies) =
-        driven(alloc, roots, options, patience, questions, turns, provider)?;
-    let log = script_log(alloc, provider)?;
-    Ok(Transcript {
-        log,
-        replies: Items::new(replies),
-    })
+    let run = driven(alloc, roots, options, patience, questions, turns, provider)?;
+    let log = script_log(alloc, run.0)?;
+    let replies = Items::new(run.1);
+    Ok(Transcript { log, replies })
 }
 
 /// Answers questions over a world.
@@ -172,13 +169,10 @@ fn ran_world(
     ensures resolves { IfOk result (λ t. Resolves (terms_by roots.now options patience) questions.now turns.now t.log t.replies) }
 {
     let provider = WorldUpstream::new(alloc, world);
-    let (provider, replies) =
-        driven(alloc, roots, options, patience, questions, turns, provider)?;
-    let log = world_log(alloc, provider)?;
-    Ok(Transcript {
-        log,
-        replies: Items::new(replies),
-    })
+    let run = driven(alloc, roots, options, patience, questions, turns, provider)?;
+    let log = world_log(alloc, run.0)?;
+    let replies = Items::new(run.1);
+    Ok(Transcript { log, replies })
 }
 
 /// Answers the questions of a scenario over its upstream.

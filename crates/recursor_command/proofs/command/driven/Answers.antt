@@ -1,4 +1,4 @@
-use Rattle.std.proofs.Common.{◌≡◌, ◌∙◌, sym, refl, ap, subst, min}
+use Rattle.std.proofs.Common.{◌≡◌, ◌∙◌, sym, ap, subst, min, arith}
 use Rattle.recursor_types.specs.Options.{server_filter_of, answer_filter_of}
 use Rattle.recursor_core.specs.Standing.{run_terms}
 use Rattle.recursor_command.specs.Command.{IsUntold, terms_by}
@@ -19,7 +19,7 @@ returns-clause-resolves g c = λ log is.
     let terms = terms_by c.args.roots.now options c.args.patience in
     let same : run_terms p r ≡ terms = terms-are p c.args.patience r c.args.roots.now (server_filter_of options) (answer_filter_of options) options.cache_policy new.1 new.2 new.6 new.4 first in
     record {
-      answered = c.in_ok-replies.ensures.answered;
+      answered = omega (arith, c.in_ok-replies.ensures.answered);
       asks = asks-of terms (run_terms p r) log same (c.drive.ensures.asks log told);
       replies = replies-of terms (run_terms p r) log r.moment turns questions c.in_ok-replies.replies.items same new.3 (c.in_ok-replies.ensures.replies log told);
       moments = moments-of log (g.P.ConnectionProvider.log r.provider) r.moment turns none new.3 (c.drive.ensures.grown log told);
