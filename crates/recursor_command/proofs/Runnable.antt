@@ -1,17 +1,17 @@
 -- A scenario that was read can be run.
 use Rattle.std.proofs.Common.{◌≡◌, ◌≢◌, ℕ, ◌≤◌, ◌<◌, Bool, true, false, List, [], ◌∷◌, length, refl, ap, ◌∙◌, sym, subst, arith}
-use Rattle.std.specs.Prelude.{◌||◌, ◌&&◌, ◌==◌, not, nat_lt, nat_le}
+use Rattle.std.specs.Prelude.{◌||◌, ◌&&◌, ◌==◌, not, nat_lt}
 use Rattle.std.specs.List.{list_all, list_any, AllByRecursion}
 use Rattle.std.specs.declared.net.ip_addr.IpAddr.{IpAddr}
 use Rattle.std.proofs.lemmas.Bool.Decides.{nat_tests}
-use Rattle.resolver_settings.specs.Ttl.{TtlTable, is_reversed, has_reversed}
+use Rattle.resolver_settings.specs.Ttl.{is_reversed, has_reversed}
 use Rattle.recursor_types.specs.Options.{is_first_delay, has_bad_first_delays}
 use Rattle.recursor_types.specs.declared.options.RecursorOptions.{RecursorOptions}
 use Rattle.line_forms.specs.declared.option_form.OptionLine.{OptionLine}
 use Rattle.line_forms.specs.declared.option_form.OptionLine.TheVariants.{ResponseCacheSize, AllowAnswers, DenyAnswers, AllowServer, DenyServer, AvoidLocalUdpPorts, PositiveTtl, NegativeTtl, CaseRandomization, EdnsPayloadLen, FirstDelays}
 use Rattle.recursor_text.specs.declared.scenario.Scenario.{Scenario}
 use Rattle.text_words.specs.Spelling.{AreFirstDelays}
-use Rattle.line_forms.specs.Spelling.{IsOption, IsBounds, standard_options, changed, changed_by, options_with}
+use Rattle.line_forms.specs.Spelling.{IsOption, standard_options, changed, changed_by}
 use Rattle.recursor_text.specs.Spelling.{Reads}
 use Rattle.recursor_command.specs.Command.{IsRunnable}
 

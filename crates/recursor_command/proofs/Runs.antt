@@ -1,7 +1,7 @@
 -- What a run says, once its log is taken from its upstream.
 use Rattle.std.proofs.Common.{◌≡◌, ◌≤◌, ℕ, zero, suc, min, max, List, [], Option, Some, None, refl, sym, subst, arith}
 use Rattle.std.specs.declared.net.ip_addr.IpAddr.{IpAddr}
-use Rattle.dns_core.specs.Log.{Log, log_of}
+use Rattle.dns_core.specs.Log.{log_of}
 use Rattle.dns_core.specs.declared.log.LogEntry.{LogEntry}
 use Rattle.dns_core.specs.declared.request.Question.{Question}
 use Rattle.dns_core.specs.declared.request.Turn.{Turn}

@@ -1,4 +1,4 @@
-use Rattle.std.proofs.Common.{◌≡◌, Err, ap, sym, ◌∙◌}
+use Rattle.std.proofs.Common.{Err, ap, sym, ◌∙◌}
 use Rattle.recursor_command.proofs.Setup.{memory_alone}
 use Rattle.recursor_command.proofs.command.recursor_over.Goals as goal
 
