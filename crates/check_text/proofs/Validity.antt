@@ -1,5 +1,5 @@
 -- One more question whose validity is known.
-use Rattle.std.proofs.Common.{◌≡◌, ℕ, ◌+◌, ◌<◌, Bool, List, [], ◌∷◌, ◌++◌, length, take, get_or, sym, ap, ◌∙◌, subst}
+use Rattle.std.proofs.Common.{◌≡◌, ℕ, zero, suc, ◌+◌, ◌<◌, Bool, List, [], ◌∷◌, ◌++◌, length, take, get_or, refl, sym, ap, ◌∙◌, subst, arith}
 use Rattle.std.specs.Prelude.{◌↔◌, IsTrue}
 use Rattle.std.proofs.lemmas.List.{take_more}
 use Rattle.dns_core.specs.declared.request.Question.{Question}
@@ -18,3 +18,9 @@ pub valid_next : (w : World) (qs : List Question) (valid : List Bool) (i : ℕ) 
     → (IsTrue v ↔ IsValid w depth_limit depth_limit q.query) → AreValid w (take (i + 1) qs) (valid ++ v ∷ [])
 valid_next w qs valid i q v below is h one =
     subst (λ (xs : List Question). AreValid w xs (valid ++ v ∷ [])) (sym (take_more qs i q below ∙ ap (λ y. take i qs ++ y ∷ []) (sym is))) (valid_more w (take i qs) valid q v h one)
+
+-- what stands at a place of a list, whatever would stand beyond its end
+pub same_item : {X : Type 0} (xs : List X) (i : ℕ) (x y : X) → i < length xs → get_or xs i x ≡ get_or xs i y
+same_item [] i x y below = absurd (omega (arith, below))
+same_item (z ∷ zs) zero x y below = refl
+same_item (z ∷ zs) (suc i) x y below = same_item zs i x y (omega (arith, below))
