@@ -99,12 +99,7 @@ fn put(text: &[u8], out: &mut Vec<u8>) -> Result<(), NoMemory>
     Ok(())
 }
 
-fn put_valid(
-    alloc: Global,
-    number: u64,
-    is_valid: bool,
-    out: &mut Vec<u8>,
-) -> Result<(), NoMemory>
+fn put_valid(alloc: Global, number: u64, is_valid: bool, out: &mut Vec<u8>) -> Result<(), NoMemory>
     ensures { OnOk result (out.new.items ≡ out.old.items ++ valid_text number is_valid) }
 {
     let line = valid_line(alloc, number, is_valid)?;
