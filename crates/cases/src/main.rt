@@ -25,12 +25,13 @@ use std::{fs, io};
 use subject::Subject;
 
 /// The files of cases, and what each has cases of.
-const FILES: [(&str, Subject); 18] = [
+const FILES: [(&str, Subject); 19] = [
     ("words.cases", Subject::Words),
     ("worked_runs.cases", Subject::Run),
     ("runs.cases", Subject::Run),
     ("answers.cases", Subject::Run),
     ("kept_answers.cases", Subject::Run),
+    ("worlds.cases", Subject::Run),
     ("scenario.cases", Subject::Scenario),
     ("bad_lines.cases", Subject::Scenario),
     ("bad_options.cases", Subject::Scenario),

@@ -1,5 +1,5 @@
 -- What was read is all that the source held, where it was read to its end.
-use Rattle.std.proofs.Common.{Bool, true, false, ◌≡◌, ◌≢◌, ℕ, ◌<◌, ◌≤◌, List, [], ◌++◌, length, Some, None, Err, inl, inr, refl, sym, ap, subst, ◌∙◌, arith, length-append}
+use Rattle.std.proofs.Common.{Bool, true, false, ◌≡◌, ℕ, ◌≤◌, List, [], ◌++◌, length, Some, None, Err, inl, inr, refl, sym, ap, subst, ◌∙◌, arith, length-append}
 use Rattle.std.specs.Prelude.{IfSome, ◌⊎◌}
 use Rattle.std.specs.declared.option.Option.{Option}
 use Rattle.std.specs.Io.KnownBytes.{Consumes, IsAtEnd}
@@ -13,7 +13,7 @@ use Rattle.dns_core.specs.WholeStreams.{HeldAll, TakesAtMost}
 use Rattle.recursor_command.specs.declared.faults.Fault.{Fault}
 use Rattle.recursor_command.specs.declared.faults.Fault.TheVariants.{Words, Line, NotBuilt, Read, Memory}
 use Rattle.recursor_command.specs.Faults.{fault_text}
-use Rattle.recursor_command.specs.Command.{fault_by, fault_of, IsRefusedAs, IsToldWorld, IsFaultOf, HasOutput, HasWritten, HasRefused, IsTextFor, IsTextOf, WrotePart}
+use Rattle.recursor_command.specs.Command.{fault_by, fault_of, IsRefusedAs, IsFaultOf, HasOutput, HasWritten, HasRefused, IsTextFor, IsTextOf, WrotePart}
 use Rattle.dns_core.specs.Faults.{Rose}
 
 same_all : (all new bytes : List ℕ) → HeldAll (Some all) (Some new) bytes 16777217 → length bytes ≤ 16777216 → bytes ≡ all
@@ -30,7 +30,7 @@ fault_all all new bytes n cause.NoMemory h f = tt
 
 fits_by : (bytes : List ℕ) (n : ℕ) (why : Cause) → HasFault bytes n why → FailsBy (record { line = n; cause = why }) why (scenario_in bytes) → IsFaultOf bytes (fault_by why n)
 fits_by bytes n cause.Line h g = inl (h, g)
-fits_by bytes n cause.NotBuilt h g = inl (h, g)
+fits_by bytes n cause.NotBuilt h g = (h, g)
 fits_by bytes n cause.Cut h g = inr (inl h)
 fits_by bytes n cause.Long h g = inr (inr h)
 fits_by bytes n cause.NoMemory h g = tt
@@ -43,8 +43,7 @@ told_all : (all new bytes : List ℕ) (fault : Fault) → HeldAll (Some all) (So
 told_all all new bytes Words h f = f
 told_all all new bytes (Line n) h f =
     elim f [ inl a ↦ inl (subst (λ (b : List ℕ). IsRefusedAs b n cause.Line) (same_all all new bytes h a.0.0) a) | inr b ↦ inr (elim b [ inl c ↦ inl (fault_all all new bytes n cause.Cut h c) | inr d ↦ inr (fault_all all new bytes n cause.Long h d) ]) ]
-told_all all new bytes (NotBuilt n) h f =
-    elim f [ inl a ↦ inl (subst (λ (b : List ℕ). IsRefusedAs b n cause.NotBuilt) (same_all all new bytes h a.0.0) a) | inr b ↦ inr (subst (λ (x : List ℕ). IsToldWorld x n) (same_all all new bytes h b.reads.short) b) ]
+told_all all new bytes (NotBuilt n) h f = subst (λ (b : List ℕ). IsRefusedAs b n cause.NotBuilt) (same_all all new bytes h f.0.0) f
 told_all all new bytes Read h f = f
 told_all all new bytes Memory h f = tt
 

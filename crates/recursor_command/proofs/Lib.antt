@@ -7,3 +7,4 @@ pub mod Runnable
 pub mod Runs
 pub mod Setup
 pub mod Words
+pub mod WorldWords

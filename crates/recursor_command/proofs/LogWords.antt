@@ -1,21 +1,18 @@
 -- What a script tells has its word in a log.
-use Rattle.std.proofs.Common.{◌≡◌, ℕ, zero, suc, ◌-◌, Bool, true, false, List, [], ◌∷◌, take, min, length, filter, find, Option, Some, None, Result, Ok, Err, slice_get, refl, ap, ◌∙◌, sym, subst, count_by}
-use Rattle.std.specs.Prelude.{◌&&◌, if◌then◌else◌, unwrap_or, option_and_then}
+use Rattle.std.proofs.Common.{◌≡◌, ℕ, zero, suc, ◌-◌, Bool, true, false, List, [], ◌∷◌, take, filter, find, Option, Some, None, Ok, Err, slice_get, refl, ap, ◌∙◌, subst, count_by}
+use Rattle.std.specs.Prelude.{◌&&◌, if◌then◌else◌, unwrap_or}
 use Rattle.std.specs.Option.{option_map}
 use Rattle.std.specs.List.{list_all, list_any, AllByRecursion}
 use Rattle.std.proofs.lemmas.Option.{option_and_then_some}
 use Rattle.dns_core.specs.Log.{numbered}
-use Rattle.dns_core.specs.declared.message.Message.{Message as Response}
 use Rattle.dns_core.specs.declared.message.Query.{Query}
-use Rattle.dns_core.specs.declared.net_error.IoKind.{IoKind}
-use Rattle.dns_core.specs.declared.net_error.IoKind.TheVariants.{Other, Closed, Refused}
+use Rattle.dns_core.specs.declared.net_error.IoKind.TheVariants.{Refused}
 use Rattle.dns_core.specs.declared.net_error.NetError.{NetError}
 use Rattle.dns_core.specs.declared.net_error.NetError.TheVariants.{Io}
 use Rattle.dns_core.specs.declared.log.LogEntry.{LogEntry}
 use Rattle.dns_core.specs.declared.log.LogEntry.TheVariants.{Opened, Asked, Waited, Told, GaveUp}
-use Rattle.dns_core.specs.declared.log.ToldOutcome.{ToldOutcome}
-use Rattle.recursor_world.specs.Course.{error_about, answer, reply_course, connect_course}
-use Rattle.recursor_world.specs.Script.{Gives, Fits, course, course_after, refuses, refusal, connects, replies, asks, asking_of, connection_course, question_course_for, waits}
+use Rattle.recursor_world.specs.Course.{reply_course, connect_course}
+use Rattle.recursor_world.specs.Script.{Gives, Fits, course_after, refuses, connects, replies, asks, asking_of, connection_course, question_course_for, waits}
 use Rattle.recursor_world.specs.declared.course.Course.{Course}
 use Rattle.recursor_world.specs.declared.course.Course.TheVariants.{Never, After}
 use Rattle.recursor_world.specs.declared.index.Asking.{Asking}
@@ -25,7 +22,7 @@ use Rattle.recursor_world.specs.declared.script.ScriptLine.{ScriptLine}
 use Rattle.recursor_world.specs.declared.script.ScriptLine.TheVariants.{Connect, Refuse, Reply}
 use Rattle.text_words.specs.Texts.{has_error_word}
 use Rattle.transcript_printer.specs.Log.{has_refusal_word, has_outcome_words, has_entry_words, has_log_words}
-use Rattle.line_forms.specs.Spelling.{IsFailure, IsScriptLine}
+use Rattle.line_forms.specs.Spelling.{IsScriptLine}
 use Rattle.recursor_command.proofs.Failures.{failure_word, failure_stays}
 
 -- ---- what holds of each element holds of those that are found
@@ -122,5 +119,5 @@ pub all_at_places : {X : Type 0} (p : X → Bool) (xs : List X) → ((i : ℕ) (
 all_at_places p [] h = refl
 all_at_places p (x ∷ xs) h = and_true (p x) (list_all p xs) (h zero x refl) (all_at_places p xs (λ i y e. h (suc i) y e))
 
-pub log_worded : (s : Script) (es : List LogEntry) → AllByRecursion IsScriptLine s.lines → Gives s es → has_log_words es ≡ true
-log_worded s es h g = all_at_places has_entry_words es (λ i e at. entry_worded s es (suc i) e h g at)
+pub log_worded : (es : List LogEntry) → ((n : ℕ) (e : LogEntry) → numbered es n ≡ Some e → has_entry_words e ≡ true) → has_log_words es ≡ true
+log_worded es h = all_at_places has_entry_words es (λ i e at. h (suc i) e at)

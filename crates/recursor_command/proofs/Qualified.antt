@@ -1,5 +1,5 @@
--- The script of a scenario has fully qualified names alone.
-use Rattle.std.proofs.Common.{◌≡◌, Bool, true, List, [], ◌∷◌, Some, None, Ok, Err, refl, ap, ◌∙◌}
+-- The script or the world of a scenario has fully qualified names alone.
+use Rattle.std.proofs.Common.{◌≡◌, Bool, true, List, [], ◌∷◌, Some, None, Ok, Err, refl, ap, ◌∙◌, subst}
 use Rattle.std.specs.Prelude.{IsTrue, ◌&&◌, not}
 use Rattle.std.specs.List.{list_all, AllByRecursion}
 use Rattle.dns_core.specs.Record.{is_qualified_data}
@@ -11,11 +11,15 @@ use Rattle.dns_core.specs.declared.record.RData.TheVariants.{A, AAAA, NS, CNAME,
 use Rattle.recursor_world.specs.declared.script.ScriptLine.{ScriptLine}
 use Rattle.recursor_world.specs.declared.script.ScriptLine.TheVariants.{Connect, Refuse, Reply}
 use Rattle.recursor_world.specs.Script.{is_qualified_line, is_qualified_script}
+use Rattle.recursor_world.specs.declared.script.Script.{Script}
+use Rattle.zone_worlds.specs.declared.world.Zone.{Zone}
+use Rattle.zone_worlds.specs.declared.world.World.{World}
+use Rattle.world_upstream.specs.Qualified.{is_qualified_world}
+use Rattle.line_forms.specs.Spelling.{IsData, IsRecord, IsScriptLine}
+use Rattle.world_lines.specs.Spelling.{IsZoneRecord, IsZone, IsWorld}
+use Rattle.recursor_text.specs.Spelling.{IsUpstream}
 use Rattle.recursor_text.specs.declared.scenario.Upstream.{Upstream}
 use Rattle.recursor_text.specs.declared.scenario.Upstream.TheVariants.{Script as FromScript, World as FromWorld}
-use Rattle.line_forms.specs.Spelling.{IsData, IsRecord, IsScriptLine}
-use Rattle.recursor_text.specs.Spelling.{rules_of}
-use Rattle.recursor_command.specs.Command.{script_of}
 use Rattle.recursor_command.proofs.Failures.{failure_qualified, failure_no_records}
 
 both : (a b : Bool) → a ≡ true → b ≡ true → (a && b) ≡ true
@@ -52,6 +56,23 @@ lines_qualified : (lines : List ScriptLine) → AllByRecursion IsScriptLine line
 lines_qualified [] h = refl
 lines_qualified (line ∷ lines) h = both (is_qualified_line line) (list_all is_qualified_line lines) (line_qualified line h.0) (lines_qualified lines h.1)
 
-pub script_qualified : (u : Upstream) → AllByRecursion IsScriptLine (rules_of u) → IsTrue (is_qualified_script (script_of u))
-script_qualified (FromScript script) h = lines_qualified script.lines h
-script_qualified (FromWorld w) h = refl
+script_qualified : (script : Script) → AllByRecursion IsScriptLine script.lines → IsTrue (is_qualified_script script)
+script_qualified script h = lines_qualified script.lines h
+
+zone_qualified : (rs : List Record) → AllByRecursion IsZoneRecord rs → list_all is_qualified_record rs ≡ true
+zone_qualified [] h = refl
+zone_qualified (r ∷ rs) h = both (is_qualified_record r) (list_all is_qualified_record rs) (record_qualified r h.0.fits) (zone_qualified rs h.1)
+
+zones_qualified : (zones : List Zone) → AllByRecursion IsZone zones → list_all (λ z. list_all is_qualified_record z.records) zones ≡ true
+zones_qualified [] h = refl
+zones_qualified (z ∷ zs) h = both (list_all is_qualified_record z.records) (list_all (λ z. list_all is_qualified_record z.records) zs) (zone_qualified z.records h.0.records) (zones_qualified zs h.1)
+
+world_qualified : (w : World) → IsWorld w → IsTrue (is_qualified_world w)
+world_qualified w h = zones_qualified w.zones h.zones
+
+-- the script or the world that an upstream is
+pub upstream_script : (u : Upstream) (script : Script) → IsUpstream u → u ≡ FromScript script → IsTrue (is_qualified_script script)
+upstream_script u script h is = script_qualified script (subst IsUpstream is h)
+
+pub upstream_world : (u : Upstream) (w : World) → IsUpstream u → u ≡ FromWorld w → IsTrue (is_qualified_world w)
+upstream_world u w h is = world_qualified w (subst IsUpstream is h)

@@ -1,9 +1,9 @@
 -- What a run over a script replies has its words.
-use Rattle.std.proofs.Common.{◌≡◌, ◌≢◌, ℕ, zero, suc, ◌<◌, Bool, true, false, List, [], ◌∷◌, ◌++◌, map, filter, find, Option, Some, None, Result, Ok, Err, slice_get, length, refl, ap, ◌∙◌, sym, subst, arith, IsTrue}
-use Rattle.std.specs.Prelude.{◌&&◌, ◌||◌, ◌==◌, not, if◌then◌else◌, Contains}
-use Rattle.std.specs.List.{list_all, list_any, filter_map, before_first, after_first, AllByRecursion}
+use Rattle.std.proofs.Common.{◌≡◌, ℕ, zero, suc, ◌<◌, Bool, true, false, List, [], ◌∷◌, ◌++◌, map, find, Option, Some, None, Result, Ok, Err, slice_get, length, refl, ap, sym, subst, arith}
+use Rattle.std.specs.Prelude.{◌||◌, ◌==◌, not, if◌then◌else◌}
+use Rattle.std.specs.List.{list_all, list_any, filter_map, after_first, AllByRecursion}
 use Rattle.std.specs.declared.net.ip_addr.IpAddr.{IpAddr}
-use Rattle.std.proofs.lemmas.Option.{slice_get_within, slice_get-get_or}
+use Rattle.std.proofs.lemmas.Option.{slice_get_within}
 use Rattle.dns_core.specs.Log.{Log, numbered, log_of}
 use Rattle.dns_core.specs.Classifying.{no_records}
 use Rattle.dns_core.specs.declared.codes.ResponseCode.{ResponseCode}
@@ -23,9 +23,9 @@ use Rattle.resolution.specs.declared.class.Class.{Class}
 use Rattle.resolution.specs.declared.class.Class.TheVariants.{Error, Code, Truncated, Negative, Foreign, Positive}
 use Rattle.resolution.specs.Given.{Given}
 use Rattle.resolution.specs.Telling.{Logged}
-use Rattle.resolution.specs.Lookups.{Answered, End, Rules, PoolRun, IsDecided, IsSpent, IsLate, class_of_answer, answer_of, class_of_end, least_bad, what_is_left, the_turn, but_turn, turns, negative_of, is_timed_out}
+use Rattle.resolution.specs.Lookups.{Answered, End, Rules, PoolRun, class_of_answer, answer_of, class_of_end, least_bad, what_is_left, the_turn, but_turn, turns, negative_of, is_timed_out}
 use Rattle.resolution.specs.Lookups.PoolRun.{decided, spent, late}
-use Rattle.resolution.specs.Ending.{Known, EndsSend, EndSends, Ended, by_address}
+use Rattle.resolution.specs.Ending.{Known, EndsSend, EndSends, by_address}
 use Rattle.resolution.specs.Ending.EndsSend.{open_refused, ask_refused, open_failed, ask_failed, answered, given_up}
 use Rattle.resolution.specs.Ending.EndSends.{no_send, and_send}
 use Rattle.recursor_types.specs.declared.error.MessageKind.{MessageKind}
@@ -35,8 +35,8 @@ use Rattle.recursor_types.specs.declared.error.RecursorError.TheVariants as erro
 use Rattle.recursor_types.specs.declared.reply.Reply.{Reply}
 use Rattle.recursor_core.specs.Causes.{ErrorHolds, HasFailed}
 use Rattle.walk_tables.specs.Lookup.{is_lookup_error}
-use Rattle.walk_tables.specs.Terms.{Terms, given_of}
-use Rattle.recursor_core.specs.Replies.{OutcomeHolds, ReplyHolds}
+use Rattle.walk_tables.specs.Terms.{Terms}
+use Rattle.recursor_core.specs.Replies.{OutcomeHolds}
 use Rattle.recursor_core.specs.Standing.{RepliesHold}
 use Rattle.text_words.specs.Texts.{has_error_word}
 use Rattle.transcript_printer.specs.Errors.{has_words, has_net_words, is_not_qualified}

@@ -1,22 +1,19 @@
 -- A scenario that was read can be run.
 use Rattle.std.proofs.Common.{◌≡◌, ◌≢◌, ℕ, ◌≤◌, ◌<◌, Bool, true, false, List, [], ◌∷◌, length, refl, ap, ◌∙◌, sym, subst, arith}
-use Rattle.std.specs.Prelude.{◌||◌, ◌&&◌, ◌==◌, not, nat_lt, nat_le}
+use Rattle.std.specs.Prelude.{◌||◌, ◌&&◌, ◌==◌, not, nat_lt}
 use Rattle.std.specs.List.{list_all, list_any, AllByRecursion}
 use Rattle.std.specs.declared.net.ip_addr.IpAddr.{IpAddr}
 use Rattle.std.proofs.lemmas.Bool.Decides.{nat_tests}
-use Rattle.resolver_settings.specs.Ttl.{TtlTable, is_reversed, has_reversed}
+use Rattle.resolver_settings.specs.Ttl.{is_reversed, has_reversed}
 use Rattle.recursor_types.specs.Options.{is_first_delay, has_bad_first_delays}
 use Rattle.recursor_types.specs.declared.options.RecursorOptions.{RecursorOptions}
 use Rattle.line_forms.specs.declared.option_form.OptionLine.{OptionLine}
 use Rattle.line_forms.specs.declared.option_form.OptionLine.TheVariants.{ResponseCacheSize, AllowAnswers, DenyAnswers, AllowServer, DenyServer, AvoidLocalUdpPorts, PositiveTtl, NegativeTtl, CaseRandomization, EdnsPayloadLen, FirstDelays}
 use Rattle.recursor_text.specs.declared.scenario.Scenario.{Scenario}
 use Rattle.text_words.specs.Spelling.{AreFirstDelays}
-use Rattle.line_forms.specs.Spelling.{IsOption, IsBounds, standard_options, changed, changed_by, options_with}
-use Rattle.line_forms.specs.Spelling.{IsScriptLine}
-use Rattle.recursor_text.specs.declared.scenario.Upstream.{Upstream}
-use Rattle.recursor_text.specs.declared.scenario.Upstream.TheVariants.{Script as FromScript, World as FromWorld}
-use Rattle.recursor_text.specs.Spelling.{Reads, IsUpstream, rules_of}
-use Rattle.recursor_command.specs.Command.{is_script, IsRunnable}
+use Rattle.line_forms.specs.Spelling.{IsOption, standard_options, changed, changed_by}
+use Rattle.recursor_text.specs.Spelling.{Reads}
+use Rattle.recursor_command.specs.Command.{IsRunnable}
 
 neither : (a b : Bool) → a ≡ false → b ≡ false → (a || b) ≡ false
 neither a b p q = ap (λ x. x || b) p ∙ q
@@ -79,11 +76,7 @@ in_order o h =
 has_root : (roots : List IpAddr) → 0 < length roots → roots ≢ []
 has_root roots some = λ none. let count = ap length none in omega (arith, some, count)
 
-rules_fit : (u : Upstream) → IsUpstream u → AllByRecursion IsScriptLine (rules_of u)
-rules_fit (FromScript script) h = h
-rules_fit (FromWorld w) h = tt
-
-pub runnable : (bytes : List ℕ) (s : Scenario) → Reads bytes s → is_script s.upstream ≡ true → IsRunnable s
-runnable bytes s r scripted =
+pub runnable : (bytes : List ℕ) (s : Scenario) → Reads bytes s → IsRunnable s
+runnable bytes s r =
     let right = subst IsRight (sym r.fits.options) (changes_right standard_options r.written standard_right r.fits.valued) in
-    record { scripted = scripted; rooted = has_root s.roots r.fits.rooted; ordered = in_order s.options right; delayed = right.delays; rules = rules_fit s.upstream r.fits.upstream }
+    record { rooted = has_root s.roots r.fits.rooted; ordered = in_order s.options right; delayed = right.delays; upstream = r.fits.upstream }

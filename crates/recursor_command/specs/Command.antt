@@ -1,13 +1,11 @@
 -- What the command writes for what it reads.
-use Rattle.std.specs.Prelude.{◌≡◌, ◌≢◌, ◌≤◌, ◌⊎◌, ℕ, max, Contains, Some, Bool, true, false, List, [], ◌∷◌, length, codes, IfSome, ◌+◌, if◌then◌else◌}
+use Rattle.std.specs.Prelude.{◌≡◌, ◌≢◌, ◌≤◌, ◌⊎◌, ℕ, max, Contains, Some, Bool, true, false, List, [], ◌∷◌, length, codes, IfSome}
 use Rattle.std.specs.declared.option.Option.{Option}
-use Rattle.std.specs.List.{AllByRecursion}
 use Rattle.std.specs.Io.KnownBytes.{Appends, Keeps}
 use Rattle.std.specs.Str.{bytes_eq}
 use Rattle.dns_core.specs.Faults.{Rose}
-use Rattle.recursor_world.specs.declared.script.Script.{Script}
-use Rattle.recursor_world.specs.Script.{Gives}
-use Rattle.recursor_world.specs.Upstream.{Upstream, told_by}
+use Rattle.recursor_world.specs.Script.{Gives as ScriptGives}
+use Rattle.world_upstream.specs.Giving.{Gives as WorldGives}
 use Rattle.dns_core.specs.Log.{Log, log_of}
 use Rattle.dns_core.specs.declared.log.LogEntry.{LogEntry}
 use Rattle.resolution.specs.Telling.{Logged, moment_of, MomentsRise}
@@ -20,6 +18,9 @@ use Rattle.recursor_types.specs.Options.{server_filter_of, answer_filter_of}
 use Rattle.recursor_core.specs.Standing.{Standing, RepliesHold, run_moments}
 use Rattle.recursor_types.specs.declared.options.RecursorOptions.{RecursorOptions}
 use Rattle.std.specs.declared.net.ip_addr.IpAddr.{IpAddr}
+use Rattle.dns_core.specs.declared.request.Question.{Question}
+use Rattle.dns_core.specs.declared.request.Turn.{Turn}
+use Rattle.recursor_types.specs.declared.reply.Reply.{Reply}
 use Rattle.recursor_text.specs.declared.scenario.Cause.{Cause}
 use Rattle.recursor_text.specs.declared.scenario.Cause.TheVariants as cause
 use Rattle.recursor_text.specs.declared.scenario.Scenario.{Scenario}
@@ -27,9 +28,7 @@ use Rattle.recursor_text.specs.declared.scenario.ScenarioError.{ScenarioError}
 use Rattle.recursor_text.specs.declared.scenario.Upstream.{Upstream as Told}
 use Rattle.recursor_text.specs.declared.scenario.Upstream.TheVariants as upstream
 use Rattle.transcript_printer.specs.declared.transcript.Transcript.{Transcript}
-use Rattle.line_forms.specs.Spelling.{IsScriptLine}
-use Rattle.recursor_text.specs.Spelling.{Reads, rules_of}
-use Rattle.text_words.specs.Pieces.{pieces}
+use Rattle.recursor_text.specs.Spelling.{Reads, IsUpstream}
 use Rattle.recursor_text.specs.Reading.{fails_at, scenario_in}
 use Rattle.recursor_text.specs.Faults.{HasFault}
 use Rattle.transcript_printer.specs.Transcript.{transcript_text}
@@ -46,50 +45,55 @@ are_words [] = false
 are_words (w ∷ []) = bytes_eq w (codes "resolve")
 are_words (w ∷ v ∷ ws) = false
 
--- the script of an upstream; that of a world has no lines
-abbrev pub script_of : Told → Script
-script_of (upstream.Script s) = s
-script_of (upstream.World w) = record { lines = [] }
-
-abbrev pub is_script : Told → Bool
-is_script (upstream.Script s) = true
-is_script (upstream.World w) = false
-
 -- What a run needs of a scenario: there is a root, no least life is above its greatest, servers may start with the first delays,
--- and it is told a script, which has lines of the format.
+-- and its upstream is one that the format spells.
 pub record IsRunnable (s : Scenario) : Type 0 where
-  pub scripted : is_script s.upstream ≡ true
   pub rooted : s.roots ≢ []
   pub ordered : has_reversed s.options.cache_policy ≡ false
   pub delayed : has_bad_first_delays s.options.first_delays ≡ false
-  pub rules : AllByRecursion IsScriptLine (rules_of s.upstream)
+  pub upstream : IsUpstream s.upstream
 
--- a new recursor over a script of which nothing was told, with these options
-abbrev pub IsNewOver : List IpAddr → RecursorOptions → Script → Standing Upstream → Type 0
-IsNewOver roots options script r = (r.provider.script ≡ script) × (r.roots ≡ roots) × (r.server_filter ≡ server_filter_of options) × (r.moment ≡ 0) × (r.lives ≡ options.cache_policy) × (r.patience ≡ 4294967295)
-    × (r.answer_filter ≡ answer_filter_of options) × (told_by r.provider ≡ [])
+-- nothing was told, where a log is told
+abbrev pub IsUntold : Option (List LogEntry) → Type 0
+IsUntold told = (es : List LogEntry) → told ≡ Some es → es ≡ []
 
--- the roots of a scenario, the filters of other servers and of the addresses of answers and the bounds of lives that its options say, and its patience
+-- a new recursor over a provider, with these options
+abbrev pub IsNewOver : {P : Type 0} → List IpAddr → RecursorOptions → P → Standing P → Type 0
+IsNewOver roots options provider r = (r.provider ≡ provider) × (r.roots ≡ roots) × (r.server_filter ≡ server_filter_of options) × (r.moment ≡ 0) × (r.lives ≡ options.cache_policy) × (r.patience ≡ 4294967295)
+    × (r.answer_filter ≡ answer_filter_of options)
+
+-- these roots, the filters of other servers and of the addresses of answers and the bounds of lives that these options say, and this patience
+abbrev pub terms_by : List IpAddr → RecursorOptions → ℕ → Terms
+terms_by roots options patience = record { roots = roots; server_filter = server_filter_of options; answer_filter = answer_filter_of options; lives = options.cache_policy; patience = patience }
+
 abbrev pub terms_of : Scenario → Terms
-terms_of s = record { roots = s.roots; server_filter = server_filter_of s.options; answer_filter = answer_filter_of s.options; lives = s.options.cache_policy; patience = s.patience }
+terms_of s = terms_by s.roots s.options s.patience
 
 -- each entry is at one of these moments
 abbrev pub HappensAt : List ℕ → Log → Type 0
 HappensAt moments log = (i moment : ℕ) (e : LogEntry) → Logged log i e → moment_of e ≡ Some moment → Contains moments moment
 
--- A run of a scenario that is told a script: its log is one that the script gives, and each question has its reply, in order. Only servers were asked,
--- by what was told before, each a root or at an address that is not denied; at moments of its turns, which do not fall; and none was waited for more
--- often than patience allows. A reply with a message is what counts of a response that a server of a zone at or above the name told since the question
--- began, or within its life before that; the walk went down to this zone. Each error has its cause.
+-- What a run says by its log: each question has its reply, in order. Only servers were asked, by what was told before, each a root or at an address
+-- that is not denied; at moments of its turns, which do not fall; and none was waited for more often than patience allows. A reply with a message is
+-- what counts of a response that a server of a zone at or above the name told since the question began, or within its life before that; the walk went
+-- down to this zone. Each error has its cause.
+pub record Resolves (terms : Terms) (questions : List Question) (turns : List Turn) (log : List LogEntry) (answers : List Reply) : Type 0 where
+  pub answered : length answers ≡ length questions
+  pub asks : AsksServers (given_of terms) (log_of log)
+  pub replies : RepliesHold terms (log_of log) 0 turns questions answers
+  pub moments : HappensAt (run_moments 0 turns) (log_of log)
+  pub rises : MomentsRise (log_of log)
+  pub patient : (of : ℕ) → waits (log_of log) of (log_of log).next ≤ max 1 terms.patience
+
+-- the upstream of a scenario gives the log
+abbrev pub GivesBy : Told → List LogEntry → Type 0
+GivesBy (upstream.Script script) log = ScriptGives script log
+GivesBy (upstream.World world) log = WorldGives world log
+
+-- A run of a scenario: its log is one that its upstream gives, and its replies are held by it.
 pub record Ran (s : Scenario) (t : Transcript) : Type 0 where
-  pub scripted : is_script s.upstream ≡ true
-  pub gives : Gives (script_of s.upstream) t.log
-  pub answered : length t.replies ≡ length s.questions
-  pub asks : AsksServers (given_of (terms_of s)) (log_of t.log)
-  pub replies : RepliesHold (terms_of s) (log_of t.log) 0 s.turns s.questions t.replies
-  pub moments : HappensAt (run_moments 0 s.turns) (log_of t.log)
-  pub rises : MomentsRise (log_of t.log)
-  pub patient : (of : ℕ) → waits (log_of t.log) of (log_of t.log).next ≤ max 1 s.patience
+  pub gives : GivesBy s.upstream t.log
+  pub resolves : Resolves (terms_of s) s.questions s.turns t.log t.replies
 
 -- the text of a run of the scenario
 abbrev pub HasRun : Scenario → List ℕ → Type 0
@@ -114,23 +118,11 @@ fault_of e = fault_by e.cause e.line
 abbrev pub IsRefusedAs : List ℕ → ℕ → Cause → Type 0
 IsRefusedAs bytes n why = HasFault bytes n why × (scenario_in bytes ≡ fails_at n why)
 
--- the number of the first of these lines that tells a world, where they are counted from this number; 0 where there is none
-abbrev pub told_line : ℕ → List (List ℕ) → ℕ
-told_line n [] = 0
-told_line n (line ∷ lines) = if bytes_eq line (codes "told world") then n else told_line (n + 1) lines
-
--- The bytes are a scenario that is told a world, by the line of this number. It is read, and no command runs it yet.
-pub record IsToldWorld (bytes : List ℕ) (n : ℕ) : Type 0 where
-  pub scenario : Scenario
-  pub reads : Reads bytes scenario
-  pub world : is_script scenario.upstream ≡ false
-  pub line : n ≡ told_line 1 (pieces 10 bytes)
-
--- the bytes are no scenario that is run, for this fault
+-- the bytes are no scenario of the forms that are built, for this fault
 abbrev pub IsFaultOf : List ℕ → Fault → Type 0
 IsFaultOf bytes Words = ⊥
 IsFaultOf bytes (Line n) = IsRefusedAs bytes n cause.Line ⊎ (HasFault bytes n cause.Cut ⊎ HasFault bytes n cause.Long)
-IsFaultOf bytes (NotBuilt n) = IsRefusedAs bytes n cause.NotBuilt ⊎ IsToldWorld bytes n
+IsFaultOf bytes (NotBuilt n) = IsRefusedAs bytes n cause.NotBuilt
 IsFaultOf bytes Read = ⊥
 IsFaultOf bytes Memory = Unit {0}
 
@@ -148,7 +140,7 @@ pub record Tells (fault : Fault) (result : Status) (old new : Option (List ℕ))
 abbrev pub HasWritten : List ℕ → Option (List ℕ) → Option (List ℕ) → Type 0
 HasWritten bytes old new = (text : List ℕ) × HasOutput bytes text × Appends old new text
 
--- the bytes are no scenario of the forms that are run, and what is wrong with them was appended
+-- the bytes are no scenario of the forms that are built, and what is wrong with them was appended
 abbrev pub HasRefused : List ℕ → Option (List ℕ) → Option (List ℕ) → Type 0
 HasRefused bytes old new = (fault : Fault) × IsFaultOf bytes fault × (status_of fault ≡ status.BadScenario) × Appends old new (fault_text fault)
 

@@ -1,28 +1,35 @@
 //! The command over any source and sink.
-ghost use Rattle.std.specs.Prelude.{min, ◌≡◌, ◌≢◌, ◌≤◌, length, false, [], IfOk, IfErr, IfSome, IsTrue};
+ghost use Rattle.std.specs.Prelude.{min, ◌≡◌, ◌≢◌, ◌≤◌, length, false, List, [], Some, IfOk, IfErr, IfSome, IsTrue};
 ghost use Rattle.std.specs.Io.KnownBytes.{IsAtEnd, Appends};
 ghost use Rattle.dns_core.specs.Faults.{Rose};
 ghost use Rattle.dns_core.specs.WholeStreams.{TakesAtMost};
-ghost use Rattle.recursor_world.specs.Script.{Gives, is_qualified_script};
-ghost use Rattle.recursor_world.specs.Upstream.{told_by};
+ghost use Rattle.dns_core.specs.declared.log.LogEntry.{LogEntry};
+ghost use Rattle.recursor_world.specs.Script.{Gives as ScriptGives, is_qualified_script};
+ghost use Rattle.recursor_world.specs.Upstream.{told_by as script_told};
+ghost use Rattle.world_upstream.specs.Giving.{Gives as WorldGives};
+ghost use Rattle.world_upstream.specs.Upstream.{told_by as world_told};
+ghost use Rattle.world_upstream.specs.Qualified.{is_qualified_world};
 ghost use Rattle.resolver_settings.specs.Ttl.{has_reversed};
 ghost use Rattle.recursor_types.specs.Options.{has_bad_first_delays};
 ghost use Rattle.transcript_printer.specs.Transcript.{has_transcript_words, transcript_text};
-ghost use Rattle.text_words.specs.Pieces.{pieces};
 ghost use Rattle.recursor_text.specs.Spelling.{Reads};
 ghost use Rattle.recursor_command.specs.Faults.{fault_text};
-ghost use Rattle.recursor_command.specs.Command.{are_words, script_of, is_script, told_line, fault_of, IsNewOver, IsRunnable, Ran, HasRun, HasOutput, IsFaultOf, Tells, HasWritten, HasRefused, IsTextFor, IsTextOf, WrotePart, ToldMemory, IsRefusal};
+ghost use Rattle.recursor_command.specs.Command.{are_words, fault_of, terms_by, IsUntold, IsNewOver, IsRunnable, Resolves, Ran, HasRun, HasOutput, IsFaultOf, Tells, HasWritten, HasRefused, IsTextFor, IsTextOf, WrotePart, ToldMemory, IsRefusal};
 
 use crate::faults::{Fault, say};
 use crate::status::Status;
-use dns_core::{Ips, Items, Log, NoMemory, ReadError, Sink, Source, Text, TryClone, read_all};
-use recursor_core::{Recursor, RecursorError, RecursorOptions, drive};
+use dns_core::{
+    ConnectionProvider, Ips, Items, Log, NoMemory, Question, ReadError, Sink, Source, Text,
+    TryClone, Turn, read_all,
+};
+use recursor_core::{Recursor, RecursorError, RecursorOptions, Reply, drive};
 use recursor_text::{
     Cause, Scenario, ScenarioError, Transcript, Upstream, print_transcript, read_scenario,
 };
 use recursor_world::{Script, ScriptUpstream};
 use std::alloc::Global;
-use text_words::cut;
+use world_upstream::WorldUpstream;
+use zone_worlds::World;
 
 /// One byte more than a scenario may have, so that one that is too long shows.
 const MOST: usize = 16_777_217;
@@ -47,70 +54,22 @@ fn only_memory(error: RecursorError) -> NoMemory
     }
 }
 
-/// A recursor over a script.
-fn recursor_over(
+/// A recursor over a provider that told nothing yet.
+fn recursor_over<P: ConnectionProvider>(
     alloc: Global,
     roots: &Ips,
     options: RecursorOptions,
-    script: Script,
-) -> Result<Recursor<ScriptUpstream>, NoMemory>
-    requires qualified { IsTrue (is_qualified_script script) }
+    provider: P,
+) -> Result<Recursor<P>, NoMemory>
+    requires new { IsUntold (P.log provider) }
     requires rooted { roots.now ≢ [] }
     requires ordered { has_reversed options.cache_policy ≡ false }
     requires delayed { has_bad_first_delays options.first_delays ≡ false }
-    ensures { IfOk result (IsNewOver roots.now options script) }
+    ensures { IfOk result (IsNewOver roots.now options provider) }
 {
-    let upstream = ScriptUpstream::new(alloc, script)?;
-    match Recursor::with_options(alloc, roots.items(), options, upstream) {
+    match Recursor::with_options(alloc, roots.items(), options, provider) {
         Ok(recursor) => Ok(recursor),
         Err(error) => Err(only_memory(error)),
-    }
-}
-
-/// The whole log of an upstream.
-fn log_of(alloc: Global, mut upstream: ScriptUpstream) -> Result<Log, NoMemory>
-    ensures gives { IfOk result (λ log. Gives upstream.script log) }
-    ensures told { IfOk result (λ log. log ≡ told_by upstream) }
-{
-    upstream.gather()?;
-    upstream.log().try_clone(alloc)
-}
-
-fn is_script(upstream: &Upstream) -> bool
-    ensures { result ≡ is_script upstream.now }
-{
-    matches!(upstream, Upstream::Script(_))
-}
-
-/// The script of an upstream; that of a world has no lines.
-fn script_from(alloc: Global, upstream: Upstream) -> Script
-    ensures { result ≡ script_of upstream }
-{
-    match upstream {
-        Upstream::Script(script) => script,
-        Upstream::World(_) => Script {
-            lines: Items::empty(alloc),
-        },
-    }
-}
-
-/// The number of the first line that tells a world, and 0 where there is none.
-fn told_line(bytes: &[u8]) -> u32
-    requires { length bytes.now ≤ 16777216 }
-    ensures { result ≡ told_line 1 (pieces 10 bytes.now) }
-{
-    let mut rest = bytes;
-    let mut number: u32 = 1;
-    'lines: loop {
-        let (line, after) = cut(rest, b'\n');
-        if line == b"told world".as_slice() {
-            return number;
-        }
-        let Some(after) = after else {
-            return 0;
-        };
-        number += 1;
-        rest = after;
     }
 }
 
@@ -122,7 +81,101 @@ fn first_patience(patience: u32) -> u32
     patience
 }
 
-/// Answers the questions of a scenario over its script.
+/// Answers questions over a provider that told nothing yet, and hands it back with the replies.
+fn driven<P: ConnectionProvider>(
+    alloc: Global,
+    roots: &Ips,
+    options: RecursorOptions,
+    patience: u32,
+    questions: &[Question],
+    turns: &[Turn],
+    provider: P,
+) -> Result<(P, Vec<Reply>), NoMemory>
+    requires new { IsUntold (P.log provider) }
+    requires rooted { roots.now ≢ [] }
+    requires ordered { has_reversed options.cache_policy ≡ false }
+    requires delayed { has_bad_first_delays options.first_delays ≡ false }
+    ensures resolves { IfOk result (λ run. (log : List LogEntry) → P.log run.0 ≡ Some log → Resolves (terms_by roots.now options patience) questions.now turns.now log run.1.items) }
+    ensures vouches { IfOk result (λ run. (log : List LogEntry) → P.vouches run.0 log → P.vouches provider log) }
+{
+    let mut recursor = recursor_over(alloc, roots, options, provider)?;
+    let replies = drive(
+        alloc,
+        &mut recursor,
+        questions,
+        turns,
+        first_patience(patience),
+    )?;
+    Ok((recursor.into_provider(), replies))
+}
+
+/// The whole log of a script.
+fn script_log(alloc: Global, mut upstream: ScriptUpstream) -> Result<Log, NoMemory>
+    ensures gives { IfOk result (λ log. ScriptGives upstream.script log) }
+    ensures told { IfOk result (λ log. log ≡ script_told upstream) }
+{
+    upstream.gather()?;
+    upstream.log().try_clone(alloc)
+}
+
+/// The whole log of a world.
+fn world_log(alloc: Global, mut upstream: WorldUpstream) -> Result<Log, NoMemory>
+    ensures gives { IfOk result (λ log. WorldGives upstream.world log) }
+    ensures told { IfOk result (λ log. log ≡ world_told upstream) }
+{
+    upstream.gather()?;
+    upstream.log().try_clone(alloc)
+}
+
+/// Answers questions over a script.
+fn ran_script(
+    alloc: Global,
+    roots: &Ips,
+    options: RecursorOptions,
+    patience: u32,
+    questions: &[Question],
+    turns: &[Turn],
+    script: Script,
+) -> Result<Transcript, NoMemory>
+    requires rooted { roots.now ≢ [] }
+    requires ordered { has_reversed options.cache_policy ≡ false }
+    requires delayed { has_bad_first_delays options.first_delays ≡ false }
+    requires qualified { IsTrue (is_qualified_script script) }
+    ensures gives { IfOk result (λ t. ScriptGives script t.log) }
+    ensures resolves { IfOk result (λ t. Resolves (terms_by roots.now options patience) questions.now turns.now t.log t.replies) }
+{
+    let provider = ScriptUpstream::new(alloc, script)?;
+    let run = driven(alloc, roots, options, patience, questions, turns, provider)?;
+    let log = script_log(alloc, run.0)?;
+    let replies = Items::new(run.1);
+    Ok(Transcript { log, replies })
+}
+
+/// Answers questions over a world.
+fn ran_world(
+    alloc: Global,
+    roots: &Ips,
+    options: RecursorOptions,
+    patience: u32,
+    questions: &[Question],
+    turns: &[Turn],
+    world: World,
+) -> Result<Transcript, NoMemory>
+    requires rooted { roots.now ≢ [] }
+    requires ordered { has_reversed options.cache_policy ≡ false }
+    requires delayed { has_bad_first_delays options.first_delays ≡ false }
+    requires qualified { IsTrue (is_qualified_world world) }
+    ensures gives { IfOk result (λ t. WorldGives world t.log) }
+    ensures resolves { IfOk result (λ t. Resolves (terms_by roots.now options patience) questions.now turns.now t.log t.replies) }
+{
+    let provider = WorldUpstream::new(alloc, world)?;
+    let run = driven(alloc, roots, options, patience, questions, turns, provider)?;
+    let log = world_log(alloc, run.0)?;
+    let replies = Items::new(run.1);
+    Ok(Transcript { log, replies })
+}
+
+/// Answers the questions of a scenario over its upstream.
 fn ran(alloc: Global, scenario: Scenario) -> Result<Transcript, NoMemory>
     requires { IsRunnable scenario }
     ensures { IfOk result (Ran scenario) }
@@ -135,20 +188,15 @@ fn ran(alloc: Global, scenario: Scenario) -> Result<Transcript, NoMemory>
         questions,
         turns,
     } = scenario;
-    let script = script_from(alloc, upstream);
-    let mut recursor = recursor_over(alloc, &roots, options, script)?;
-    let replies = drive(
-        alloc,
-        &mut recursor,
-        questions.items(),
-        turns.items(),
-        first_patience(patience),
-    )?;
-    let log = log_of(alloc, recursor.into_provider())?;
-    Ok(Transcript {
-        log,
-        replies: Items::new(replies),
-    })
+    let (asked, turned) = (questions.items(), turns.items());
+    match upstream {
+        Upstream::Script(script) => {
+            ran_script(alloc, &roots, options, patience, asked, turned, script)
+        }
+        Upstream::World(world) => {
+            ran_world(alloc, &roots, options, patience, asked, turned, world)
+        }
+    }
 }
 
 /// The text of a transcript.
@@ -180,15 +228,12 @@ fn fault_of(error: ScenarioError) -> Fault
     }
 }
 
-/// What is written for a scenario, or that it is told a world, which no command runs yet.
+/// What is written for a scenario.
 fn answered(alloc: Global, bytes: &[u8], scenario: Scenario) -> Result<Vec<u8>, Fault>
     requires { Reads bytes.now scenario }
     ensures ok { IfOk result (λ text. HasOutput bytes.now text.items) }
     ensures err { IfErr result (IsFaultOf bytes.now) }
 {
-    if !is_script(&scenario.upstream) {
-        return Err(Fault::NotBuilt(told_line(bytes)));
-    }
     match resolved(alloc, scenario) {
         Ok(text) => Ok(text),
         Err(_) => Err(Fault::Memory),
@@ -233,7 +278,7 @@ fn finish<K: Sink>(alloc: Global, sink: &mut K, bytes: &[u8]) -> Status
 }
 
 /// Runs the command: reads a scenario from the source to its end, answers its questions over its
-/// script, and writes the transcript; or writes the text of what is wrong.
+/// script or its world, and writes the transcript; or writes the text of what is wrong.
 pub fn run<S: Source, K: Sink>(
     alloc: Global,
     words: &[Text],

@@ -1,0 +1,6 @@
+use Rattle.std.proofs.Common.{take}
+use Rattle.check_text.specs.Checking.{AreValid}
+use Rattle.check_text.proofs.checking.valid_questions.Given as goal
+
+abbrev pub invariant-loop-question : goal.invariant-loop-question
+invariant-loop-question l = AreValid l.world (take l.question-index l.questions) l.valid.items
