@@ -9,7 +9,7 @@ use Rattle.recursor_command.proofs.command.ran_world.Goals as goal
 pub returns-clause-gives : goal.returns-clause-gives
 returns-clause-gives c =
     let log = c.in_ok-log.log in
-    let is : c.new-provider.result.world ≡ c.args.world = ap (λ (u : Upstream). u.world) c.new-provider.ensures in
+    let is : c.in_ok-provider.provider.world ≡ c.args.world = ap (λ (u : Upstream). u.world) c.in_ok-provider.ensures in
     subst (λ (w : World). Gives w log) is (c.in_ok-run.ensures.vouches log c.in_ok-log.ensures.gives)
 
 pub returns-clause-resolves : goal.returns-clause-resolves
