@@ -115,6 +115,9 @@ impl Late {
         ensures same { log.new ++ self.new ≡ log.old ++ self.old }
         ensures ok { OnOk result (self.new ≡ []) }
     {
+        if matches!(&self.chain, Chain::End) {
+            return Ok(());
+        }
         let newest_first = mem::replace(&mut self.chain, Chain::End);
         let rest = newest_first.reversed().pour(alloc, log);
         let is_done = matches!(&rest, Chain::End);
