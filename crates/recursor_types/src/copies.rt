@@ -26,6 +26,8 @@ impl TryClone for RecursorOptions {
         let first_delays = self.first_delays.try_clone(alloc)?;
         Ok(RecursorOptions {
             response_cache_size: self.response_cache_size,
+            recursion_limit: self.recursion_limit,
+            ns_recursion_limit: self.ns_recursion_limit,
             allow_answers,
             deny_answers,
             allow_server,

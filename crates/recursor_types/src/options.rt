@@ -10,12 +10,15 @@ use resolver_settings::{Nets, TtlConfig, recommended_server_filters};
 use std::alloc::Global;
 
 /// The options of a recursor. The cache keeps so many responses, each for as long as the policy's
-/// bounds of TTLs say. An address that a delegation gives is asked, and one of an answer stands there,
+/// bounds of TTLs say. A question whose aliases, or whose zones on the way from the root, come to their
+/// limit is no valid one. An address that a delegation gives is asked, and one of an answer stands there,
 /// where it is in no denied network or in an allowed one. The payload is that of EDNS, in bytes; the ports rise. Servers start with the
 /// first delays in turn, each from 1 to 31 microseconds, of which there is at least one.
 #[derive(Drop, Debug, PartialEq, Eq)]
 pub struct RecursorOptions {
     pub response_cache_size: u64,
+    pub recursion_limit: u8,
+    pub ns_recursion_limit: u8,
     pub allow_answers: Nets,
     pub deny_answers: Nets,
     pub allow_server: Nets,
@@ -42,12 +45,14 @@ fn are_first_delays(delays: &[u8]) -> bool
 }
 
 impl RecursorOptions {
-    /// 1,048,576 responses are kept, from 0 to 86,400 seconds; answers may have any address; the 22 networks of special purpose are
+    /// 1,048,576 responses are kept, from 0 to 86,400 seconds; both limits are 24; answers may have any address; the 22 networks of special purpose are
     /// denied and none is allowed (RFC 6890), no port is avoided, case is not randomized, the payload is
     /// 1,232 bytes, and each server starts with 1 microsecond. It fails for want of memory alone.
     pub fn standard(alloc: Global) -> Result<RecursorOptions, NoMemory>
         ensures { IfOk result (λ options. options ≡ record {
           response_cache_size = 1048576;
+          recursion_limit = 24;
+          ns_recursion_limit = 24;
           allow_answers = [];
           deny_answers = [];
           allow_server = [];
@@ -61,6 +66,8 @@ impl RecursorOptions {
     {
         Ok(RecursorOptions {
             response_cache_size: 1_048_576,
+            recursion_limit: 24,
+            ns_recursion_limit: 24,
             allow_answers: Nets::empty(alloc),
             deny_answers: Nets::empty(alloc),
             allow_server: Nets::empty(alloc),
