@@ -309,8 +309,8 @@ impl PoolShared {
         numbered(number, made)
     }
 
-    /// The lookup at which the order of a number is open.
-    fn open_at(&self, number: u64) -> Option<u64>
+    /// The number of the lookup at which the order of a number is open; none where it is open nowhere.
+    pub fn open_at(&self, number: u64) -> Option<u64>
         ensures { result ≡ open_at number self.now }
     {
         match self.orders.get(&number) {
