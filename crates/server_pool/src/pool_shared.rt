@@ -428,8 +428,8 @@ impl PoolShared {
         self.lookups.contains_key(&lookup)
     }
 
-    /// What a lookup was answered, where it is decided.
-    pub(crate) fn answer(
+    /// A copy of what a lookup was answered, where it is decided; none where there is no such lookup.
+    pub fn answer(
         &self,
         alloc: Global,
         lookup: u64,
@@ -443,7 +443,7 @@ impl PoolShared {
     }
 
     /// By which log entries the attempts of a lookup ended, in the order in which their ends were heard.
-    pub(crate) fn ends(&self, lookup: u64) -> &[u64]
+    pub fn ends(&self, lookup: u64) -> &[u64]
         ensures ends { result.now ≡ closed_by (lookup_at self.now lookup) }
         ensures fair { (l : Seen) → lookup_at self.now lookup ≡ Some l → IsFairly l.lookup }
     {
