@@ -1,7 +1,7 @@
 //! Questions of a scenario, driven over its script.
 
 use crate::failure::Failure;
-use dns_core::{Items, Question};
+use dns_core::{Items, NoMemory, Question, TryClone};
 use recursor_core::{Recursor, Reply, drive};
 use recursor_text::{Scenario, Upstream, read_scenario};
 use recursor_world::{Script, ScriptUpstream};
@@ -76,4 +76,22 @@ fn count_answers(alloc: Global, bench: &mut Bench, times: u32) -> Result<u32, Fa
 pub fn answers(alloc: Global, scenario: &str, times: u32) -> Result<u32, Failure> {
     let mut bench = bench_of(alloc, scenario)?;
     count_answers(alloc, &mut bench, times)
+}
+
+/// The questions of a scenario, gone over until there are so many.
+fn repeated(alloc: Global, questions: &[Question], count: u32) -> Result<Vec<Question>, NoMemory> {
+    let mut all = Vec::new(alloc);
+    for question in questions.iter().cycle().take(count as usize) {
+        all.push(question.try_clone(alloc)?)?;
+    }
+    Ok(all)
+}
+
+/// Drives the questions of a scenario, gone over until there are so many, in one run, and counts its
+/// answers.
+pub fn answers_of_one_run(alloc: Global, scenario: &str, count: u32) -> Result<usize, Failure> {
+    let mut bench = bench_of(alloc, scenario)?;
+    let questions = repeated(alloc, bench.questions.items(), count)?;
+    let replies = drive(alloc, &mut bench.recursor, questions.as_slice(), &[], 3)?;
+    Ok(replies.iter().filter(|reply| reply.outcome.is_ok()).count())
 }

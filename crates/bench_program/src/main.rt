@@ -8,6 +8,7 @@
 //!   often, with a cache or with one that keeps nothing;
 //! - `way ZONES UNUSED TIMES`: a question that goes down so many zones, so often, beside so many rules
 //!   that it does not come to;
+//! - `many ZONES QUESTIONS`: so many questions of one run, each of which goes down so many zones;
 //! - `kept ENTRIES CALL TIMES`: a cache of responses with so many entries, and so often a call on a question
 //!   that is there: `get`, `put`, or `make`, where a question and an answer are made for nothing;
 //! - `held ANSWERS`: so many of the same answers without a cache.
@@ -34,12 +35,13 @@ enum Run {
     Access { sets: u32, times: u32 },
     World { world: World, times: u32 },
     Way { way: Way, times: u32 },
+    Many { zones: u32, questions: u32 },
     Kept(Calls),
     Held { answers: u32 },
 }
 
 /// What goes where no words name a run.
-const EACH: [Run; 12] = [
+const EACH: [Run; 13] = [
     Run::Access { sets: 1, times: 1 },
     Run::Access { sets: 2, times: 2 },
     Run::World {
@@ -71,6 +73,10 @@ const EACH: [Run; 12] = [
             unused: 100,
         },
         times: 3,
+    },
+    Run::Many {
+        zones: 3,
+        questions: 5,
     },
     Run::Kept(Calls {
         entries: 100,
@@ -137,6 +143,10 @@ fn run_of(words: &[String]) -> Option<Run> {
             sets: sets.parse().ok()?,
             times: times.parse().ok()?,
         }),
+        [word, zones, questions] if word.as_str() == "many" => Some(Run::Many {
+            zones: zones.parse().ok()?,
+            questions: questions.parse().ok()?,
+        }),
         [word, zones, unused, times] if word.as_str() == "way" => Some(Run::Way {
             way: Way {
                 zones: zones.parse().ok()?,
@@ -162,6 +172,11 @@ fn go<R: Print>(rt: &R, alloc: Global, run: Run) -> Result<(), Failure> {
             let answers = driving::answers(alloc, &way.scenario(alloc)?, times)?;
             let Way { zones, unused } = way;
             println!(rt; "way {zones} {unused} {times}: {answers} are answered")?;
+        }
+        Run::Many { zones, questions } => {
+            let scenario = Way { zones, unused: 0 }.scenario(alloc)?;
+            let answers = driving::answers_of_one_run(alloc, &scenario, questions)?;
+            println!(rt; "many {zones} {questions}: {answers} are answered")?;
         }
         Run::Kept(calls) => {
             let (found, count) = calls.go(alloc)?;

@@ -4,7 +4,7 @@ use crate::message_samples::{Sight, answer, ip, query, query_of, referral, seen,
 use dns_core::{
     DnsClass, Message, Name, NameError, NetError, NoMemory, Query, RecordType, TryClone,
 };
-use recursor_walk::addresses;
+use walk_base::addresses;
 use resolver_cache::{CachedResponse, ResponseCache, read_message};
 use resolver_settings::{IpNet, TtlConfig};
 use std::alloc::Global;

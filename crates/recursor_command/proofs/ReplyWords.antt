@@ -33,10 +33,10 @@ use Rattle.recursor_types.specs.declared.error.MessageKind.TheVariants.{NotQuali
 use Rattle.recursor_types.specs.declared.error.RecursorError.{RecursorError}
 use Rattle.recursor_types.specs.declared.error.RecursorError.TheVariants as error
 use Rattle.recursor_types.specs.declared.reply.Reply.{Reply}
-use Rattle.recursor_core.specs.Causes.{ErrorHolds, HasFailed}
+use Rattle.recursor_walk.specs.Causes.{ErrorHolds, HasFailed}
 use Rattle.walk_tables.specs.Lookup.{is_lookup_error}
 use Rattle.walk_tables.specs.Terms.{Terms}
-use Rattle.recursor_core.specs.Replies.{OutcomeHolds}
+use Rattle.recursor_walk.specs.Replies.{OutcomeHolds}
 use Rattle.recursor_core.specs.Standing.{RepliesHold}
 use Rattle.text_words.specs.Texts.{has_error_word}
 use Rattle.transcript_printer.specs.Errors.{has_words, has_net_words, is_not_qualified}

@@ -12,9 +12,9 @@ use Rattle.resolver_cache.specs.Cached.{Cached}
 use Rattle.order_carrier.specs.Fits.{GoesToServer}
 use Rattle.walk_tables.specs.Pools.{PoolsHold}
 use Rattle.walk_tables.specs.declared.pools.Pools.{Pools}
-use Rattle.recursor_core.specs.Remembered.{CacheHolds}
+use Rattle.walk_tables.specs.Remembered.{CacheHolds}
 use Rattle.walk_tables.specs.Terms.{Terms, terms_with, given_of}
-use Rattle.recursor_core.specs.Replies.{ReplyHolds}
+use Rattle.recursor_walk.specs.Replies.{ReplyHolds}
 use Rattle.walk_tables.specs.Tried.{machine_timer}
 use Rattle.recursor_core.specs.Derived.{ResolutionHolds, terms_of, Derived}
 use Rattle.recursor_core.specs.Resolving.{SameBegun}

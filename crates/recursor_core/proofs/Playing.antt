@@ -12,7 +12,7 @@ use Rattle.dns_core.specs.declared.request.Turn.{Turn}
 use Rattle.dns_core.specs.declared.provider.ConnectionProvider.{Ghosts}
 use Rattle.walk_tables.specs.Terms.{Terms, terms_with}
 use Rattle.walk_tables.specs.Tried.{Timer, machine_timer}
-use Rattle.recursor_core.specs.Replies.{ReplyHolds}
+use Rattle.recursor_walk.specs.Replies.{ReplyHolds}
 use Rattle.order_carrier.specs.Growing.{TellsThat, Grown}
 use Rattle.recursor_core.specs.Derived.{terms_of}
 use Rattle.recursor_core.specs.Machine.{Begun, begun_at}
@@ -25,7 +25,7 @@ use Rattle.recursor_core.specs.declared.machine.RecursorCore.{RecursorCore}
 use Rattle.recursor_types.specs.declared.reply.Reply.{Reply}
 use Rattle.recursor_core.specs.declared.turns.Played.{Played}
 use Rattle.recursor_core.specs.declared.turns.Played.TheVariants as played
-use Rattle.recursor_core.proofs.Earlier.{ReplyHolds-earlier}
+use Rattle.recursor_walk.proofs.Earlier.{ReplyHolds-earlier}
 use Rattle.recursor_core.proofs.Standing.{ReplyHolds-grown, Grown-refl}
 use Rattle.recursor_core.proofs.Timed.{reply-timed, run_first}
 

@@ -1,10 +1,13 @@
 -- How many steps resolutions have before them, and a list of them in which one is changed.
-use Rattle.std.proofs.Common.{◌≡◌, ◌≢◌, ◌≤◌, ◌<◌, ℕ, zero, suc, List, [], ◌∷◌, length, get_or, Some, None, refl, arith, sym, ap}
+use Rattle.std.proofs.Common.{◌≡◌, ◌≢◌, ◌≤◌, ◌<◌, ℕ, zero, suc, List, [], ◌∷◌, length, get_or, Some, refl, arith, sym, ap}
 use Rattle.std.specs.Prelude.{slice_get, sum_by}
 use Rattle.std.proofs.Math.ListN.{set}
 use Rattle.std.proofs.lemmas.List.Sums.{sum_by-set}
 use Rattle.std.proofs.lemmas.Option.{slice_get_read}
-use Rattle.recursor_core.specs.Resolving.{steps, state_steps, state_want, want_of, order_of}
+use Rattle.walk_tables.specs.Lookup.{LeavesLess}
+use Rattle.walk_tables.specs.declared.pools.Stepped.{Stepped}
+use Rattle.walk_tables.specs.declared.pools.Stepped.TheVariants as stepped
+use Rattle.recursor_core.specs.Resolving.{steps, state_steps, state_want, want_of}
 use Rattle.recursor_core.specs.declared.resolving.State.{State}
 use Rattle.recursor_core.specs.declared.resolving.State.TheVariants.{New, Under, Done, Ended}
 use Rattle.recursor_core.specs.declared.resolving.Resolution.{Resolution}
@@ -32,16 +35,17 @@ put_at [] i g within = absurd (omega (arith, within))
 put_at (x ∷ xs) zero g within = refl
 put_at (x ∷ xs) (suc i) g within = put_at xs i g (omega arith)
 
--- where an order is waited for there is a resolution
-pub order_within : (xs : List Resolution) (i : ℕ) → order_of (need_in (slice_get xs i)) ≢ None → i < length xs
-order_within [] i h = absurd (h refl)
-order_within (x ∷ xs) zero h = omega arith
-order_within (x ∷ xs) (suc i) h = omega (arith, order_within xs i h)
-
 -- one of a list doesn't grow, nor does the sum
 pub sum_keeps : (xs : List Resolution) (i : ℕ) (f g : Resolution) → i < length xs → f ≡ get_or xs i f → steps g ≤ steps f
     → sum_by steps (set xs i g) ≤ sum_by steps xs
 sum_keeps xs i f g within is h = let moved = rw (sym (ap steps is)) at (sum_by-set steps xs i g f within) in omega (arith, moved, h)
+
+-- so the sum after a step of one of them
+pub sum_leaves : (xs : List Resolution) (i : ℕ) (f g : Resolution) → i < length xs → f ≡ get_or xs i f → (s : Stepped) → LeavesLess (steps f) (steps g) s
+    → LeavesLess (sum_by steps xs) (sum_by steps (set xs i g)) s
+sum_leaves xs i f g within is (stepped.Order number order) h = sum_falls xs i f g within is h
+sum_leaves xs i f g within is (stepped.Waiting number) h = sum_keeps xs i f g within is h
+sum_leaves xs i f g within is stepped.Done h = sum_falls xs i f g within is h
 
 -- who needs nothing has nothing before it
 ended_nothing : (r : Resolution) (s : State) → r.state ≡ s → state_want s ≡ need.Nothing → steps r ≡ 0

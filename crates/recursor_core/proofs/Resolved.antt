@@ -6,20 +6,21 @@ use Rattle.dns_core.specs.declared.message.Query.{Query}
 use Rattle.dns_core.specs.declared.request.Question.{Question}
 use Rattle.dns_core.specs.declared.errors.NoMemory.{NoMemory}
 use Rattle.resolver_cache.specs.Cached.{Cached}
-use Rattle.recursor_core.specs.Counted.{recalled, IsRecalled}
-use Rattle.recursor_core.specs.Remembered.{CacheHolds}
+use Rattle.recursor_walk.specs.Counted.{recalled, IsRecalled}
+use Rattle.walk_tables.specs.Remembered.{CacheHolds}
 use Rattle.walk_tables.specs.Terms.{Terms}
-use Rattle.recursor_core.specs.Walk.{Goes}
+use Rattle.recursor_walk.specs.Walk.{Goes}
 use Rattle.recursor_core.specs.Resolving.{state_want, state_steps, steps, IsSettled, SameBegun}
-use Rattle.recursor_core.specs.Derived.{WalkHolds, WalkComes, StateHolds, ResolutionHolds}
-use Rattle.recursor_core.specs.declared.counted.Counted.{Counted}
+use Rattle.recursor_walk.specs.Way.{WalkHolds, WalkComes}
+use Rattle.recursor_core.specs.Derived.{StateHolds, ResolutionHolds}
+use Rattle.recursor_walk.specs.declared.counted.Counted.{Counted}
 use Rattle.recursor_types.specs.declared.reply.Reply.{Reply}
 use Rattle.recursor_core.specs.declared.resolving.State.{State}
 use Rattle.recursor_core.specs.declared.resolving.State.TheVariants.{New, Under, Done, Ended}
 use Rattle.recursor_core.specs.declared.resolving.Resolution.{Resolution}
 use Rattle.recursor_core.specs.declared.resolving.Need.TheVariants as need
-use Rattle.recursor_core.specs.declared.walk.Walk.{Walk}
-use Rattle.recursor_core.proofs.Recalling.{recalled-stands}
+use Rattle.recursor_walk.specs.declared.walk.Walk.{Walk}
+use Rattle.recursor_walk.proofs.Recalling.{recalled-stands}
 
 -- a resolution whose walk is as it was is as it was
 pub same-walk : (r : Resolution) (b : Box Walk) (w : Walk) → r.state ≡ Under b → w ≡ b.value

@@ -15,14 +15,14 @@ use Rattle.resolution.proofs.Keeping.{Serves-later, Serves-extend}
 use Rattle.order_carrier.specs.Fits.{GoesToServer}
 use Rattle.order_carrier.specs.GivingUp.{give_up_entry}
 use Rattle.walk_tables.specs.Terms.{Terms, terms_with, given_of}
-use Rattle.recursor_core.specs.Replies.{ReplyHolds}
+use Rattle.recursor_walk.specs.Replies.{ReplyHolds}
 use Rattle.walk_tables.specs.Tried.{machine_timer}
 use Rattle.order_carrier.specs.Growing.{TellsThat, Grown, with_entries}
 use Rattle.walk_tables.specs.Pools.{PoolsHold}
 use Rattle.recursor_core.specs.Derived.{terms_of, Derived}
 use Rattle.order_carrier.specs.Patience.{IsPatient}
 use Rattle.resolver_cache.specs.Cached.{Cached}
-use Rattle.recursor_core.specs.Remembered.{EntryHolds, CacheHolds}
+use Rattle.walk_tables.specs.Remembered.{EntryHolds, CacheHolds}
 use Rattle.recursor_setting.specs.Setting.{with_patience as setting_with}
 use Rattle.recursor_core.specs.Machine.{Begun, begun_at, ReplyGiven, StepGives, IsNewCore}
 use Rattle.recursor_core.specs.Standing.{IsPast, Holds, Rests, Moves, ReplyTold}
@@ -50,7 +50,8 @@ use Rattle.server_core.specs.declared.order.Tick.{Tick}
 use Rattle.recursor_types.specs.declared.reply.Reply.{Reply}
 use Rattle.order_carrier.proofs.Growing.{Longer-from_added, Extends-added, Logged-newest}
 use Rattle.order_carrier.proofs.Waiting.{IsPatient-trans, WaitsFor-refl, patient-none}
-use Rattle.recursor_core.proofs.Kept.{Derived-extends, ReplyHolds-extends}
+use Rattle.recursor_walk.proofs.Kept.{ReplyHolds-extends}
+use Rattle.recursor_core.proofs.Kept.{Derived-extends}
 
 -- ---- growing logs
 

@@ -11,11 +11,11 @@ use Rattle.resolution.specs.Ending.{EndSends}
 use Rattle.resolution.specs.Ending.EndSends.{no_send, and_send}
 use Rattle.resolution.specs.Timing.{DriveTimed}
 use Rattle.walk_tables.specs.Terms.{Terms, given_of}
-use Rattle.recursor_core.specs.Replies.{ReplyHolds}
+use Rattle.recursor_walk.specs.Replies.{ReplyHolds}
 use Rattle.walk_tables.specs.Tried.{IsTimed, machine_timer}
 use Rattle.recursor_core.specs.Standing.{last_moment, run_moments, run_timer}
 use Rattle.recursor_types.specs.declared.reply.Reply.{Reply}
-use Rattle.recursor_core.proofs.Earlier.{outcome-earlier}
+use Rattle.recursor_walk.proofs.Earlier.{outcome-earlier}
 use Rattle.recursor_core.proofs.Standing.{below_or_not}
 
 -- a lookup of the machine is one of a run, where it was heard at a moment of the run

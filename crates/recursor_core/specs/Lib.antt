@@ -1,11 +1,5 @@
-pub mod Walk
 pub mod Resolving
 pub mod Runner
-pub mod SameTold
-pub mod Causes
-pub mod Replies
-pub mod Counted
-pub mod Remembered
 pub mod Derived
 pub mod Machine
 pub mod Turns

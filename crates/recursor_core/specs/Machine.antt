@@ -8,14 +8,13 @@ use Rattle.dns_core.specs.declared.request.Question.{Question}
 use Rattle.dns_core.specs.declared.request.DnsRequest.{DnsRequest}
 use Rattle.order_carrier.specs.Fits.{GoesToServer}
 use Rattle.walk_tables.specs.Terms.{Terms, given_of}
-use Rattle.recursor_core.specs.Replies.{ReplyHolds}
+use Rattle.recursor_walk.specs.Replies.{ReplyHolds}
 use Rattle.walk_tables.specs.Tried.{machine_timer}
 use Rattle.server_core.specs.declared.order.Order.{Order}
 use Rattle.walk_tables.specs.Pools.{StepGoes, PoolsHold}
+use Rattle.walk_tables.specs.Taking.{IsOpen}
+use Rattle.walk_tables.specs.declared.pools.Stepped.{Stepped}
 use Rattle.recursor_core.specs.Derived.{terms_of}
-use Rattle.recursor_core.specs.Remembered.{Telling, telling_of, remembered}
-use Rattle.server_core.specs.declared.order.After.{After}
-use Rattle.server_core.specs.declared.order.After.TheVariants as after
 use Rattle.recursor_types.specs.declared.reply.Reply.{Reply}
 use Rattle.dns_core.specs.declared.errors.NoMemory.{NoMemory}
 use Rattle.recursor_core.specs.Resolving as one
@@ -42,10 +41,6 @@ need_in (Some r) = one.want_of r
 -- what the resolution at a place needs
 abbrev pub need_at : RecursorCore → ℕ → Need
 need_at core r = need_in (slice_get core.resolutions.items r)
-
--- the order that it waits for
-abbrev pub order_at : RecursorCore → ℕ → Option ℕ
-order_at core r = one.order_of (need_at core r)
 
 abbrev pub asked_in : Option Resolution → Option Query
 asked_in None = None
@@ -88,17 +83,13 @@ pub record SameCore (old new : RecursorCore) : Type 0 where
   pub moment : new.moment ≡ old.moment
   pub begun : (k : ℕ) → begun_at new k ≡ begun_at old k
 
--- some resolution waits for the order
-abbrev pub IsAwaited : RecursorCore → ℕ → Type 0
-IsAwaited core number = (r : ℕ) × (order_at core r ≡ Some number)
-
 -- how many steps are before the machine, at most
 abbrev pub rank : RecursorCore → ℕ
 rank core = sum_by one.steps core.resolutions.items
 
 abbrev pub StepFalls : RecursorCore → RecursorCore → Step → Type 0
 StepFalls old new (step.Order number order) = rank new < rank old
-StepFalls old new (step.Waiting number) = (rank new ≤ rank old) × IsAwaited new number
+StepFalls old new (step.Waiting number) = (rank new ≤ rank old) × IsOpen new.pools number
 StepFalls old new (step.Done reply) = rank new < rank old
 StepFalls old new step.Ended = rank new ≤ rank old
 
@@ -124,7 +115,7 @@ StepGives core log r (step.Done reply) = ReplyGiven (terms_of core) core.moment 
 StepGives core log r step.Ended = Unit {0}
 
 -- what a step of a lookup gives is derived: an order goes to a server by what was put before
-abbrev pub LookupGives : RecursorCore → Log → Option (ℕ × Order) → Type 0
+abbrev pub LookupGives : RecursorCore → Log → Stepped → Type 0
 LookupGives core log given = StepGoes (given_of (terms_of core)) log (core.greatest + 1) given
 
 abbrev pub Gives : RecursorCore → Log → ℕ → Progress → Type 0
@@ -149,13 +140,3 @@ pub record IsNewCore (roots : List IpAddr) (options : RecursorOptions) (core : R
 -- what a question is refused for as it begins
 abbrev pub IsBeginError : RecursorError → Type 0
 IsBeginError e = (e ≡ error.Message kind.NotQualified) ⊎ (e ≡ error.NoMemory)
-
--- what the resolution at a place was just told
-abbrev pub telling_at : RecursorCore → ℕ → Option Telling
-telling_at core r = telling_of (slice_get core.resolutions.items r)
-
--- An outcome that is not late is put to a resolution that waits for the order, and what this was told by it is in the cache. Nothing else is
--- written.
-abbrev pub Writes : RecursorCore → RecursorCore → ℕ → After → Type 0
-Writes old new number after.Late = new.cache ≡ old.cache
-Writes old new number _ = (r : ℕ) × (order_at old r ≡ Some number) × (new.cache ≡ remembered old.cache (telling_at new r))

@@ -3,10 +3,10 @@ use Rattle.std.specs.Prelude.{◌≡◌, ℕ, IsTrue, Option, Some, None, Result
 use Rattle.std.specs.Global.{Box}
 use Rattle.dns_core.specs.declared.message.Query.{Query}
 use Rattle.dns_core.specs.declared.request.DnsRequest.{DnsRequest}
-use Rattle.recursor_core.specs.Counted.{may_answer}
+use Rattle.recursor_walk.specs.Counted.{may_answer}
 use Rattle.walk_tables.specs.Lookup as lookup
-use Rattle.recursor_core.specs.Walk as walk
-use Rattle.recursor_core.specs.declared.counted.Counted.{Counted}
+use Rattle.recursor_walk.specs.Walk as walk
+use Rattle.recursor_walk.specs.declared.counted.Counted.{Counted}
 use Rattle.recursor_types.specs.declared.reply.Reply.{Reply}
 use Rattle.dns_core.specs.declared.errors.NoMemory.{NoMemory}
 use Rattle.walk_tables.specs.declared.lookup.Want.TheVariants as want
@@ -24,20 +24,6 @@ state_want Ended = need.Nothing
 
 abbrev pub want_of : Resolution → Need
 want_of r = state_want r.state
-
-abbrev pub order_of : Need → Option ℕ
-order_of need.SetOut = None
-order_of (need.Send want.Recall) = None
-order_of (need.Send want.Begin) = None
-order_of (need.Send want.Step) = None
-order_of (need.Send (want.Wait order)) = Some order
-order_of (need.Send want.Hear) = None
-order_of need.Reply = None
-order_of need.Nothing = None
-
--- the number of the order that it waits for
-abbrev pub waits_for : Resolution → Option ℕ
-waits_for r = order_of (want_of r)
 
 abbrev pub state_steps : Query → State → ℕ
 state_steps q New = walk.begin_steps q

@@ -14,12 +14,12 @@ use Rattle.resolution.specs.Asking.{AsksServers}
 use Rattle.resolution.specs.Timing.{known_to_drive}
 use Rattle.walk_tables.specs.Terms.{Terms, given_of}
 use Rattle.walk_tables.specs.Tried.{Timer, machine_timer}
-use Rattle.recursor_core.specs.Replies.{ReplyHolds}
+use Rattle.recursor_walk.specs.Replies.{ReplyHolds}
 use Rattle.order_carrier.specs.Growing.{TellsThat, Grown}
 use Rattle.recursor_core.specs.Derived.{terms_of, Derived}
 use Rattle.order_carrier.specs.Patience.{IsPatient}
 use Rattle.walk_tables.specs.Pools.{PoolsHold}
-use Rattle.recursor_core.specs.Remembered.{CacheHolds}
+use Rattle.walk_tables.specs.Remembered.{CacheHolds}
 use Rattle.recursor_core.specs.Runner.{RunnerHolds}
 use Rattle.recursor_core.specs.declared.runner.Runner.{Runner}
 use Rattle.recursor_core.specs.Machine.{Begun, begun_at}

@@ -2,15 +2,18 @@
 ghost use Rattle.std.specs.Prelude.{◌≡◌, ◌≢◌, ◌≤◌, ◌<◌, ◌+◌, ◌⊎◌, ◌↔◌, ℕ, [], true, false, max, length, None, Some, Ok, Err, IfOk, IfSome, IfNone, IfErr, IsSome, OnOk, OnErr, IsTrue, option_copied, if◌then◌else◌};
 ghost use Rattle.dns_core.specs.Log.{Log};
 ghost use Rattle.server_core.specs.Order.{entry_of};
-ghost use Rattle.walk_tables.specs.Order.{IsNext, is_given_up, closing_of, last_entry, TellsOutcome, LogGoesOn, IsPut};
+ghost use Rattle.walk_tables.specs.Order.{IsNext, is_given_up, closing_of, last_entry, TellsOutcome, LogGoesOn};
+ghost use Rattle.walk_tables.specs.Lookup.{LeavesLess};
+ghost use Rattle.walk_tables.specs.Taking.{IfOpen, Takes};
+ghost use Rattle.server_pool.specs.Orders.{open_at};
 ghost use Rattle.resolver_settings.specs.Ttl.{has_reversed};
 ghost use Rattle.recursor_setting.specs.Asking.{connect_of};
 ghost use Rattle.recursor_setting.specs.Setting.{with_patience};
 ghost use Rattle.walk_tables.specs.declared.lookup.Want.TheVariants as want;
 ghost use Rattle.walk_tables.specs.Pools.{PoolsHold};
-ghost use Rattle.recursor_core.specs.Remembered.{CacheHolds, remembered};
+ghost use Rattle.walk_tables.specs.Remembered.{CacheHolds};
 ghost use Rattle.recursor_core.specs.Derived.{terms_of, Derived};
-ghost use Rattle.recursor_core.specs.Machine.{need_at, order_at, begun_at, IsRequestAt, rank, GoesOn, Steps, Gives, StepGives, IsAwaited, IsNewError, IsBeginError, IsNewCore, SameCore, LookupGives, IsBegunAt, telling_at, Writes};
+ghost use Rattle.recursor_core.specs.Machine.{need_at, begun_at, IsRequestAt, rank, GoesOn, Steps, Gives, StepGives, IsNewError, IsBeginError, IsNewCore, SameCore, LookupGives, IsBegunAt};
 
 use crate::resolving::{Need, Resolution, State};
 use dns_core::{ConnectOptions, DnsRequest, NoMemory, Question, TryClone};
@@ -20,7 +23,7 @@ use resolver_cache::ResponseCache;
 use server_core::{After, Order, Outcome, PoolContext, Sent, Tick};
 use std::alloc::Global;
 use std::net::IpAddr;
-use walk_tables::{Pools, Want};
+use walk_tables::{Pools, Stepped, Want};
 
 /// What a resolution has for whoever steps it.
 #[derive(Drop, Debug)]
@@ -247,18 +250,6 @@ impl RecursorCore {
         resolution.recall(alloc, &self.setting.server_filter, &self.cache, now)
     }
 
-    /// Writes what a resolution was just told into the cache, where it is kept.
-    fn remember(&mut self, alloc: Global, r: usize) -> Result<(), NoMemory>
-        ensures ok { OnOk result (self.new.cache ≡ remembered self.old.cache (telling_at self.old r)) }
-        ensures derived { (log : Log) → Derived self.old log → Derived self.new log }
-        ensures rest { self.new ≡ record self.old { cache = self.new.cache } }
-    {
-        match self.resolutions.get(r) {
-            Some(resolution) => resolution.remember(alloc, &mut self.cache),
-            None => Ok(()),
-        }
-    }
-
     fn hear(&mut self, alloc: Global, r: usize) -> Result<(), NoMemory>
         requires { need_at self.old r ≡ Need.Send want.Hear }
         ensures falls { rank self.new < rank self.old }
@@ -293,14 +284,15 @@ impl RecursorCore {
         resolution.send(alloc, &mut self.pools, request, tick)
     }
 
-    /// The next step of the present lookup of a resolution: an order with its number, or none where it
-    /// has its answer.
-    fn step_lookup(&mut self, alloc: Global, r: usize) -> Result<Option<(u64, Order)>, NoMemory>
+    /// What the present lookup of a resolution has next: an order with its number, one that it waits for,
+    /// or its answer.
+    fn step_lookup(&mut self, alloc: Global, r: usize) -> Result<Stepped, NoMemory>
         requires { need_at self.old r ≡ Need.Send want.Step }
-        ensures falls { OnOk result (rank self.new < rank self.old) }
-        ensures keeps { OnErr result (rank self.new ≤ rank self.old) }
+        ensures falls { IfOk result (LeavesLess (rank self.old) (rank self.new)) }
+        ensures keeps { rank self.new ≤ rank self.old }
         ensures derived { (log : Log) → Derived self.old log → Derived self.new log × IfOk result (LookupGives self.old log) }
         ensures same { SameCore self.old self.new }
+        ensures waits { IfOk result (IfOpen self.new.pools) }
     {
         let since = self.greatest;
         let tick = self.tick();
@@ -346,21 +338,22 @@ impl RecursorCore {
         Ok(Progress::Again)
     }
 
-    /// Gives the next order of the present lookup, or goes on where it has its answer.
+    /// Gives the next order of the present lookup, or the one that it waits for; or goes on where it has
+    /// its answer.
     fn give_order(&mut self, alloc: Global, r: usize) -> Result<Progress, NoMemory>
         requires { need_at self.old r ≡ Need.Send want.Step }
         ensures goes { GoesOn self.old self.new result }
         ensures gives { (log : Log) → Derived self.old log → Derived self.new log × IfOk result (Gives self.old log r) }
         ensures same { SameCore self.old self.new }
     {
-        let Some((number, order)) = self.step_lookup(alloc, r)? else {
-            return Ok(Progress::Again);
-        };
-        let boxed = Box::new(alloc, order)?;
-        Ok(Progress::Step(Step::Order {
-            number,
-            order: boxed,
-        }))
+        match self.step_lookup(alloc, r)? {
+            Stepped::Order { number, order } => {
+                let order = Box::new(alloc, order)?;
+                Ok(Progress::Step(Step::Order { number, order }))
+            }
+            Stepped::Waiting { number } => Ok(Progress::Step(Step::Waiting { number })),
+            Stepped::Done => Ok(Progress::Again),
+        }
     }
 
     fn reply(&mut self, r: usize) -> Progress
@@ -389,7 +382,6 @@ impl RecursorCore {
             }
             Want::Begin => self.begin_asking(alloc, r),
             Want::Step => self.give_order(alloc, r),
-            Want::Wait { order } => Ok(Progress::Step(Step::Waiting { number: order })),
             Want::Hear => {
                 self.hear(alloc, r)?;
                 Ok(Progress::Again)
@@ -427,66 +419,6 @@ impl RecursorCore {
         }
     }
 
-    /// The resolution that waits for an order.
-    fn waiter(&self, number: u64) -> Option<usize>
-        ensures found { IfSome result (λ r. order_at self.now r ≡ Some number) }
-        ensures none { IfNone result (IsAwaited self.now number → ⊥) }
-    {
-        for (r, resolution) in self.resolutions.iter().enumerate() {
-            if resolution.open_order() == Some(number) {
-                return Some(r);
-            }
-        }
-        None
-    }
-
-    fn take(
-        &mut self,
-        alloc: Global,
-        r: usize,
-        outcome: Outcome,
-        waits: Option<&Sent>,
-        tick: Tick,
-    ) -> Result<After, NoMemory>
-        requires { order_at self.old r ≢ None }
-        ensures keeps { rank self.new ≤ rank self.old }
-        ensures derived { (log longer : Log) → self.old.setting.patience ≤ tick.patience → Derived self.old log
-            → IsPut self.old.greatest self.old.moment log tick (option_copied waits.entry) outcome result longer
-            → Derived (record self.new { greatest = max self.old.greatest (last_entry result (option_copied waits.entry) outcome); moment = tick.now }) longer }
-        ensures same { SameCore self.old self.new }
-        ensures late { result ≡ Ok After.Late → telling_at self.new r ≡ None }
-    {
-        let resolution = &mut self.resolutions[r];
-        resolution.take(alloc, &mut self.pools, outcome, waits, tick)
-    }
-
-    /// Takes the outcome for the resolution that waits for its order.
-    fn accept(
-        &mut self,
-        alloc: Global,
-        r: usize,
-        outcome: Outcome,
-        waits: Option<&Sent>,
-        tick: Tick,
-    ) -> Result<After, NoMemory>
-        requires { order_at self.old r ≢ None }
-        ensures keeps { rank self.new ≤ rank self.old }
-        ensures derived { (log longer : Log) → self.old.setting.patience ≤ tick.patience → Derived self.old log
-            → IsPut self.old.greatest self.old.moment log tick (option_copied waits.entry) outcome result longer → Derived self.new longer }
-        ensures same { (self.new.setting ≡ self.old.setting) × (self.new.cache ≡ self.old.cache) }
-        ensures moment { self.old.moment ≡ tick.now → self.new.moment ≡ tick.now }
-        ensures begun { (k : ℕ) → begun_at self.new k ≡ begun_at self.old k }
-        ensures late { result ≡ Ok After.Late → telling_at self.new r ≡ None }
-    {
-        let entry = outcome.entry();
-        let closing = closing_of(&outcome, waits);
-        let after = self.take(alloc, r, outcome, waits, tick);
-        let last = last_entry(&after, entry, closing);
-        self.greatest = self.greatest.max(last);
-        self.moment = self.moment.max(tick.now);
-        after
-    }
-
     /// Whether an entry is later than all that were put before, or there is none.
     fn is_next(&self, entry: u64) -> bool
         ensures { IsTrue result → IsNext self.now.greatest entry }
@@ -494,12 +426,13 @@ impl RecursorCore {
         entry == 0 || self.greatest < entry
     }
 
-    /// Takes the outcome of an order. One that nobody waits for is late, and changes nothing; so is one
-    /// that does not fit the order, or whose number is not greater than all before; that of a sleep is 0.
-    /// With a poll that found nothing is handed in what it waits for. The last such poll that patience
-    /// allows has ended the order, which is to be given up by whoever carries it; so is one that still is
-    /// under way where memory is wanting. What counts of a message that was told is written into the
-    /// cache; on want of memory for this the outcome is taken all the same.
+    /// Takes the outcome of an order, for the lookup at which it is open, whoever waits for that. One whose
+    /// order is not open, or which is none of it, is late, and changes nothing; so is one whose number is
+    /// not greater than all before; that of a sleep is 0. With a poll that found nothing is handed in what
+    /// it waits for. The last such poll that patience allows has ended the order, which is to be given up
+    /// by whoever carries it; so is one that still is under way where memory is wanting. What counts of a
+    /// response that a lookup came to is written into the cache; on want of memory for this the outcome is
+    /// taken all the same.
     pub fn put(
         &mut self,
         alloc: Global,
@@ -509,23 +442,26 @@ impl RecursorCore {
         tick: Tick,
     ) -> Result<After, NoMemory>
         ensures keeps { rank self.new ≤ rank self.old }
-        ensures late { (IsAwaited self.old number → ⊥) → result ≡ Ok After.Late }
+        ensures late { open_at number self.old.pools.shared ≡ None → result ≡ Ok After.Late }
         ensures derived { (log told longer : Log) → self.old.setting.patience ≤ tick.patience → Derived self.old log
             → TellsOutcome self.old.moment log tick (option_copied waits.entry) outcome told → LogGoesOn tick.now (option_copied waits.entry) outcome result told longer → Derived self.new longer }
-        ensures writes { IfOk result (Writes self.old self.new number) }
+        ensures takes { IfOk result (Takes self.old.cache self.new.cache self.old.pools self.new.pools number outcome tick) }
         ensures setting { self.new.setting ≡ self.old.setting }
         ensures moment { self.old.moment ≡ tick.now → self.new.moment ≡ tick.now }
         ensures begun { (k : ℕ) → begun_at self.new k ≡ begun_at self.old k }
     {
-        if !self.is_next(outcome.entry()) {
+        let entry = outcome.entry();
+        if !self.is_next(entry) {
             return Ok(After::Late);
         }
-        let Some(r) = self.waiter(number) else {
-            return Ok(After::Late);
-        };
-        let after = self.accept(alloc, r, outcome, waits, tick)?;
-        self.remember(alloc, r)?;
-        Ok(after)
+        let closing = closing_of(&outcome, waits);
+        let after = self
+            .pools
+            .put(alloc, &mut self.cache, number, outcome, waits, tick);
+        let last = last_entry(&after, entry, closing);
+        self.greatest = self.greatest.max(last);
+        self.moment = self.moment.max(tick.now);
+        after
     }
 
     /// Ends a resolution without a reply, and answers the order that it waited for.
@@ -538,7 +474,7 @@ impl RecursorCore {
             return None;
         }
         let resolution = &mut self.resolutions[r];
-        let order = resolution.open_order();
+        let order = resolution.open_order(&self.pools);
         resolution.end(&mut self.pools);
         order
     }

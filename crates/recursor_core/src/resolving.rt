@@ -1,31 +1,30 @@
 //! One question under way, answered, or ended.
-ghost use Rattle.std.specs.Prelude.{max, ◌≡◌, ◌≢◌, ◌≤◌, ◌<◌, ◌+◌, ℕ, true, length, Some, None, Ok, IfOk, IfSome, IsSome, OnOk, OnErr, is_ok, option_copied};
+ghost use Rattle.std.specs.Prelude.{◌≡◌, ◌≤◌, ◌<◌, ◌+◌, ℕ, true, length, Some, None, Ok, IfOk, IfSome, IsSome, OnOk, OnErr, is_ok};
 ghost use Rattle.std.specs.declared.net.ip_addr.IpAddr.{IpAddr};
 ghost use Rattle.dns_core.specs.Log.{Log};
-ghost use Rattle.walk_tables.specs.Order.{last_entry, IsPut};
 ghost use Rattle.walk_tables.specs.Terms.{Terms, given_of};
-ghost use Rattle.recursor_core.specs.Replies.{ReplyHolds};
+ghost use Rattle.recursor_walk.specs.Replies.{ReplyHolds};
 ghost use Rattle.walk_tables.specs.Tried.{machine_timer};
-ghost use Rattle.recursor_core.specs.Counted.{IsRecalled, recalled};
-ghost use Rattle.recursor_core.specs.Remembered.{CacheHolds, telling_in, remembered};
-ghost use Rattle.walk_tables.specs.Lookup.{want_of as wanted};
+ghost use Rattle.recursor_walk.specs.Counted.{IsRecalled, recalled};
+ghost use Rattle.walk_tables.specs.Remembered.{CacheHolds};
+ghost use Rattle.walk_tables.specs.Taking.{IfOpen, IsOpen};
+ghost use Rattle.recursor_core.specs.Resolving.{want_of, state_steps, steps, IsSettled, SameBegun, asked_of, AsksFor, IsAnswered};
+ghost use Rattle.walk_tables.specs.Lookup.{want_of as wanted, LeavesLess};
 ghost use Rattle.walk_tables.specs.Pools.{PoolsHold, StepGoes};
 ghost use Rattle.walk_tables.specs.declared.lookup.Want.TheVariants as want;
-ghost use Rattle.recursor_core.specs.Derived.{WalkHolds, WalkComes, StateHolds, ResolutionHolds, ResolutionTaken};
-ghost use Rattle.recursor_core.specs.Walk.{begin_steps, Goes};
-ghost use Rattle.recursor_core.specs.Resolving.{want_of, waits_for, state_steps, steps, IsSettled, SameBegun, asked_of, AsksFor, IsAnswered};
+ghost use Rattle.recursor_walk.specs.Way.{WalkHolds, WalkComes};
+ghost use Rattle.recursor_core.specs.Derived.{StateHolds, ResolutionHolds};
+ghost use Rattle.recursor_walk.specs.Walk.{begin_steps, Goes};
 
-use crate::counted::{Counted, recalled};
-use crate::kept_answer::kept_answer;
-use crate::walk::{Walk, answer_with};
 use dns_core::{DnsRequest, Ips, NoMemory, Query, Question, TryClone};
 use recursor_types::Reply;
+use recursor_walk::{Counted, Walk, answer_with, kept_answer, recalled};
 use resolver_cache::ResponseCache;
 use resolver_settings::AccessControlSet;
-use server_core::{After, Order, Outcome, Sent, Tick};
+use server_core::Tick;
 use std::alloc::Global;
 use std::mem;
-use walk_tables::{Pools, Want};
+use walk_tables::{Pools, Stepped, Want};
 
 /// Not begun, under way to its servers, answered, or ended.
 #[derive(Drop, Debug)]
@@ -160,11 +159,11 @@ impl Resolution {
     }
 
     /// The number of the order that it waits for.
-    pub fn open_order(&self) -> Option<u64>
-        ensures { result ≡ waits_for self.now }
+    pub fn open_order(&self, pools: &Pools) -> Option<u64>
+        ensures { IfSome result (IsOpen pools.now) }
     {
-        match self.need() {
-            Need::Send(Want::Wait { order }) => Some(order),
+        match &self.state {
+            State::Under(walk) => walk.lookup.open_order(pools),
             _ => None,
         }
     }
@@ -222,17 +221,6 @@ impl Resolution {
         self.settle(came)
     }
 
-    /// Writes what it was just told into the cache, where it is kept.
-    pub fn remember(&self, alloc: Global, cache: &mut ResponseCache) -> Result<(), NoMemory>
-        ensures ok { OnOk result (cache.new ≡ remembered cache.old (telling_in self.now.state)) }
-        ensures err { OnErr result (cache.new ≡ cache.old) }
-    {
-        match &self.state {
-            State::Under(walk) => walk.remember(alloc, cache),
-            _ => Ok(()),
-        }
-    }
-
     /// Hears what came of its order. On want of memory it has ended.
     pub fn hear(&mut self, alloc: Global, filter: &AccessControlSet) -> Result<(), NoMemory>
         requires { want_of self.old ≡ Need.Send want.Hear }
@@ -270,51 +258,27 @@ impl Resolution {
         }
     }
 
-    /// The next step of the present lookup: an order with its number, or none where it has its answer.
+    /// What the present lookup has next: an order with its number, one that it waits for, or its answer.
     pub fn step(
         &mut self,
         alloc: Global,
         pools: &mut Pools,
         since: u64,
         tick: Tick,
-    ) -> Result<Option<(u64, Order)>, NoMemory>
+    ) -> Result<Stepped, NoMemory>
         requires { want_of self.old ≡ Need.Send want.Step }
-        ensures falls { OnOk result (steps self.new < steps self.old) }
-        ensures keeps { OnErr result (steps self.new ≤ steps self.old) }
+        ensures falls { IfOk result (LeavesLess (steps self.old) (steps self.new)) }
+        ensures keeps { steps self.new ≤ steps self.old }
         ensures begun { SameBegun self.old self.new }
         ensures holds { (terms : Terms) (log : Log) → PoolsHold terms since tick.now log pools.old
             → ResolutionHolds terms since tick.now log self.old → ResolutionHolds terms since tick.now log self.new × PoolsHold terms since tick.now log pools.new }
         ensures goes { (terms : Terms) (log : Log) → PoolsHold terms since tick.now log pools.old → IfOk result (StepGoes (given_of terms) log (since + 1)) }
+        ensures waits { IfOk result (IfOpen pools.new) }
     {
         let begun = self.begun;
         match &mut self.state {
             State::Under(walk) => walk.step(alloc, pools, begun, since, tick),
             _ => Err(NoMemory),
-        }
-    }
-
-    /// Takes the outcome of the order that it waits for.
-    pub fn take(
-        &mut self,
-        alloc: Global,
-        pools: &mut Pools,
-        outcome: Outcome,
-        waits: Option<&Sent>,
-        tick: Tick,
-    ) -> Result<After, NoMemory>
-        requires { waits_for self.old ≢ None }
-        ensures keeps { steps self.new ≤ steps self.old }
-        ensures late { result ≡ Ok After.Late → self.new ≡ self.old }
-        ensures begun { SameBegun self.old self.new }
-        ensures holds { (terms : Terms) (greatest moment : ℕ) (log longer : Log) → terms.patience ≤ tick.patience
-            → IsPut greatest moment log tick (option_copied waits.entry) outcome result longer
-            → PoolsHold terms greatest moment log pools.old → ResolutionHolds terms greatest moment log self.old
-            → ResolutionTaken terms (max greatest (last_entry result (option_copied waits.entry) outcome)) tick.now longer self.new pools.new }
-    {
-        let begun = self.begun;
-        match &mut self.state {
-            State::Under(walk) => walk.take(alloc, pools, begun, outcome, waits, tick),
-            _ => unreachable!(),
         }
     }
 

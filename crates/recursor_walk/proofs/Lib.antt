@@ -1,4 +1,7 @@
-pub mod Sections
-pub mod Allowing
-pub mod NotKept
-pub mod Lending
+pub mod Lowered
+pub mod Denials
+pub mod Recalling
+pub mod Candidates
+pub mod Walks
+pub mod Kept
+pub mod Earlier

@@ -1,5 +1,6 @@
-pub mod Answer
-pub mod Kept
-pub mod Lending
-pub mod Response
-pub mod Stage
+pub mod SameTold
+pub mod Causes
+pub mod Replies
+pub mod Counted
+pub mod Walk
+pub mod Way

@@ -1,20 +1,15 @@
-//! What a walk looks for, what a response that was told counts for, the servers that a delegation gives,
-//! and what a question is answered with. All of it is values: who is asked, and what was told, is the
-//! caller's.
+//! The walk of a question: from the roots down the delegations to the servers of its name, one lookup
+//! at a time; what the cache has comes before each, and what counts of the answer is written into it.
+//! Whoever steps a walk lends it the pools, the cache and the outcomes: it knows neither orders that
+//! are under way nor other questions.
 #![tactic(auto)]
 
-mod answer;
-mod class;
-mod glue;
-mod kept;
-mod response;
-mod stage;
-mod verdict;
+mod counted;
+mod short_way;
+mod threads;
+mod walk;
 
-pub use answer::{ends_walk, just, made_negative, outcome_of, reply_by, told_negative};
-pub use class::class_of;
-pub use glue::{addresses, is_delegation};
-pub use kept::{kept_of, response_in, verdict_kept};
-pub use response::verdict_of_class;
-pub use stage::{Stage, query_at, stage_after, walked_name};
-pub use verdict::{answer_within, negative_within};
+pub use counted::{Counted, recalled};
+pub use short_way::kept_answer;
+pub use threads::walks_cross_threads;
+pub use walk::{Walk, answer_with};

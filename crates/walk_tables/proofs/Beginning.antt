@@ -37,7 +37,8 @@ use Rattle.server_pool.specs.declared.open_lookup.OpenLookup.{OpenLookup}
 use Rattle.retry_rules.specs.declared.candidate.Candidate.{Candidate}
 use Rattle.server_pool.specs.ByAddress.Beside.{no_more}
 use Rattle.server_pool.specs.ByAddress.{at_address}
-use Rattle.walk_tables.specs.Terms.{Terms}
+use Rattle.resolution.specs.Walking.{Walked}
+use Rattle.walk_tables.specs.Terms.{Terms, given_of}
 use Rattle.walk_tables.specs.Pools.{config_at, server_at, IsAt, IsMet, ServersHold, SoughtHolds, ArePool}
 use Rattle.walk_tables.specs.declared.pools.Pools.{Pools}
 use Rattle.walk_tables.proofs.Pooling.{config-same}
@@ -142,11 +143,11 @@ first-of (ip ∷ ips) some = ip
 
 -- What a lookup seeks that has just begun.
 pub begun-holds : (terms : Terms) (greatest now : ℕ) (log : Log) (zone : DomainName) (ips : List IpAddr) (numbers : List ℕ) (request : DnsRequest) (old new : Pools) (pool n : ℕ)
-    → IsTrue (is_above zone (walk request.query)) → ArePool terms log (greatest + 1) zone ips → ServersHold terms old → AllZip (IsMet old) ips numbers
+    → IsTrue (is_above zone (walk request.query)) → Walked (given_of terms) log request.query zone → ArePool terms log (greatest + 1) zone ips → ServersHold terms old → AllZip (IsMet old) ips numbers
     → (b : HasBegun pool numbers request now old.shared new.shared n) → (l : OpenLookup) → lookup_at new.shared n ≡ Some l → l.lookup ≡ b.lookup
     → configs new.shared.table ≡ configs old.shared.table
     → SoughtHolds terms greatest now log new n (record { query = request.query; zone = zone; start = now; given = None; first = None; at = now })
-begun-holds terms greatest now log zone ips numbers request old new pool n above servers holds met b l there is same =
+begun-holds terms greatest now log zone ips numbers request old new pool n above walked servers holds met b l there is same =
     let table = old.shared.table in
     let options = old.shared.context.options in
     let ordered = b.begins.ordered in
@@ -172,6 +173,7 @@ begun-holds terms greatest now log zone ips numbers request old new pool n above
       time = ap (λ (x : BegunWith). x.timeout) with_all ∙ holds.timeout;
       past = omega arith;
       above = above;
+      walked = walked;
       ips = ips;
       listed = servers.listed;
       some = servers.some;

@@ -107,6 +107,7 @@ module _ (terms : Terms) (greatest now : ℕ) (log : Log) (old new : Pools) (n :
     time = ap (λ (b : BegunWith). b.timeout) step-runs.same ∙ h.time;
     past = h.past;
     above = h.above;
+    walked = h.walked;
     ips = h.ips;
     listed = h.listed;
     some = h.some;

@@ -1,12 +1,11 @@
 -- Lookups that were answered, and what is left to them.
-use Rattle.std.proofs.Common.{◌≡◌, ℕ, ◌≤◌, Option, Some, None, Ok, Err, refl, arith}
+use Rattle.std.proofs.Common.{◌≡◌, ℕ, ◌≤◌, Ok, Err, refl, arith}
 use Rattle.dns_core.specs.declared.net_error.NetError.{NetError}
 use Rattle.dns_core.specs.declared.net_error.NetError.TheVariants as net
 use Rattle.dns_core.specs.declared.net_error.DnsError.TheVariants as dns
 use Rattle.resolution.specs.Lookups.{Answered}
-use Rattle.server_core.specs.declared.order.After.{After}
 use Rattle.server_core.specs.declared.order.After.TheVariants as after
-use Rattle.walk_tables.specs.Lookup.{want_of, under_want, failed_by, answered_by, ask_steps, noted}
+use Rattle.walk_tables.specs.Lookup.{want_of, failed_by, answered_by, ask_steps}
 use Rattle.walk_tables.specs.declared.lookup.Ask.{Ask}
 use Rattle.walk_tables.specs.declared.lookup.Ask.TheVariants as ask
 use Rattle.walk_tables.specs.declared.lookup.Under.{Under}
@@ -34,11 +33,7 @@ answered-hears entry at (Err error) = (failed-hears entry at error).0
 pub hears-one : (a : Ask) → want_of a ≡ Hear → ask_steps a ≡ 1
 hears-one ask.Fresh is = cc
 hears-one ask.Ready is = cc
-hears-one (ask.Under u) is = under u.order is
-  where
-    under : (o : Option ℕ) → under_want o ≡ Hear → ask_steps (ask.Under u) ≡ 1
-    under None is = cc
-    under (Some order) is = cc
+hears-one (ask.Under u) is = cc
 hears-one (ask.Told entry at class) is = refl
 hears-one (ask.Failed error) is = refl
 hears-one ask.Heard is = cc
@@ -46,10 +41,3 @@ hears-one ask.Heard is = cc
 -- one that is answered has no more before it than one that is under way
 pub heard-less : (a : Ask) (u : Under) → want_of a ≡ Hear → ask_steps a ≤ ask_steps (ask.Under u)
 heard-less a u is = let one = hears-one a is in omega (arith, one)
-
--- taking note of what was done leaves as many orders to give
-pub noted-steps : (did : After) (u : Under) → ask_steps (ask.Under (noted did u)) ≡ ask_steps (ask.Under u)
-noted-steps after.Kept u = refl
-noted-steps after.Ended u = refl
-noted-steps after.GiveUp u = refl
-noted-steps after.Late u = refl

@@ -12,7 +12,7 @@ use Rattle.resolution.specs.Lookups.{Answered, End}
 use Rattle.resolution.specs.Serving.{Serves}
 use Rattle.resolution.specs.Ending.{Listed, EndSends}
 use Rattle.resolution.proofs.Keeping.{Logged-extend, Serves-extend, Serves-later, Heard-extend}
-use Rattle.resolution.proofs.FailuresKept.{waits-extend, EndSends-extend, Listed-extend, Finished-extend}
+use Rattle.resolution.proofs.FailuresKept.{waits-extend, EndSends-extend, Listed-extend, Walked-extend, Finished-extend}
 use Rattle.resolution.proofs.Caseless.{both}
 use Rattle.server_core.specs.Sending.{pendings}
 use Rattle.retry_lookup.specs.Lookup.{LookupState}
@@ -159,6 +159,7 @@ module _ (terms : Terms) (log longer : Log) (x : Extends log longer) where
     time = h.time;
     past = let p = h.past in omega arith;
     above = h.above;
+    walked = Walked-extend (given_of terms) terms.patience (omega arith) log longer x s.query s.zone h.walked;
     ips = h.ips;
     listed = listed-kept s.zone h.ips h.listed;
     some = h.some;

@@ -19,3 +19,6 @@ pub mod Begun
 pub mod Bounding
 pub mod Answering
 pub mod Puts
+pub mod Counting
+pub mod Remembering
+pub mod Taking

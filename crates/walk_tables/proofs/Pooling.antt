@@ -110,6 +110,7 @@ module _ (terms : Terms) (greatest : ℕ) (log : Log) where
     time = h.time;
     past = h.past;
     above = h.above;
+    walked = h.walked;
     ips = h.ips;
     listed = h.listed;
     some = h.some;

@@ -14,7 +14,7 @@ use Rattle.resolver_settings.specs.Access.{denies}
 use Rattle.resolver_settings.specs.NameServer.{NameServer}
 use Rattle.resolution.specs.Ending.{waits}
 use Rattle.resolution.specs.Lookups.{Answered, End, class_of_answer}
-use Rattle.resolution.proofs.FailuresKept.{waits-extend}
+use Rattle.resolution.proofs.FailuresKept.{waits-extend, Walked-extend}
 use Rattle.server_core.specs.Order.{entry_of}
 use Rattle.server_core.specs.Sending.{pendings, after_put}
 use Rattle.server_core.specs.declared.order.After.{After}
@@ -40,7 +40,7 @@ use Rattle.server_pool.proofs.Beside.{beside_push}
 use Rattle.server_pool.proofs.ByAddress.{address_from_pool}
 use Rattle.order_carrier.specs.Fits.{OutcomeIs}
 use Rattle.walk_tables.specs.Order.{TellsOutcome, WaitsBy, LogGoesOn, last_entry}
-use Rattle.walk_tables.specs.Terms.{Terms}
+use Rattle.walk_tables.specs.Terms.{Terms, given_of}
 use Rattle.walk_tables.specs.Tried.{Tried, Began, BeganBy}
 use Rattle.walk_tables.specs.Pools.{AreNumbered, PoolsHold, sought_at, server_at, IsAt, IsWaitedFor, IsSentTo, GivenHolds, SoughtHolds, MayTake, either, sent_to, polled_by, given_after}
 use Rattle.walk_tables.specs.declared.pools.Aim.{Aim}
@@ -118,6 +118,7 @@ module _ (terms : Terms) (greatest moment last : ℕ) (log told longer : Log) (x
         time = ap (λ (b : BegunWith). b.timeout) come-same ∙ h.time;
         past = omega (arith, past, later);
         above = h.above;
+        walked = Walked-extend (given_of terms) terms.patience (omega arith) log longer whole s.query s.zone h.walked;
         ips = h.ips;
         listed = listed-kept terms log longer whole s.zone h.ips h.listed;
         some = h.some;

@@ -4,3 +4,5 @@ pub mod Order
 pub mod Tried
 pub mod Pools
 pub mod Lookup
+pub mod Remembered
+pub mod Taking

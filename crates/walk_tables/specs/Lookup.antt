@@ -1,5 +1,5 @@
 -- Where a lookup stands, how much of it is left, and what it came to.
-use Rattle.std.specs.Prelude.{◌≡◌, ℕ, ◌+◌, ◌^◌, ◌≤◌, Bool, true, false, IsTrue, if◌then◌else◌, List, [], Option, Some, None, Result, Ok, Err}
+use Rattle.std.specs.Prelude.{◌≡◌, ℕ, ◌+◌, ◌^◌, ◌≤◌, ◌<◌, Bool, true, false, IsTrue, if◌then◌else◌, List, [], Option, Some, None, Result, Ok, Err}
 use Rattle.std.specs.List.{last_or}
 use Rattle.std.specs.declared.net.ip_addr.IpAddr.{IpAddr}
 use Rattle.dns_core.specs.Name.{DomainName}
@@ -20,31 +20,24 @@ use Rattle.dns_core.specs.declared.net_error.NetError.{NetError}
 use Rattle.dns_core.specs.declared.net_error.NetError.TheVariants as net
 use Rattle.dns_core.specs.declared.net_error.DnsError.TheVariants as dns
 use Rattle.resolution.specs.Lookups.{Answered}
-use Rattle.server_core.specs.declared.order.After.{After}
-use Rattle.server_core.specs.declared.order.After.TheVariants as after
 use Rattle.walk_tables.specs.Asked.{AskedAs}
 use Rattle.walk_tables.specs.Terms.{Terms, given_of}
 use Rattle.walk_tables.specs.Tried.{Concluded}
-use Rattle.walk_tables.specs.Pools.{PoolsHold}
 use Rattle.walk_tables.specs.declared.pools.Answer.{Answer}
-use Rattle.walk_tables.specs.declared.pools.Pools.{Pools}
+use Rattle.walk_tables.specs.declared.pools.Stepped.{Stepped}
+use Rattle.walk_tables.specs.declared.pools.Stepped.TheVariants as stepped
 use Rattle.walk_tables.specs.declared.lookup.Ask.{Ask}
 use Rattle.walk_tables.specs.declared.lookup.Ask.TheVariants as ask
-use Rattle.walk_tables.specs.declared.lookup.Under.{Under}
 use Rattle.walk_tables.specs.declared.lookup.Want.{Want}
-use Rattle.walk_tables.specs.declared.lookup.Want.TheVariants.{Recall, Begin, Step, Wait, Hear}
+use Rattle.walk_tables.specs.declared.lookup.Want.TheVariants.{Recall, Begin, Step, Hear}
 use Rattle.walk_tables.specs.declared.lookup.Lookup.{Lookup}
 use Rattle.walk_tables.specs.declared.lookup.Found.{Found}
 use Rattle.walk_tables.specs.declared.lookup.Found.TheVariants as found
 
-abbrev pub under_want : Option ℕ → Want
-under_want None = Step
-under_want (Some order) = Wait order
-
 abbrev pub want_of : Ask → Want
 want_of ask.Fresh = Recall
 want_of ask.Ready = Begin
-want_of (ask.Under under) = under_want under.order
+want_of (ask.Under under) = Step
 want_of (ask.Told entry at class) = Hear
 want_of (ask.Failed error) = Hear
 want_of ask.Heard = Step
@@ -75,25 +68,17 @@ ask_steps ask.Heard = 0
 abbrev pub steps : Lookup → ℕ
 steps l = ask_steps l.ask
 
--- an order of it is open
-abbrev pub IsOpen : Option ℕ → Type 0
-IsOpen None = ⊥
-IsOpen (Some order) = Unit {0}
+-- An order that is given leaves fewer to give.
+abbrev pub GivesLess : ℕ → ℕ → Stepped → Type 0
+GivesLess old new (stepped.Order number order) = new < old
+GivesLess old new (stepped.Waiting number) = new ≤ old
+GivesLess old new stepped.Done = new ≤ old
 
-abbrev pub IsWaiting : Ask → Type 0
-IsWaiting ask.Fresh = ⊥
-IsWaiting ask.Ready = ⊥
-IsWaiting (ask.Under under) = IsOpen under.order
-IsWaiting (ask.Told entry at class) = ⊥
-IsWaiting (ask.Failed error) = ⊥
-IsWaiting ask.Heard = ⊥
-
--- no order of it is open once it has ended
-abbrev pub noted : After → Under → Under
-noted after.Kept u = u
-noted after.Ended u = record u { order = None }
-noted after.GiveUp u = record u { order = None }
-noted after.Late u = u
+-- A step leaves less to do than before, but where it waits.
+abbrev pub LeavesLess : ℕ → ℕ → Stepped → Type 0
+LeavesLess old new (stepped.Order number order) = new < old
+LeavesLess old new (stepped.Waiting number) = new ≤ old
+LeavesLess old new stepped.Done = new < old
 
 -- ---- what it came to
 
@@ -155,10 +140,6 @@ AnswerHolds terms greatest moment t0 log zone q a = AskHolds terms greatest mome
 pub record LookupHolds (terms : Terms) (greatest moment t0 : ℕ) (log : Log) (zone : DomainName) (l : Lookup) : Type 0 where
   pub above : IsTrue (is_above zone (walk l.query))
   pub ask : AskHolds terms greatest moment t0 log zone l.query l.ends l.ask
-
--- So it is with it and with the pools, after an outcome.
-abbrev pub TakenHolds : Terms → ℕ → ℕ → ℕ → Log → DomainName → Lookup → Pools → Type 0
-TakenHolds terms greatest moment t0 log zone l pools = LookupHolds terms greatest moment t0 log zone l × PoolsHold terms greatest moment log pools
 
 -- A response was told by a server of the zone; or the lookup failed by these entries.
 abbrev pub FoundHolds : Terms → ℕ → ℕ → ℕ → Log → DomainName → Query → List ℕ → Found → Type 0

@@ -18,6 +18,7 @@ use Rattle.resolution.specs.Serving.{Serves}
 use Rattle.resolution.specs.Lookups.{Answered, End, class_of_answer}
 use Rattle.resolution.specs.Ending.{Listed, waits}
 use Rattle.resolution.specs.Given.{Given as Resolver}
+use Rattle.resolution.specs.Walking.{Walked}
 use Rattle.server_core.specs.Sending.{pendings}
 use Rattle.server_core.specs.Servers.{Server, server_of}
 use Rattle.server_core.specs.Order.{entry_of}
@@ -45,6 +46,8 @@ use Rattle.walk_tables.specs.declared.pools.Aim.{Aim}
 use Rattle.walk_tables.specs.declared.pools.Aim.TheVariants as aim
 use Rattle.walk_tables.specs.declared.pools.Given.{Given}
 use Rattle.walk_tables.specs.declared.pools.Sought.{Sought}
+use Rattle.walk_tables.specs.declared.pools.Stepped.{Stepped}
+use Rattle.walk_tables.specs.declared.pools.Stepped.TheVariants as stepped
 use Rattle.walk_tables.specs.declared.pools.Pools.{Pools}
 
 -- ---- servers
@@ -123,7 +126,7 @@ GivenHolds terms greatest log pools n zone pool l g (aim.Open ip) = IsSentTo ter
 GivenHolds terms greatest log pools n zone pool l g (aim.Ask ip) = IsSentTo terms greatest log pools n zone pool l g true ip
 GivenHolds terms greatest log pools n zone pool l g aim.Sleep = (lookup_of pools.shared g.number ≡ Some n) × IsBackingOffUnder g.number l
 
--- The lookup of the number asks what is sought, at all servers of its zone, by what was told; its sends ended as the log shows.
+-- The lookup of the number asks what is sought, at all servers of its zone, to which a walk went down, by what was told; its sends ended as the log shows.
 pub record SoughtHolds (terms : Terms) (greatest moment : ℕ) (log : Log) (pools : Pools) (n : ℕ) (s : Sought) : Type 0 where
   pub shared_by : OpenLookup
   pub there : lookup_at pools.shared n ≡ Some shared_by
@@ -132,6 +135,7 @@ pub record SoughtHolds (terms : Terms) (greatest moment : ℕ) (log : Log) (pool
   pub time : shared_by.lookup.timeout ≡ 5000000
   pub past : s.start ≤ moment
   pub above : IsTrue (is_above s.zone (walk s.query))
+  pub walked : Walked (given_of terms) log s.query s.zone
   pub ips : List IpAddr
   pub listed : Listed (given_of terms) log s.zone ips
   pub some : 0 < length ips
@@ -296,9 +300,10 @@ polled_by (Failed entry sent refused error) = None
 polled_by Slept = None
 
 -- an order goes to a server by what was told below n
-abbrev pub StepGoes : Resolver → Log → ℕ → Option (ℕ × Order) → Type 0
-StepGoes given log n None = Unit {0}
-StepGoes given log n (Some step) = GoesToServer given log n step.1
+abbrev pub StepGoes : Resolver → Log → ℕ → Stepped → Type 0
+StepGoes given log n (stepped.Order number order) = GoesToServer given log n order
+StepGoes given log n (stepped.Waiting number) = Unit {0}
+StepGoes given log n stepped.Done = Unit {0}
 
 -- The outcome is one of the open order of the lookup.
 pub record IsGivenFor (pools : Pools) (n : ℕ) (waits : Option Sent) (o : Outcome) (g : Given) : Type 0 where

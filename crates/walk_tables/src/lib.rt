@@ -2,10 +2,11 @@
 //! lookups that are under way at these.
 #![tactic(auto)]
 
+mod keeping;
 mod lookup;
 mod pools;
 mod threads;
 
 pub use lookup::{Ask, Found, Lookup, Under, Want};
-pub use pools::{Answer, Pools};
+pub use pools::{Answer, Pools, Stepped};
 pub use threads::tables_cross_threads;

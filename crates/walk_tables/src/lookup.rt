@@ -3,26 +3,26 @@ ghost use Rattle.std.specs.Prelude.{◌≡◌, ◌≤◌, ◌<◌, ◌+◌, ◌^
 ghost use Rattle.dns_core.specs.Name.{DomainName};
 ghost use Rattle.dns_core.specs.Log.{Log};
 ghost use Rattle.resolution.specs.Names.{is_above, walk};
-ghost use Rattle.walk_tables.specs.Order.{last_entry, IsPut};
+ghost use Rattle.resolution.specs.Walking.{Walked};
+ghost use Rattle.walk_tables.specs.Taking.{IfOpen, IsOpen};
 ghost use Rattle.walk_tables.specs.Terms.{Terms, given_of};
 ghost use Rattle.walk_tables.specs.Pools.{PoolsHold, StepGoes, ArePool};
-ghost use Rattle.walk_tables.specs.Lookup.{want_of, answered_by, failed_by, last_of, ask_steps, steps, IsWaiting, noted, LookupHolds, TakenHolds, FoundHolds};
+ghost use Rattle.walk_tables.specs.Lookup.{want_of, answered_by, failed_by, last_of, ask_steps, steps, GivesLess, LeavesLess, LookupHolds, FoundHolds};
 ghost use Rattle.walk_tables.specs.declared.lookup.Ask.TheVariants as ask;
 
-use crate::pools::{Answer, Pools};
+use crate::pools::{Answer, Pools, Stepped};
 use dns_core::{DnsError, DnsRequest, Message, Name, NetError, NoMemory, Numbers, Query};
-use server_core::{After, Order, Outcome, Sent, Tick};
+use server_core::Tick;
 use server_pool::PoolLookup;
 use std::alloc::Global;
 use std::mem;
 use std::net::IpAddr;
 
-/// A lookup that is under way at a pool: the number of its open order, and how many it may still give,
-/// which are more than any lookup gives.
+/// A lookup that is under way at a pool, and how many orders it may still give, which are more than any
+/// lookup gives.
 #[derive(Drop, Debug)]
 pub struct Under {
     pub lookup: PoolLookup,
-    pub order: Option<u64>,
     pub left: u64,
 }
 
@@ -42,14 +42,13 @@ pub enum Ask {
     Heard,
 }
 
-/// What a lookup wants next: what the cache has, to begin at its servers, its next step there, an
-/// outcome to be waited for, or one that came to be heard.
+/// What a lookup wants next: what the cache has, to begin at its servers, its next step there, or that
+/// what it came to is heard.
 #[derive(Clone, Copy, Debug)]
 pub enum Want {
     Recall,
     Begin,
     Step,
-    Wait { order: u64 },
     Hear,
 }
 
@@ -79,7 +78,7 @@ fn most_orders(servers: usize) -> u64 {
 }
 
 /// The last of these numbers, 0 where there is none.
-fn last_of(numbers: &[u64]) -> u64
+pub(crate) fn last_of(numbers: &[u64]) -> u64
     ensures { result ≡ last_of numbers.now }
 {
     match numbers.last() {
@@ -103,7 +102,7 @@ fn failed_by(entry: u64, at: u64, error: NetError) -> Ask
 }
 
 /// Where a lookup stands that was answered so.
-fn answered_by(entry: u64, at: u64, told: Result<Message, NetError>) -> Ask
+pub(crate) fn answered_by(entry: u64, at: u64, told: Result<Message, NetError>) -> Ask
     ensures { result ≡ answered_by entry at told }
 {
     match told {
@@ -117,60 +116,28 @@ fn answered_by(entry: u64, at: u64, told: Result<Message, NetError>) -> Ask
 }
 
 impl Under {
-    /// Takes note of what an outcome did to its open order.
-    fn note(&mut self, after: After)
-        ensures { self.new ≡ noted after self.old }
-    {
-        match after {
-            After::Ended | After::GiveUp => self.order = None,
-            After::Kept | After::Late => {}
-        }
-    }
-
-    /// Takes the outcome of its open order, and takes note of what that did.
-    fn put(
-        &mut self,
-        alloc: Global,
-        pools: &mut Pools,
-        outcome: Outcome,
-        waits: Option<&Sent>,
-        tick: Tick,
-    ) -> Result<After, NoMemory>
-        ensures noted { IfOk result (λ did. self.new ≡ noted did self.old) }
-        ensures err { OnErr result (self.new ≡ self.old) }
-        ensures holds { (terms : Terms) (greatest moment : ℕ) (log longer : Log) → terms.patience ≤ tick.patience
-            → IsPut greatest moment log tick (option_copied waits.entry) outcome result longer
-            → PoolsHold terms greatest moment log pools.old
-            → PoolsHold terms (max greatest (last_entry result (option_copied waits.entry) outcome)) tick.now longer pools.new }
-    {
-        let did = pools.put(alloc, &self.lookup, outcome, waits, tick)?;
-        self.note(did);
-        Ok(did)
-    }
-
-    /// Its next order, with its number; none where the lookup has its answer.
+    /// What it has next at its pool: an order, one that it waits for, or its answer.
     fn next(
         &mut self,
         alloc: Global,
         pools: &mut Pools,
         since: u64,
         tick: Tick,
-    ) -> Result<Option<(u64, Order)>, NoMemory>
-        requires { self.old.order ≡ None }
-        ensures falls { IfOk result (λ given. IfSome given (λ g. ask_steps (ask.Under self.new) < ask_steps (ask.Under self.old))) }
+    ) -> Result<Stepped, NoMemory>
+        ensures falls { IfOk result (GivesLess (ask_steps (ask.Under self.old)) (ask_steps (ask.Under self.new))) }
         ensures keeps { ask_steps (ask.Under self.new) ≤ ask_steps (ask.Under self.old) }
         ensures holds { (terms : Terms) (log : Log) → PoolsHold terms since tick.now log pools.old → PoolsHold terms since tick.now log pools.new }
         ensures goes { (terms : Terms) (log : Log) → PoolsHold terms since tick.now log pools.old → IfOk result (StepGoes (given_of terms) log (since + 1)) }
+        ensures waits { IfOk result (IfOpen pools.new) }
     {
         if self.left == 0 {
             return Err(NoMemory);
         }
-        let given = pools.next(alloc, &mut self.lookup, since, tick)?;
-        if let Some((number, _)) = &given {
+        let stepped = pools.next(alloc, &mut self.lookup, since, tick)?;
+        if let Stepped::Order { .. } = &stepped {
             self.left -= 1;
-            self.order = Some(*number);
         }
-        Ok(given)
+        Ok(stepped)
     }
 }
 
@@ -195,10 +162,7 @@ impl Lookup {
         match &self.ask {
             Ask::Fresh => Want::Recall,
             Ask::Ready => Want::Begin,
-            Ask::Under(under) => match under.order {
-                Some(order) => Want::Wait { order },
-                None => Want::Step,
-            },
+            Ask::Under(_) => Want::Step,
             Ask::Told { .. } | Ask::Failed(_) => Want::Hear,
             Ask::Heard => Want::Step,
         }
@@ -231,14 +195,13 @@ impl Lookup {
         ensures err { OnErr result (self.new ≡ self.old) }
         ensures holds { (terms : Terms) (greatest moment t0 : ℕ) (log : Log)
             → LookupHolds terms greatest moment t0 log zone.now self.old → LookupHolds terms greatest moment t0 log zone.now self.new }
-        ensures pools { (terms : Terms) (greatest : ℕ) (log : Log) → IsTrue (is_above zone.now (walk self.old.query)) → ArePool terms log (greatest + 1) zone.now ips.now
-            → PoolsHold terms greatest tick.now log pools.old → PoolsHold terms greatest tick.now log pools.new }
+        ensures pools { (terms : Terms) (greatest : ℕ) (log : Log) → IsTrue (is_above zone.now (walk self.old.query)) → Walked (given_of terms) log self.old.query zone.now
+            → ArePool terms log (greatest + 1) zone.now ips.now → PoolsHold terms greatest tick.now log pools.old → PoolsHold terms greatest tick.now log pools.new }
         ensures query { self.new.query ≡ self.old.query }
     {
         let lookup = pools.begin(alloc, zone, ips, request, tick)?;
         self.ask = Ask::Under(Under {
             lookup,
-            order: None,
             left: most_orders(ips.len()),
         });
         Ok(())
@@ -252,7 +215,7 @@ impl Lookup {
         zone: &Name,
         begun: u64,
     ) -> Result<bool, NoMemory>
-        ensures falls { IfOk result (λ settled. MatchBool settled (want_of self.new.ask ≡ Want.Hear) (self.new ≡ self.old)) }
+        ensures falls { IfOk result (λ settled. MatchBool settled (steps self.new < steps self.old) ((self.new ≡ self.old) × (pools.new ≡ pools.old))) }
         ensures err { OnErr result (self.new ≡ self.old) }
         ensures holds { (terms : Terms) (greatest moment : ℕ) (log : Log) → PoolsHold terms greatest moment log pools.old
             → LookupHolds terms greatest moment begun log zone.now self.old → LookupHolds terms greatest moment begun log zone.now self.new × PoolsHold terms greatest moment log pools.new }
@@ -272,6 +235,16 @@ impl Lookup {
         Ok(true)
     }
 
+    /// The number of the order that it waits for, which is open, if there is one.
+    pub fn open_order(&self, pools: &Pools) -> Option<u64>
+        ensures { IfSome result (IsOpen pools.now) }
+    {
+        match &self.ask {
+            Ask::Under(under) => pools.awaited(under.lookup.number()),
+            _ => None,
+        }
+    }
+
     /// Ends the interest in the lookup at its pool, if there is one.
     pub fn leave(&mut self, pools: &mut Pools)
         ensures pools { (terms : Terms) (greatest moment : ℕ) (log : Log) → PoolsHold terms greatest moment log pools.old → PoolsHold terms greatest moment log pools.new }
@@ -283,8 +256,8 @@ impl Lookup {
         }
     }
 
-    /// The next step at the pool: an order with its number, which no entry was put after, or none where
-    /// the lookup has its answer.
+    /// What it has next at its pool: an order with its number, which no entry was put after, one that it
+    /// waits for, or its answer, which it has taken then.
     pub fn step(
         &mut self,
         alloc: Global,
@@ -293,59 +266,47 @@ impl Lookup {
         begun: u64,
         since: u64,
         tick: Tick,
-    ) -> Result<Option<(u64, Order)>, NoMemory>
+    ) -> Result<Stepped, NoMemory>
         requires { want_of self.old.ask ≡ Want.Step }
-        ensures falls { OnOk result (steps self.new < steps self.old) }
-        ensures keeps { OnErr result (steps self.new ≤ steps self.old) }
+        ensures falls { IfOk result (LeavesLess (steps self.old) (steps self.new)) }
+        ensures keeps { steps self.new ≤ steps self.old }
         ensures holds { (terms : Terms) (log : Log) → PoolsHold terms since tick.now log pools.old
             → LookupHolds terms since tick.now begun log zone.now self.old → LookupHolds terms since tick.now begun log zone.now self.new × PoolsHold terms since tick.now log pools.new }
         ensures goes { (terms : Terms) (log : Log) → PoolsHold terms since tick.now log pools.old → IfOk result (StepGoes (given_of terms) log (since + 1)) }
+        ensures waits { IfOk result (IfOpen pools.new) }
         ensures query { self.new.query ≡ self.old.query }
     {
+        if self.settle(alloc, pools, zone, begun)? {
+            return Ok(Stepped::Done);
+        }
         let Ask::Under(under) = &mut self.ask else {
             return Err(NoMemory);
         };
-        if let Some(given) = under.next(alloc, pools, since, tick)? {
-            return Ok(Some(given));
-        }
-        if self.settle(alloc, pools, zone, begun)? {
-            Ok(None)
-        } else {
-            Err(NoMemory)
+        match under.next(alloc, pools, since, tick)? {
+            Stepped::Order { number, order } => Ok(Stepped::Order { number, order }),
+            Stepped::Waiting { number } => Ok(Stepped::Waiting { number }),
+            Stepped::Done => self.finish(alloc, pools, zone, begun),
         }
     }
 
-    /// Takes the outcome of the order that it waits for. Where that decides the lookup, it has its
-    /// answer from then on. One that is not of this order is late, and changes nothing.
-    pub fn take(
+    /// Takes the answer that its pool has come to.
+    fn finish(
         &mut self,
         alloc: Global,
         pools: &mut Pools,
         zone: &Name,
         begun: u64,
-        outcome: Outcome,
-        waits: Option<&Sent>,
-        tick: Tick,
-    ) -> Result<After, NoMemory>
-        requires { IsWaiting self.old.ask }
-        ensures keeps { steps self.new ≤ steps self.old }
-        ensures late { result ≡ Ok After.Late → self.new ≡ self.old }
-        ensures holds { (terms : Terms) (greatest moment : ℕ) (log longer : Log) → terms.patience ≤ tick.patience
-            → IsPut greatest moment log tick (option_copied waits.entry) outcome result longer
-            → PoolsHold terms greatest moment log pools.old → LookupHolds terms greatest moment begun log zone.now self.old
-            → TakenHolds terms (max greatest (last_entry result (option_copied waits.entry) outcome)) tick.now begun longer zone.now self.new pools.new }
+    ) -> Result<Stepped, NoMemory>
+        ensures falls { IfOk result (λ stepped. (stepped ≡ Stepped.Done) × (steps self.new < steps self.old)) }
+        ensures err { OnErr result (self.new ≡ self.old) }
+        ensures holds { (terms : Terms) (greatest moment : ℕ) (log : Log) → PoolsHold terms greatest moment log pools.old
+            → LookupHolds terms greatest moment begun log zone.now self.old → LookupHolds terms greatest moment begun log zone.now self.new × PoolsHold terms greatest moment log pools.new }
         ensures query { self.new.query ≡ self.old.query }
     {
-        let Ask::Under(under) = &mut self.ask else {
-            return Ok(After::Late);
-        };
-        let did = under.put(alloc, pools, outcome, waits, tick)?;
-        match did {
-            After::Ended | After::GiveUp => {
-                let _settled = self.settle(alloc, pools, zone, begun)?;
-                Ok(did)
-            }
-            After::Kept | After::Late => Ok(did),
+        if self.settle(alloc, pools, zone, begun)? {
+            Ok(Stepped::Done)
+        } else {
+            Err(NoMemory)
         }
     }
 

@@ -16,13 +16,20 @@ ghost use Rattle.recursor_setting.specs.Setting.{context_of};
 ghost use Rattle.recursor_setting.specs.Delays.{turn_at, delay_at};
 ghost use Rattle.walk_tables.specs.Pools.{number_of, config_at, first_delay_at, server_at, sought_at, ServersHold, SoughtHolds, PoolsHold, IsSentOver, IsFirst, IsOf, IsStill, MayTake, MayTakeBy, is_denial, IsMet, IsGrown, HasForgotten, HasNoted, HasKept, HasLeft, noted, aim_of, sent_to, first_of, polled_by, StepGoes, IsGivenFor, NotesOutcome, Seeks, ArePool};
 ghost use Rattle.walk_tables.specs.Lookup.{AnswerHolds};
+ghost use Rattle.walk_tables.specs.Remembered.{remembered};
+ghost use Rattle.walk_tables.specs.Taking.{telling_at, Took, Takes, TablesHold, IfAwaited};
 ghost use Rattle.resolution.specs.Names.{is_above, walk};
+ghost use Rattle.resolution.specs.Walking.{Walked};
+ghost use Rattle.server_pool.specs.Orders.{open_at};
 
+use crate::keeping::write;
+use crate::lookup::{Ask, answered_by, last_of};
 use dns_core::{
     Delays, DnsError, DnsRequest, Message, Name, NetError, NoMemory, Numbers, Query, TryClone,
 };
 use recursor_setting::{FirstDelay, first_delay, pool_context};
 use recursor_types::RecursorOptions;
+use resolver_cache::ResponseCache;
 use resolver_settings::NameServerConfig;
 use server_core::{After, NameServer, Order, Outcome, Sent, Tick};
 use server_pool::{NameServerPool, PoolLookup, PoolShared, PoolStep};
@@ -68,6 +75,14 @@ pub struct Answer {
     pub told: Result<Message, NetError>,
     pub ends: Numbers,
     pub at: u64,
+}
+
+/// What a lookup has next: an order with its number, one that it waits for, or its answer.
+#[derive(Drop, Debug)]
+pub enum Stepped {
+    Order { number: u64, order: Order },
+    Waiting { number: u64 },
+    Done,
 }
 
 /// What the pools share, the number of each server under its address, and what is sought by each lookup
@@ -381,8 +396,8 @@ impl Pools {
         request: DnsRequest,
         tick: Tick,
     ) -> Result<PoolLookup, NoMemory>
-        ensures holds { (terms : Terms) (greatest : ℕ) (log : Log) → IsTrue (is_above zone.now (walk request.query)) → ArePool terms log (greatest + 1) zone.now ips.now
-            → PoolsHold terms greatest tick.now log self.old → PoolsHold terms greatest tick.now log self.new }
+        ensures holds { (terms : Terms) (greatest : ℕ) (log : Log) → IsTrue (is_above zone.now (walk request.query)) → Walked (given_of terms) log request.query zone.now
+            → ArePool terms log (greatest + 1) zone.now ips.now → PoolsHold terms greatest tick.now log self.old → PoolsHold terms greatest tick.now log self.new }
     {
         let sought = Sought {
             query: request.query.try_clone(alloc)?,
@@ -420,17 +435,49 @@ impl Pools {
         }
     }
 
-    /// The next order of a lookup, which no entry was put after; none where the lookup has its answer.
-    /// Where memory is wanting, it is no longer under way.
+    /// The order that a lookup waits for, where one is open at it.
+    pub fn awaited(&self, lookup: u64) -> Option<u64>
+        ensures { IfSome result (λ number. open_at number self.now.shared ≡ Some lookup) }
+    {
+        let sought = self.sought.get(&lookup)?;
+        let given = sought.given?;
+        if self.shared.open_at(given.number) == Some(lookup) {
+            Some(given.number)
+        } else {
+            None
+        }
+    }
+
+    /// What a lookup has next: the order that it waits for, a new one, which no entry was put after, or
+    /// its answer. Where memory is wanting, it is no longer under way.
     pub fn next(
         &mut self,
         alloc: Global,
         lookup: &mut PoolLookup,
         since: u64,
         tick: Tick,
-    ) -> Result<Option<(u64, Order)>, NoMemory>
+    ) -> Result<Stepped, NoMemory>
         ensures holds { (terms : Terms) (log : Log) → PoolsHold terms since tick.now log self.old → PoolsHold terms since tick.now log self.new }
         ensures goes { (terms : Terms) (log : Log) → PoolsHold terms since tick.now log self.old → IfOk result (StepGoes (given_of terms) log (since + 1)) }
+        ensures waits { IfOk result (IfAwaited self.new lookup.old.number) }
+    {
+        match self.awaited(lookup.number()) {
+            Some(number) => Ok(Stepped::Waiting { number }),
+            None => self.step(alloc, lookup, since, tick),
+        }
+    }
+
+    /// The next step of a lookup that waits for no order.
+    fn step(
+        &mut self,
+        alloc: Global,
+        lookup: &mut PoolLookup,
+        since: u64,
+        tick: Tick,
+    ) -> Result<Stepped, NoMemory>
+        ensures holds { (terms : Terms) (log : Log) → PoolsHold terms since tick.now log self.old → PoolsHold terms since tick.now log self.new }
+        ensures goes { (terms : Terms) (log : Log) → PoolsHold terms since tick.now log self.old → IfOk result (StepGoes (given_of terms) log (since + 1)) }
+        ensures waits { IfOk result (IfAwaited self.new lookup.old.number) }
     {
         let n = lookup.number();
         if !self.sought.contains_key(&n) {
@@ -446,11 +493,11 @@ impl Pools {
                     polled: None,
                 };
                 self.note(n, Some(given), None, None);
-                Ok(Some((number, order)))
+                Ok(Stepped::Order { number, order })
             }
             Ok(PoolStep::Done(_)) => {
                 self.note(n, None, None, None);
-                Ok(None)
+                Ok(Stepped::Done)
             }
             Ok(PoolStep::Waiting) | Err(_) => {
                 self.forget(n);
@@ -459,19 +506,20 @@ impl Pools {
         }
     }
 
-    /// The open order of a lookup, where this is an outcome of it.
+    /// What is known of the open order of a number at a lookup, where this is an outcome of it.
     fn given_for(
         &self,
-        lookup: &PoolLookup,
+        lookup: u64,
+        number: u64,
         outcome: &Outcome,
         waits: Option<&Sent>,
     ) -> Option<Given>
-        ensures { IfSome result (IsGivenFor self.now lookup.now.number (option_copied waits.entry) outcome.now) }
+        ensures { IfSome result (λ g. (g.number ≡ number) × IsGivenFor self.now lookup (option_copied waits.entry) outcome.now g) }
     {
-        let ended = !lookup.ends(&self.shared).is_empty();
-        let sought = self.sought.get(&lookup.number())?;
+        let ended = !self.shared.ends(lookup).is_empty();
+        let sought = self.sought.get(&lookup)?;
         let given = sought.given?;
-        if sought.may_take(ended, &given, outcome, waits) {
+        if given.number == number && sought.may_take(ended, &given, outcome, waits) {
             Some(given)
         } else {
             None
@@ -481,59 +529,116 @@ impl Pools {
     /// Keeps what an outcome did to a lookup that had so many ends before.
     fn note_outcome(
         &mut self,
-        lookup: &PoolLookup,
+        lookup: u64,
         given: Given,
         first: Option<IpAddr>,
         before: usize,
         after: After,
         now: u64,
     )
-        ensures { NotesOutcome lookup.now.number given first before after now self.old self.new }
+        ensures { NotesOutcome lookup given first before after now self.old self.new }
     {
-        let ended = before < lookup.ends(&self.shared).len();
+        let ended = before < self.shared.ends(lookup).len();
         let given = match after {
             After::Kept => Some(given),
             After::GiveUp | After::Ended | After::Late => None,
         };
         let at = if ended { Some(now) } else { None };
-        self.note(lookup.number(), given, first, at);
+        self.note(lookup, given, first, at);
     }
 
-    /// Takes the outcome of the open order of a lookup. A poll that found nothing waits for what was
-    /// sent for the order, which is handed in with it. An outcome that is not of this order is late, and
-    /// changes nothing. Where memory is wanting, the lookup is no longer under way.
-    pub fn put(
+    /// Takes the outcome of an order that is open at a lookup, of which this is known.
+    fn take(
         &mut self,
         alloc: Global,
-        lookup: &PoolLookup,
+        lookup: u64,
+        given: Given,
         outcome: Outcome,
         waits: Option<&Sent>,
         tick: Tick,
     ) -> Result<After, NoMemory>
+        requires open { open_at given.number self.old.shared ≡ Some lookup }
+        requires given { IsGivenFor self.old lookup (option_copied waits) outcome given }
+        ensures took { IfOk result (Took self.old self.new lookup given.number outcome tick) }
         ensures holds { (terms : Terms) (greatest moment : ℕ) (log longer : Log) → terms.patience ≤ tick.patience
             → IsPut greatest moment log tick (option_copied waits.entry) outcome result longer
             → PoolsHold terms greatest moment log self.old
             → PoolsHold terms (max greatest (last_entry result (option_copied waits.entry) outcome)) tick.now longer self.new }
     {
-        let Some(given) = self.given_for(lookup, &outcome, waits) else {
-            return Ok(After::Late);
-        };
         let first = first_of(&given, &outcome, waits);
         let given = Given {
             polled: polled_by(&outcome),
             ..given
         };
-        let before = lookup.ends(&self.shared).len();
+        let before = self.shared.ends(lookup).len();
         match self.shared.put(alloc, given.number, outcome, tick) {
             Ok(after) => {
                 self.note_outcome(lookup, given, first, before, after, tick.now);
                 Ok(after)
             }
             Err(_) => {
-                self.forget(lookup.number());
+                self.forget(lookup);
                 Err(NoMemory)
             }
         }
+    }
+
+    /// Writes what a lookup came to into the cache, where it came to a response that is kept.
+    fn remember(
+        &self,
+        alloc: Global,
+        cache: &mut ResponseCache,
+        lookup: u64,
+    ) -> Result<(), NoMemory>
+        ensures ok { OnOk result (cache.new ≡ remembered cache.old (telling_at self.now lookup)) }
+        ensures err { OnErr result (cache.new ≡ cache.old) }
+    {
+        let Some(sought) = self.sought.get(&lookup) else {
+            return Ok(());
+        };
+        let Some(told) = self.shared.answer(alloc, lookup)? else {
+            return Ok(());
+        };
+        let entry = last_of(self.shared.ends(lookup));
+        match answered_by(entry, sought.at, told) {
+            Ask::Told { entry, at, class } => {
+                write(alloc, cache, &sought.query, &sought.zone, entry, at, class)
+            }
+            _ => Ok(()),
+        }
+    }
+
+    /// Takes the outcome of the order of a number. With a poll that found nothing is handed in what it
+    /// waits for. An outcome is late, and changes nothing, where the order is open at no lookup, or the
+    /// outcome is none of this order. What a lookup comes to by it is written into the cache, where it is
+    /// kept; on want of memory for this the outcome is taken all the same. Where memory is wanting for
+    /// the outcome itself, the lookup is no longer under way.
+    pub fn put(
+        &mut self,
+        alloc: Global,
+        cache: &mut ResponseCache,
+        number: u64,
+        outcome: Outcome,
+        waits: Option<&Sent>,
+        tick: Tick,
+    ) -> Result<After, NoMemory>
+        ensures takes { IfOk result (Takes cache.old cache.new self.old self.new number outcome tick) }
+        ensures late { open_at number self.old.shared ≡ None → result ≡ Ok After.Late }
+        ensures err { OnErr result (cache.new ≡ cache.old) }
+        ensures holds { (terms : Terms) (greatest moment : ℕ) (log longer : Log) → terms.patience ≤ tick.patience
+            → IsPut greatest moment log tick (option_copied waits.entry) outcome result longer
+            → TablesHold terms greatest moment log cache.old self.old
+            → TablesHold terms (max greatest (last_entry result (option_copied waits.entry) outcome)) tick.now longer cache.new self.new }
+    {
+        let Some(lookup) = self.shared.open_at(number) else {
+            return Ok(After::Late);
+        };
+        let Some(given) = self.given_for(lookup, number, &outcome, waits) else {
+            return Ok(After::Late);
+        };
+        let after = self.take(alloc, lookup, given, outcome, waits, tick)?;
+        self.remember(alloc, cache, lookup)?;
+        Ok(after)
     }
 
     /// Whether a lookup is for this question at the servers of this zone, since no earlier than the

@@ -1,7 +1,7 @@
 //! Each type of this crate may go to another thread, and be shared among threads.
 
 use crate::lookup::{Ask, Found, Lookup, Under, Want};
-use crate::pools::{Answer, Pools};
+use crate::pools::{Answer, Pools, Stepped};
 
 fn crosses<T: Send + Sync>() {}
 
@@ -12,6 +12,7 @@ pub fn tables_cross_threads() {
     crosses::<Found>();
     crosses::<Lookup>();
     crosses::<Pools>();
+    crosses::<Stepped>();
     crosses::<Under>();
     crosses::<Want>();
 }

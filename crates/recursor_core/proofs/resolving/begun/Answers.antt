@@ -1,6 +1,6 @@
 use Rattle.std.proofs.Common.{subst, Option, IfSome}
 use Rattle.std.specs.Global.{Box}
-use Rattle.recursor_core.specs.Replies.{ReplyHolds}
+use Rattle.recursor_walk.specs.Replies.{ReplyHolds}
 use Rattle.walk_tables.specs.Tried.{machine_timer}
 use Rattle.recursor_types.specs.declared.reply.Reply.{Reply}
 use Rattle.recursor_core.proofs.Resolved.{recalled-for}

@@ -1,6 +1,6 @@
 use Rattle.std.proofs.Common.{◌∙◌, sym, subst, Option, IfSome}
-use Rattle.recursor_core.specs.Counted.{IsRecalled}
-use Rattle.recursor_core.specs.declared.counted.Counted.{Counted}
+use Rattle.recursor_walk.specs.Counted.{IsRecalled}
+use Rattle.recursor_walk.specs.declared.counted.Counted.{Counted}
 use Rattle.recursor_core.proofs.resolving.begun_with.Goals as goal
 
 pub returns-then-may_answer-clause-holds : goal.returns-then-may_answer-clause-holds

@@ -5,7 +5,8 @@ use Rattle.recursor_core.specs.Machine.{Begun, begun_of}
 use Rattle.recursor_core.specs.declared.resolving.Resolution.{Resolution}
 use Rattle.std.proofs.lemmas.List.Elements.{All-push}
 use Rattle.recursor_core.specs.Derived.{terms_of, ResolutionHolds}
-use Rattle.recursor_core.proofs.Kept.{same-log, resolutions-kept}
+use Rattle.recursor_walk.proofs.Kept.{same-log}
+use Rattle.recursor_core.proofs.Kept.{resolutions-kept}
 use Rattle.walk_tables.proofs.KeptPools.{pools-kept}
 use Rattle.recursor_core.proofs.Cores.{derived-is, begun-push, begun-last}
 use Rattle.recursor_core.proofs.machine.RecursorCore.begin_resolution.Goals as goal

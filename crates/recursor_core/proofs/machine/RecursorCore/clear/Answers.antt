@@ -1,11 +1,11 @@
 use Rattle.std.proofs.Common.{◌<◌, min, length, sym, ap, subst, arith}
 use Rattle.recursor_core.specs.Derived.{terms_of}
 use Rattle.walk_tables.specs.Pools.{PoolsHold}
-use Rattle.recursor_core.specs.Remembered.{CacheHolds}
+use Rattle.walk_tables.specs.Remembered.{CacheHolds}
 use Rattle.walk_tables.specs.Terms.{terms_with}
 use Rattle.recursor_setting.specs.declared.setting.Setting.{Setting}
-use Rattle.recursor_core.proofs.Kept.{same-log}
-use Rattle.recursor_core.proofs.Remembering.{cache-on}
+use Rattle.recursor_walk.proofs.Kept.{same-log}
+use Rattle.walk_tables.proofs.Remembering.{cache-on}
 use Rattle.recursor_core.proofs.machine.RecursorCore.clear.Goals as goal
 
 pub returns-clause-derived : goal.returns-clause-derived

@@ -1,12 +1,14 @@
-use Rattle.std.proofs.Common.{Result, Ok}
+use Rattle.std.proofs.Common.{◌≡◌, max, refl, Result, Ok, arith}
 use Rattle.std.specs.Prelude.{option_copied}
 use Rattle.dns_core.specs.declared.errors.NoMemory.{NoMemory}
 use Rattle.server_core.specs.declared.order.After.{After}
 use Rattle.server_core.specs.declared.order.After.TheVariants as after
 use Rattle.server_core.specs.Order.{entry_of}
-use Rattle.walk_tables.specs.Order.{IsNext, IsPut}
-use Rattle.recursor_core.proofs.Kept.{Derived-extends}
-use Rattle.walk_tables.proofs.Puts.{kept-extends, err-goes, was-put}
+use Rattle.walk_tables.specs.Order.{IsNext, IsPut, last_entry}
+use Rattle.walk_tables.proofs.Puts.{kept-extends, last-chosen, last-within, longer-put}
+use Rattle.recursor_core.specs.Derived.{terms_of}
+use Rattle.recursor_core.proofs.Cores.{derived-is}
+use Rattle.recursor_core.proofs.Kept.{Derived-extends, resolutions-kept}
 use Rattle.recursor_core.proofs.machine.RecursorCore.put.Goals as goal
 
 -- what is late changes nothing
@@ -17,27 +19,19 @@ pub returns-then-not-is_next-clause-derived : goal.returns-then-not-is_next-clau
 returns-then-not-is_next-clause-derived c log told longer patient d tells on =
     Derived-extends c.args.self.now log longer (kept-extends c.args.self.now.moment log c.args.tick (option_copied c.args.waits) c.args.outcome was_late tells on) d
 
-pub returns-in_default-clause-derived : goal.returns-in_default-clause-derived
-returns-in_default-clause-derived c log told longer patient d tells on =
-    Derived-extends c.args.self.now log longer (kept-extends c.args.self.now.moment log c.args.tick (option_copied c.args.waits) c.args.outcome was_late tells on) d
-
-pub returns-in_err-after-clause-derived : goal.returns-in_err-after-clause-derived
-returns-in_err-after-clause-derived c log told longer patient d tells on =
-    let next : IsNext c.args.self.now.greatest (entry_of c.args.outcome) = rw c.entry.ensures at c.is_next.ensures c.if-not-is_next.false in
-    let gave_up = err-goes c.args.tick.now (option_copied c.args.waits) c.args.outcome c.from_residual.result told longer c.from_residual.ensures.0 on in
-    c.in_err-after.ensures.derived log longer patient d (record { bound = d.bound; next = next; told = told; tells = tells; goes_on = gave_up })
-
-pub returns-in_err-remember-clause-derived : goal.returns-in_err-remember-clause-derived
-returns-in_err-remember-clause-derived c log told longer patient d tells on =
-    let core = c.args.self.now in
-    let waits = option_copied c.args.waits in
-    let next : IsNext core.greatest (entry_of c.args.outcome) = rw c.entry.ensures at c.is_next.ensures c.if-not-is_next.false in
-    let fault = c.from_residual-in_err-remember in
-    let put : IsPut core.greatest core.moment log c.args.tick waits c.args.outcome fault.result longer = record { bound = d.bound; next = next; told = told; tells = tells; goes_on = on } in
-    let was = was-put core.greatest core.moment log c.args.tick waits c.args.outcome c.accept.result fault.result longer fault.ensures.0 put in
-    Derived-extends c.remember.new.self was.by longer was.extends (c.in_err-remember.ensures.derived was.by (c.accept.ensures.derived log was.by patient d was.put))
-
 pub returns-clause-derived : goal.returns-clause-derived
 returns-clause-derived c log told longer patient d tells on =
-    let next : IsNext c.args.self.now.greatest (entry_of c.args.outcome) = rw c.entry.ensures at c.is_next.ensures c.if-not-is_next.false in
-    c.in_ok-remember.ensures.derived longer (c.in_ok-after.ensures.derived log longer patient d (record { bound = d.bound; next = next; told = told; tells = tells; goes_on = on }))
+    let core = c.args.self.now in
+    let terms = terms_of core in
+    let waits = option_copied c.args.waits in
+    let now = c.args.tick.now in
+    let next : IsNext core.greatest (entry_of c.args.outcome) = rw c.entry-entry.ensures at c.is_next.ensures c.if-not-is_next.false in
+    let put : IsPut core.greatest core.moment log c.args.tick waits c.args.outcome c.put-after.result longer = record { bound = d.bound; next = next; told = told; tells = tells; goes_on = on } in
+    let tables = c.put-after.ensures.holds terms core.greatest core.moment log longer patient put (record { cache = d.cache; pools = d.pools }) in
+    let last = last-chosen c.put-after.result waits c.args.outcome c.last_entry-last.result c.entry-entry.result c.closing_of-closing.result c.last_entry-last.ensures c.entry-entry.ensures c.closing_of-closing.ensures in
+    let greatest : c.max-self.result ≡ max core.greatest (last_entry c.put-after.result waits c.args.outcome) = omega (arith, c.max-self.ensures, last) in
+    let moment : c.max-self-2.result ≡ now = omega (arith, c.max-self-2.ensures, tells.later) in
+    let x = longer-put core.greatest core.moment log c.args.tick waits c.args.outcome c.put-after.result longer put in
+    let others = resolutions-kept terms log longer x core.moment now tells.later core.greatest _ core.resolutions.items (omega arith) d.resolutions in
+    derived-is _ longer core.setting _ now _ _ core.resolutions.items refl greatest moment refl refl refl
+    (last-within core.greatest core.moment log c.args.tick waits c.args.outcome c.put-after.result longer put) d.some tables.cache tables.pools others

@@ -1,6 +1,7 @@
 use Rattle.std.proofs.Common.{◌≤◌, arith}
 use Rattle.recursor_core.specs.Derived.{terms_of}
-use Rattle.recursor_core.proofs.Kept.{same-log, resolutions-kept}
+use Rattle.recursor_walk.proofs.Kept.{same-log}
+use Rattle.recursor_core.proofs.Kept.{resolutions-kept}
 use Rattle.walk_tables.proofs.KeptPools.{pools-kept}
 use Rattle.recursor_core.proofs.machine.RecursorCore.reach.Goals as goal
 

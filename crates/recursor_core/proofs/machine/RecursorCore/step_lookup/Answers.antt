@@ -1,8 +1,8 @@
 use Rattle.std.proofs.Common.{◌<◌, length, refl}
 use Rattle.std.proofs.lemmas.List.Elements.{All-set}
-use Rattle.std.proofs.lemmas.Result.{on_ok_weaker, on_err_weaker}
+use Rattle.std.proofs.lemmas.Result.{IfOk-weaker}
 use Rattle.recursor_core.specs.Derived.{terms_of, ResolutionHolds}
-use Rattle.recursor_core.proofs.Ranks.{sum_falls, sum_keeps, need_within}
+use Rattle.recursor_core.proofs.Ranks.{sum_leaves, sum_keeps, need_within}
 use Rattle.recursor_core.proofs.Cores.{held-at, begun-set}
 use Rattle.recursor_core.proofs.machine.RecursorCore.step_lookup.Goals as goal
 
@@ -12,7 +12,7 @@ returns-clause-falls c =
     let f = c.index_mut-resolution.result.now in
     let at = c.index_mut-resolution.ensures.value in
     let within : c.args.r < length xs = need_within xs c.args.r (λ e. cc) in
-    on_ok_weaker c.step.result (λ fewer. sum_falls xs c.args.r f c.step.new.self within at fewer) c.step.ensures.falls
+    IfOk-weaker c.step.result _ _ (λ stepped fewer. sum_leaves xs c.args.r f c.step.new.self within at stepped fewer) c.step.ensures.falls
 
 pub returns-clause-keeps : goal.returns-clause-keeps
 returns-clause-keeps c =
@@ -20,7 +20,7 @@ returns-clause-keeps c =
     let f = c.index_mut-resolution.result.now in
     let at = c.index_mut-resolution.ensures.value in
     let within : c.args.r < length xs = need_within xs c.args.r (λ e. cc) in
-    on_err_weaker c.step.result (λ most. sum_keeps xs c.args.r f c.step.new.self within at most) c.step.ensures.keeps
+    sum_keeps xs c.args.r f c.step.new.self within at c.step.ensures.keeps
 
 pub returns-clause-derived : goal.returns-clause-derived
 returns-clause-derived c log d =

@@ -1,8 +1,14 @@
-use Rattle.walk_tables.proofs.Heard.{answered-hears}
+use Rattle.std.proofs.Common.{ap, arith}
+use Rattle.walk_tables.specs.Lookup.{ask_steps}
+use Rattle.walk_tables.proofs.Heard.{answered-hears, hears-one}
 use Rattle.walk_tables.proofs.lookup.Lookup.settle.Goals as goal
 
 pub returns-clause-falls : goal.returns-clause-falls
-returns-clause-falls c = rw c.answered_by.ensures (answered-hears _ _ _)
+returns-clause-falls c =
+    rw c.answered_by.ensures
+    (let one = hears-one _ (answered-hears c.last_of-entry.result c.in-Some.field-0.at c.in-Some.field-0.told) in
+    let was = ap ask_steps c.in-Under.is in
+    omega (arith, one, was))
 
 pub returns-clause-holds : goal.returns-clause-holds
 returns-clause-holds c terms greatest moment log pools h =

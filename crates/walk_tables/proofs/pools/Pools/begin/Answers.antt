@@ -15,20 +15,20 @@ use Rattle.walk_tables.proofs.pools.Pools.begin.Goals as goal
 -- Servers that were met stay where memory is wanting.
 pub returns-in_err-servers : goal.returns-in_err-servers
 returns-in_err-servers c = record {
-  holds = λ terms greatest log above servers h.
+  holds = λ terms greatest log above walked servers h.
       pools-grown terms greatest c.args.tick.now log c.args.self.now c.meet_all.new.self c.meet_all.ensures.grown (c.meet_all.ensures.servers terms h.servers) h;
 }
 
 pub returns-in_err-pool : goal.returns-in_err-pool
 returns-in_err-pool c = record {
-  holds = λ terms greatest log above servers h.
+  holds = λ terms greatest log above walked servers h.
       let met = pools-grown terms greatest c.args.tick.now log c.args.self.now c.meet_all.new.self c.meet_all.ensures.grown (c.meet_all.ensures.servers terms h.servers) h in
       subst (λ shared. PoolsHold terms greatest c.args.tick.now log (record c.meet_all.new.self { shared = shared })) (sym c.in_err-pool.ensures.err) met;
 }
 
 pub returns-in_err-lookup : goal.returns-in_err-lookup
 returns-in_err-lookup c = record {
-  holds = λ terms greatest log above servers h.
+  holds = λ terms greatest log above walked servers h.
       let first = c.meet_all.new.self in
       let met = pools-grown terms greatest c.args.tick.now log c.args.self.now first c.meet_all.ensures.grown (c.meet_all.ensures.servers terms h.servers) h in
       let numbered : Pools = record first { shared = c.from_nameservers.new.shared } in
@@ -38,7 +38,7 @@ returns-in_err-lookup c = record {
 
 pub returns : goal.returns
 returns c = record {
-  holds = λ terms greatest log above servers h.
+  holds = λ terms greatest log above walked servers h.
       let now = c.args.tick.now in
       let n = c.in_ok-lookup.lookup.number in
       let request = c.args.request in
@@ -61,7 +61,7 @@ returns c = record {
       let sought : Sought = record { query = c.in_ok-try_clone.field-0; zone = c.in_ok-try_clone-2.field-0; start = now; given = None; first = None; at = now } in
       let holds : SoughtHolds terms greatest now log mid n sought =
       rw (c.in_ok-try_clone.ensures, c.in_ok-try_clone-2.ensures)
-      (begun-holds terms greatest now log c.args.zone.now c.args.ips.now numbers request old mid pool n above servers numbered.servers there begun _
+      (begun-holds terms greatest now log c.args.zone.now c.args.ips.now numbers request old mid pool n above walked servers numbered.servers there begun _
       (begun-there pool numbers request now old.shared mid.shared n begun) refl (begun-rest pool numbers request now old.shared mid.shared n begun).servers.configs) in
       pools-begun terms greatest now log n sought old mid c.keep.new.self (begun-rest pool numbers request now old.shared mid.shared n begun)
       (begun-numbered pool numbers request now old.shared mid.shared n begun within numbered.numbered) refl refl numbered c.keep.result c.in_ok-lookup.lookup

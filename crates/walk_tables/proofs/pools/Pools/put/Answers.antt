@@ -1,47 +1,77 @@
-use Rattle.std.proofs.Common.{refl, ap, length, arith}
+use Rattle.std.proofs.Common.{◌≡◌, ℕ, max, inr, subst, Ok, Result, arith}
 use Rattle.std.specs.Option.{option_copied}
-use Rattle.walk_tables.specs.Pools.{IsGivenFor, NotesOutcome, first_of, polled_by}
-use Rattle.walk_tables.specs.declared.pools.Given.{Given}
-use Rattle.walk_tables.proofs.KeptPools.{pools-kept}
-use Rattle.walk_tables.proofs.Losing.{pools-lost}
-use Rattle.walk_tables.proofs.Outcomes.{open-order, its-rest, its-numbered, pools-put}
-use Rattle.walk_tables.proofs.Puts.{longer-put}
+use Rattle.dns_core.specs.declared.errors.NoMemory.{NoMemory}
+use Rattle.server_core.specs.declared.order.After.{After}
+use Rattle.walk_tables.specs.Order.{last_entry, closing_of}
+use Rattle.walk_tables.specs.Taking.{Took, TablesHold}
+use Rattle.walk_tables.proofs.Puts.{longer-put, err-last, err-is, was-put}
+use Rattle.walk_tables.proofs.Remembering.{cache-kept}
+use Rattle.walk_tables.proofs.Taking.{remembered-kept, tables-kept}
 use Rattle.walk_tables.proofs.pools.Pools.put.Goals as goal
 
 -- what is late changes nothing
-pub returns-in_default : goal.returns-in_default
-returns-in_default c = record {
-  holds = λ terms greatest moment log longer patient put h.
-      pools-kept terms log longer (longer-put greatest moment log c.args.tick (option_copied c.args.waits) c.args.outcome _ longer put) greatest _ moment c.args.tick.now c.args.self.now (omega arith) put.tells.later h;
-}
+pub returns-in_default-clause-holds : goal.returns-in_default-clause-holds
+returns-in_default-clause-holds c terms greatest moment log longer patient put h =
+    tables-kept terms log longer (longer-put greatest moment log c.args.tick (option_copied c.args.waits) c.args.outcome _ longer put) greatest _ moment c.args.tick.now c.args.cache.now c.args.self.now
+    (omega arith) put.tells.later h
 
-pub returns-in-Ok : goal.returns-in-Ok
-returns-in-Ok c = record {
-  holds = λ terms greatest moment log longer patient put h.
-      let old = c.args.self.now in
-      let n = c.args.lookup.now.number in
-      let w = option_copied c.args.waits in
-      let g = c.in-Some.given in
-      let mid = record old { shared = c.put.new.self } in
-      let given : IsGivenFor old n w c.args.outcome g = rw c.in-Some.is at c.given_for.ensures in
-      let again : Given = record g { polled = polled_by c.args.outcome } in
-      let note : NotesOutcome n again (first_of g.aim w c.args.outcome) (length c.ends-before.result.now) c.in-Ok.after c.args.tick.now mid c.note_outcome.new.self =
-      rw (c.first_of-first.ensures, c.polled_by.ensures) at c.note_outcome.ensures in
-      pools-put terms greatest moment log longer old mid c.note_outcome.new.self n c.args.tick w c.args.outcome g (length c.ends-before.result.now) c.in-Ok.after patient put refl refl given
-      (ap (λ ns. length ns) c.ends-before.ensures.ends) note h (c.in-Ok.ensures.puts n _ (open-order terms greatest moment log old n w c.args.outcome g given h));
-}
+pub returns-in_default-given_for-clause-holds : goal.returns-in_default-given_for-clause-holds
+returns-in_default-given_for-clause-holds c terms greatest moment log longer patient put h =
+    tables-kept terms log longer (longer-put greatest moment log c.args.tick (option_copied c.args.waits) c.args.outcome _ longer put) greatest _ moment c.args.tick.now c.args.cache.now c.args.self.now
+    (omega arith) put.tells.later h
 
-pub returns-in-Err : goal.returns-in-Err
-returns-in-Err c = record {
-  holds = λ terms greatest moment log longer patient put h.
-      let old = c.args.self.now in
-      let n = c.args.lookup.now.number in
-      let w = option_copied c.args.waits in
-      let g = c.in-Some.given in
-      let mid = record old { shared = c.put.new.self } in
-      let given : IsGivenFor old n w c.args.outcome g = rw c.in-Some.is at c.given_for.ensures in
-      let puts = c.in-Err.ensures.puts n _ (open-order terms greatest moment log old n w c.args.outcome g given h) in
-      pools-kept terms log longer (longer-put greatest moment log c.args.tick w c.args.outcome _ longer put) greatest _ moment c.args.tick.now c.forget.new.self (omega arith) put.tells.later
-      (pools-lost terms greatest moment log n old mid c.forget.new.self (its-rest terms greatest moment log old n w c.args.outcome g given h c.args.tick mid _ puts)
-      (its-numbered terms greatest moment log old n w c.args.outcome g given h c.args.tick mid _ puts) refl refl (rw c.number.ensures at c.forget.ensures) h);
-}
+-- where memory was wanting at the pools
+pub returns-in_err-after-clause-holds : goal.returns-in_err-after-clause-holds
+returns-in_err-after-clause-holds c terms greatest moment log longer patient put h =
+    let waits = option_copied c.args.waits in
+    let o = c.args.outcome in
+    let r = c.from_residual.result in
+    let is = c.from_residual.ensures.0 in
+    rw (err-last waits o r is)
+    (let pools = c.in_err-after.ensures.holds terms greatest moment log longer patient (err-is greatest moment log c.args.tick waits o r _ longer is put) h.pools in
+    let tables : TablesHold terms (max greatest (closing_of waits o)) c.args.tick.now longer c.args.cache.now c.take.new.self = record {
+      cache = cache-kept terms log longer (longer-put greatest moment log c.args.tick waits o _ longer put) greatest (max greatest (closing_of waits o)) c.args.cache.now (omega arith) h.cache;
+      pools = pools;
+    } in
+    tables)
+
+-- where it was wanting for the cache
+pub returns-in_err-remember-clause-holds : goal.returns-in_err-remember-clause-holds
+returns-in_err-remember-clause-holds c terms greatest moment log longer patient put h =
+    let waits = option_copied c.args.waits in
+    let o = c.args.outcome in
+    let now = c.args.tick.now in
+    let fault = c.from_residual-in_err-remember in
+    let did : Result After NoMemory = Ok c.in_ok-after.after in
+    let was = was-put greatest moment log c.args.tick waits o did fault.result longer fault.ensures.0 put in
+    let g = max greatest (last_entry did waits o) in
+    let fewer = was.last in
+    let tables : TablesHold terms g now was.by c.args.cache.now c.take.new.self = record {
+      cache = cache-kept terms log was.by (longer-put greatest moment log c.args.tick waits o did was.by was.put) greatest g c.args.cache.now (omega arith) h.cache;
+      pools = c.in_ok-after.ensures.holds terms greatest moment log was.by patient was.put h.pools;
+    } in
+    rw (err-last waits o fault.result fault.ensures.0, c.in_err-remember.ensures.err)
+    (tables-kept terms was.by longer was.extends g (max greatest (closing_of waits o)) now now c.args.cache.now c.take.new.self (omega (arith, fewer)) (omega arith) tables)
+
+pub returns-clause-takes : goal.returns-clause-takes
+returns-clause-takes c =
+    let given = rw c.in-Some-given_for.is at c.given_for.ensures in
+    inr (record {
+      n = c.in-Some.lookup;
+      took = subst (λ (k : ℕ). Took c.args.self.now c.take.new.self c.in-Some.lookup k c.args.outcome c.args.tick c.in_ok-after.after) given.0 c.in_ok-after.ensures.took;
+      writes = c.in_ok-remember.ensures.ok;
+    })
+
+pub returns-clause-holds : goal.returns-clause-holds
+returns-clause-holds c terms greatest moment log longer patient put h =
+    let waits = option_copied c.args.waits in
+    let o = c.args.outcome in
+    let now = c.args.tick.now in
+    let did : Result After NoMemory = Ok c.in_ok-after.after in
+    let g = max greatest (last_entry did waits o) in
+    let pools = c.in_ok-after.ensures.holds terms greatest moment log longer patient put h.pools in
+    let cache = cache-kept terms log longer (longer-put greatest moment log c.args.tick waits o did longer put) greatest g c.args.cache.now (omega arith) h.cache in
+    record {
+      cache = remembered-kept terms g now longer c.take.new.self c.in-Some.lookup pools c.args.cache.now c.remember.new.cache c.remember.result c.remember.ensures.ok c.remember.ensures.err cache;
+      pools = pools;
+    }

@@ -1,0 +1,390 @@
+-- What the reply of a walk rests on.
+use Rattle.std.proofs.Common.{◌≡◌, ℕ, Bool, true, false, cond, List, [], ◌∷◌, ◌++◌, Option, Some, None, Contains, refl, sym, ap, subst, ◌∙◌, ◌≤◌, arith, inl, inr, Result, Ok, Err, IfOk}
+use Rattle.std.proofs.lemmas.Result.{IfOk-weaker}
+use Rattle.std.proofs.lemmas.Option.{same_Some, none-some}
+use Rattle.std.specs.Prelude.{◌&&◌, ◌==◌, not, find, filter, if◌then◌else◌}
+use Rattle.std.proofs.lemmas.List.Elements.{filter-append}
+use Rattle.std.specs.Option.{is_none}
+use Rattle.std.specs.Cmp.{second_so}
+use Rattle.std.specs.Global.{Box}
+use Rattle.std.specs.declared.net.ip_addr.IpAddr.{IpAddr}
+use Rattle.dns_core.specs.Name.{DomainName}
+use Rattle.dns_core.specs.Log.{Log}
+use Rattle.dns_core.specs.Stripping.{strip_of}
+use Rattle.dns_core.specs.declared.message.Query.{Query}
+use Rattle.dns_core.specs.declared.message.Message.{Message}
+use Rattle.dns_core.specs.declared.record.Record.{Record}
+use Rattle.dns_core.specs.declared.errors.NoMemory.{NoMemory}
+use Rattle.dns_core.specs.declared.request.Question.{Question}
+use Rattle.dns_core.specs.declared.net_error.NoRecords.{NoRecords}
+use Rattle.dns_core.specs.declared.net_error.ForwardNsData.{ForwardNsData}
+use Rattle.dns_core.specs.declared.net_error.DnsError.{DnsError}
+use Rattle.dns_core.specs.declared.net_error.NetError.{NetError}
+use Rattle.dns_core.specs.declared.net_error.DnsError.TheVariants as dns
+use Rattle.resolution.specs.Names.{candidates, walk, question}
+use Rattle.resolution.specs.Records.{records, only}
+use Rattle.resolution.specs.Failing as failing
+use Rattle.resolution.specs.Class.{class_of, class_of_classified, is_foreign}
+use Rattle.resolver_settings.specs.Access.{denies as access_denies}
+use Rattle.resolution.specs.Verdict.{is_all_denied, without_denied, holds_denied}
+use Rattle.resolution.specs.Serving.{is_delegation, glue, allowed}
+use Rattle.resolution.specs.Answering.{Base}
+use Rattle.resolution.specs.Answering.Answers.{direct}
+use Rattle.resolution.specs.Ending.{Finished}
+use Rattle.resolution.specs.declared.class.Class.{Class}
+use Rattle.resolution.specs.declared.class.Class.TheVariants.{Error, Code, Truncated, Negative as NoData, Foreign, Positive}
+use Rattle.resolution.specs.declared.verdict.Verdict.TheVariants.{Pos, Neg, Made}
+use Rattle.resolution.specs.declared.verdict.Verdict.{Verdict}
+use Rattle.resolution.specs.declared.verdict.Cause.{Cause}
+use Rattle.resolution.specs.declared.verdict.Cause.TheVariants.{Filter, Zone}
+use Rattle.resolution.proofs.SameDelegations.{Same-is_delegation, Same-glue, Same-strip}
+use Rattle.resolution.specs.Same.{Same}
+use Rattle.walk_base.specs.Response.{error_of}
+use Rattle.walk_tables.specs.Terms.{Terms, given_of}
+use Rattle.recursor_walk.specs.Replies.{IsToldAnswer, OutcomeHolds, ReplyHolds, IsReply}
+use Rattle.walk_tables.specs.Tried.{Concluded, machine_timer}
+use Rattle.recursor_walk.specs.Causes.{ErrorHolds, HasFailed, HasNoAddress}
+use Rattle.resolution.specs.Walking.{Walked}
+use Rattle.resolution.proofs.Sameness.{Same-refl}
+use Rattle.dns_core.specs.declared.log.ToldOutcome.{ToldOutcome}
+use Rattle.recursor_walk.specs.Causes.IsDenied.{told as denial_told, made as denial_made, told_on_the_way, made_on_the_way}
+use Rattle.recursor_walk.specs.Causes.IsReferred.{referred}
+use Rattle.recursor_walk.specs.Counted.{Stands, Answers, IsCurrentVerdict}
+use Rattle.walk_tables.specs.Asked.{AskedAs}
+use Rattle.recursor_walk.specs.SameTold.{SameIfAny, SameReferrals, SameNegative, SameVerdict, ShowsAsked, IsMadeFor}
+use Rattle.walk_tables.specs.Lookup.{nothing_left_for, left_of_class}
+use Rattle.walk_base.specs.Answer.{told_data, told_negative, made_negative, ends_walk, outcome_of}
+use Rattle.recursor_walk.specs.Way.{WalkComes}
+use Rattle.recursor_types.specs.declared.error.RecursorError.{RecursorError}
+use Rattle.recursor_types.specs.declared.error.RecursorError.TheVariants.{Negative, ForwardNS}
+use Rattle.recursor_types.specs.declared.reply.Reply.{Reply}
+use Rattle.recursor_walk.specs.declared.walk.Walk.{Walk}
+use Rattle.walk_tables.proofs.Sends.{same_query-refl}
+use Rattle.walk_tables.specs.Remembered.{IsShown}
+use Rattle.walk_tables.proofs.Answering.{answer-whole}
+use Rattle.walk_tables.proofs.Counting.{Counts}
+use Rattle.recursor_walk.proofs.Lowered.{negative_same, data_same}
+
+-- ---- what counts
+
+-- it was told of the question, since it began
+abbrev pub base-of : (terms : Terms) (greatest t0 : ℕ) (log : Log) (zone : DomainName) (q : Query) (entry at : ℕ) (v : Verdict)
+    → (h : Counts terms greatest t0 log zone q entry at v) → Base (given_of terms) log t0 q entry zone h.whole
+base-of terms greatest t0 log zone q entry at v h =
+    record { told = h.outcome; moment = at; heard = h.heard; counts = h.counts; fresh = inl h.late }
+
+-- what counts was told at or after t0
+current-of : (t0 moment : ℕ) (v : Verdict) → t0 ≤ moment → IsCurrentVerdict t0 moment v
+current-of t0 moment (Pos kept) late = inr late
+current-of t0 moment (Neg n) late = tt
+current-of t0 moment (Made cause) late = tt
+
+-- what is shown so is the same
+pub shown-same : (q : Query) (v whole : Verdict) → IsShown q v whole → SameVerdict q v whole
+shown-same q (Pos a) (Pos b) h = subst (Same a) h (Same-refl a)
+shown-same q (Pos a) (Neg b) h = absurd h
+shown-same q (Pos a) (Made Filter) h = absurd h
+shown-same q (Pos a) (Made Zone) h = absurd h
+shown-same q (Neg a) (Pos b) h = absurd h
+shown-same q (Neg a) (Neg b) h = subst (SameNegative a) h (negative_same a)
+shown-same q (Neg a) (Made Filter) h = record { first = q; same = same_query-refl q; is = h }
+shown-same q (Neg a) (Made Zone) h = absurd h
+shown-same q (Made a) (Pos b) h = absurd h
+shown-same q (Made a) (Neg b) h = absurd h
+shown-same q (Made a) (Made b) h = h
+
+-- what is shown so for the question as it was asked shows that
+pub shown-asked : (log : Log) (i : ℕ) (q : Query) (v whole : Verdict) → AskedAs log i q → IsShown q v whole → ShowsAsked log i q v whole
+shown-asked log i q (Pos a) whole asked h = tt
+shown-asked log i q (Neg a) (Pos b) asked h = tt
+shown-asked log i q (Neg a) (Neg b) asked h = tt
+shown-asked log i q (Neg a) (Made Filter) asked h = subst (λ (n : NoRecords). AskedAs log i n.query) (sym h) asked
+shown-asked log i q (Neg a) (Made Zone) asked h = absurd h
+shown-asked log i q (Made a) whole asked h = asked
+
+-- what counts, of a server of the zone to which a walk went down, stands
+abbrev pub stands-of : (terms : Terms) (greatest t0 : ℕ) (log : Log) (zone : DomainName) (q : Query) (entry at : ℕ) (v : Verdict)
+    → Counts terms greatest t0 log zone q entry at v → Walked (given_of terms) log q zone → Stands terms greatest t0 log q entry v
+stands-of terms greatest t0 log zone q entry at v h walked = record {
+  zone = zone;
+  whole = h.whole;
+  early = h.early;
+  base = base-of terms greatest t0 log zone q entry at v h;
+  walked = walked;
+  same = shown-same q v h.whole h.shown;
+  asked = shown-asked log entry q v h.whole h.asked h.shown;
+}
+
+-- and it may be answered
+pub answers-of : (terms : Terms) (greatest t0 : ℕ) (log : Log) (zone : DomainName) (q : Query) (entry at : ℕ) (v : Verdict)
+    → Counts terms greatest t0 log zone q entry at v → Walked (given_of terms) log q zone → Answers terms greatest t0 log q entry v
+answers-of terms greatest t0 log zone q entry at v h walked =
+    record { stands = stands-of terms greatest t0 log zone q entry at v h walked; current = current-of t0 at h.whole h.late }
+
+-- what is not found is not found where less is left
+not_found_in : {X : Type 0} (p f : X → Bool) (xs : List X) → find p xs ≡ None → find p (filter f xs) ≡ None
+not_found_in p f [] e = refl
+not_found_in {X} p f (x ∷ xs) e = at_head (f x) (p x) refl e (not_found_in p f xs)
+  where
+    at_head : (b c : Bool) → p x ≡ c → cond c (Some x) (find p xs) ≡ None → (find p xs ≡ None → find p (filter f xs) ≡ None) → find p (cond b (x ∷ filter f xs) (filter f xs)) ≡ None
+    at_head b true same h next = cc
+    at_head true false same h next = ap (λ (t : Bool). cond t (Some x) (find p (filter f xs))) same ∙ next h
+    at_head false false same h next = next h
+
+-- the records that are left of a message
+records-left : (f : Record → Bool) (m : Message) → records (only f m) ≡ filter f (records m)
+records-left f m =
+    ap (λ (rs : List Record). rs ++ filter f m.additionals) (sym (filter-append f m.answers m.authorities)) ∙ sym (filter-append f (m.answers ++ m.authorities) m.additionals)
+
+left-message-fails : (q : Query) (kept : Message) (cut : Bool) (o : Option Record) (e : NetError) → cut ≡ false → o ≡ None
+    → error_of (cond cut Truncated (elim o [ Some r ↦ Foreign r | None ↦ Positive kept ])) ≡ Some e → ⊥
+left-message-fails q kept true o e whole none fails = cc
+left-message-fails q kept false (Some r) e whole none fails = cc
+left-message-fails q kept false None e whole none fails = cc
+
+left-fails : (denied : IpAddr → Bool) (q : Query) (m : Message) (e : NetError) (all : Bool) → m.truncation ≡ false → find (is_foreign q) (records m) ≡ None
+    → error_of (class_of_classified q (if all then Err (dns.NoRecordsFound (nothing_left_for q)) else Ok (without_denied denied m))) ≡ Some e → ⊥
+left-fails denied q m e true whole none fails = cc
+left-fails denied q m e false whole none fails =
+    let f : Record → Bool = λ r. not (holds_denied denied r) in
+    let kept = without_denied denied m in
+    let left : find (is_foreign q) (records kept) ≡ None = ap (find (is_foreign q)) (records-left f m) ∙ not_found_in (is_foreign q) f (records m) none in
+    left-message-fails q kept kept.truncation (find (is_foreign q) (records kept)) e whole left fails
+
+-- what is left of a response has a verdict
+pub left-no-error : (denied : IpAddr → Bool) (outcome : ToldOutcome) (q : Query) (response : Class) (class : Result Message DnsError) (e : NetError) → class_of outcome q ≡ Some response
+    → left_of_class denied q response ≡ Some class → error_of (class_of_classified q class) ≡ Some e → ⊥
+left-no-error denied outcome q (Positive m) class e is left fails =
+    let whole = answer-whole outcome q m is in
+    left-fails denied q m e (is_all_denied denied m) whole.0 whole.1
+    (subst (λ (c : Result Message DnsError). error_of (class_of_classified q c) ≡ Some e) (sym (same_Some _ _ left)) fails)
+left-no-error denied outcome q (NoData n) class e is left fails =
+    absurd (none-some e (subst (λ (c : Result Message DnsError). error_of (class_of_classified q c) ≡ Some e) (sym (same_Some _ _ left)) fails))
+left-no-error denied outcome q (Error f) class e is left fails = cc
+left-no-error denied outcome q (Code c) class e is left fails = cc
+left-no-error denied outcome q Truncated class e is left fails = cc
+left-no-error denied outcome q (Foreign r) class e is left fails = cc
+
+-- ---- replies
+
+-- a response that stands is the answer, less what was not asked for
+told-by : (terms : Terms) (t0 : ℕ) (log : Log) (q : Query) (entry : ℕ) (zone : DomainName) (kept : Message) (dnssec : Bool) (whole : Verdict)
+    → (base : Base (given_of terms) log t0 q entry zone whole) → IsCurrentVerdict t0 base.moment whole → Walked (given_of terms) log q zone
+    → SameVerdict q (Pos kept) whole → IsToldAnswer (given_of terms) log t0 q dnssec (entry ∷ []) (strip_of kept dnssec)
+told-by terms t0 log q entry zone kept dnssec (Pos before) base current walked same =
+    let stripped = Same-strip kept before dnssec same in
+    record {
+      entry = entry;
+      zone = zone;
+      kept = before;
+      only = refl;
+      base = base;
+      walked = walked;
+      current = current;
+      same = stripped;
+      answer = λ done. record { answers = direct base current done stripped; few = omega arith };
+    }
+told-by terms t0 log q entry zone kept dnssec (Neg n) base current walked same = absurd same
+told-by terms t0 log q entry zone kept dnssec (Made Filter) base current walked same = absurd same
+told-by terms t0 log q entry zone kept dnssec (Made Zone) base current walked same = absurd same
+
+pub told-answer : (terms : Terms) (greatest t0 : ℕ) (log : Log) (q : Query) (entry : ℕ) (kept : Message) (dnssec : Bool)
+    → Answers terms greatest t0 log q entry (Pos kept) → IsToldAnswer (given_of terms) log t0 q dnssec (entry ∷ []) (strip_of kept dnssec)
+told-answer terms greatest t0 log q entry kept dnssec h =
+    told-by terms t0 log q entry h.stands.zone kept dnssec h.stands.whole h.stands.base h.current h.stands.walked h.stands.same
+
+-- a reply with what has its cause
+pub replies : (terms : Terms) (moment t0 : ℕ) (log : Log) (asked : Question) (r : Result (Box Reply) NoMemory) (outcome : Result Message RecursorError) (g : List ℕ)
+    → IfOk r (λ reply. reply.value ≡ record { outcome = outcome; grounds = g })
+    → OutcomeHolds (given_of terms) (machine_timer moment log t0) log t0 asked g outcome
+    → IfOk r (λ reply. ReplyHolds terms (machine_timer moment) log t0 asked reply.value)
+replies terms moment t0 log asked r outcome g is holds =
+    IfOk-weaker r _ (λ reply. ReplyHolds terms (machine_timer moment) log t0 asked reply.value) (λ reply e. subst (ReplyHolds terms (machine_timer moment) log t0 asked) (sym e) holds) is
+
+-- one reply with an error that has its cause
+pub denied : (terms : Terms) (moment t0 : ℕ) (log : Log) (asked : Question) (reply : Reply) (error : RecursorError) (g : List ℕ)
+    → reply ≡ record { outcome = Err error; grounds = g } → ErrorHolds (given_of terms) (machine_timer moment log t0) log t0 asked.query g error
+    → ReplyHolds terms (machine_timer moment) log t0 asked reply
+denied terms moment t0 log asked reply error g is cause = subst (ReplyHolds terms (machine_timer moment) log t0 asked) (sym is) cause
+
+-- a reply with an error that has its cause
+pub denies : (terms : Terms) (moment t0 : ℕ) (log : Log) (asked : Question) (r : Result (Box Reply) NoMemory) (error : RecursorError) (g : List ℕ)
+    → IfOk r (λ reply. reply.value ≡ record { outcome = Err error; grounds = g })
+    → ErrorHolds (given_of terms) (machine_timer moment log t0) log t0 asked.query g error
+    → IfOk r (λ reply. ReplyHolds terms (machine_timer moment) log t0 asked reply.value)
+denies terms moment t0 log asked r error g is cause =
+    IfOk-weaker r _ (λ reply. ReplyHolds terms (machine_timer moment) log t0 asked reply.value) (λ reply e. denied terms moment t0 log asked reply.value error g e cause) is
+
+-- it is the reply of a walk
+stopped : (terms : Terms) (greatest moment t0 : ℕ) (log : Log) (asked : Question) (w : Walk) (reply : Reply) (given : Option (Box Reply))
+    → IsReply reply given → ReplyHolds terms (machine_timer moment) log t0 asked reply → WalkComes terms greatest moment t0 log asked w given
+stopped terms greatest moment t0 log asked w reply None is h = absurd is
+stopped terms greatest moment t0 log asked w reply (Some b) is h = subst (ReplyHolds terms (machine_timer moment) log t0 asked) (sym is) h
+
+-- a walk that stops with a reply
+pub stops : (terms : Terms) (greatest moment t0 : ℕ) (log : Log) (asked : Question) (w : Walk) (r : Result (Option (Box Reply)) NoMemory) (reply : Reply)
+    → IfOk r (IsReply reply) → ReplyHolds terms (machine_timer moment) log t0 asked reply → IfOk r (WalkComes terms greatest moment t0 log asked w)
+stops terms greatest moment t0 log asked w r reply is h =
+    IfOk-weaker r _ (WalkComes terms greatest moment t0 log asked w) (λ given e. stopped terms greatest moment t0 log asked w reply given e h) is
+
+-- a lookup for a question at the servers of the zone to which its walk went down failed
+pub has-failed : (terms : Terms) (moment t0 : ℕ) (log : Log) (zone : DomainName) (asked q : Query) (g : List ℕ) (e : NetError)
+    → asked ≡ q → Concluded terms moment t0 log zone asked g (Err e) → Walked (given_of terms) log q zone
+    → HasFailed (given_of terms) (machine_timer moment log t0) log t0 q g e
+has-failed terms moment t0 log zone asked q g e same ended walked = record {
+  zone = zone;
+  ended = subst (λ (p : Query). Finished (given_of terms) (machine_timer moment log t0) log t0 p zone g (Err e)) same ended;
+  walked = walked;
+}
+
+-- ---- negatives
+
+-- where the filter leaves nothing for a question, that question was asked
+first-asked : (log : Log) (i : ℕ) (n : NoRecords) (first : Query) → n ≡ nothing_left_for first → AskedAs log i n.query → AskedAs log i first
+first-asked log i n first is a = subst (AskedAs log i) (ap (λ (m : NoRecords). m.query) is) a
+
+-- a negative that is answered at last: itself, or a referral
+negative-by : (terms : Terms) (moment t0 : ℕ) (log : Log) (q : Query) (entry : ℕ) (zone : DomainName) (n : NoRecords) (whole : Verdict)
+    → Base (given_of terms) log t0 q entry zone whole → Walked (given_of terms) log q zone → SameVerdict q (Neg n) whole → ShowsAsked log entry q (Neg n) whole
+    → ErrorHolds (given_of terms) (machine_timer moment log t0) log t0 q (entry ∷ []) (told_negative n)
+negative-by terms moment t0 log q entry zone n (Pos kept) base walked same asked = absurd same
+negative-by terms moment t0 log q entry zone n (Made Zone) base walked same asked = absurd same
+negative-by terms moment t0 log q entry zone n (Made Filter) base walked same asked =
+    subst (λ (m : NoRecords). ErrorHolds (given_of terms) (machine_timer moment log t0) log t0 q (entry ∷ []) (told_negative m)) (sym same.is)
+    (denial_made {p = same.first} base walked same.same (first-asked log entry n same.first same.is asked))
+negative-by terms moment t0 log q entry zone n (Neg before) base walked same asked = by n.ns before.ns refl same.ns
+  where
+    by : (o p : Option (List ForwardNsData)) → before.ns ≡ p → SameIfAny SameReferrals o p
+        → ErrorHolds (given_of terms) (machine_timer moment log t0) log t0 q (entry ∷ []) (elim o [ Some forward ↦ ForwardNS forward | None ↦ Negative (told_data n) ])
+    by None None e alike = denial_told base walked e (data_same n before same)
+    by (Some forward) (Some servers) e alike = referred base walked e alike
+    by None (Some servers) e alike = absurd alike
+    by (Some forward) None e alike = absurd alike
+
+answers-negative : (terms : Terms) (greatest moment t0 : ℕ) (log : Log) (q : Query) (entry : ℕ) (n : NoRecords)
+    → Stands terms greatest t0 log q entry (Neg n)
+    → ErrorHolds (given_of terms) (machine_timer moment log t0) log t0 q (entry ∷ []) (told_negative n)
+answers-negative terms greatest moment t0 log q entry n h = negative-by terms moment t0 log q entry h.zone n h.whole h.base h.walked h.same h.asked
+
+-- a question is the same as itself, in any case
+made-for : (cause : Cause) (q : Query) → IsMadeFor cause q q
+made-for Filter q = same_query-refl q
+made-for Zone q = refl
+
+-- a negative that the recursor makes is answered at last
+made-by : (terms : Terms) (moment t0 : ℕ) (log : Log) (q : Query) (entry : ℕ) (zone : DomainName) (cause : Cause) (whole : Verdict)
+    → Base (given_of terms) log t0 q entry zone whole → Walked (given_of terms) log q zone → SameVerdict q (Made cause) whole → AskedAs log entry q
+    → ErrorHolds (given_of terms) (machine_timer moment log t0) log t0 q (entry ∷ []) (made_negative q cause)
+made-by terms moment t0 log q entry zone cause (Pos kept) base walked same asked = absurd same
+made-by terms moment t0 log q entry zone cause (Neg n) base walked same asked = absurd same
+made-by terms moment t0 log q entry zone cause (Made before) base walked same asked =
+    subst (λ (x : Cause). ErrorHolds (given_of terms) (machine_timer moment log t0) log t0 q (entry ∷ []) (made_negative q x)) (sym same) (denial_made base walked (made-for before q) asked)
+
+answers-made : (terms : Terms) (greatest moment t0 : ℕ) (log : Log) (q : Query) (entry : ℕ) (cause : Cause)
+    → Stands terms greatest t0 log q entry (Made cause)
+    → ErrorHolds (given_of terms) (machine_timer moment log t0) log t0 q (entry ∷ []) (made_negative q cause)
+answers-made terms greatest moment t0 log q entry cause h = made-by terms moment t0 log q entry h.zone cause h.whole h.base h.walked h.same h.asked
+
+-- what counts for the question and may be answered is the cause of what is answered with it
+pub answered-by : (terms : Terms) (greatest moment t0 : ℕ) (log : Log) (asked : Question) (entry : ℕ) (v : Verdict)
+    → Answers terms greatest t0 log asked.query entry v
+    → OutcomeHolds (given_of terms) (machine_timer moment log t0) log t0 asked (entry ∷ []) (outcome_of asked v)
+answered-by terms greatest moment t0 log asked entry (Pos kept) h = told-answer terms greatest t0 log asked.query entry kept asked.dnssec_ok h
+answered-by terms greatest moment t0 log asked entry (Neg n) h = answers-negative terms greatest moment t0 log asked.query entry n h.stands
+answered-by terms greatest moment t0 log asked entry (Made cause) h = answers-made terms greatest moment t0 log asked.query entry cause h.stands
+
+-- a negative that ends a walk names no servers
+ends-none : (n : NoRecords) → ends_walk n ≡ true → n.ns ≡ None
+ends-none n e = by n.ns (second_so (n.response_code.code == 3) (is_none n.ns) e)
+  where
+    by : (o : Option (List ForwardNsData)) → is_none o ≡ true → o ≡ None
+    by None h = refl
+    by (Some forward) h = cc
+
+-- the same test of the verdict that was told
+ends-verdict : (n before : NoRecords) → SameNegative n before → ends_walk n ≡ true → failing.ends_walk (Neg before) ≡ true
+ends-verdict n before same e =
+    sym (ap (λ (m : NoRecords). m.response_code.code == 3 && is_none n.ns) same.rest
+    ∙ ap (λ (b : Bool). before.response_code.code == 3 && b) (both-none n.ns before.ns same.ns)) ∙ e
+  where
+    both-none : (o p : Option (List ForwardNsData)) → SameIfAny SameReferrals o p → is_none o ≡ is_none p
+    both-none None None alike = refl
+    both-none (Some forward) (Some servers) alike = refl
+    both-none None (Some servers) alike = absurd alike
+    both-none (Some forward) None alike = absurd alike
+
+-- a negative that ends a walk at a candidate
+way-negative-by : (terms : Terms) (moment t0 : ℕ) (log : Log) (q : Query) (entry : ℕ) (zone c : DomainName) (n : NoRecords) (whole : Verdict)
+    → Contains (candidates (walk q)) c → Base (given_of terms) log t0 (question c 2) entry zone whole
+    → Walked (given_of terms) log (question c 2) zone → SameVerdict (question c 2) (Neg n) whole → ShowsAsked log entry (question c 2) (Neg n) whole → ends_walk n ≡ true
+    → ErrorHolds (given_of terms) (machine_timer moment log t0) log t0 q (entry ∷ []) (told_negative n)
+way-negative-by terms moment t0 log q entry zone c n (Pos kept) has base walked same asked ends = absurd same
+way-negative-by terms moment t0 log q entry zone c n (Made Zone) has base walked same asked ends = absurd same
+way-negative-by terms moment t0 log q entry zone c n (Made Filter) has base walked same asked ends =
+    subst (λ (m : NoRecords). ErrorHolds (given_of terms) (machine_timer moment log t0) log t0 q (entry ∷ []) (told_negative m)) (sym same.is)
+    (made_on_the_way {p = same.first} refl has base walked same.same (first-asked log entry n same.first same.is asked))
+way-negative-by terms moment t0 log q entry zone c n (Neg before) has base walked same asked ends =
+    let none = ends-none n ends in
+    subst (ErrorHolds (given_of terms) (machine_timer moment log t0) log t0 q (entry ∷ [])) (sym (ap (λ (o : Option (List ForwardNsData)). negative-of n o) none))
+    (told_on_the_way refl has base walked (ends-verdict n before same ends) (data_same n before same))
+  where
+    negative-of : NoRecords → Option (List ForwardNsData) → RecursorError
+    negative-of m o = elim o [ Some forward ↦ ForwardNS forward | None ↦ Negative (told_data m) ]
+
+pub answers-on-the-way : (terms : Terms) (greatest moment t0 : ℕ) (log : Log) (q : Query) (entry : ℕ) (c : DomainName) (n : NoRecords)
+    → Contains (candidates (walk q)) c → Stands terms greatest t0 log (question c 2) entry (Neg n) → ends_walk n ≡ true
+    → ErrorHolds (given_of terms) (machine_timer moment log t0) log t0 q (entry ∷ []) (told_negative n)
+answers-on-the-way terms greatest moment t0 log q entry c n has h ends =
+    way-negative-by terms moment t0 log q entry h.zone c n h.whole has h.base h.walked h.same h.asked ends
+
+-- a negative that the recursor makes at a candidate
+way-made-by : (terms : Terms) (moment t0 : ℕ) (log : Log) (q : Query) (entry : ℕ) (zone c : DomainName) (cause : Cause) (whole : Verdict)
+    → Contains (candidates (walk q)) c → Base (given_of terms) log t0 (question c 2) entry zone whole
+    → Walked (given_of terms) log (question c 2) zone → SameVerdict (question c 2) (Made cause) whole → AskedAs log entry (question c 2)
+    → ErrorHolds (given_of terms) (machine_timer moment log t0) log t0 q (entry ∷ []) (made_negative (question c 2) cause)
+way-made-by terms moment t0 log q entry zone c cause (Pos kept) has base walked same asked = absurd same
+way-made-by terms moment t0 log q entry zone c cause (Neg n) has base walked same asked = absurd same
+way-made-by terms moment t0 log q entry zone c cause (Made before) has base walked same asked =
+    subst (λ (x : Cause). ErrorHolds (given_of terms) (machine_timer moment log t0) log t0 q (entry ∷ []) (made_negative (question c 2) x)) (sym same)
+    (made_on_the_way refl has base walked (made-for before (question c 2)) asked)
+
+pub made-on-the-way : (terms : Terms) (greatest moment t0 : ℕ) (log : Log) (q : Query) (entry : ℕ) (c : DomainName) (cause : Cause)
+    → Contains (candidates (walk q)) c → Stands terms greatest t0 log (question c 2) entry (Made cause)
+    → ErrorHolds (given_of terms) (machine_timer moment log t0) log t0 q (entry ∷ []) (made_negative (question c 2) cause)
+made-on-the-way terms greatest moment t0 log q entry c cause has h = way-made-by terms moment t0 log q entry h.zone c cause h.whole has h.base h.walked h.same h.asked
+
+-- ---- delegations without addresses
+
+-- a list in which nothing is has no elements
+none-in : {X : Type 0} (xs : List X) → ((x : X) → Contains xs x → ⊥) → xs ≡ []
+none-in [] h = refl
+none-in (x ∷ xs) h = absurd (h x (0, omega arith, refl))
+
+-- a delegation that stands and gives no address that may be asked
+glueless-by : (terms : Terms) (t0 : ℕ) (log : Log) (q : Query) (zone c : DomainName) (entry : ℕ) (kept : Message) (whole : Verdict)
+    → Contains (candidates (walk q)) c → Base (given_of terms) log t0 (question c 2) entry zone whole → SameVerdict (question c 2) (Pos kept) whole
+    → is_delegation kept c ≡ true → allowed (access_denies terms.server_filter) (glue kept c) ≡ [] → HasNoAddress (given_of terms) log t0 q
+glueless-by terms t0 log q zone c entry kept (Neg n) has base same delegates none = absurd same
+glueless-by terms t0 log q zone c entry kept (Made Filter) has base same delegates none = absurd same
+glueless-by terms t0 log q zone c entry kept (Made Zone) has base same delegates none = absurd same
+glueless-by terms t0 log q zone c entry kept (Pos before) has base same delegates none = record {
+  candidate = c;
+  told = before;
+  on_the_way = has;
+  glueless = record {
+    i = entry;
+    z = zone;
+    base = base;
+    delegates = sym (Same-is_delegation kept before c same) ∙ delegates;
+    none = subst (λ (ips : List IpAddr). allowed (access_denies terms.server_filter) ips ≡ []) (Same-glue kept before c same) none;
+  };
+}
+
+pub glueless-of : (terms : Terms) (greatest t0 : ℕ) (log : Log) (q : Query) (c : DomainName) (asked : Query) (entry : ℕ) (kept : Message)
+    → Contains (candidates (walk q)) c → Stands terms greatest t0 log asked entry (Pos kept) → asked ≡ question c 2 → is_delegation kept c ≡ true
+    → ((ip : IpAddr) → Contains (allowed (access_denies terms.server_filter) (glue kept c)) ip → ⊥)
+    → HasNoAddress (given_of terms) log t0 q
+glueless-of terms greatest t0 log q c asked entry kept has h is delegates none =
+    let now = subst (λ (p : Query). Stands terms greatest t0 log p entry (Pos kept)) is h in
+    glueless-by terms t0 log q now.zone c entry kept now.whole has now.base now.same delegates
+    (none-in (allowed (access_denies terms.server_filter) (glue kept c)) none)

@@ -1,0 +1,173 @@
+-- What is read from the cache stands for the question that reads it.
+use Rattle.std.proofs.Common.{◌≡◌, ℕ, ◌+◌, ◌*◌, ◌≤◌, true, ◌&&◌, Option, Some, None, Result, Ok, Err, IsTrue, refl, sym, ap, subst, inl, inr, arith}
+use Rattle.std.specs.Prelude.{◌==◌, IsSomeAnd, option_and_then}
+use Rattle.std.specs.Option.{option_map}
+use Rattle.std.specs.Cmp.{first_so, second_so}
+use Rattle.std.proofs.lemmas.Option.{same_Some}
+use Rattle.std.proofs.lemmas.List.Elements.{All-contains}
+use Rattle.dns_core.specs.Name.{same_names}
+use Rattle.dns_core.specs.Log.{Log}
+use Rattle.dns_core.specs.declared.message.Query.{Query}
+use Rattle.dns_core.specs.declared.message.Message.{Message}
+use Rattle.dns_core.specs.declared.net_error.NetError.{NetError}
+use Rattle.dns_core.specs.declared.net_error.NetError.TheVariants as net
+use Rattle.dns_core.specs.declared.net_error.DnsError.TheVariants as dns
+use Rattle.resolver_cache.specs.Cached.{Cached}
+use Rattle.resolver_cache.specs.Cache.{found_for}
+use Rattle.resolver_cache.specs.Entry.{is_same_question, current_for}
+use Rattle.resolver_cache.specs.Laws.{IsFoundIn}
+use Rattle.resolver_cache.specs.Lowering.{seconds_between, lowered, lowered_message, lowered_denial}
+use Rattle.resolver_cache.specs.declared.entry.Entry.{Entry}
+use Rattle.resolver_cache.specs.declared.entry.CachedResponse.{CachedResponse}
+use Rattle.resolver_cache.proofs.FoundThere.{found_there}
+use Rattle.resolution.specs.Names.{same_query}
+use Rattle.resolution.specs.Life.{Fresh, life_in_seconds}
+use Rattle.resolution.specs.Answering.{Base}
+use Rattle.resolution.specs.declared.verdict.Verdict.{Verdict}
+use Rattle.resolution.specs.declared.verdict.Verdict.TheVariants.{Pos, Neg, Made}
+use Rattle.resolution.specs.declared.verdict.Cause.TheVariants.{Filter, Zone}
+use Rattle.dns_core.specs.declared.net_error.NoRecords.{NoRecords}
+use Rattle.resolution.proofs.Caseless.{Base-same, both, same_through}
+use Rattle.resolution.proofs.WalksCaseless.{Walked-same}
+use Rattle.walk_base.specs.Kept.{kept_of, verdict_kept}
+use Rattle.recursor_walk.specs.Counted.{counted_for, recalled, may_answer, IsCurrentVerdict, Stands, Answers, IsRecalled}
+use Rattle.walk_tables.specs.Remembered.{EntryHolds, CacheHolds}
+use Rattle.walk_tables.specs.Terms.{Terms, given_of}
+use Rattle.walk_tables.specs.Asked.{AskedAs}
+use Rattle.walk_tables.specs.Remembered.{IsShown}
+use Rattle.recursor_walk.specs.SameTold.{SameVerdict, ShowsAsked}
+use Rattle.recursor_walk.specs.declared.counted.Counted.{Counted}
+use Rattle.recursor_walk.proofs.Lowered.{lower_message, lower_denial}
+use Rattle.walk_tables.proofs.Sends.{same_query-refl}
+
+-- the same question for the cache is the same question
+same_question : (a b : Query) → is_same_question a b ≡ true → same_query a b ≡ true
+same_question a b h =
+    let first = first_so (a.query_type.code == b.query_type.code && a.query_class.code == b.query_class.code) _ (regroup a b h) in
+    let names = second_so (a.query_type.code == b.query_type.code && a.query_class.code == b.query_class.code) _ (regroup a b h) in
+    let types = first_so (a.query_type.code == b.query_type.code) _ first in
+    let classes = second_so (a.query_type.code == b.query_type.code) _ first in
+    both (same_names a.name b.name && a.query_type.code == b.query_type.code) _ (both (same_names a.name b.name) _ names types) classes
+  where
+    regroup : (a b : Query) → is_same_question a b ≡ true
+        → ((a.query_type.code == b.query_type.code && a.query_class.code == b.query_class.code) && same_names a.name b.name) ≡ true
+    regroup a b h = h
+
+-- what is read of a verdict that was kept as it is shown is the same but for TTLs, and answers only where that one may
+record ReadsAs (q : Query) (whole v : Verdict) : Type 0 where
+  same : SameVerdict q v whole
+  current : (t0 moment : ℕ) → IsTrue (may_answer v) → IsCurrentVerdict t0 moment whole
+  asked : (log : Log) (i : ℕ) (p : Query) → AskedAs log i q → ShowsAsked log i p v whole
+
+reads_pos : (q : Query) (n : ℕ) (k : Message) (whole v : Verdict) → IsShown q (Pos k) whole → verdict_kept (lowered n (Ok k)) ≡ Some v → ReadsAs q whole v
+reads_pos q n k (Pos l) v shown h =
+    subst (ReadsAs q (Pos l)) (same_Some _ _ h)
+    (subst (λ (m : Message). ReadsAs q (Pos m) (Pos (lowered_message n k))) shown (record { same = lower_message n k; current = λ t0 moment may. inl may; asked = λ log i p asked. tt }))
+reads_pos q n k (Neg d) v shown h = absurd shown
+reads_pos q n k (Made Filter) v shown h = absurd shown
+reads_pos q n k (Made Zone) v shown h = absurd shown
+
+reads_neg : (q : Query) (n : ℕ) (d : NoRecords) (whole v : Verdict) → IsShown q (Neg d) whole → verdict_kept (lowered n (Err (net.Dns (dns.NoRecordsFound d)))) ≡ Some v → ReadsAs q whole v
+reads_neg q n d (Pos l) v shown h = absurd shown
+reads_neg q n d (Neg e) v shown h =
+    subst (ReadsAs q (Neg e)) (same_Some _ _ h)
+    (subst (λ (x : NoRecords). ReadsAs q (Neg x) (Neg (lowered_denial n d))) shown (record { same = lower_denial n d; current = λ t0 moment may. tt; asked = λ log i p asked. tt }))
+reads_neg q n d (Made Filter) v shown h =
+    subst (ReadsAs q (Made Filter)) (same_Some _ _ h)
+    (record {
+      same = record { first = q; same = same_query-refl q; is = ap (lowered_denial n) shown };
+      current = λ t0 moment may. tt;
+      asked = λ log i p asked. subst (λ (x : NoRecords). AskedAs log i x.query) (sym shown) asked;
+    })
+reads_neg q n d (Made Zone) v shown h = absurd shown
+
+reads_as : (q : Query) (n : ℕ) (whole shown v : Verdict) (response : Result Message NetError) → IsShown q shown whole → kept_of shown ≡ Some response
+    → verdict_kept (lowered n response) ≡ Some v → ReadsAs q whole v
+reads_as q n whole (Pos k) v response shown kept h =
+    reads_pos q n k whole v shown (subst (λ (r : Result Message NetError). verdict_kept (lowered n r) ≡ Some v) (sym (same_Some _ _ kept)) h)
+reads_as q n whole (Neg d) v response shown kept h =
+    reads_neg q n d whole v shown (subst (λ (r : Result Message NetError). verdict_kept (lowered n r) ≡ Some v) (sym (same_Some _ _ kept)) h)
+reads_as q n whole (Made cause) v response shown kept h = cc
+
+-- what is the same for one spelling of a question is so for another
+respelled : (a b : Query) (v whole : Verdict) → same_query a b ≡ true → SameVerdict a v whole → SameVerdict b v whole
+respelled a b (Pos k) (Pos l) same h = h
+respelled a b (Pos k) (Neg n) same h = absurd h
+respelled a b (Pos k) (Made Filter) same h = absurd h
+respelled a b (Pos k) (Made Zone) same h = absurd h
+respelled a b (Neg n) (Pos k) same h = absurd h
+respelled a b (Neg n) (Neg m) same h = h
+respelled a b (Neg n) (Made Filter) same h = record { first = h.first; same = same_through a b same h.first h.same; is = h.is }
+respelled a b (Neg n) (Made Zone) same h = absurd h
+respelled a b (Made cause) (Pos k) same h = absurd h
+respelled a b (Made cause) (Neg n) same h = absurd h
+respelled a b (Made cause) (Made other) same h = h
+
+module _ (terms : Terms) (greatest t0 now : ℕ) (log : Log) (cache : Cached) (q : Query) (begun : t0 ≤ now) (holds : CacheHolds terms greatest log cache) where
+  -- an entry that is current was told within its life
+  fresh-of : (e : Entry) (moment : ℕ) (whole : Verdict) → now ≤ e.expiry
+      → IsSomeAnd (life_in_seconds (given_of terms) e.query.query_type whole) (λ life. e.expiry ≤ moment + 1000000 * life)
+      → Fresh (given_of terms) t0 moment e.query whole
+  fresh-of e moment whole current expires = inr (later (life_in_seconds (given_of terms) e.query.query_type whole) expires)
+    where
+      later : (o : Option ℕ) → IsSomeAnd o (λ life. e.expiry ≤ moment + 1000000 * life) → IsSomeAnd o (λ life. t0 ≤ moment + 1000000 * life)
+      later (Some life) h = omega (arith, begun, current, h)
+      later None h = absurd h
+
+  -- what an entry for the question tells
+  by-entry : (f : CachedResponse) (v : Verdict) → IsFoundIn cache q now f → verdict_kept f.response ≡ Some v
+      → IsRecalled terms greatest t0 log q (record { entry = f.source; verdict = v })
+  by-entry f v found h =
+      let e = found.entry in
+      let held : EntryHolds terms greatest log e = All-contains (EntryHolds terms greatest log) cache.entries e holds.entries found.kept in
+      let same : same_query e.query q ≡ true = same_question e.query q found.question in
+      let base : Base (given_of terms) log t0 e.query e.source held.zone held.whole = record {
+        told = held.told;
+        moment = held.moment;
+        heard = held.heard;
+        counts = held.counts;
+        fresh = fresh-of e held.moment held.whole found.current held.expires;
+      } in
+      let reads = reads_as e.query (seconds_between e.written now) held.whole held.shown v e.response held.as_shown held.kept
+      (subst (λ (r : Result Message NetError). verdict_kept r ≡ Some v) found.reads h) in
+      let stands : Stands terms greatest t0 log q e.source v = record {
+        zone = held.zone;
+        whole = held.whole;
+        early = held.early;
+        base = Base-same e.query q same base;
+        walked = Walked-same (given_of terms) log e.query q held.zone same held.walked;
+        same = respelled e.query q v held.whole same reads.same;
+        asked = reads.asked log e.source q held.asked;
+      } in
+      subst (λ (s : ℕ). IsRecalled terms greatest t0 log q (record { entry = s; verdict = v })) (sym found.source)
+      (record { stands = stands; current = reads.current t0 stands.base.moment })
+
+  -- what was found, if anything
+  by-found : (o : Option CachedResponse) → found_for cache q now ≡ o → (c : Counted) → option_and_then counted_for o ≡ Some c
+      → IsRecalled terms greatest t0 log q c
+  by-found None is c h = cc
+  by-found (Some f) is c h = by-verdict (verdict_kept f.response) refl h
+    where
+      by-verdict : (v : Option Verdict) → verdict_kept f.response ≡ v
+          → option_map (λ (x : Verdict). let made : Counted = record { entry = f.source; verdict = x } in made) v ≡ Some c → IsRecalled terms greatest t0 log q c
+      by-verdict None e k = cc
+      by-verdict (Some x) e k = subst (IsRecalled terms greatest t0 log q) (same_Some _ _ k) (by-entry f x (found_there cache q now f is) e)
+
+  -- what the cache has for a question stands
+  pub recalled-stands : (c : Counted) → recalled cache q now ≡ Some c → IsRecalled terms greatest t0 log q c
+  recalled-stands c h = by-found (found_for cache q now) refl c h
+
+-- an authoritative message that the cache has for a question, as it reads, answers it
+pub kept-answers : (terms : Terms) (greatest t0 now : ℕ) (log : Log) (cache : Cached) (q : Query) → t0 ≤ now → CacheHolds terms greatest log cache
+    → (e : Entry) (m : Message) → current_for q now cache.entries ≡ Some e → e.response ≡ Ok m → m.authoritative ≡ true
+    → Answers terms greatest t0 log q e.source (Pos (lowered_message (seconds_between e.written now) m))
+kept-answers terms greatest t0 now log cache q begun holds e m here is may =
+    let n = seconds_between e.written now in
+    let c : Counted = record { entry = e.source; verdict = Pos (lowered_message n m) } in
+    let read : counted_for (record { response = lowered n e.response; source = e.source }) ≡ Some c =
+    subst (λ (r : Result Message NetError). counted_for (record { response = lowered n r; source = e.source }) ≡ Some c) (sym is) refl in
+    let found : recalled cache q now ≡ Some c =
+    subst (λ (o : Option Entry). option_and_then counted_for (option_map
+    (λ (x : Entry). let f : CachedResponse = record { response = lowered (seconds_between x.written now) x.response; source = x.source } in f) o) ≡ Some c) (sym here) read in
+    let stands = recalled-stands terms greatest t0 now log cache q begun holds c found in
+    record { stands = stands.stands; current = stands.current may }

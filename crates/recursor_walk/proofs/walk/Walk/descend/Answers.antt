@@ -1,0 +1,44 @@
+use Rattle.std.proofs.Common.{◌∙◌, sym, subst, refl, List, [], length, ◌<◌, ◌↔◌, Contains, Err, arith}
+use Rattle.std.proofs.lemmas.Bool.Decides.{nat_tests}
+use Rattle.recursor_types.specs.declared.error.RecursorError.TheVariants.{NoNameServer}
+use Rattle.recursor_types.specs.declared.error.WalkCause.TheVariants.{NoAddress}
+use Rattle.resolution.specs.declared.verdict.Verdict.TheVariants.{Pos}
+use Rattle.resolution.specs.Serving.{allowed, glue}
+use Rattle.resolver_settings.specs.Access.{Access, denies}
+use Rattle.std.specs.declared.net.ip_addr.IpAddr.{IpAddr}
+use Rattle.recursor_walk.proofs.Denials.{glueless-of, stops}
+use Rattle.recursor_walk.proofs.Walks.{cut-way, cut-leaves, candidate-asked, candidate-on-the-way, leaves-told}
+use Rattle.recursor_walk.proofs.walk.Walk.descend.Goals as goal
+
+pub returns-then-not-is_delegation-clause-holds : goal.returns-then-not-is_delegation-clause-holds
+returns-then-not-is_delegation-clause-holds c terms greatest moment t0 entry log filtered way stands =
+    c.advance.ensures.holds terms greatest moment t0 log way
+    (leaves-told terms greatest log c.args.question.now.query c.args.self.now c.requires way t0 entry (Pos c.args.kept.now) stands
+    (sym c.is_delegation.ensures ∙ c.if-not-is_delegation.true))
+
+pub returns-clause-holds : goal.returns-clause-holds
+returns-clause-holds c terms greatest moment t0 entry log filtered way stands =
+    let w = c.args.self.now in
+    let filled = sym c.is_empty.ensures ∙ c.if-is_empty.false in
+    c.advance-2.ensures.holds terms greatest moment t0 log
+    (cut-way terms greatest t0 log c.args.question.now.query w c.args.kept.now entry c.in_ok-self.field-0 c.new.result c.requires way stands
+    (sym c.is_delegation.ensures ∙ c.if-not-is_delegation.false) c.in_ok-self.ensures
+    (subst (λ (xs : List IpAddr). 0 < length xs) (sym c.new.ensures) (grind (arith, nat_tests)))
+    (λ ip. subst (λ (xs : List IpAddr). Contains xs ip ↔ Contains (allowed (denies terms.server_filter) (glue c.args.kept.now w.lookup.query.name)) ip) (sym c.new.ensures)
+    (subst (λ (f : Access). Contains c.in_ok-ips.ips.items ip ↔ Contains (allowed (denies f) (glue c.args.kept.now w.lookup.query.name)) ip) (sym filtered) (c.in_ok-ips.ensures ip))))
+    (cut-leaves terms log w c.in_ok-self.field-0 c.new.result c.in_ok-self.ensures)
+
+pub returns-then-is_empty-clause-holds : goal.returns-then-is_empty-clause-holds
+returns-then-is_empty-clause-holds c terms greatest moment t0 entry log filtered way stands =
+    let w = c.args.self.now in
+    let asked = c.args.question.now in
+    let name = w.lookup.query.name in
+    let empty = sym c.is_empty.ensures ∙ c.if-is_empty.true in
+    stops terms greatest moment t0 log asked _ c.no_server.result (record { outcome = Err (NoNameServer w.name NoAddress); grounds = [] }) c.no_server.ensures (
+      way.name,
+      refl,
+      glueless-of terms greatest t0 log asked.query name w.lookup.query entry c.args.kept.now (candidate-on-the-way terms greatest log asked.query w c.requires way) stands
+          (candidate-asked terms greatest log asked.query w c.requires way)
+          (sym c.is_delegation.ensures ∙ c.if-not-is_delegation.false)
+          (λ ip has. let place = (c.in_ok-ips.ensures ip).1 (subst (λ (f : Access). Contains (allowed (denies f) (glue c.args.kept.now name)) ip) filtered has) in let less = place.1 in grind (arith, nat_tests)),
+    )

@@ -1,0 +1,61 @@
+-- What counts for a question, whether it was told just now or is read from the cache (RFC 2308 section 5).
+use Rattle.std.specs.Prelude.{ℕ, ◌≤◌, Bool, true, IsTrue, Option, option_and_then}
+use Rattle.std.specs.Option.{option_map}
+use Rattle.dns_core.specs.Name.{DomainName}
+use Rattle.dns_core.specs.Log.{Log}
+use Rattle.dns_core.specs.declared.message.Query.{Query}
+use Rattle.resolver_cache.specs.Cached.{Cached}
+use Rattle.resolver_cache.specs.Cache.{found_for}
+use Rattle.resolver_cache.specs.declared.entry.CachedResponse.{CachedResponse}
+use Rattle.resolution.specs.Answering.{Base, IsCurrent}
+use Rattle.resolution.specs.declared.verdict.Verdict.{Verdict}
+use Rattle.resolution.specs.declared.verdict.Verdict.TheVariants.{Pos, Neg, Made}
+use Rattle.resolution.specs.Walking.{Walked}
+use Rattle.walk_base.specs.Kept.{verdict_kept}
+use Rattle.walk_tables.specs.Terms.{Terms, given_of}
+use Rattle.recursor_walk.specs.SameTold.{SameVerdict, ShowsAsked}
+use Rattle.recursor_walk.specs.declared.counted.Counted.{Counted}
+
+-- ---- in the cache
+
+abbrev pub counted_for : CachedResponse → Option Counted
+counted_for f = option_map (λ v. let c : Counted = record { entry = f.source; verdict = v } in c) (verdict_kept f.response)
+
+-- what the cache has for the question that is current
+abbrev pub recalled : Cached → Query → ℕ → Option Counted
+recalled cache q now = option_and_then counted_for (found_for cache q now)
+
+-- ---- for a question
+
+-- What is read later answers where it is authoritative, or a negative (RFC 1034 section 5.3.3, step 1).
+abbrev pub may_answer : Verdict → Bool
+may_answer (Pos k) = k.authoritative
+may_answer (Neg n) = true
+may_answer (Made cause) = true
+
+-- Entry i, no later than the greatest, tells for the question what counts so, but for TTLs, and is fresh at t0; its server is one of
+-- a zone to which the walk went down.
+pub record Stands (terms : Terms) (greatest t0 : ℕ) (log : Log) (q : Query) (entry : ℕ) (v : Verdict) : Type 0 where
+  pub zone : DomainName
+  pub whole : Verdict
+  pub early : entry ≤ greatest
+  pub base : Base (given_of terms) log t0 q entry zone whole
+  pub walked : Walked (given_of terms) log q zone
+  pub same : SameVerdict q v whole
+  pub asked : ShowsAsked log entry q v whole
+
+-- an answer is authoritative, or was told at or after t0
+abbrev pub IsCurrentVerdict : ℕ → ℕ → Verdict → Type 0
+IsCurrentVerdict t0 moment (Pos k) = IsCurrent t0 moment k
+IsCurrentVerdict t0 moment (Neg n) = Unit {0}
+IsCurrentVerdict t0 moment (Made cause) = Unit {0}
+
+-- So it is, and it may be answered.
+pub record Answers (terms : Terms) (greatest t0 : ℕ) (log : Log) (q : Query) (entry : ℕ) (v : Verdict) : Type 0 where
+  pub stands : Stands terms greatest t0 log q entry v
+  pub current : IsCurrentVerdict t0 stands.base.moment stands.whole
+
+-- What is read from the cache is so; it may be answered where it is a negative, or authoritative.
+pub record IsRecalled (terms : Terms) (greatest t0 : ℕ) (log : Log) (q : Query) (c : Counted) : Type 0 where
+  pub stands : Stands terms greatest t0 log q c.entry c.verdict
+  pub current : IsTrue (may_answer c.verdict) → IsCurrentVerdict t0 stands.base.moment stands.whole

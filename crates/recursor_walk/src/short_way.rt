@@ -1,0 +1,47 @@
+//! The short way of a question for which the cache has an authoritative message: this is copied once,
+//! into the reply.
+ghost use Rattle.std.specs.Prelude.{◌≤◌, ℕ, IfOk, IfSome};
+ghost use Rattle.dns_core.specs.Log.{Log};
+ghost use Rattle.walk_tables.specs.Terms.{Terms};
+ghost use Rattle.recursor_walk.specs.Replies.{ReplyHolds};
+ghost use Rattle.walk_tables.specs.Tried.{machine_timer};
+ghost use Rattle.walk_tables.specs.Remembered.{CacheHolds};
+
+use dns_core::{NoMemory, Question};
+use recursor_types::Reply;
+use resolver_cache::{ResponseCache, read_message, seconds_between};
+use std::alloc::Global;
+use walk_base::just;
+
+/// The reply to a question with the authoritative message that the cache has for it, where there is
+/// one that is current at the moment.
+pub fn kept_answer(
+    alloc: Global,
+    cache: &ResponseCache,
+    question: &Question,
+    now: u64,
+) -> Result<Option<Box<Reply>>, NoMemory>
+    ensures { (terms : Terms) (greatest t0 : ℕ) (log : Log) → t0 ≤ now → CacheHolds terms greatest log cache.now
+        → IfOk result (λ reply. IfSome reply (λ given. ReplyHolds terms (machine_timer now) log t0 question.now given.value)) }
+{
+    let Some(entry) = cache.current(&question.query, now) else {
+        return Ok(None);
+    };
+    let Some(message) = entry.message() else {
+        return Ok(None);
+    };
+    if !message.authoritative {
+        return Ok(None);
+    }
+    let seconds = seconds_between(entry.written(), now);
+    let answer = read_message(alloc, message, seconds, question.dnssec_ok)?;
+    let grounds = just(alloc, entry.source())?;
+    let reply = Box::new(
+        alloc,
+        Reply {
+            outcome: Ok(answer),
+            grounds,
+        },
+    )?;
+    Ok(Some(reply))
+}

@@ -1,0 +1,4 @@
+pub mod Sections
+pub mod Allowing
+pub mod NotKept
+pub mod Lending

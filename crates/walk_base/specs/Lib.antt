@@ -1,0 +1,5 @@
+pub mod Answer
+pub mod Kept
+pub mod Lending
+pub mod Response
+pub mod Stage

@@ -1,0 +1,20 @@
+//! What a walk looks for, what a response that was told counts for, the servers that a delegation gives,
+//! and what a question is answered with. All of it is values: who is asked, and what was told, is the
+//! caller's.
+#![tactic(auto)]
+
+mod answer;
+mod class;
+mod glue;
+mod kept;
+mod response;
+mod stage;
+mod verdict;
+
+pub use answer::{ends_walk, just, made_negative, outcome_of, reply_by, told_negative};
+pub use class::class_of;
+pub use glue::{addresses, is_delegation};
+pub use kept::{kept_of, response_in, verdict_kept};
+pub use response::verdict_of_class;
+pub use stage::{Stage, query_at, stage_after, walked_name};
+pub use verdict::{answer_within, negative_within};

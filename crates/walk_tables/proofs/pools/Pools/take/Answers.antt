@@ -1,0 +1,44 @@
+use Rattle.std.proofs.Common.{refl, ap, length, arith}
+use Rattle.std.specs.Option.{option_copied}
+use Rattle.walk_tables.specs.Pools.{NotesOutcome, first_of, polled_by}
+use Rattle.walk_tables.specs.declared.pools.Given.{Given}
+use Rattle.walk_tables.proofs.KeptPools.{pools-kept}
+use Rattle.walk_tables.proofs.Losing.{pools-lost}
+use Rattle.walk_tables.proofs.Outcomes.{open-order, its-rest, its-numbered, pools-put}
+use Rattle.walk_tables.proofs.Puts.{longer-put}
+use Rattle.walk_tables.proofs.Taking.{took-by}
+use Rattle.walk_tables.proofs.pools.Pools.take.Goals as goal
+
+pub returns-in-Ok : goal.returns-in-Ok
+returns-in-Ok c =
+    let old = c.args.self.now in
+    let n = c.args.lookup in
+    let w = option_copied c.args.waits in
+    let g = c.args.given in
+    let mid = record old { shared = c.put.new.self } in
+    let again : Given = record g { polled = polled_by c.args.outcome } in
+    let before = length c.ends-before.result.now in
+    let many = ap (λ ns. length ns) c.ends-before.ensures.ends in
+    let note : NotesOutcome n again (first_of g.aim w c.args.outcome) before c.in-Ok.after c.args.tick.now mid c.note_outcome.new.self =
+    rw (c.first_of-first.ensures, c.polled_by.ensures) at c.note_outcome.ensures in
+    record {
+      took = took-by old mid c.note_outcome.new.self n g w c.args.outcome c.args.tick again (first_of g.aim w c.args.outcome) before c.in-Ok.after c.requires.given c.requires.open refl many note c.in-Ok.ensures.puts;
+      holds = λ terms greatest moment log longer patient put h.
+          pools-put terms greatest moment log longer old mid c.note_outcome.new.self n c.args.tick w c.args.outcome g before c.in-Ok.after patient put refl refl c.requires.given many note h
+          (c.in-Ok.ensures.puts n _ (open-order terms greatest moment log old n w c.args.outcome g c.requires.given h));
+    }
+
+pub returns-in-Err : goal.returns-in-Err
+returns-in-Err c = record {
+  took = tt;
+  holds = λ terms greatest moment log longer patient put h.
+      let old = c.args.self.now in
+      let n = c.args.lookup in
+      let w = option_copied c.args.waits in
+      let g = c.args.given in
+      let mid = record old { shared = c.put.new.self } in
+      let puts = c.in-Err.ensures.puts n _ (open-order terms greatest moment log old n w c.args.outcome g c.requires.given h) in
+      pools-kept terms log longer (longer-put greatest moment log c.args.tick w c.args.outcome _ longer put) greatest _ moment c.args.tick.now c.forget.new.self (omega arith) put.tells.later
+      (pools-lost terms greatest moment log n old mid c.forget.new.self (its-rest terms greatest moment log old n w c.args.outcome g c.requires.given h c.args.tick mid _ puts)
+      (its-numbered terms greatest moment log old n w c.args.outcome g c.requires.given h c.args.tick mid _ puts) refl refl c.forget.ensures h);
+}

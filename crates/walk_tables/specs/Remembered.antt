@@ -1,0 +1,81 @@
+-- What is kept of finished lookups in the cache of responses (RFC 1034 section 5.3.3, step 4).
+use Rattle.std.specs.Prelude.{◌≡◌, ℕ, ◌+◌, ◌*◌, ◌≤◌, ◌==◌, Option, Some, None, Result, All, IsSomeAnd}
+use Rattle.dns_core.specs.Name.{DomainName}
+use Rattle.dns_core.specs.Log.{Log}
+use Rattle.dns_core.specs.declared.message.Query.{Query}
+use Rattle.dns_core.specs.declared.message.Message.{Message}
+use Rattle.dns_core.specs.declared.net_error.NetError.{NetError}
+use Rattle.dns_core.specs.declared.net_error.DnsError.{DnsError}
+use Rattle.dns_core.specs.declared.log.ToldOutcome.{ToldOutcome}
+use Rattle.resolver_cache.specs.Cached.{Cached}
+use Rattle.resolver_cache.specs.Cache.{upserted}
+use Rattle.resolver_cache.specs.declared.entry.Entry.{Entry}
+use Rattle.resolution.specs.Verdict.{verdict}
+use Rattle.resolution.specs.Life.{life_in_seconds}
+use Rattle.resolution.specs.Serving.{Heard}
+use Rattle.resolution.specs.declared.verdict.Verdict.{Verdict}
+use Rattle.resolution.specs.declared.verdict.Verdict.TheVariants.{Pos, Neg, Made}
+use Rattle.resolution.specs.declared.verdict.Cause.TheVariants.{Filter}
+use Rattle.resolution.specs.Walking.{Walked}
+use Rattle.walk_base.specs.Kept.{kept_of, response_in}
+use Rattle.walk_tables.specs.Asked.{AskedAs}
+use Rattle.walk_tables.specs.Terms.{Terms, given_of}
+use Rattle.walk_tables.specs.Lookup.{nothing_left_for}
+use Rattle.walk_tables.specs.declared.lookup.Ask.{Ask}
+use Rattle.walk_tables.specs.declared.lookup.Ask.TheVariants as ask
+
+-- ---- what holds of the cache
+
+-- as what a verdict is shown: as it is, or as a negative where the filter of answers left nothing
+abbrev pub IsShown : Query → Verdict → Verdict → Type 0
+IsShown q (Pos a) (Pos b) = a ≡ b
+IsShown q (Neg a) (Neg b) = a ≡ b
+IsShown q (Neg a) (Made Filter) = a ≡ nothing_left_for q
+IsShown q (Made a) (Made b) = a ≡ b
+IsShown q _ _ = ⊥
+
+-- The response under a question, as it was asked, shows the verdict of the entry that it names, told by a server of a zone to which a walk went down, and it
+-- expires no later than its life after the moment of the telling.
+pub record EntryHolds (terms : Terms) (greatest : ℕ) (log : Log) (e : Entry) : Type 0 where
+  pub zone : DomainName
+  pub told : ToldOutcome
+  pub moment : ℕ
+  pub whole : Verdict
+  pub early : e.source ≤ greatest
+  pub heard : Heard (given_of terms) log e.source e.query told moment zone
+  pub asked : AskedAs log e.source e.query
+  pub counts : verdict (given_of terms) told e.query zone ≡ Some whole
+  pub walked : Walked (given_of terms) log e.query zone
+  pub shown : Verdict
+  pub as_shown : IsShown e.query shown whole
+  pub kept : kept_of shown ≡ Some e.response
+  pub expires : IsSomeAnd (life_in_seconds (given_of terms) e.query.query_type whole) (λ life. e.expiry ≤ moment + 1000000 * life)
+
+-- Each response is so, and lives by the bounds of the terms.
+pub record CacheHolds (terms : Terms) (greatest : ℕ) (log : Log) (cache : Cached) : Type 0 where
+  pub lives : cache.config ≡ terms.lives
+  pub entries : All (EntryHolds terms greatest log) cache.entries
+
+-- ---- what is written
+
+-- a message, as it is classified, that was told for the question, at the moment, by the entry, by a server of the zone
+pub record Telling : Type 0 where
+  pub zone : DomainName
+  pub query : Query
+  pub entry : ℕ
+  pub at : ℕ
+  pub class : Result Message DnsError
+
+abbrev pub telling : DomainName → Query → Ask → Option Telling
+telling zone q (ask.Told entry at class) = Some (record { zone = zone; query = q; entry = entry; at = at; class = class })
+telling zone q _ = None
+
+abbrev pub written : Cached → Telling → Option (Result Message NetError) → Cached
+written cache t None = cache
+written cache t (Some response) = upserted cache t.query response t.entry t.at (t.query.query_type.code == 2)
+
+-- The cache with what was told: as it counts, under its question, by its entry, since its moment; a repeated answer for NS records does not
+-- move the expiry of a current one to a later moment. Errors, and denials that are made where the zone leaves nothing, are not written.
+abbrev pub remembered : Cached → Option Telling → Cached
+remembered cache None = cache
+remembered cache (Some t) = written cache t (response_in t.zone t.query t.class)

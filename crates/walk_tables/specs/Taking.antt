@@ -1,0 +1,86 @@
+-- What the outcome of an order leaves of the pools, and what it writes into the cache.
+use Rattle.std.specs.Prelude.{◌≡◌, ◌⊎◌, ℕ, Bool, nat_lt, length, if◌then◌else◌, Option, Some, Ok, option_and_then}
+use Rattle.dns_core.specs.Log.{Log}
+use Rattle.server_core.specs.declared.order.After.{After}
+use Rattle.server_core.specs.declared.order.After.TheVariants as after
+use Rattle.server_core.specs.declared.order.Outcome.{Outcome}
+use Rattle.server_core.specs.declared.order.Tick.{Tick}
+use Rattle.resolver_cache.specs.Cached.{Cached}
+use Rattle.resolution.specs.Lookups.{Answered}
+use Rattle.retry_lookup.specs.Asked.{answer_of}
+use Rattle.server_pool.specs.Lookups.{closed_by}
+use Rattle.server_pool.specs.Orders.{IsOpenOrder, open_at}
+use Rattle.server_pool.specs.Shared.{Shared, lookup_at}
+use Rattle.server_pool.specs.Stepping.{HasPut}
+use Rattle.server_pool.specs.declared.open_lookup.OpenLookup.{OpenLookup}
+use Rattle.walk_tables.specs.Lookup.{last_of, answered_by}
+use Rattle.walk_tables.specs.Pools.{sought_at, PoolsHold}
+use Rattle.walk_tables.specs.Remembered.{CacheHolds, Telling, telling, remembered}
+use Rattle.walk_tables.specs.Terms.{Terms}
+use Rattle.walk_tables.specs.declared.pools.Pools.{Pools}
+use Rattle.walk_tables.specs.declared.pools.Sought.{Sought}
+use Rattle.walk_tables.specs.declared.pools.Stepped.{Stepped}
+use Rattle.walk_tables.specs.declared.pools.Stepped.TheVariants as stepped
+
+-- what the lookup of the number was answered at its pool, where it is decided
+abbrev pub answer_at : Shared → ℕ → Option Answered
+answer_at shared n = option_and_then (λ (l : OpenLookup). answer_of l.lookup) (lookup_at shared n)
+
+-- that answer as it was told for what is sought, by the last of the entries by which its sends ended
+abbrev pub telling_by : Shared → ℕ → Sought → Option Telling
+telling_by shared n s = option_and_then (λ told. telling s.zone s.query (answered_by (last_of (closed_by (lookup_at shared n))) s.at told)) (answer_at shared n)
+
+-- what the lookup of the number came to, where it came to a response
+abbrev pub telling_at : Pools → ℕ → Option Telling
+telling_at pools n = option_and_then (telling_by pools.shared n) (sought_at pools n)
+
+-- one more send of the lookup has ended
+abbrev pub has_more_ends : Shared → Shared → ℕ → Bool
+has_more_ends old new n = nat_lt (length (closed_by (lookup_at old n))) (length (closed_by (lookup_at new n)))
+
+-- it is sought for the same question in the same zone
+abbrev pub IsSoughtStill : Sought → Sought → Type 0
+IsSoughtStill old new = (new.query ≡ old.query) × (new.zone ≡ old.zone)
+
+-- The lookup of the number n, at which the order is open, has taken the outcome.
+pub record Took (old new : Pools) (n number : ℕ) (o : Outcome) (tick : Tick) (did : After) : Type 0 where
+  pub lookup : OpenLookup
+  pub opens : IsOpenOrder number n lookup old.shared
+  pub put : HasPut number n lookup o tick old.shared (Ok did) new.shared
+  pub before : Sought
+  pub was : sought_at old n ≡ Some before
+  pub after : Sought
+  pub is : sought_at new n ≡ Some after
+  pub still : IsSoughtStill before after
+  pub at : after.at ≡ (if has_more_ends old.shared new.shared n then tick.now else before.at)
+
+-- So it has, and what it came to by this, if it came to a response, is in the cache. Nothing else is written.
+pub record HasTaken (cache new_cache : Cached) (old new : Pools) (number : ℕ) (o : Outcome) (tick : Tick) (did : After) : Type 0 where
+  pub n : ℕ
+  pub took : Took old new n number o tick did
+  pub writes : new_cache ≡ remembered cache (telling_at new n)
+
+-- It was taken; or it is late, and nothing has changed.
+abbrev pub Takes : Cached → Cached → Pools → Pools → ℕ → Outcome → Tick → After → Type 0
+Takes cache new_cache old new number o tick did = ((did ≡ after.Late) × (new_cache ≡ cache) × (new ≡ old)) ⊎ HasTaken cache new_cache old new number o tick did
+
+-- What is kept of responses, and the pools, hold.
+pub record TablesHold (terms : Terms) (greatest moment : ℕ) (log : Log) (kept : Cached) (under_way : Pools) : Type 0 where
+  pub cache : CacheHolds terms greatest log kept
+  pub pools : PoolsHold terms greatest moment log under_way
+
+-- The order is open at some lookup.
+abbrev pub IsOpen : Pools → ℕ → Type 0
+IsOpen pools number = (n : ℕ) × (open_at number pools.shared ≡ Some n)
+
+-- A lookup waits only for an order that is open at it.
+abbrev pub IfAwaited : Pools → ℕ → Stepped → Type 0
+IfAwaited pools n (stepped.Order number order) = Unit {0}
+IfAwaited pools n (stepped.Waiting number) = open_at number pools.shared ≡ Some n
+IfAwaited pools n stepped.Done = Unit {0}
+
+-- It waits only for an order that is open.
+abbrev pub IfOpen : Pools → Stepped → Type 0
+IfOpen pools (stepped.Order number order) = Unit {0}
+IfOpen pools (stepped.Waiting number) = IsOpen pools number
+IfOpen pools stepped.Done = Unit {0}

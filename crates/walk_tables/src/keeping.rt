@@ -1,0 +1,45 @@
+//! What a finished lookup leaves in the cache of responses.
+ghost use Rattle.std.specs.Prelude.{◌≡◌, OnOk, OnErr, IfOk};
+ghost use Rattle.walk_base.specs.Kept.{response_in};
+ghost use Rattle.walk_tables.specs.Remembered.{Telling, remembered};
+
+use dns_core::{DnsError, Message, Name, NetError, NoMemory, Query, RecordType, TryClone};
+use resolver_cache::ResponseCache;
+use std::alloc::Global;
+use walk_base::{kept_of, verdict_of_class};
+
+/// As what a message is kept that was told for the question by a server of the zone.
+fn kept_in(
+    class: Result<Message, DnsError>,
+    query: &Query,
+    zone: &Name,
+) -> Option<Result<Message, NetError>>
+    ensures { result ≡ response_in zone.now query.now class }
+{
+    match verdict_of_class(class, query, zone) {
+        Ok(verdict) => kept_of(verdict),
+        Err(_) => None,
+    }
+}
+
+/// Writes what was told for a question by a server of the zone, by an entry, at a moment, where it is
+/// kept.
+pub(crate) fn write(
+    alloc: Global,
+    cache: &mut ResponseCache,
+    query: &Query,
+    zone: &Name,
+    entry: u64,
+    at: u64,
+    class: Result<Message, DnsError>,
+) -> Result<(), NoMemory>
+    ensures ok { OnOk result (cache.new ≡ remembered cache.old (Some (record { zone = zone.now; query = query.now; entry = entry; at = at; class = class }))) }
+    ensures err { OnErr result (cache.new ≡ cache.old) }
+{
+    let Some(response) = kept_in(class, query, zone) else {
+        return Ok(());
+    };
+    let query = query.try_clone(alloc)?;
+    let clamp = query.query_type == RecordType::NS;
+    cache.upsert_told(alloc, query, response, entry, at, clamp)
+}
