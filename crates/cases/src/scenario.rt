@@ -120,7 +120,9 @@ fn put_cache(out: &mut String, options: &RecursorOptions) -> Result<(), NoMemory
     let size = options.response_cache_size;
     let bounds = options.cache_policy.general();
     let (least, most) = (bounds.positive_min, bounds.positive_max);
+    let (aliases, zones) = (options.recursion_limit, options.ns_recursion_limit);
     writeln!(out, "response_cache_size {size}")?;
+    writeln!(out, "limits {aliases} {zones}")?;
     writeln!(out, "positive_ttl {least} {most}")?;
     let (least, most) = (bounds.negative_min, bounds.negative_max);
     writeln!(out, "negative_ttl {least} {most}")?;

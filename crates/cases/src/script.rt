@@ -1,7 +1,7 @@
 //! The lines of a script as text, with numbers for words.
 
 use crate::values::{put_bytes, put_ip, put_name, put_narrow, put_wide};
-use dns_core::{IoKind, Message, NetError, NoMemory, Protocol, RData, Record, Soa};
+use dns_core::{IoKind, Message, NetError, NoMemory, Protocol, RData, Record, RecordType, Soa};
 use recursor_world::ScriptLine;
 use std::alloc::Global;
 use std::fmt::Write;
@@ -41,6 +41,12 @@ fn put_soa(alloc: Global, out: &mut String, soa: &Soa) -> Result<(), NoMemory> {
     Ok(())
 }
 
+fn put_signature(out: &mut String, covered: RecordType, rest: &[u8]) -> Result<(), NoMemory> {
+    let kind = covered.code;
+    write!(out, " {kind}")?;
+    put_bytes(out, rest)
+}
+
 fn put_data(alloc: Global, out: &mut String, data: &RData) -> Result<(), NoMemory> {
     match data {
         RData::A(ip) => put_narrow(out, *ip),
@@ -48,7 +54,7 @@ fn put_data(alloc: Global, out: &mut String, data: &RData) -> Result<(), NoMemor
         RData::NS(name) => put_name(alloc, out, name),
         RData::CNAME(name) => put_name(alloc, out, name),
         RData::SOA(soa) => put_soa(alloc, out, soa),
-        RData::RRSIG { rest, .. } => put_bytes(out, rest.items()),
+        RData::RRSIG { covered, rest } => put_signature(out, *covered, rest.items()),
         RData::Opaque(bytes) => put_bytes(out, bytes.items()),
     }
 }

@@ -23,16 +23,16 @@ use Rattle.text_words.specs.Codes.{class_in}
 use Rattle.line_forms.specs.Lines.{protocols, head_fields, patience_fields, told_fields, count_field, three_counts, counts_from, counts_fields, head_from, head_parts_fields, message_fields, delay_field, failure_field, outcome_fields, connected_fields, answered_fields, refuse_fields, connect_parts, connect_fields, connect_from, reply_parts, reply_fields, reply_from, question_fields, question_from, turn_fields, turn_from, head_of, root_of, option_of, patience_of, told_of, connect_of, refuse_of, reply_of, question_of, turn_of, end_line_of, forms_of, form_of}
 use Rattle.dns_core.specs.CodeTexts.{type_text, response_code_text}
 use Rattle.text_words.specs.Texts.{ip_text, protocol_text, error_word, flags_text}
-use Rattle.text_words.specs.Spelling.{spelled, IsFullName, IsAddress, IsType, IsCode}
+use Rattle.text_words.specs.Spelling.{spelled, IsName, IsFullName, IsAddress, IsType, IsCode}
 use Rattle.line_forms.specs.Spelling.{dnssec_text, head_words, root_words, option_words, patience_words, told_words, question_words, turn_words, end_words, reply_words, error_words, failed_words, connected_words, connect_words, refuse_words, script_lines, most_delay, IsOption, IsTransport, IsFailure, IsScriptLine, IsQuestion, IsTurn}
 use Rattle.text_words.proofs.AddressLaws.{ip_field}
 use Rattle.text_words.proofs.Binds.{bind_some, guard_some, some_is, chosen}
-use Rattle.text_words.proofs.CodeLaws.{response_code_field, type_plain, response_code_plain}
+use Rattle.text_words.proofs.CodeLaws.{type_field, response_code_field, type_plain, response_code_plain}
 use Rattle.text_words.proofs.PlainLaws.{AllBytes, AllPlain, pieces_take}
 use Rattle.text_words.proofs.NumberLaws.{is_word_byte}
 use Rattle.line_forms.proofs.OptionLaws.{option_takes, option_again, option_plain}
-use Rattle.text_words.proofs.FieldLaws.{IsSeq, one, pair_law, skip_law, nothing_law, view_law, whole_takes, whole_again, IsWithin, number_field, IsShort, short_name_field, bytes_same}
-use Rattle.text_words.proofs.WordLaws.{asked_type_field, full_law, wide_law, low, address_plain, named_plain, small, words_again}
+use Rattle.text_words.proofs.FieldLaws.{IsSeq, one, pair_law, skip_law, nothing_law, view_law, whole_takes, whole_again, IsWithin, number_field, relaxed_name_field, bytes_same}
+use Rattle.text_words.proofs.WordLaws.{full_law, wide_law, low, address_plain, named_plain, small, words_again}
 use Rattle.line_forms.proofs.TableLaws.{protocol_field, failure_is_field, flags_field, dnssec_field, protocol_plain, failure_plain, flags_plain, dnssec_plain}
 
 abbrev any : {A : Type 0} → A → Type 0
@@ -160,10 +160,10 @@ abbrev ReplyFits : reply_parts → Type 0
 ReplyFits x = IsAddress x.0 × (IsTransport x.1.0 × (IsFullName x.1.1.0 × (IsType x.1.1.1.0 × (IsWithin 0 most_delay x.1.1.1.1.0 × IsAnswer x.1.1.1.1.1))))
 
 reply_law : IsSeq reply_fields (λ x. ip_text x.0 ∷ protocol_text x.1.0 ∷ name_text x.1.1.0 ∷ type_text x.1.1.1.0 ∷ decimal x.1.1.1.1.0 ∷ answer_words x.1.1.1.1.1) ReplyFits
-reply_law = pair_law _ _ _ _ _ _ ip_law (pair_law _ _ _ _ _ _ transport_law (pair_law _ _ _ _ _ _ full_law (pair_law _ _ _ _ _ _ (one _ _ _ asked_type_field) (pair_law _ _ _ _ _ _ delay_law answered_law))))
+reply_law = pair_law _ _ _ _ _ _ ip_law (pair_law _ _ _ _ _ _ transport_law (pair_law _ _ _ _ _ _ full_law (pair_law _ _ _ _ _ _ (one _ _ _ type_field) (pair_law _ _ _ _ _ _ delay_law answered_law))))
 
-question_law : IsSeq question_fields (λ x. name_text x.0 ∷ type_text x.1.0 ∷ dnssec_text x.1.1 ∷ []) (λ x. IsShort 23 x.0 × (IsType x.1.0 × (x.1.1 ≡ false)))
-question_law = pair_law _ _ _ _ _ _ (one _ _ _ (short_name_field 23)) (pair_law _ _ _ _ _ _ (one _ _ _ asked_type_field) (one _ _ _ dnssec_field))
+question_law : IsSeq question_fields (λ x. name_text x.0 ∷ type_text x.1.0 ∷ dnssec_text x.1.1 ∷ []) (λ x. IsName x.0 × (IsType x.1.0 × Unit {0}))
+question_law = pair_law _ _ _ _ _ _ (one _ _ _ relaxed_name_field) (pair_law _ _ _ _ _ _ (one _ _ _ type_field) (one _ _ _ dnssec_field))
 
 turn_law : IsSeq turn_fields (λ x. decimal x.0 ∷ decimal x.1 ∷ []) (λ x. IsWithin 0 4294967295 x.0 × IsWithin 0 4611686018427387903 x.1)
 turn_law = pair_law _ _ _ _ _ _ wide_law (one _ _ _ (number_field 0 4611686018427387903 (lit< tt)))
@@ -291,7 +291,7 @@ forms_take (w ∷ ws) z e = elim (chosen (bytes_eq w (codes "reply")) _ _ _ e) [
             | inl h ↦ kind_takes (codes "told") told_fields _ _ told_law (λ x. form.ToldScript) (λ x. refl) (λ x fits. fits) w ws z h.0 h.1
             | inr h ↦ elim (chosen (bytes_eq w (codes "question")) _ _ _ h.1) [
               | inl h ↦ kind_takes (codes "question") question_fields _ _ question_law (λ x. form.Question (question_from x)) (λ x. refl)
-                  (λ x fits. record { named = fits.0.0; short = fits.0.1; typed = fits.1.0; class = refl; plain = fits.1.1 }) w ws z h.0 h.1
+                  (λ x fits. record { named = fits.0; typed = fits.1.0; class = refl }) w ws z h.0 h.1
               | inr h ↦ elim (chosen (bytes_eq w (codes "turn")) _ _ _ h.1) [
                 | inl h ↦ kind_takes (codes "turn") turn_fields _ _ turn_law (λ x. form.Turn (turn_from x)) (λ x. refl) (λ x fits. (fits.0.1, omega (arith, fits.1.1))) w ws z h.0 h.1
                 | inr h ↦ elim (chosen (bytes_eq w (codes "connect")) _ _ _ h.1) [
@@ -376,7 +376,7 @@ forms_again form.ToldScript fits = refl
 forms_again (form.Reply o) fits = reply_again o fits
 forms_again (form.Rule line) fits = rule_again line fits
 forms_again (form.Question q) fits =
-    whole_again _ _ _ question_law (λ x. form.Question (question_from x)) (q.query.name, (q.query.query_type, q.dnssec_ok)) ((fits.named, fits.short), (fits.typed, fits.plain))
+    whole_again _ _ _ question_law (λ x. form.Question (question_from x)) (q.query.name, (q.query.query_type, q.dnssec_ok)) (fits.named, (fits.typed, tt))
     ∙ ap (λ (p : Question). Some (form.Question p)) (question_is q fits.class)
 forms_again (form.Turn t) fits =
     whole_again _ _ _ turn_law (λ x. form.Turn (turn_from x)) (t.question, t.moment) (low 4294967295 t.question fits.0, low 4611686018427387903 t.moment (omega (arith, fits.1)))
@@ -397,7 +397,7 @@ connected_plain (Some e) fits = error_plain e fits
 rule_plain : (line : ScriptLine) → IsLone line → AllPlain is_word_byte (rule_words line)
 rule_plain (Reply ip protocol n t delay (Ok m)) fits = absurd fits
 rule_plain (Reply ip protocol n t delay (Err e)) fits =
-    (refl, (address_plain ip fits.address, (protocol_plain protocol fits.transport, (named_plain n fits.named.0, (type_plain t fits.typed.0, (delay_plain delay fits.soon, error_plain e fits.failure))))))
+    (refl, (address_plain ip fits.address, (protocol_plain protocol fits.transport, (named_plain n fits.named.0, (type_plain t fits.typed, (delay_plain delay fits.soon, error_plain e fits.failure))))))
 rule_plain (Connect ip protocol delay error) fits =
     (refl, (address_plain ip fits.address, (protocol_plain protocol fits.transport, (delay_plain delay fits.soon, connected_plain error fits.failure))))
 rule_plain (Refuse ip protocol) fits = (refl, (address_plain ip fits.0, (protocol_plain protocol fits.1, tt)))
@@ -417,7 +417,7 @@ form_plain (form.Reply o) fits = (
       (
         named_plain o.message.query.name fits.named.0,
         (
-          type_plain o.message.query.query_type fits.typed.0,
+          type_plain o.message.query.query_type fits.typed,
           (
             delay_plain o.delay fits.soon,
             (
@@ -437,7 +437,7 @@ form_plain (form.Reply o) fits = (
   ),
 )
 form_plain (form.Rule line) fits = rule_plain line fits
-form_plain (form.Question q) fits = (refl, (named_plain q.query.name fits.named, (type_plain q.query.query_type fits.typed.0, (dnssec_plain q.dnssec_ok, tt))))
+form_plain (form.Question q) fits = (refl, (named_plain q.query.name fits.named, (type_plain q.query.query_type fits.typed, (dnssec_plain q.dnssec_ok, tt))))
 form_plain (form.Turn t) fits = (refl, (small 4294967295 t.question fits.0 (lit< tt), (small 4611686018427387903 t.moment (omega (arith, fits.1)) (lit< tt), tt)))
 form_plain form.End fits = (refl, tt)
 

@@ -1,6 +1,7 @@
 -- Option lines: each is read exactly where it is spelled so, in bytes that no line is cut at; their
 -- ranks, and what they change.
-use Rattle.std.proofs.Common.{◌≡◌, ℕ, suc, ◌-◌, ◌<◌, ◌≤◌, Bool, true, false, List, [], ◌∷◌, ◌++◌, length, slice_get, Some, refl, sym, ap, subst, ◌∙◌, arith, lit<, inl, inr}
+use Rattle.std.proofs.Common.{◌≡◌, ℕ, suc, ◌+◌, ◌-◌, ◌<◌, ◌≤◌, Bool, true, false, List, [], ◌∷◌, ◌++◌, length, take, get_or, slice_get, Some, refl, sym, ap, subst, ◌∙◌, arith, lit<, inl, inr}
+use Rattle.std.proofs.lemmas.List.{take_more}
 use Rattle.std.proofs.lemmas.Option.{same_Some}
 use Rattle.std.specs.Prelude.{codes, decimal}
 use Rattle.std.specs.Str.{bytes_eq}
@@ -8,13 +9,13 @@ use Rattle.std.specs.List.{AllByRecursion}
 use Rattle.recursor_types.specs.declared.options.RecursorOptions.{RecursorOptions}
 use Rattle.line_forms.specs.declared.option_form.Bounds.{Bounds}
 use Rattle.line_forms.specs.declared.option_form.OptionLine.{OptionLine}
-use Rattle.line_forms.specs.declared.option_form.OptionLine.TheVariants.{ResponseCacheSize, AllowAnswers, DenyAnswers, AllowServer, DenyServer, AvoidLocalUdpPorts, PositiveTtl, NegativeTtl, CaseRandomization, EdnsPayloadLen, FirstDelays}
+use Rattle.line_forms.specs.declared.option_form.OptionLine.TheVariants.{ResponseCacheSize, RecursionLimit, NsRecursionLimit, AllowAnswers, DenyAnswers, AllowServer, DenyServer, AvoidLocalUdpPorts, PositiveTtl, NegativeTtl, CaseRandomization, EdnsPayloadLen, FirstDelays}
 use Rattle.text_words.specs.Texts.{flag_text}
 use Rattle.text_words.specs.Fields.{Fields, field, in_table, whole, wide_field}
 use Rattle.text_words.specs.Numbers.{◌>>=◌, number_within}
-use Rattle.line_forms.specs.OptionForm.{size_field, nets_field, ports_field, switches, switch_field, payload_field, delays_field, bounds_fields, response_cache_size_of, allow_answers_of, deny_answers_of, allow_server_of, deny_server_of, avoid_local_udp_ports_of, positive_ttl_of, negative_ttl_of, case_randomization_of, edns_payload_len_of, first_delays_of, option_line_of}
+use Rattle.line_forms.specs.OptionForm.{size_field, limit_field, nets_field, ports_field, switches, switch_field, payload_field, delays_field, bounds_fields, response_cache_size_of, recursion_limit_of, ns_recursion_limit_of, allow_answers_of, deny_answers_of, allow_server_of, deny_server_of, avoid_local_udp_ports_of, positive_ttl_of, negative_ttl_of, case_randomization_of, edns_payload_len_of, first_delays_of, later_option_of, option_line_of}
 use Rattle.text_words.specs.Spelling.{nets_text, numbers_text, IsNet, ArePorts, AreFirstDelays}
-use Rattle.line_forms.specs.Spelling.{bounds_words, named_words, IsBounds, IsOption, option_rank, RiseAbove, last_rank, changed, changed_by}
+use Rattle.line_forms.specs.Spelling.{bounds_words, named_words, IsBounds, IsOption, option_rank, RiseAbove, last_rank, standard_options, changed, changed_by, options_with}
 use Rattle.text_words.proofs.Binds.{bind_some, guard_some, some_is, chosen}
 use Rattle.text_words.proofs.FieldLaws.{IsField, IsSeq, one, whole_takes, whole_again, IsWithin, number_field, bytes_same, table_field}
 use Rattle.text_words.proofs.NetLaws.{nets_are, nets_plain}
@@ -27,6 +28,9 @@ use Rattle.text_words.proofs.WordLaws.{wide_law, low, small}
 
 size_law : IsSeq size_field (λ n. decimal n ∷ []) (IsWithin 0 4194304)
 size_law = one _ _ _ (number_field 0 4194304 (lit< tt))
+
+limit_law : IsSeq limit_field (λ n. decimal n ∷ []) (IsWithin 0 255)
+limit_law = one _ _ _ (number_field 0 255 (lit< tt))
 
 nets_law : IsSeq nets_field (λ ns. nets_text ns ∷ []) (λ ns. AllByRecursion IsNet ns)
 nets_law = one _ _ _ nets_are
@@ -81,34 +85,44 @@ named_takes key p text Fits law f words suits w ws o same e =
     let spelt : w ∷ ws ≡ named_words (f t.0) = ap (λ (v : List ℕ). v ∷ ws) (bytes_same w key same) ∙ ap (λ (r : List (List ℕ)). key ∷ r) t.1 ∙ sym (words t.0) in
     subst (λ (p : OptionLine). (w ∷ ws ≡ named_words p) × IsOption p) t.3 (spelt, suits t.0 t.2)
 
+later_takes : (w : List ℕ) (ws : List (List ℕ)) (o : OptionLine) → later_option_of w ws ≡ Some o → (w ∷ ws ≡ named_words o) × IsOption o
+unfolding later_option_of avoid_local_udp_ports_of positive_ttl_of negative_ttl_of case_randomization_of edns_payload_len_of first_delays_of
+later_takes w ws o e = elim (chosen (bytes_eq w (codes "avoid_local_udp_ports")) _ _ _ e) [
+  | inl h ↦ named_takes (codes "avoid_local_udp_ports") ports_field _ _ ports_law AvoidLocalUdpPorts (λ ps. refl) (λ ps fits. fits) w ws o h.0 h.1
+  | inr h ↦ elim (chosen (bytes_eq w (codes "positive_ttl")) _ _ _ h.1) [
+    | inl h ↦ named_takes (codes "positive_ttl") bounds_fields _ _ bounds_law PositiveTtl (λ b. refl) (λ b fits. fits) w ws o h.0 h.1
+    | inr h ↦ elim (chosen (bytes_eq w (codes "negative_ttl")) _ _ _ h.1) [
+      | inl h ↦ named_takes (codes "negative_ttl") bounds_fields _ _ bounds_law NegativeTtl (λ b. refl) (λ b fits. fits) w ws o h.0 h.1
+      | inr h ↦ elim (chosen (bytes_eq w (codes "case_randomization")) _ _ _ h.1) [
+        | inl h ↦ named_takes (codes "case_randomization") switch_field _ _ switch_law CaseRandomization (λ b. refl) (λ b fits. fits) w ws o h.0 h.1
+        | inr h ↦ elim (chosen (bytes_eq w (codes "edns_payload_len")) _ _ _ h.1) [
+          | inl h ↦ named_takes (codes "edns_payload_len") payload_field _ _ payload_law EdnsPayloadLen (λ n. refl) (λ n fits. fits.1) w ws o h.0 h.1
+          | inr h ↦ let g = guard_some (bytes_eq w (codes "first_delays")) (first_delays_of ws) o h.1 in
+              named_takes (codes "first_delays") delays_field _ _ delays_law FirstDelays (λ ds. refl) (λ ds fits. fits) w ws o g.0 g.1
+        ]
+      ]
+    ]
+  ]
+]
+
 pub option_takes : (ws : List (List ℕ)) (o : OptionLine) → option_line_of ws ≡ Some o → (ws ≡ named_words o) × IsOption o
-unfolding option_line_of response_cache_size_of allow_answers_of deny_answers_of allow_server_of deny_server_of avoid_local_udp_ports_of positive_ttl_of negative_ttl_of case_randomization_of edns_payload_len_of first_delays_of
+unfolding option_line_of response_cache_size_of recursion_limit_of ns_recursion_limit_of allow_answers_of deny_answers_of allow_server_of deny_server_of
 option_takes [] o e = absurd cc
 option_takes (w ∷ ws) o e = elim (chosen (bytes_eq w (codes "response_cache_size")) _ _ _ e) [
   | inl h ↦ named_takes (codes "response_cache_size") size_field _ _ size_law ResponseCacheSize (λ n. refl) (λ n fits. fits.1) w ws o h.0 h.1
-  | inr h ↦ elim (chosen (bytes_eq w (codes "allow_answers")) _ _ _ h.1) [
-    | inl h ↦ named_takes (codes "allow_answers") nets_field _ _ nets_law AllowAnswers (λ ns. refl) (λ ns fits. fits) w ws o h.0 h.1
-    | inr h ↦ elim (chosen (bytes_eq w (codes "deny_answers")) _ _ _ h.1) [
-      | inl h ↦ named_takes (codes "deny_answers") nets_field _ _ nets_law DenyAnswers (λ ns. refl) (λ ns fits. fits) w ws o h.0 h.1
-      | inr h ↦ elim (chosen (bytes_eq w (codes "allow_server")) _ _ _ h.1) [
-        | inl h ↦ named_takes (codes "allow_server") nets_field _ _ nets_law AllowServer (λ ns. refl) (λ ns fits. fits) w ws o h.0 h.1
-        | inr h ↦ elim (chosen (bytes_eq w (codes "deny_server")) _ _ _ h.1) [
-          | inl h ↦ named_takes (codes "deny_server") nets_field _ _ nets_law DenyServer (λ ns. refl) (λ ns fits. fits) w ws o h.0 h.1
-          | inr h ↦ elim (chosen (bytes_eq w (codes "avoid_local_udp_ports")) _ _ _ h.1) [
-            | inl h ↦ named_takes (codes "avoid_local_udp_ports") ports_field _ _ ports_law AvoidLocalUdpPorts (λ ps. refl) (λ ps fits. fits) w ws o h.0 h.1
-            | inr h ↦ elim (chosen (bytes_eq w (codes "positive_ttl")) _ _ _ h.1) [
-              | inl h ↦ named_takes (codes "positive_ttl") bounds_fields _ _ bounds_law PositiveTtl (λ b. refl) (λ b fits. fits) w ws o h.0 h.1
-              | inr h ↦ elim (chosen (bytes_eq w (codes "negative_ttl")) _ _ _ h.1) [
-                | inl h ↦ named_takes (codes "negative_ttl") bounds_fields _ _ bounds_law NegativeTtl (λ b. refl) (λ b fits. fits) w ws o h.0 h.1
-                | inr h ↦ elim (chosen (bytes_eq w (codes "case_randomization")) _ _ _ h.1) [
-                  | inl h ↦ named_takes (codes "case_randomization") switch_field _ _ switch_law CaseRandomization (λ b. refl) (λ b fits. fits) w ws o h.0 h.1
-                  | inr h ↦ elim (chosen (bytes_eq w (codes "edns_payload_len")) _ _ _ h.1) [
-                    | inl h ↦ named_takes (codes "edns_payload_len") payload_field _ _ payload_law EdnsPayloadLen (λ n. refl) (λ n fits. fits.1) w ws o h.0 h.1
-                    | inr h ↦ let g = guard_some (bytes_eq w (codes "first_delays")) (first_delays_of ws) o h.1 in
-                        named_takes (codes "first_delays") delays_field _ _ delays_law FirstDelays (λ ds. refl) (λ ds fits. fits) w ws o g.0 g.1
-                  ]
-                ]
-              ]
+  | inr h ↦ elim (chosen (bytes_eq w (codes "recursion_limit")) _ _ _ h.1) [
+    | inl h ↦ named_takes (codes "recursion_limit") limit_field _ _ limit_law RecursionLimit (λ n. refl) (λ n fits. fits.1) w ws o h.0 h.1
+    | inr h ↦ elim (chosen (bytes_eq w (codes "ns_recursion_limit")) _ _ _ h.1) [
+      | inl h ↦ named_takes (codes "ns_recursion_limit") limit_field _ _ limit_law NsRecursionLimit (λ n. refl) (λ n fits. fits.1) w ws o h.0 h.1
+      | inr h ↦ elim (chosen (bytes_eq w (codes "allow_answers")) _ _ _ h.1) [
+        | inl h ↦ named_takes (codes "allow_answers") nets_field _ _ nets_law AllowAnswers (λ ns. refl) (λ ns fits. fits) w ws o h.0 h.1
+        | inr h ↦ elim (chosen (bytes_eq w (codes "deny_answers")) _ _ _ h.1) [
+          | inl h ↦ named_takes (codes "deny_answers") nets_field _ _ nets_law DenyAnswers (λ ns. refl) (λ ns fits. fits) w ws o h.0 h.1
+          | inr h ↦ elim (chosen (bytes_eq w (codes "allow_server")) _ _ _ h.1) [
+            | inl h ↦ named_takes (codes "allow_server") nets_field _ _ nets_law AllowServer (λ ns. refl) (λ ns fits. fits) w ws o h.0 h.1
+            | inr h ↦ elim (chosen (bytes_eq w (codes "deny_server")) _ _ _ h.1) [
+              | inl h ↦ named_takes (codes "deny_server") nets_field _ _ nets_law DenyServer (λ ns. refl) (λ ns fits. fits) w ws o h.0 h.1
+              | inr h ↦ later_takes w ws o h.1
             ]
           ]
         ]
@@ -118,8 +132,10 @@ option_takes (w ∷ ws) o e = elim (chosen (bytes_eq w (codes "response_cache_si
 ]
 
 pub option_again : (o : OptionLine) → IsOption o → option_line_of (named_words o) ≡ Some o
-unfolding option_line_of response_cache_size_of allow_answers_of deny_answers_of allow_server_of deny_server_of avoid_local_udp_ports_of positive_ttl_of negative_ttl_of case_randomization_of edns_payload_len_of first_delays_of
+unfolding option_line_of later_option_of response_cache_size_of recursion_limit_of ns_recursion_limit_of allow_answers_of deny_answers_of allow_server_of deny_server_of avoid_local_udp_ports_of positive_ttl_of negative_ttl_of case_randomization_of edns_payload_len_of first_delays_of
 option_again (ResponseCacheSize size) fits = whole_again _ _ _ size_law ResponseCacheSize size (low 4194304 size fits)
+option_again (RecursionLimit most) fits = whole_again _ _ _ limit_law RecursionLimit most (low 255 most fits)
+option_again (NsRecursionLimit most) fits = whole_again _ _ _ limit_law NsRecursionLimit most (low 255 most fits)
 option_again (AllowAnswers nets) fits = whole_again _ _ _ nets_law AllowAnswers nets fits
 option_again (DenyAnswers nets) fits = whole_again _ _ _ nets_law DenyAnswers nets fits
 option_again (AllowServer nets) fits = whole_again _ _ _ nets_law AllowServer nets fits
@@ -143,6 +159,8 @@ switch_plain true = refl
 
 pub option_plain : (o : OptionLine) → IsOption o → AllPlain is_word_byte (named_words o)
 option_plain (ResponseCacheSize size) fits = (refl, (small 4194304 size fits (lit< tt), tt))
+option_plain (RecursionLimit most) fits = (refl, (small 255 most fits (lit< tt), tt))
+option_plain (NsRecursionLimit most) fits = (refl, (small 255 most fits (lit< tt), tt))
 option_plain (AllowAnswers nets) fits = (refl, (nets_plain nets fits, tt))
 option_plain (DenyAnswers nets) fits = (refl, (nets_plain nets fits, tt))
 option_plain (AllowServer nets) fits = (refl, (nets_plain nets fits, tt))
@@ -175,3 +193,13 @@ last_is low (p ∷ q ∷ os) o h =
 pub changed_push : (options : RecursorOptions) (os : List OptionLine) (o : OptionLine) → changed_by options (os ++ o ∷ []) ≡ changed (changed_by options os) o
 changed_push options [] o = refl
 changed_push options (p ∷ os) o = changed_push (changed options p) os o
+
+-- the limit of zones with a further line
+limit_push : (os : List OptionLine) (o : OptionLine) → (options_with (os ++ o ∷ [])).ns_recursion_limit ≡ (changed (options_with os) o).ns_recursion_limit
+limit_push os o = ap (λ (options : RecursorOptions). options.ns_recursion_limit) (changed_push standard_options os o)
+
+pub limit_next : (os : List OptionLine) (i : ℕ) (o : OptionLine) (before limit : ℕ) → i < length os → o ≡ get_or os i o → before ≡ (options_with (take i os)).ns_recursion_limit
+    → ((options : RecursorOptions) → options.ns_recursion_limit ≡ before → limit ≡ (changed options o).ns_recursion_limit) → limit ≡ (options_with (take (i + 1) os)).ns_recursion_limit
+limit_next os i o before limit below is so_far after =
+    let more : take (i + 1) os ≡ take i os ++ o ∷ [] = take_more os i o below ∙ ap (λ (p : OptionLine). take i os ++ p ∷ []) (sym is) in
+    after (options_with (take i os)) (sym so_far) ∙ sym (limit_push (take i os) o) ∙ sym (ap (λ (ls : List OptionLine). (options_with ls).ns_recursion_limit) more)

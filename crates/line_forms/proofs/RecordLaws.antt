@@ -16,25 +16,25 @@ use Rattle.dns_core.specs.declared.record.RData.TheVariants.{A, AAAA, NS, CNAME,
 use Rattle.dns_core.specs.declared.record.Record.{Record}
 use Rattle.dns_core.specs.declared.record.Soa.{Soa}
 use Rattle.text_words.specs.Addresses.{ipv6_of}
-use Rattle.text_words.specs.Codes.{is_record_type}
-use Rattle.text_words.specs.Fields.{Fields, field, whole}
+use Rattle.text_words.specs.Codes.{type_of}
+use Rattle.text_words.specs.Fields.{Fields, field, both, whole}
 use Rattle.text_words.specs.Hex.{bytes_of}
 use Rattle.text_words.specs.Names.{full_name}
 use Rattle.text_words.specs.Numbers.{◌>>=◌, ipv4_of}
 use Rattle.text_words.specs.Pieces.{pieces}
-use Rattle.line_forms.specs.RecordLines.{record_head, soa_parts, soa_fields, soa_from, soa_of, data_of, record_from, record_of_data, records_of, record_of}
+use Rattle.line_forms.specs.RecordLines.{record_head, soa_parts, soa_fields, soa_from, soa_of, signature_of, data_of, record_from, record_of_data, records_of, record_of}
 use Rattle.dns_core.specs.CodeTexts.{type_text, class_text}
 use Rattle.text_words.specs.Texts.{hex_text, data_words, record_words}
-use Rattle.text_words.specs.Spelling.{IsFullName, IsClass, IsRecordType}
+use Rattle.text_words.specs.Spelling.{IsFullName, IsType, IsClass}
 use Rattle.line_forms.specs.Spelling.{record_text, IsData, IsRecord}
 use Rattle.text_words.proofs.AddressLaws.{ipv6_field}
 use Rattle.text_words.proofs.Binds.{bind_some, some_is, chosen}
-use Rattle.text_words.proofs.CodeLaws.{class_field, type_plain, class_plain}
+use Rattle.text_words.proofs.CodeLaws.{type_field, class_field, type_plain, class_plain}
 use Rattle.text_words.proofs.FieldLaws.{IsSeq, one, pair_law, whole_takes, whole_again, IsWithin, ipv4_field}
 use Rattle.text_words.proofs.HexLaws.{IsByte, bytes_field, bytes_plain}
 use Rattle.text_words.proofs.NumberLaws.{is_word_byte, ipv4_plain}
 use Rattle.text_words.proofs.PlainLaws.{AllPlain, pieces_take}
-use Rattle.text_words.proofs.WordLaws.{record_type_field, full_law, wide_law, low, ipv6_plain, named_plain, small, words_again}
+use Rattle.text_words.proofs.WordLaws.{full_law, wide_law, low, ipv6_plain, named_plain, small, words_again}
 
 -- ---- the law of each kind of data
 
@@ -46,6 +46,10 @@ ipv6_law = one _ _ _ ipv6_field
 
 bytes_law : IsSeq (field bytes_of) (λ bytes. hex_text bytes ∷ []) (AllByRecursion IsByte)
 bytes_law = one _ _ _ bytes_field
+
+-- the type that is covered, and bytes
+signature_law : IsSeq (both (field type_of) (field bytes_of)) (λ x. type_text x.0 ∷ hex_text x.1 ∷ []) (λ x. IsType x.0 × AllByRecursion IsByte x.1)
+signature_law = pair_law _ _ _ _ _ _ (one _ _ _ type_field) bytes_law
 
 abbrev IsWide : ℕ → Type 0
 IsWide n = IsWithin 0 4294967295 n
@@ -80,29 +84,35 @@ kind_takes t p text Fits law f words suits of_type ws z e =
     let w = whole_takes p text Fits law f ws z e in
     subst (Tells t ws) w.3 (record { words = w.1 ∙ sym (words w.0); fits = suits w.0 w.2; typed = of_type w.0 })
 
-opaque_typed : (t : RecordType) (bytes : List ℕ) → is_record_type t ≡ true → eqb t.code 1 ≡ false → eqb t.code 2 ≡ false → eqb t.code 6 ≡ false → eqb t.code 28 ≡ false → is_typed t (Opaque bytes) ≡ true
-opaque_typed t bytes may a b c d = rw (a, b, unlike is_record_type t 5 false may refl, c, d, unlike is_record_type t 46 false may refl) refl
+opaque_typed : (t : RecordType) (bytes : List ℕ) → eqb t.code 1 ≡ false → eqb t.code 2 ≡ false → eqb t.code 5 ≡ false → eqb t.code 6 ≡ false → eqb t.code 28 ≡ false → eqb t.code 46 ≡ false → is_typed t (Opaque bytes) ≡ true
+opaque_typed t bytes a b c d e f = rw (a, b, c, d, e, f) refl
 
-pub data_takes : (t : RecordType) (ws : List (List ℕ)) (z : RData) → is_record_type t ≡ true → data_of t ws ≡ Some z → Tells t ws z
-unfolding data_of soa_of
-data_takes t ws z may e = elim (chosen (eqb t.code 1) _ _ _ e) [
+pub data_takes : (t : RecordType) (ws : List (List ℕ)) (z : RData) → data_of t ws ≡ Some z → Tells t ws z
+unfolding data_of soa_of signature_of
+data_takes t ws z e = elim (chosen (eqb t.code 1) _ _ _ e) [
   | inl h ↦ kind_takes t (field ipv4_of) _ _ ipv4_law A (λ x. refl) (λ x fits. fits) (λ x. h.0) ws z h.1
   | inr a ↦ elim (chosen (eqb t.code 2) _ _ _ a.1) [
     | inl h ↦ kind_takes t (field full_name) _ _ full_law NS (λ x. refl) (λ x fits. fits) (λ x. h.0) ws z h.1
-    | inr b ↦ elim (chosen (eqb t.code 6) _ _ _ b.1) [
-      | inl h ↦ kind_takes t soa_fields _ _ soa_law (λ x. SOA (soa_from x)) (λ x. refl)
-          (λ x fits. record {
-            mname = fits.0;
-            rname = fits.1.0;
-            serial = fits.1.1.0.1;
-            refresh = fits.1.1.1.0.1;
-            retry = fits.1.1.1.1.0.1;
-            expire = fits.1.1.1.1.1.0.1;
-            minimum = fits.1.1.1.1.1.1.1;
-          }) (λ x. h.0) ws z h.1
-      | inr c ↦ elim (chosen (eqb t.code 28) _ _ _ c.1) [
-        | inl h ↦ kind_takes t (field ipv6_of) _ _ ipv6_law AAAA (λ x. refl) (λ x fits. fits) (λ x. h.0) ws z h.1
-        | inr d ↦ kind_takes t (field bytes_of) _ _ bytes_law Opaque (λ x. refl) (λ x fits. fits) (λ x. opaque_typed t x may a.0 b.0 c.0 d.0) ws z d.1
+    | inr b ↦ elim (chosen (eqb t.code 5) _ _ _ b.1) [
+      | inl h ↦ kind_takes t (field full_name) _ _ full_law CNAME (λ x. refl) (λ x fits. fits) (λ x. h.0) ws z h.1
+      | inr c ↦ elim (chosen (eqb t.code 6) _ _ _ c.1) [
+        | inl h ↦ kind_takes t soa_fields _ _ soa_law (λ x. SOA (soa_from x)) (λ x. refl)
+            (λ x fits. record {
+              mname = fits.0;
+              rname = fits.1.0;
+              serial = fits.1.1.0.1;
+              refresh = fits.1.1.1.0.1;
+              retry = fits.1.1.1.1.0.1;
+              expire = fits.1.1.1.1.1.0.1;
+              minimum = fits.1.1.1.1.1.1.1;
+            }) (λ x. h.0) ws z h.1
+        | inr d ↦ elim (chosen (eqb t.code 28) _ _ _ d.1) [
+          | inl h ↦ kind_takes t (field ipv6_of) _ _ ipv6_law AAAA (λ x. refl) (λ x fits. fits) (λ x. h.0) ws z h.1
+          | inr g ↦ elim (chosen (eqb t.code 46) _ _ _ g.1) [
+            | inl h ↦ kind_takes t (both (field type_of) (field bytes_of)) _ _ signature_law (λ x. RRSIG x.0 x.1) (λ x. refl) (λ x fits. fits) (λ x. h.0) ws z h.1
+            | inr i ↦ kind_takes t (field bytes_of) _ _ bytes_law Opaque (λ x. refl) (λ x fits. fits) (λ x. opaque_typed t x a.0 b.0 c.0 d.0 g.0 i.0) ws z i.1
+          ]
+        ]
       ]
     ]
   ]
@@ -115,7 +125,7 @@ at_type : (t : RecordType) (n : ℕ) (x : RData) → eqb t.code n ≡ true → R
 at_type t n x e h = subst (λ (u : RecordType). ReadsData u x) (coded_type t n (eqb-true _ _ e)) h
 
 data_again : (t : RecordType) (x : RData) → is_typed t x ≡ true → IsData x → ReadsData t x
-unfolding data_of soa_of
+unfolding data_of soa_of signature_of
 data_again t (A a) typed fits = at_type t 1 (A a) typed (whole_again _ _ _ ipv4_law A a fits)
 data_again t (AAAA a) typed fits = at_type t 28 (AAAA a) typed (whole_again _ _ _ ipv6_law AAAA a fits)
 data_again t (NS n) typed fits = at_type t 2 (NS n) typed (whole_again _ _ _ full_law NS n fits)
@@ -124,9 +134,9 @@ data_again t (SOA s) typed fits =
     (fits.mname, (fits.rname, (low _ _ fits.serial, (low _ _ fits.refresh, (low _ _ fits.retry, (low _ _ fits.expire, low _ _ fits.minimum)))))))
 data_again t (Opaque bytes) typed fits =
     let own : (n : ℕ) → not (has_own_data (record { code = n })) ≡ false → eqb t.code n ≡ false = λ n h. unlike (λ u. not (has_own_data u)) t n false typed h in
-    rw (own 1 refl, own 2 refl, own 6 refl, own 28 refl) (whole_again _ _ _ bytes_law Opaque bytes fits)
-data_again t (CNAME m) typed fits = absurd fits
-data_again t (RRSIG covered rest) typed fits = absurd fits
+    rw (own 1 refl, own 2 refl, own 5 refl, own 6 refl, own 28 refl, own 46 refl) (whole_again _ _ _ bytes_law Opaque bytes fits)
+data_again t (CNAME n) typed fits = at_type t 5 (CNAME n) typed (whole_again _ _ _ full_law CNAME n fits)
+data_again t (RRSIG covered rest) typed fits = at_type t 46 (RRSIG covered rest) typed (whole_again _ _ _ signature_law (λ x. RRSIG x.0 x.1) (covered, rest) fits)
 
 data_plain : (x : RData) → IsData x → AllPlain is_word_byte (data_words x)
 data_plain (A a) fits = (ipv4_plain a fits, tt)
@@ -136,8 +146,8 @@ data_plain (SOA s) fits =
     let number : (n : ℕ) → n ≤ 4294967295 → _ = λ n le. small 4294967295 n le (lit< tt) in
     (named_plain s.mname fits.mname.0, (named_plain s.rname fits.rname.0, (number s.serial fits.serial, (number s.refresh fits.refresh, (number s.retry fits.retry, (number s.expire fits.expire, (number s.minimum fits.minimum, tt)))))))
 data_plain (Opaque bytes) fits = (bytes_plain bytes fits, tt)
-data_plain (CNAME n) fits = absurd fits
-data_plain (RRSIG covered rest) fits = absurd fits
+data_plain (CNAME n) fits = (named_plain n fits.0, tt)
+data_plain (RRSIG covered rest) fits = (type_plain covered fits.0, (bytes_plain rest fits.1, tt))
 
 -- ---- record lines
 
@@ -148,11 +158,11 @@ abbrev head_text : head_parts → List (List ℕ)
 head_text x = name_text x.0 ∷ decimal x.1.0 ∷ class_text x.1.1.0 ∷ type_text x.1.1.1 ∷ []
 
 abbrev pub HeadFits : head_parts → Type 0
-HeadFits x = IsFullName x.0 × (IsWide x.1.0 × (IsClass x.1.1.0 × IsRecordType x.1.1.1))
+HeadFits x = IsFullName x.0 × (IsWide x.1.0 × (IsClass x.1.1.0 × IsType x.1.1.1))
 
 pub record_head_law : IsSeq record_head head_text HeadFits
 unfolding record_head
-record_head_law = pair_law _ _ _ _ _ _ full_law (pair_law _ _ _ _ _ _ wide_law (pair_law _ _ _ _ _ _ (one _ _ _ class_field) (one _ _ _ record_type_field)))
+record_head_law = pair_law _ _ _ _ _ _ full_law (pair_law _ _ _ _ _ _ wide_law (pair_law _ _ _ _ _ _ (one _ _ _ class_field) (one _ _ _ type_field)))
 
 abbrev made : DomainName → ℕ → DnsClass → (t : RecordType) → (x : RData) → is_typed t x ≡ true → Record
 made n life c t x typed = record { name = n; ttl = life; dns_class = c; record_type = t; rdata = x; typed = typed }
@@ -186,12 +196,12 @@ record_takes line r e =
     let h = bind_some (record_head ws) (λ h. data_of h.0.1.1.1 h.1 >>= record_of_data h.0) r e in
     let t = record_head_law.takes ws h.0.0 h.0.1 h.1 in
     let d = bind_some (data_of h.0.0.1.1.1 h.0.1) (record_of_data h.0.0) r h.2 in
-    let s = record_spelled ws h.0.1 h.0.0 d.0 r t.1 t.0 (data_takes h.0.0.1.1.1 h.0.1 d.0 t.1.1.1.1.1 d.1) d.2 in
+    let s = record_spelled ws h.0.1 h.0.0 d.0 r t.1 t.0 (data_takes h.0.0.1.1.1 h.0.1 d.0 d.1) d.2 in
     (pieces_take 32 line (record_words r) s.0, s.1)
 
 pub record_plain : (r : Record) → IsRecord r → AllPlain is_word_byte (record_words r)
 record_plain r fits =
-    (named_plain r.name fits.name.0, (small 4294967295 r.ttl fits.life (lit< tt), (class_plain r.dns_class fits.class, (type_plain r.record_type fits.type.0, data_plain r.rdata fits.told))))
+    (named_plain r.name fits.name.0, (small 4294967295 r.ttl fits.life (lit< tt), (class_plain r.dns_class fits.class, (type_plain r.record_type fits.type, data_plain r.rdata fits.told))))
 
 abbrev Again : Record → Type 0
 Again r = records_of (record_words r) ≡ Some r
@@ -210,6 +220,6 @@ some_words r = omega arith
 pub record_again : (r : Record) → IsRecord r → record_of (record_text r) ≡ Some r
 record_again r fits = ap records_of (words_again (record_words r) (some_words r) (record_plain r fits)) ∙ record_words_again r fits
 
--- data that is read after a head is of its type
-pub read_typed : (ws after : List (List ℕ)) (h : head_parts) (x : RData) → record_head ws ≡ Some (h, after) → data_of h.1.1.1 after ≡ Some x → is_typed h.1.1.1 x ≡ true
-read_typed ws after h x e f = let t = record_head_law.takes ws h after e in let s = data_takes h.1.1.1 after x t.1.1.1.1.1 f in s.typed
+-- data that is read for a type is of it
+pub read_typed : (t : RecordType) (ws : List (List ℕ)) (x : RData) → data_of t ws ≡ Some x → is_typed t x ≡ true
+read_typed t ws x e = let s = data_takes t ws x e in s.typed

@@ -52,12 +52,12 @@ flags_field = table_field _ _ flags ((refl, tt), ((refl, tt), ((refl, tt), ((ref
     again (false, true) is = refl
     again (true, true) is = refl
 
-pub dnssec_field : IsField (in_table dnssec_words) dnssec_text (λ b. b ≡ false)
-dnssec_field = table_field _ _ dnssec_words ((refl, refl), tt) again
+pub dnssec_field : IsField (in_table dnssec_words) dnssec_text (λ b. Unit {0})
+dnssec_field = table_field _ _ dnssec_words ((refl, tt), ((refl, tt), tt)) again
   where
-    again : (b : Bool) → b ≡ false → in_table dnssec_words (dnssec_text b) ≡ Some b
+    again : (b : Bool) → Unit {0} → in_table dnssec_words (dnssec_text b) ≡ Some b
     again false is = refl
-    again true is = absurd cc
+    again true is = refl
 
 -- ---- plain bytes
 

@@ -20,9 +20,9 @@ use Rattle.line_forms.specs.declared.lines.Form.TheVariants as form
 use Rattle.line_forms.specs.declared.rules.Counts.{Counts}
 use Rattle.line_forms.specs.declared.rules.MessageHead.{MessageHead}
 use Rattle.text_words.specs.Addresses.{ip_of}
-use Rattle.text_words.specs.Codes.{type_of, response_code_of, class_in, is_asked_type}
-use Rattle.text_words.specs.Fields.{Fields, field, kept, in_table, both, skip, whole, nothing, wide_field}
-use Rattle.text_words.specs.Names.{full_name, short_name}
+use Rattle.text_words.specs.Codes.{type_of, response_code_of, class_in}
+use Rattle.text_words.specs.Fields.{Fields, field, in_table, both, skip, whole, nothing, wide_field}
+use Rattle.text_words.specs.Names.{relaxed_name, full_name}
 use Rattle.text_words.specs.Numbers.{◌>>=◌, number_within}
 use Rattle.line_forms.specs.OptionForm.{option_line_of}
 use Rattle.text_words.specs.Pieces.{pieces}
@@ -44,13 +44,9 @@ failures =
 abbrev pub flags : List (List ℕ × (Bool × Bool))
 flags = (codes "none", (false, false)) ∷ (codes "aa", (true, false)) ∷ (codes "tc", (false, true)) ∷ (codes "aa+tc", (true, true)) ∷ []
 
--- the types that rules and questions have
-abbrev pub type_field : Fields RecordType
-type_field = field (kept is_asked_type type_of)
-
 -- whether DNSSEC records are asked for
 abbrev pub dnssec_words : List (List ℕ × Bool)
-dnssec_words = (codes "plain", false) ∷ []
+dnssec_words = (codes "plain", false) ∷ (codes "dnssec", true) ∷ []
 
 -- ---- the fields of each kind of line, after its first word
 
@@ -125,7 +121,7 @@ abbrev pub reply_parts : Type 0
 reply_parts = IpAddr × (Protocol × (DomainName × (RecordType × (ℕ × Result MessageHead NetError))))
 
 abbrev pub reply_fields : Fields reply_parts
-reply_fields = both (field ip_of) (both (field (in_table protocols)) (both (field full_name) (both type_field (both delay_field answered_fields))))
+reply_fields = both (field ip_of) (both (field (in_table protocols)) (both (field full_name) (both (field type_of) (both delay_field answered_fields))))
 
 -- a message without records
 abbrev pub bare_message : DomainName → RecordType → MessageHead → Message
@@ -148,7 +144,7 @@ abbrev pub reply_from : reply_parts → Form
 reply_from x = rule_by x.0 x.1.0 x.1.1.0 x.1.1.1.0 x.1.1.1.1.0 x.1.1.1.1.1
 
 abbrev pub question_fields : Fields (DomainName × (RecordType × Bool))
-question_fields = both (field (short_name 23)) (both type_field (field (in_table dnssec_words)))
+question_fields = both (field relaxed_name) (both (field type_of) (field (in_table dnssec_words)))
 
 abbrev pub question_from : DomainName × (RecordType × Bool) → Question
 question_from x = record { query = record { name = x.0; query_type = x.1.0; query_class = class_in }; dnssec_ok = x.1.1 }

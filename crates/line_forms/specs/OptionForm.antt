@@ -4,7 +4,7 @@ use Rattle.std.specs.Str.{bytes_eq}
 use Rattle.resolver_settings.specs.Net.{Network}
 use Rattle.line_forms.specs.declared.option_form.Bounds.{Bounds}
 use Rattle.line_forms.specs.declared.option_form.OptionLine.{OptionLine}
-use Rattle.line_forms.specs.declared.option_form.OptionLine.TheVariants.{ResponseCacheSize, AllowAnswers, DenyAnswers, AllowServer, DenyServer, AvoidLocalUdpPorts, PositiveTtl, NegativeTtl, CaseRandomization, EdnsPayloadLen, FirstDelays}
+use Rattle.line_forms.specs.declared.option_form.OptionLine.TheVariants.{ResponseCacheSize, RecursionLimit, NsRecursionLimit, AllowAnswers, DenyAnswers, AllowServer, DenyServer, AvoidLocalUdpPorts, PositiveTtl, NegativeTtl, CaseRandomization, EdnsPayloadLen, FirstDelays}
 use Rattle.text_words.specs.Fields.{Fields, field, in_table, whole, wide_field}
 use Rattle.text_words.specs.Networks.{nets_of}
 use Rattle.text_words.specs.NumberLists.{ports_of, delays_of}
@@ -15,6 +15,9 @@ nets_field = field nets_of
 
 abbrev pub size_field : Fields ℕ
 size_field = field (number_within 0 4194304)
+
+abbrev pub limit_field : Fields ℕ
+limit_field = field (number_within 0 255)
 
 abbrev pub ports_field : Fields (List ℕ)
 ports_field = field ports_of
@@ -39,6 +42,12 @@ bounds_fields ws = wide_field ws >>= λ x. field (number_within x.0 4294967295) 
 
 unfoldable pub response_cache_size_of : List (List ℕ) → Option OptionLine
 response_cache_size_of = whole size_field ResponseCacheSize
+
+unfoldable pub recursion_limit_of : List (List ℕ) → Option OptionLine
+recursion_limit_of = whole limit_field RecursionLimit
+
+unfoldable pub ns_recursion_limit_of : List (List ℕ) → Option OptionLine
+ns_recursion_limit_of = whole limit_field NsRecursionLimit
 
 unfoldable pub allow_answers_of : List (List ℕ) → Option OptionLine
 allow_answers_of = whole nets_field AllowAnswers
@@ -70,19 +79,26 @@ edns_payload_len_of = whole payload_field EdnsPayloadLen
 unfoldable pub first_delays_of : List (List ℕ) → Option OptionLine
 first_delays_of = whole delays_field FirstDelays
 
--- the option that the next word names
-unfoldable pub option_line_of : List (List ℕ) → Option OptionLine
-option_line_of [] = None
-option_line_of (w ∷ ws) =
-    if bytes_eq w (codes "response_cache_size") then response_cache_size_of ws
-    else if bytes_eq w (codes "allow_answers") then allow_answers_of ws
-    else if bytes_eq w (codes "deny_answers") then deny_answers_of ws
-    else if bytes_eq w (codes "allow_server") then allow_server_of ws
-    else if bytes_eq w (codes "deny_server") then deny_server_of ws
-    else if bytes_eq w (codes "avoid_local_udp_ports") then avoid_local_udp_ports_of ws
+-- one of the options behind the networks
+unfoldable pub later_option_of : List ℕ → List (List ℕ) → Option OptionLine
+later_option_of w ws =
+    if bytes_eq w (codes "avoid_local_udp_ports") then avoid_local_udp_ports_of ws
     else if bytes_eq w (codes "positive_ttl") then positive_ttl_of ws
     else if bytes_eq w (codes "negative_ttl") then negative_ttl_of ws
     else if bytes_eq w (codes "case_randomization") then case_randomization_of ws
     else if bytes_eq w (codes "edns_payload_len") then edns_payload_len_of ws
     else if bytes_eq w (codes "first_delays") then first_delays_of ws
     else None
+
+-- the option that the next word names
+unfoldable pub option_line_of : List (List ℕ) → Option OptionLine
+option_line_of [] = None
+option_line_of (w ∷ ws) =
+    if bytes_eq w (codes "response_cache_size") then response_cache_size_of ws
+    else if bytes_eq w (codes "recursion_limit") then recursion_limit_of ws
+    else if bytes_eq w (codes "ns_recursion_limit") then ns_recursion_limit_of ws
+    else if bytes_eq w (codes "allow_answers") then allow_answers_of ws
+    else if bytes_eq w (codes "deny_answers") then deny_answers_of ws
+    else if bytes_eq w (codes "allow_server") then allow_server_of ws
+    else if bytes_eq w (codes "deny_server") then deny_server_of ws
+    else later_option_of w ws

@@ -5,12 +5,12 @@ use Rattle.dns_core.specs.Record.{is_typed}
 use Rattle.dns_core.specs.declared.codes.RecordType.{RecordType}
 use Rattle.dns_core.specs.declared.codes.DnsClass.{DnsClass}
 use Rattle.dns_core.specs.declared.record.RData.{RData}
-use Rattle.dns_core.specs.declared.record.RData.TheVariants.{A, AAAA, NS, SOA, Opaque}
+use Rattle.dns_core.specs.declared.record.RData.TheVariants.{A, AAAA, NS, CNAME, SOA, RRSIG, Opaque}
 use Rattle.dns_core.specs.declared.record.Record.{Record}
 use Rattle.dns_core.specs.declared.record.Soa.{Soa}
 use Rattle.text_words.specs.Addresses.{ipv6_of}
-use Rattle.text_words.specs.Codes.{type_of, class_of, is_record_type}
-use Rattle.text_words.specs.Fields.{Fields, field, kept, both, whole, wide_field}
+use Rattle.text_words.specs.Codes.{type_of, class_of}
+use Rattle.text_words.specs.Fields.{Fields, field, both, whole, wide_field}
 use Rattle.text_words.specs.Hex.{bytes_of}
 use Rattle.text_words.specs.Names.{full_name}
 use Rattle.text_words.specs.Numbers.{◌>>=◌, ipv4_of}
@@ -18,7 +18,7 @@ use Rattle.text_words.specs.Pieces.{pieces}
 
 -- what stands before the data
 unfoldable pub record_head : Fields (DomainName × (ℕ × (DnsClass × RecordType)))
-record_head = both (field full_name) (both wide_field (both (field class_of) (field (kept is_record_type type_of))))
+record_head = both (field full_name) (both wide_field (both (field class_of) (field type_of)))
 
 abbrev pub soa_parts : Type 0
 soa_parts = DomainName × (DomainName × (ℕ × (ℕ × (ℕ × (ℕ × ℕ)))))
@@ -32,13 +32,19 @@ soa_from x = record { mname = x.0; rname = x.1.0; serial = x.1.1.0; refresh = x.
 unfoldable pub soa_of : List (List ℕ) → Option RData
 soa_of = whole soa_fields (λ x. SOA (soa_from x))
 
+-- the type that is covered, and the rest as bytes
+unfoldable pub signature_of : List (List ℕ) → Option RData
+signature_of = whole (both (field type_of) (field bytes_of)) (λ x. RRSIG x.0 x.1)
+
 -- the data of a type; each that has no form of its own has bytes
 unfoldable pub data_of : RecordType → List (List ℕ) → Option RData
 data_of t ws =
     if t.code == 1 then whole (field ipv4_of) A ws
     else if t.code == 2 then whole (field full_name) NS ws
+    else if t.code == 5 then whole (field full_name) CNAME ws
     else if t.code == 6 then soa_of ws
     else if t.code == 28 then whole (field ipv6_of) AAAA ws
+    else if t.code == 46 then signature_of ws
     else whole (field bytes_of) Opaque ws
 
 -- a record, where the test whether its type is that of its data came out so

@@ -24,11 +24,11 @@ use Rattle.recursor_world.specs.declared.script.ScriptLine.{ScriptLine}
 use Rattle.recursor_world.specs.declared.script.ScriptLine.TheVariants.{Connect, Refuse, Reply}
 use Rattle.line_forms.specs.declared.option_form.Bounds.{Bounds}
 use Rattle.line_forms.specs.declared.option_form.OptionLine.{OptionLine}
-use Rattle.line_forms.specs.declared.option_form.OptionLine.TheVariants.{ResponseCacheSize, AllowAnswers, DenyAnswers, AllowServer, DenyServer, AvoidLocalUdpPorts, PositiveTtl, NegativeTtl, CaseRandomization, EdnsPayloadLen, FirstDelays}
+use Rattle.line_forms.specs.declared.option_form.OptionLine.TheVariants.{ResponseCacheSize, RecursionLimit, NsRecursionLimit, AllowAnswers, DenyAnswers, AllowServer, DenyServer, AvoidLocalUdpPorts, PositiveTtl, NegativeTtl, CaseRandomization, EdnsPayloadLen, FirstDelays}
 use Rattle.text_words.specs.Codes.{class_in}
 use Rattle.text_words.specs.Texts.{flag_text, ip_text, protocol_text, error_word, flags_text, record_words}
 use Rattle.dns_core.specs.CodeTexts.{type_text, response_code_text}
-use Rattle.text_words.specs.Spelling.{nets_text, numbers_text, spelled, IsName, IsFullName, IsAddress, IsType, IsRecordType, IsClass, IsCode, IsNet, ArePorts, AreFirstDelays}
+use Rattle.text_words.specs.Spelling.{nets_text, numbers_text, spelled, IsName, IsFullName, IsAddress, IsType, IsClass, IsCode, IsNet, ArePorts, AreFirstDelays}
 
 -- ---- the words of each line
 
@@ -49,6 +49,8 @@ bounds_words b = decimal b.least ∷ decimal b.most ∷ []
 -- the name of an option, and its value
 abbrev pub named_words : OptionLine → List (List ℕ)
 named_words (ResponseCacheSize size) = codes "response_cache_size" ∷ decimal size ∷ []
+named_words (RecursionLimit most) = codes "recursion_limit" ∷ decimal most ∷ []
+named_words (NsRecursionLimit most) = codes "ns_recursion_limit" ∷ decimal most ∷ []
 named_words (AllowAnswers nets) = codes "allow_answers" ∷ nets_text nets ∷ []
 named_words (DenyAnswers nets) = codes "deny_answers" ∷ nets_text nets ∷ []
 named_words (AllowServer nets) = codes "allow_server" ∷ nets_text nets ∷ []
@@ -143,21 +145,24 @@ pub record IsSoa (soa : Soa) : Type 0 where
   pub expire : soa.expire ≤ 4294967295
   pub minimum : soa.minimum ≤ 4294967295
 
+abbrev pub AreBytes : List ℕ → Type 0
+AreBytes bytes = AllByRecursion (λ b. b < 256) bytes
+
 -- the data of a record
 abbrev pub IsData : RData → Type 0
 IsData (A a) = IsIpv4Addr a
 IsData (AAAA a) = IsIpv6Addr a
 IsData (NS target) = IsFullName target
+IsData (CNAME target) = IsFullName target
 IsData (SOA soa) = IsSoa soa
-IsData (Opaque bytes) = AllByRecursion (λ b. b < 256) bytes
-IsData (CNAME target) = ⊥
-IsData (RRSIG covered rest) = ⊥
+IsData (RRSIG covered rest) = IsType covered × AreBytes rest
+IsData (Opaque bytes) = AreBytes bytes
 
 pub record IsRecord (r : Record) : Type 0 where
   pub name : IsFullName r.name
   pub life : r.ttl ≤ 4294967295
   pub class : IsClass r.dns_class
-  pub type : IsRecordType r.record_type
+  pub type : IsType r.record_type
   pub told : IsData r.rdata
 
 -- UDP or TCP
@@ -216,13 +221,10 @@ IsScriptLine (Reply ip protocol name type delay (Err e)) = IsFailedRule ip proto
 IsScriptLine (Connect ip protocol delay error) = IsConnect ip protocol delay error
 IsScriptLine (Refuse ip protocol) = IsAddress ip × IsTransport protocol
 
--- a question of at most 23 labels
 pub record IsQuestion (q : Question) : Type 0 where
   pub named : IsName q.query.name
-  pub short : length q.query.name.labels ≤ 23
   pub typed : IsType q.query.query_type
   pub class : q.query.query_class ≡ class_in
-  pub plain : q.dnssec_ok ≡ false
 
 -- a turn of any question, also of one that there is not
 abbrev pub IsTurn : Turn → Type 0
@@ -237,6 +239,8 @@ pub record IsBounds (b : Bounds) : Type 0 where
 
 abbrev pub IsOption : OptionLine → Type 0
 IsOption (ResponseCacheSize size) = size ≤ 4194304
+IsOption (RecursionLimit most) = most ≤ 255
+IsOption (NsRecursionLimit most) = most ≤ 255
 IsOption (AllowAnswers nets) = AllByRecursion IsNet nets
 IsOption (DenyAnswers nets) = AllByRecursion IsNet nets
 IsOption (AllowServer nets) = AllByRecursion IsNet nets
@@ -251,6 +255,8 @@ IsOption (FirstDelays delays) = AreFirstDelays delays
 -- the place of an option in the order of all options of the format, from 1
 abbrev pub option_rank : OptionLine → ℕ
 option_rank (ResponseCacheSize size) = 2
+option_rank (RecursionLimit most) = 3
+option_rank (NsRecursionLimit most) = 4
 option_rank (AllowAnswers nets) = 5
 option_rank (DenyAnswers nets) = 6
 option_rank (AllowServer nets) = 7
@@ -276,6 +282,8 @@ last_rank low (o ∷ os) = last_rank (option_rank o) os
 abbrev pub standard_options : RecursorOptions
 standard_options = record {
   response_cache_size = 1048576;
+  recursion_limit = 24;
+  ns_recursion_limit = 24;
   allow_answers = [];
   deny_answers = [];
   allow_server = [];
@@ -298,6 +306,8 @@ with_negative policy b = record { general = record policy.general { negative_min
 -- what a line says takes the place of what was, whole
 abbrev pub changed : RecursorOptions → OptionLine → RecursorOptions
 changed options (ResponseCacheSize size) = record options { response_cache_size = size }
+changed options (RecursionLimit most) = record options { recursion_limit = most }
+changed options (NsRecursionLimit most) = record options { ns_recursion_limit = most }
 changed options (AllowAnswers nets) = record options { allow_answers = nets }
 changed options (DenyAnswers nets) = record options { deny_answers = nets }
 changed options (AllowServer nets) = record options { allow_server = nets }

@@ -6,7 +6,7 @@ mod option_form;
 mod record_lines;
 mod rules;
 
-pub use lines::{Form, answered, connected, delay, form_line};
-pub use option_form::{Bounds, OptionLine, last_rank, options_with};
+pub use lines::{Form, answered, connected, delay, dnssec_word, form_line};
+pub use option_form::{Bounds, OptionLine, last_rank, ns_recursion_limit, options_with};
 pub use record_lines::record_line;
 pub use rules::{Counts, MessageHead, OpenRule};

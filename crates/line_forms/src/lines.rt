@@ -1,7 +1,7 @@
 //! The lines of a scenario that are no record lines, each read on its own.
 ghost use Rattle.std.specs.Prelude.{◌≡◌};
 ghost use Rattle.text_words.specs.Fields.{Gives, GivesFields, field, in_table};
-ghost use Rattle.line_forms.specs.Lines.{protocols, failures, flags, type_field, dnssec_words, counts_fields, message_fields, delay_field, connected_fields, answered_fields, bare_message, head_of, root_of, option_of, patience_of, told_of, connect_of, refuse_of, reply_of, question_of, turn_of, end_line_of, form_of};
+ghost use Rattle.line_forms.specs.Lines.{protocols, failures, flags, dnssec_words, counts_fields, message_fields, delay_field, connected_fields, answered_fields, bare_message, head_of, root_of, option_of, patience_of, told_of, connect_of, refuse_of, reply_of, question_of, turn_of, end_line_of, form_of};
 
 use crate::option_form::{OptionLine, option_line};
 use crate::rules::{Counts, MessageHead, OpenRule};
@@ -11,7 +11,7 @@ use dns_core::{
 use recursor_world::ScriptLine;
 use std::alloc::Global;
 use std::net::IpAddr;
-use text_words::{LineError, Words, is_asked_type, pass};
+use text_words::{LineError, Words};
 
 /// What a line says that is no record line.
 #[derive(Drop, Debug)]
@@ -100,16 +100,8 @@ fn flags(words: &mut Words) -> Result<(bool, bool), LineError>
     Err(LineError::Refused)
 }
 
-fn asked_type(words: &mut Words) -> Result<RecordType, LineError>
-    ensures { GivesFields result words.new (type_field words.old) }
-{
-    let found = words.record_type()?;
-    pass(is_asked_type(found))?;
-    Ok(found)
-}
-
 /// Whether DNSSEC records are asked for.
-fn dnssec_word(words: &mut Words) -> Result<bool, LineError>
+pub fn dnssec_word(words: &mut Words) -> Result<bool, LineError>
     ensures { GivesFields result words.new (field (in_table dnssec_words) words.old) }
 {
     let Some(word) = words.next() else {
@@ -117,6 +109,9 @@ fn dnssec_word(words: &mut Words) -> Result<bool, LineError>
     };
     if word == b"plain".as_slice() {
         return Ok(false);
+    }
+    if word == b"dnssec".as_slice() {
+        return Ok(true);
     }
     Err(LineError::Refused)
 }
@@ -291,7 +286,7 @@ fn reply_line(alloc: Global, words: &mut Words) -> Result<Form, LineError>
     let ip = words.ip(alloc)?;
     let protocol = protocol(words)?;
     let name = words.full_name(alloc)?;
-    let query_type = asked_type(words)?;
+    let query_type = words.record_type()?;
     let delay = delay(words)?;
     let outcome = answered(words)?;
     words.end()?;
@@ -318,8 +313,8 @@ fn reply_line(alloc: Global, words: &mut Words) -> Result<Form, LineError>
 fn question_line(alloc: Global, words: &mut Words) -> Result<Form, LineError>
     ensures { Gives result (question_of words.old) }
 {
-    let name = words.short_name(alloc, 23)?;
-    let query_type = asked_type(words)?;
+    let name = words.relaxed_name(alloc)?;
+    let query_type = words.record_type()?;
     let dnssec_ok = dnssec_word(words)?;
     words.end()?;
     let query = Query {

@@ -1,7 +1,7 @@
 //! Option lines that are read, and the options that they say.
 ghost use Rattle.std.specs.Prelude.{◌≡◌, IfOk};
 ghost use Rattle.text_words.specs.Fields.{Gives, GivesFields, field, in_table};
-ghost use Rattle.line_forms.specs.OptionForm.{switches, bounds_fields, response_cache_size_of, allow_answers_of, deny_answers_of, allow_server_of, deny_server_of, avoid_local_udp_ports_of, positive_ttl_of, negative_ttl_of, case_randomization_of, edns_payload_len_of, first_delays_of, option_line_of};
+ghost use Rattle.line_forms.specs.OptionForm.{switches, limit_field, bounds_fields, response_cache_size_of, recursion_limit_of, ns_recursion_limit_of, allow_answers_of, deny_answers_of, allow_server_of, deny_server_of, avoid_local_udp_ports_of, positive_ttl_of, negative_ttl_of, case_randomization_of, edns_payload_len_of, first_delays_of, later_option_of, option_line_of};
 ghost use Rattle.line_forms.specs.Spelling.{option_rank, last_rank, with_positive, with_negative, changed, options_with};
 
 use dns_core::{Delays, Items, NoMemory, Ports};
@@ -9,6 +9,9 @@ use recursor_types::RecursorOptions;
 use resolver_settings::{Nets, TtlBounds, TtlConfig};
 use std::alloc::Global;
 use text_words::{LineError, Words};
+
+/// The limit of zones where no line says otherwise.
+const STANDARD_LIMIT: u8 = 24;
 
 /// The least and the greatest time to live, in seconds.
 #[derive(Clone, Copy, Debug, PartialEq, Eq)]
@@ -21,6 +24,8 @@ pub struct Bounds {
 #[derive(Drop, Debug)]
 pub enum OptionLine {
     ResponseCacheSize(u64),
+    RecursionLimit(u8),
+    NsRecursionLimit(u8),
     AllowAnswers(Nets),
     DenyAnswers(Nets),
     AllowServer(Nets),
@@ -40,6 +45,8 @@ impl OptionLine {
     {
         match self {
             OptionLine::ResponseCacheSize(_) => 2,
+            OptionLine::RecursionLimit(_) => 3,
+            OptionLine::NsRecursionLimit(_) => 4,
             OptionLine::AllowAnswers(_) => 5,
             OptionLine::DenyAnswers(_) => 6,
             OptionLine::AllowServer(_) => 7,
@@ -58,6 +65,8 @@ impl OptionLine {
     {
         match self {
             OptionLine::ResponseCacheSize(size) => options.response_cache_size = size,
+            OptionLine::RecursionLimit(most) => options.recursion_limit = most,
+            OptionLine::NsRecursionLimit(most) => options.ns_recursion_limit = most,
             OptionLine::AllowAnswers(nets) => options.allow_answers = nets,
             OptionLine::DenyAnswers(nets) => options.deny_answers = nets,
             OptionLine::AllowServer(nets) => options.allow_server = nets,
@@ -110,6 +119,27 @@ pub fn last_rank(written: &[OptionLine]) -> u8
     }
 }
 
+/// The limit of zones with a further line, where it was `limit` before.
+fn limit_after(line: &OptionLine, limit: u8) -> u8
+    ensures { (options : RecursorOptions) → options.ns_recursion_limit ≡ limit → result ≡ (changed options line.now).ns_recursion_limit }
+{
+    match line {
+        OptionLine::NsRecursionLimit(most) => *most,
+        _ => limit,
+    }
+}
+
+/// The limit of zones of the options that the lines say.
+pub fn ns_recursion_limit(written: &[OptionLine]) -> u8
+    ensures { result ≡ (options_with written.now).ns_recursion_limit }
+{
+    let mut limit = STANDARD_LIMIT;
+    for line in written {
+        limit = limit_after(line, limit);
+    }
+    limit
+}
+
 /// The standard options, changed line by line.
 pub fn options_with(alloc: Global, written: Items<OptionLine>) -> Result<RecursorOptions, NoMemory>
     ensures { IfOk result (λ options. options ≡ options_with written) }
@@ -153,6 +183,31 @@ fn response_cache_size_line(words: &mut Words) -> Result<OptionLine, LineError>
     let size = words.number(0, 4_194_304)?;
     words.end()?;
     Ok(OptionLine::ResponseCacheSize(size))
+}
+
+fn limit(words: &mut Words) -> Result<u8, LineError>
+    ensures { GivesFields result words.new (limit_field words.old) }
+{
+    let most = words.number(0, 255)?;
+    Ok(most as u8)
+}
+
+#[tactic(auto, unfolding(crate::specs::OptionForm::recursion_limit_of))]
+fn recursion_limit_line(words: &mut Words) -> Result<OptionLine, LineError>
+    ensures { Gives result (recursion_limit_of words.old) }
+{
+    let most = limit(words)?;
+    words.end()?;
+    Ok(OptionLine::RecursionLimit(most))
+}
+
+#[tactic(auto, unfolding(crate::specs::OptionForm::ns_recursion_limit_of))]
+fn ns_recursion_limit_line(words: &mut Words) -> Result<OptionLine, LineError>
+    ensures { Gives result (ns_recursion_limit_of words.old) }
+{
+    let most = limit(words)?;
+    words.end()?;
+    Ok(OptionLine::NsRecursionLimit(most))
 }
 
 #[tactic(auto, unfolding(crate::specs::OptionForm::allow_answers_of))]
@@ -256,6 +311,12 @@ pub fn option_line(alloc: Global, words: &mut Words) -> Result<OptionLine, LineE
     if word == b"response_cache_size".as_slice() {
         return response_cache_size_line(words);
     }
+    if word == b"recursion_limit".as_slice() {
+        return recursion_limit_line(words);
+    }
+    if word == b"ns_recursion_limit".as_slice() {
+        return ns_recursion_limit_line(words);
+    }
     if word == b"allow_answers".as_slice() {
         return allow_answers_line(alloc, words);
     }
@@ -268,6 +329,14 @@ pub fn option_line(alloc: Global, words: &mut Words) -> Result<OptionLine, LineE
     if word == b"deny_server".as_slice() {
         return deny_server_line(alloc, words);
     }
+    later_option(alloc, word, words)
+}
+
+/// Of the options behind the networks.
+#[tactic(auto, unfolding(crate::specs::OptionForm::later_option_of))]
+fn later_option(alloc: Global, word: &[u8], words: &mut Words) -> Result<OptionLine, LineError>
+    ensures { Gives result (later_option_of word.now words.old) }
+{
     if word == b"avoid_local_udp_ports".as_slice() {
         return avoid_local_udp_ports_line(alloc, words);
     }

@@ -3,25 +3,16 @@ ghost use Rattle.std.specs.Prelude.{◌≡◌, IsTrue, Some, refl};
 ghost use Rattle.dns_core.specs.Record.{is_typed};
 ghost use Rattle.dns_core.specs.declared.record.RData.TheVariants as variant;
 ghost use Rattle.text_words.specs.Addresses.{ipv6_of};
-ghost use Rattle.text_words.specs.Codes.{type_of, is_record_type};
-ghost use Rattle.text_words.specs.Fields.{Gives, GivesFields, field, kept, whole};
+ghost use Rattle.text_words.specs.Fields.{Gives, GivesFields, field, whole};
 ghost use Rattle.text_words.specs.Hex.{bytes_of};
 ghost use Rattle.text_words.specs.Names.{full_name};
 ghost use Rattle.text_words.specs.Numbers.{ipv4_of};
 ghost use Rattle.text_words.specs.Fields.{wide_field};
-ghost use Rattle.line_forms.specs.RecordLines.{record_head, soa_of, data_of, record_from, record_of_data, record_of};
+ghost use Rattle.line_forms.specs.RecordLines.{record_head, soa_of, signature_of, data_of, record_from, record_of_data, record_of};
 
 use dns_core::{DnsClass, Name, RData, Record, RecordType, Soa};
 use std::alloc::Global;
-use text_words::{LineError, Words, is_record_type, pass};
-
-fn record_type(words: &mut Words) -> Result<RecordType, LineError>
-    ensures { GivesFields result words.new (field (kept is_record_type type_of) words.old) }
-{
-    let found = words.record_type()?;
-    pass(is_record_type(found))?;
-    Ok(found)
-}
+use text_words::{LineError, Words};
 
 fn wide(words: &mut Words) -> Result<u32, LineError>
     ensures { GivesFields result words.new (wide_field words.old) }
@@ -40,7 +31,7 @@ fn record_head(
     let name = words.full_name(alloc)?;
     let ttl = wide(words)?;
     let dns_class = words.dns_class()?;
-    let record_type = record_type(words)?;
+    let record_type = words.record_type()?;
     Ok((name, (ttl, (dns_class, record_type))))
 }
 
@@ -62,12 +53,20 @@ fn ipv6_data(alloc: Global, words: &mut Words) -> Result<RData, LineError>
     Ok(RData::AAAA(address))
 }
 
-fn name_data(alloc: Global, words: &mut Words) -> Result<RData, LineError>
+fn server_data(alloc: Global, words: &mut Words) -> Result<RData, LineError>
     ensures { Gives result (whole (field full_name) variant.NS words.old) }
 {
     let target = words.full_name(alloc)?;
     words.end()?;
     Ok(RData::NS(target))
+}
+
+fn alias_data(alloc: Global, words: &mut Words) -> Result<RData, LineError>
+    ensures { Gives result (whole (field full_name) variant.CNAME words.old) }
+{
+    let target = words.full_name(alloc)?;
+    words.end()?;
+    Ok(RData::CNAME(target))
 }
 
 #[tactic(auto, unfolding(crate::specs::RecordLines::soa_of))]
@@ -93,6 +92,17 @@ fn soa_data(alloc: Global, words: &mut Words) -> Result<RData, LineError>
     }))
 }
 
+/// The type that is covered, and the rest as bytes.
+#[tactic(auto, unfolding(crate::specs::RecordLines::signature_of))]
+fn signature_data(alloc: Global, words: &mut Words) -> Result<RData, LineError>
+    ensures { Gives result (signature_of words.old) }
+{
+    let covered = words.record_type()?;
+    let rest = words.bytes(alloc)?;
+    words.end()?;
+    Ok(RData::RRSIG { covered, rest })
+}
+
 fn bytes_data(alloc: Global, words: &mut Words) -> Result<RData, LineError>
     ensures { Gives result (whole (field bytes_of) variant.Opaque words.old) }
 {
@@ -108,9 +118,11 @@ fn data(alloc: Global, words: &mut Words, record_type: RecordType) -> Result<RDa
 {
     match record_type.code {
         1 => ipv4_data(words),
-        2 => name_data(alloc, words),
+        2 => server_data(alloc, words),
+        5 => alias_data(alloc, words),
         6 => soa_data(alloc, words),
         28 => ipv6_data(alloc, words),
+        46 => signature_data(alloc, words),
         _ => bytes_data(alloc, words),
     }
 }

@@ -29,9 +29,9 @@ data_qualified : (d : RData) → IsData d → is_qualified_data d ≡ true
 data_qualified (A ip) h = refl
 data_qualified (AAAA ip) h = refl
 data_qualified (NS target) h = h.1
-data_qualified (CNAME target) h = absurd h
+data_qualified (CNAME target) h = h.1
 data_qualified (SOA soa) h = both soa.mname.fqdn soa.rname.fqdn h.mname.1 h.rname.1
-data_qualified (RRSIG covered rest) h = absurd h
+data_qualified (RRSIG covered rest) h = refl
 data_qualified (Opaque bytes) h = refl
 
 record_qualified : (r : Record) → IsRecord r → is_qualified_record r ≡ true

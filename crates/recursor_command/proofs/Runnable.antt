@@ -8,7 +8,7 @@ use Rattle.resolver_settings.specs.Ttl.{is_reversed, has_reversed}
 use Rattle.recursor_types.specs.Options.{is_first_delay, has_bad_first_delays}
 use Rattle.recursor_types.specs.declared.options.RecursorOptions.{RecursorOptions}
 use Rattle.line_forms.specs.declared.option_form.OptionLine.{OptionLine}
-use Rattle.line_forms.specs.declared.option_form.OptionLine.TheVariants.{ResponseCacheSize, AllowAnswers, DenyAnswers, AllowServer, DenyServer, AvoidLocalUdpPorts, PositiveTtl, NegativeTtl, CaseRandomization, EdnsPayloadLen, FirstDelays}
+use Rattle.line_forms.specs.declared.option_form.OptionLine.TheVariants.{ResponseCacheSize, RecursionLimit, NsRecursionLimit, AllowAnswers, DenyAnswers, AllowServer, DenyServer, AvoidLocalUdpPorts, PositiveTtl, NegativeTtl, CaseRandomization, EdnsPayloadLen, FirstDelays}
 use Rattle.recursor_text.specs.declared.scenario.Scenario.{Scenario}
 use Rattle.text_words.specs.Spelling.{AreFirstDelays}
 use Rattle.line_forms.specs.Spelling.{IsOption, standard_options, changed, changed_by}
@@ -49,6 +49,8 @@ right_delays ns h = neither (length ns == 0) (not (list_all is_first_delay ns)) 
 
 change_right : (o : RecursorOptions) (line : OptionLine) → IsRight o → IsOption line → IsRight (changed o line)
 change_right o (ResponseCacheSize size) h v = record { positive = h.positive; negative = h.negative; own = h.own; delays = h.delays }
+change_right o (RecursionLimit most) h v = record { positive = h.positive; negative = h.negative; own = h.own; delays = h.delays }
+change_right o (NsRecursionLimit most) h v = record { positive = h.positive; negative = h.negative; own = h.own; delays = h.delays }
 change_right o (AllowAnswers nets) h v = record { positive = h.positive; negative = h.negative; own = h.own; delays = h.delays }
 change_right o (DenyAnswers nets) h v = record { positive = h.positive; negative = h.negative; own = h.own; delays = h.delays }
 change_right o (AllowServer nets) h v = record { positive = h.positive; negative = h.negative; own = h.own; delays = h.delays }

@@ -11,6 +11,7 @@ use Rattle.dns_core.specs.declared.message.Message.{Message}
 use Rattle.dns_core.specs.declared.record.Record.{Record}
 use Rattle.dns_core.specs.declared.request.Question.{Question}
 use Rattle.dns_core.specs.declared.request.Turn.{Turn}
+use Rattle.recursor_types.specs.declared.options.RecursorOptions.{RecursorOptions}
 use Rattle.recursor_world.specs.declared.script.ScriptLine.{ScriptLine}
 use Rattle.recursor_world.specs.declared.script.ScriptLine.TheVariants.{Connect, Refuse, Reply}
 use Rattle.recursor_text.specs.declared.scenario.Scenario.{Scenario}
@@ -24,10 +25,10 @@ use Rattle.recursor_text.specs.declared.reading.draft.Stage.TheVariants.{Headed,
 use Rattle.recursor_text.specs.declared.reading.draft.Draft.{Draft}
 use Rattle.text_words.specs.Numbers.{◌>>=◌}
 use Rattle.text_words.specs.Codes.{class_in}
-use Rattle.recursor_text.specs.Steps.{start, may_turn, may_end, is_settled, rule_of, settle, add, put, taken_at, taken, scenario_of}
+use Rattle.recursor_text.specs.Steps.{start, may_turn, may_end, is_settled, rule_of, settle, add, is_short, put, taken_at, taken, scenario_of}
 use Rattle.text_words.specs.Spelling.{spelled, IsAddress}
-use Rattle.line_forms.specs.Spelling.{record_text, record_texts, script_lines, root_line, option_line, question_line, turn_line, patience_words, told_words, end_words, options_with, option_rank, last_rank, RiseAbove, IsRecord, IsRule, IsScriptLine, IsQuestion, IsTurn, IsOption}
-use Rattle.recursor_text.specs.Spelling.{rules_of, to_roots, to_options, to_patience, to_told, to_rules, to_questions, to_turns, scenario_lines, most_roots, most_questions, most_turns, NoneFalls, last_moment, IsScenario}
+use Rattle.line_forms.specs.Spelling.{record_text, record_texts, script_lines, root_line, option_line, question_line, turn_line, patience_words, told_words, end_words, options_with, option_rank, last_rank, RiseAbove, IsRecord, IsRule, IsScriptLine, IsTurn, IsOption}
+use Rattle.recursor_text.specs.Spelling.{rules_of, to_roots, to_options, to_patience, to_told, to_rules, to_questions, to_turns, scenario_lines, most_roots, most_questions, most_turns, NoneFalls, last_moment, IsAsked, IsScenario}
 use Rattle.text_words.proofs.Binds.{bind_some}
 use Rattle.line_forms.proofs.LineLaws.{rule_words, form_words, IsBare, IsLone, IsForm, form_again}
 use Rattle.line_forms.proofs.OptionLaws.{last_push}
@@ -225,15 +226,19 @@ stage_asked (q ∷ qs) = Asked
 abbrev pub asking : List OptionLine → Scenario → List Question → Draft
 asking written sc questions = record { stage = stage_asked questions; roots = sc.roots; written = written; patience = sc.patience; rules = rules_of sc.upstream; pending = None; questions = questions; turns = [] }
 
-pub puts_question : (written : List OptionLine) (sc : Scenario) (front : List Question) (q : Question) → length front < most_questions → put (asking written sc front) (form.Question q) ≡ Some (asking written sc (front ++ q ∷ []))
-puts_question written sc [] q lt = refl
-puts_question written sc (p ∷ ps) q lt = let room : ltb (length (p ∷ ps)) most_questions ≡ true = lt-ltb _ _ lt in rw room refl
+pub puts_question : (written : List OptionLine) (sc : Scenario) (front : List Question) (q : Question) → length front < most_questions → IsAsked (options_with written) q
+    → put (asking written sc front) (form.Question q) ≡ Some (asking written sc (front ++ q ∷ []))
+puts_question written sc [] q lt fits = let short : is_short written q ≡ true = lt-ltb _ _ fits.1 in rw short refl
+puts_question written sc (p ∷ ps) q lt fits =
+    let room : ltb (length (p ∷ ps)) most_questions ≡ true = lt-ltb _ _ lt in
+    let short : is_short written q ≡ true = lt-ltb _ _ fits.1 in
+    rw (room, short) refl
 
-questions_again : (written : List OptionLine) (sc : Scenario) (front qs : List Question) → length front + length qs ≤ most_questions → AllByRecursion IsQuestion qs
+questions_again : (written : List OptionLine) (sc : Scenario) (front qs : List Question) → length front + length qs ≤ most_questions → AllByRecursion (IsAsked (options_with written)) qs
     → run (asking written sc front) (map question_line qs) ≡ Some (asking written sc (front ++ qs))
 questions_again written sc front [] few all = ap (λ (l : List Question). Some (asking written sc l)) (sym (append-nil front))
 questions_again written sc front (q ∷ qs) few all =
-    takes_form (asking written sc front) (asking written sc (front ++ q ∷ [])) (form.Question q) (map question_line qs) refl all.0 (puts_question written sc front q (omega arith))
+    takes_form (asking written sc front) (asking written sc (front ++ q ∷ [])) (form.Question q) (map question_line qs) refl all.0.0 (puts_question written sc front q (omega arith) all.0)
     ∙ questions_again written sc (front ++ q ∷ []) qs (omega (arith, length_push front q)) all.1
     ∙ ap (λ (l : List Question). Some (asking written sc l)) (append_assoc front (q ∷ []) qs)
 
@@ -304,6 +309,10 @@ patience_again written sc fits =
     run_append start (with_options sc.roots written) (to_options sc.roots written) (spelled (patience_words sc.patience) ∷ []) r0
     ∙ takes_form (with_options sc.roots written) (waiting sc.roots written sc.patience) (form.Patience sc.patience) [] refl fits.patience (puts_patience sc.roots written sc.patience)
 
+-- the questions are those that these lines have room for
+pub asked_by : (written : List OptionLine) (sc : Scenario) → IsScenario written sc → AllByRecursion (IsAsked (options_with written)) sc.questions
+asked_by written sc fits = subst (λ (o : RecursorOptions). AllByRecursion (IsAsked o) sc.questions) fits.options fits.questions
+
 pub run_again : (written : List OptionLine) (of : Scenario) (rules : List ScriptLine) → IsScenario written (with_rules of rules) → (d : Draft) × (run start (scenario_lines written (with_rules of rules)) ≡ Some d) × (d.stage ≡ Ended) × (scenario_of d ≡ with_rules of rules)
 run_again written of rules fits =
     let sc = with_rules of rules in
@@ -314,7 +323,7 @@ run_again written of rules fits =
     let r4 : run start (to_rules written sc) ≡ Some (scripted sc.roots written sc.patience (rules_of sc.upstream)) = run_append start (scripted sc.roots written sc.patience []) (to_told sc.roots written sc.patience) (flat_map script_lines (rules_of sc.upstream)) r3
     ∙ rules_again sc.roots written sc.patience [] (rules_of sc.upstream) fits.upstream in
     let r5 : run start (to_questions written sc) ≡ Some (turning written sc []) = run_append start (scripted sc.roots written sc.patience (rules_of sc.upstream)) (to_rules written sc) (map question_line sc.questions) r4
-    ∙ questions_again written sc [] sc.questions (omega (arith, fits.few_questions)) fits.questions in
+    ∙ questions_again written sc [] sc.questions (omega (arith, fits.few_questions)) (asked_by written sc fits) in
     let r6 : run start (to_turns written sc) ≡ Some (turning written sc sc.turns) = run_append start (turning written sc []) (to_questions written sc) (map turn_line sc.turns) r5
     ∙ turns_again written sc [] sc.turns (omega (arith, fits.few_turns)) fits.turns fits.timed in
     let r7 : run start (scenario_lines written sc) ≡ Some (turning_at Ended written sc sc.turns) = run_append start (turning written sc sc.turns) (to_turns written sc) (spelled end_words ∷ []) r6

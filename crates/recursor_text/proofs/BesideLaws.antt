@@ -23,7 +23,7 @@ use Rattle.recursor_text.specs.declared.reading.draft.Draft.{Draft}
 use Rattle.recursor_text.specs.declared.reading.whole.WholeDraft.{WholeDraft}
 use Rattle.recursor_text.specs.Spelling.{to_patience, to_world, told_world_words, to_rules, to_questions, to_turns, scenario_lines, most_questions, most_turns, last_moment, IsScenario}
 use Rattle.recursor_text.specs.Steps as draft
-use Rattle.recursor_text.specs.Steps.{may_tell, may_reply, may_ask, may_turn, may_end, is_ended, put}
+use Rattle.recursor_text.specs.Steps.{may_tell, may_reply, may_ask, may_turn, may_end, is_ended, is_short, put}
 use Rattle.recursor_text.specs.Whole.{is_late, late, is_told_world, in_world, beside, start, plain_taken, world_taken, late_taken, beside_taken, taken_by, taken, told_from, scenario_of}
 use Rattle.recursor_text.proofs.OpenRuleLaws.{mapped_push}
 use Rattle.recursor_text.proofs.DraftLaws.{rank, with_question, with_turn}
@@ -112,10 +112,10 @@ Late w d line e = Takes (beside (Some w) d) line (beside (Some w) e)
 
 put_late : (w : WorldDraft) (d : Draft) (f : Form) (e : Draft) → GoodBeside w d → may_close w ≡ true → IsForm f → is_late f ≡ true → put d f ≡ Some e → Late w d (spelled (form_words f)) e
 put_late w d (form.Question q) e g shut fits late h =
-    let k = guard_some (may_ask d.stage && ltb (length d.questions) most_questions) (Some (with_question d q)) e h in
-    let p = and_parts (may_ask d.stage) (ltb (length d.questions) most_questions) k.0 in
-    let t = plain.asked d q g.draft fits p.0 (ltb-true _ _ p.1) g.shut in
-    let at = at_questions d.stage w d p.0 g.world shut g.draft.no_questions in
+    let k = guard_some (may_ask d.stage && ltb (length d.questions) most_questions && is_short d.written q) (Some (with_question d q)) e h in
+    let a = plain.may_be_asked d q k.0 in
+    let t = plain.asked d q g.draft (fits, a.short) a.may a.room g.shut in
+    let at = at_questions d.stage w d a.may g.world shut g.draft.no_questions in
     subst (Late w d (question_line q)) (some_is (with_question d q) e k.1) (
       record { draft = t.0; world = g.world; later = omega arith; no_rules = g.no_rules; shut = g.shut; closed = λ h. shut },
       mapped_push question_line (to_rules d.written (told_of w d)) d.questions q ∙ sym (ap (λ (l : List (List ℕ)). l ++ question_line q ∷ []) at),

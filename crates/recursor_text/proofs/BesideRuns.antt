@@ -17,7 +17,7 @@ use Rattle.line_forms.specs.declared.option_form.OptionLine.{OptionLine}
 use Rattle.line_forms.specs.declared.rules.OpenRule.{OpenRule}
 use Rattle.line_forms.specs.Lines.{form_of, forms_of, told_of}
 use Rattle.line_forms.specs.RecordLines.{records_of, record_head}
-use Rattle.line_forms.specs.Spelling.{question_line, turn_line, end_words, options_with, IsQuestion, IsTurn}
+use Rattle.line_forms.specs.Spelling.{question_line, turn_line, end_words, options_with, IsTurn}
 use Rattle.line_forms.proofs.LineLaws.{form_words, IsForm, form_plain, form_again}
 use Rattle.zone_worlds.specs.declared.world.World.{World}
 use Rattle.world_lines.specs.declared.draft.OpenZone.{OpenZone}
@@ -35,13 +35,13 @@ use Rattle.recursor_text.specs.declared.reading.draft.Stage.{Stage}
 use Rattle.recursor_text.specs.declared.reading.draft.Stage.TheVariants.{Start, Headed, Rooted, Optioned, Patient, Scripted, Asked, Turned, Ended}
 use Rattle.recursor_text.specs.declared.reading.draft.Draft.{Draft}
 use Rattle.recursor_text.specs.declared.reading.whole.WholeDraft.{WholeDraft}
-use Rattle.recursor_text.specs.Spelling.{to_patience, to_world, told_world_words, to_rules, to_questions, to_turns, scenario_lines, most_questions, most_turns, last_moment, NoneFalls, IsScenario}
+use Rattle.recursor_text.specs.Spelling.{to_patience, to_world, told_world_words, to_rules, to_questions, to_turns, scenario_lines, most_questions, most_turns, last_moment, NoneFalls, IsAsked, IsScenario}
 use Rattle.recursor_text.specs.Steps as draft
 use Rattle.recursor_text.specs.Steps.{may_tell, may_reply, may_end, put, taken_at}
 use Rattle.recursor_text.specs.Whole.{is_late, is_told_world, in_world, beside, start, taken, scenario_of}
 use Rattle.recursor_text.proofs.TurnLaws.{moment_push}
 use Rattle.recursor_text.proofs.DraftLaws.{rank}
-use Rattle.recursor_text.proofs.AgainLaws.{waiting, asking, turning, turning_at, puts_question, puts_turn, puts_end, with_rules, patience_again}
+use Rattle.recursor_text.proofs.AgainLaws.{waiting, asking, turning, turning_at, puts_question, puts_turn, puts_end, with_rules, patience_again, asked_by}
 use Rattle.recursor_text.proofs.AgainLaws as again
 use Rattle.recursor_text.proofs.CompleteLaws as complete
 use Rattle.recursor_text.proofs.BesideLaws.{GoodBeside, GoodBy, Good}
@@ -161,11 +161,11 @@ late_step w d e f shut fits late h =
 late_takes : (w : WorldDraft) (d e : Draft) (f : Form) (ls : List (List ℕ)) → may_close w ≡ true → IsForm f → is_late f ≡ true → put d f ≡ Some e → run (beside (Some w) d) (spelled (form_words f) ∷ ls) ≡ run (beside (Some w) e) ls
 late_takes w d e f ls shut fits late h = takes (beside (Some w) d) (beside (Some w) e) (spelled (form_words f)) ls (late_step w d e f shut fits late h)
 
-questions_again : (w : WorldDraft) (written : List OptionLine) (sc : Scenario) (front qs : List Question) → may_close w ≡ true → length front + length qs ≤ most_questions → AllByRecursion IsQuestion qs
+questions_again : (w : WorldDraft) (written : List OptionLine) (sc : Scenario) (front qs : List Question) → may_close w ≡ true → length front + length qs ≤ most_questions → AllByRecursion (IsAsked (options_with written)) qs
     → run (beside (Some w) (asking written sc front)) (map question_line qs) ≡ Some (beside (Some w) (asking written sc (front ++ qs)))
 questions_again w written sc front [] shut few all = ap (λ (l : List Question). Some (beside (Some w) (asking written sc l))) (sym (append-nil front))
 questions_again w written sc front (q ∷ qs) shut few all =
-    late_takes w (asking written sc front) (asking written sc (front ++ q ∷ [])) (form.Question q) (map question_line qs) shut all.0 refl (puts_question written sc front q (omega arith))
+    late_takes w (asking written sc front) (asking written sc (front ++ q ∷ [])) (form.Question q) (map question_line qs) shut all.0.0 refl (puts_question written sc front q (omega arith) all.0)
     ∙ questions_again w written sc (front ++ q ∷ []) qs shut (omega (arith, length_push front q)) all.1
     ∙ ap (λ (l : List Question). Some (beside (Some w) (asking written sc l))) (append_assoc front (q ∷ []) qs)
 
@@ -200,7 +200,7 @@ from_world written of w fits =
     let r3 : run start (to_rules written sc) ≡ Some (beside (Some v.0) (asking written sc [])) = run_append start (beside (Some world.start) (asking written sc [])) (to_world sc.roots written sc.patience) (world_lines w) r2
     ∙ world_run world.start v.0 (asking written sc []) (world_lines w) refl v.1 in
     let r4 : run start (to_questions written sc) ≡ Some (beside (Some v.0) (turning written sc [])) = run_append start (beside (Some v.0) (asking written sc [])) (to_rules written sc) (map question_line sc.questions) r3
-    ∙ questions_again v.0 written sc [] sc.questions v.2 (omega (arith, fits.few_questions)) fits.questions in
+    ∙ questions_again v.0 written sc [] sc.questions v.2 (omega (arith, fits.few_questions)) (asked_by written sc fits) in
     let r5 : run start (to_turns written sc) ≡ Some (beside (Some v.0) (turning written sc sc.turns)) = run_append start (beside (Some v.0) (turning written sc [])) (to_questions written sc) (map turn_line sc.turns) r4
     ∙ turns_again v.0 written sc [] sc.turns v.2 (omega (arith, fits.few_turns)) fits.turns fits.timed in
     let r6 : run start (scenario_lines written sc) ≡ Some (beside (Some v.0) (turning_at Ended written sc sc.turns)) = run_append start (beside (Some v.0) (turning written sc sc.turns)) (to_turns written sc) (spelled end_words ∷ []) r5

@@ -65,7 +65,7 @@ abbrev dummy : Record
 dummy = record { name = root_name; ttl = 0; dns_class = class_in; record_type = type_a; rdata = A nowhere; typed = refl }
 
 is_dummy : IsRecord dummy
-is_dummy = record { name = (refl, refl); life = lit≤ tt; class = lit≤ tt; type = (lit≤ tt, refl); told = is_ipv4 }
+is_dummy = record { name = (refl, refl); life = lit≤ tt; class = lit≤ tt; type = lit≤ tt; told = is_ipv4 }
 
 abbrev total : Counts → ℕ
 total c = c.answers + c.authorities + c.additionals

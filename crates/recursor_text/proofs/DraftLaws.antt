@@ -20,10 +20,10 @@ use Rattle.recursor_text.specs.declared.reading.draft.Draft.{Draft}
 use Rattle.text_words.specs.Numbers.{◌>>=◌}
 use Rattle.line_forms.specs.Lines.{form_of}
 use Rattle.line_forms.specs.RecordLines.{record_of}
-use Rattle.recursor_text.specs.Steps.{may_head, may_root, may_option, may_wait, may_tell, may_reply, may_ask, may_turn, may_end, is_ended, start, is_settled, rule_of, settle, add, put, taken_at, taken, scenario_of}
+use Rattle.recursor_text.specs.Steps.{may_head, may_root, may_option, may_wait, may_tell, may_reply, may_ask, may_turn, may_end, is_ended, start, is_settled, rule_of, settle, add, is_short, put, taken_at, taken, scenario_of}
 use Rattle.text_words.specs.Spelling.{spelled, IsAddress}
-use Rattle.line_forms.specs.Spelling.{head_words, patience_words, told_words, end_words, record_text, script_lines, root_line, option_line, question_line, turn_line, IsScriptLine, IsQuestion, IsTurn, IsOption, option_rank, RiseAbove, last_rank}
-use Rattle.recursor_text.specs.Spelling.{to_roots, to_options, to_patience, to_told, to_rules, to_questions, to_turns, scenario_lines, most_roots, most_questions, most_turns, NoneFalls, last_moment, IsScenario}
+use Rattle.line_forms.specs.Spelling.{head_words, patience_words, told_words, end_words, record_text, script_lines, root_line, option_line, question_line, turn_line, IsScriptLine, IsTurn, IsOption, option_rank, RiseAbove, last_rank, options_with}
+use Rattle.recursor_text.specs.Spelling.{to_roots, to_options, to_patience, to_told, to_rules, to_questions, to_turns, scenario_lines, most_roots, most_questions, most_turns, NoneFalls, last_moment, IsAsked, IsScenario}
 use Rattle.text_words.proofs.Binds.{bind_some, guard_some, some_is}
 use Rattle.line_forms.proofs.LineLaws.{rule_words, form_words, IsBare, IsLone, IsForm, lone_lines, form_takes}
 use Rattle.line_forms.proofs.OptionLaws.{rise_push}
@@ -63,7 +63,7 @@ pub record Good (d : Draft) : Type 0 where
   pub pending : IfSome d.pending IsOpen
   pub waits : IfSome d.pending (λ o. is_settled o.owed ≡ false)
   pub few_questions : length d.questions ≤ most_questions
-  pub questions : AllByRecursion IsQuestion d.questions
+  pub questions : AllByRecursion (IsAsked (options_with d.written)) d.questions
   pub few_turns : length d.turns ≤ most_turns
   pub turns : AllByRecursion IsTurn d.turns
   pub timed : NoneFalls 0 d.turns
@@ -233,6 +233,9 @@ headed d g e shut =
       sym (ap (λ (s : Stage). so_far_at s d ++ spelled head_words ∷ []) is),
     )
 
+none_of : {X : Type 0} (P : X → Type 0) (xs : List X) → xs ≡ [] → AllByRecursion P xs
+none_of P xs e = subst (AllByRecursion P) (sym e) tt
+
 abbrev with_root : Draft → IpAddr → Draft
 with_root d ip = record d { stage = Rooted; roots = d.roots ++ ip ∷ [] }
 
@@ -287,7 +290,7 @@ optioned d o g fits e behind shut =
         pending = g.pending;
         waits = g.waits;
         few_questions = g.few_questions;
-        questions = g.questions;
+        questions = none_of _ d.questions (g.no_questions (omega (arith, at.0.1)));
         few_turns = g.few_turns;
         turns = g.turns;
         timed = g.timed;
@@ -495,7 +498,7 @@ ruled d line g fits e shut =
 abbrev pub with_question : Draft → Question → Draft
 with_question d q = record d { stage = Asked; questions = d.questions ++ q ∷ [] }
 
-pub asked : (d : Draft) (q : Question) → Good d → IsQuestion q → may_ask d.stage ≡ true → length d.questions < most_questions → d.pending ≡ None → Takes d (question_line q) (with_question d q)
+pub asked : (d : Draft) (q : Question) → Good d → IsAsked (options_with d.written) q → may_ask d.stage ≡ true → length d.questions < most_questions → d.pending ≡ None → Takes d (question_line q) (with_question d q)
 asked d q g fits e room shut =
     let at = at_questions d.stage d e shut g.no_questions in (
       record {
@@ -515,7 +518,7 @@ asked d q g fits e room shut =
         pending = g.pending;
         waits = g.waits;
         few_questions = omega (arith, length_push d.questions q);
-        questions = all_push IsQuestion d.questions q g.questions fits;
+        questions = all_push (IsAsked (options_with d.written)) d.questions q g.questions fits;
         few_turns = g.few_turns;
         turns = g.turns;
         timed = g.timed;
@@ -582,9 +585,6 @@ ended d g e shut =
       sym (ap (λ (l : List (List ℕ)). l ++ spelled end_words ∷ []) at.1),
     )
 
-no_records : (P : Record → Type 0) (rs : List Record) → rs ≡ [] → AllByRecursion P rs
-no_records P rs e = subst (AllByRecursion P) (sym e) tt
-
 none_long : (rs : List Record) → rs ≡ [] → length rs ≡ 0
 none_long rs e = ap length e
 
@@ -600,9 +600,9 @@ is_new o b = record {
   few_answers = omega (arith, b.few.0, none_long o.message.answers b.no_answers);
   few_authorities = omega (arith, b.few.1, none_long o.message.authorities b.no_authorities);
   few_additionals = omega (arith, b.few.2, none_long o.message.additionals b.no_additionals);
-  answers = no_records _ o.message.answers b.no_answers;
-  authorities = no_records _ o.message.authorities b.no_authorities;
-  additionals = no_records _ o.message.additionals b.no_additionals;
+  answers = none_of _ o.message.answers b.no_answers;
+  authorities = none_of _ o.message.authorities b.no_authorities;
+  additionals = none_of _ o.message.additionals b.no_additionals;
   first = λ h. (b.no_authorities, b.no_additionals);
   second = λ h. b.no_additionals;
 }
@@ -611,6 +611,18 @@ is_new o b = record {
 new_lines : (o : OpenRule) → IsBare o → open_lines o ≡ spelled (form_words (form.Reply o)) ∷ []
 new_lines o b = same_head o _ _ _ _ _ _ _ _ (omega (arith, none_long o.message.answers b.no_answers)) (omega (arith, none_long o.message.authorities b.no_authorities)) (omega (arith, none_long o.message.additionals b.no_additionals))
     (rw (b.no_answers, b.no_authorities, b.no_additionals) refl)
+
+-- what a draft that takes a question has tested
+pub record CanAsk (d : Draft) (q : Question) : Type 0 where
+  pub may : may_ask d.stage ≡ true
+  pub room : length d.questions < most_questions
+  pub short : length q.query.name.labels < (options_with d.written).ns_recursion_limit
+
+pub may_be_asked : (d : Draft) (q : Question) → (may_ask d.stage && ltb (length d.questions) most_questions && is_short d.written q) ≡ true → CanAsk d q
+may_be_asked d q e =
+    let p = and_parts (may_ask d.stage && ltb (length d.questions) most_questions) (is_short d.written q) e in
+    let r = and_parts (may_ask d.stage) (ltb (length d.questions) most_questions) p.0 in
+    record { may = r.0; room = ltb-true _ _ r.1; short = ltb-true _ _ p.1 }
 
 put_takes : (d : Draft) (f : Form) (e : Draft) → Good d → d.pending ≡ None → IsForm f → put d f ≡ Some e → Takes d (spelled (form_words f)) e
 put_takes d form.Head e g shut fits h =
@@ -641,9 +653,9 @@ put_takes d (form.Rule line) e g shut fits h =
     let k = guard_some (may_reply d.stage) (Some (with_rule d line)) e h in
     subst (Takes d (spelled (rule_words line))) (some_is (with_rule d line) e k.1) (ruled d line g fits k.0 shut)
 put_takes d (form.Question q) e g shut fits h =
-    let k = guard_some (may_ask d.stage && ltb (length d.questions) most_questions) (Some (with_question d q)) e h in
-    let p = and_parts (may_ask d.stage) (ltb (length d.questions) most_questions) k.0 in
-    subst (Takes d (question_line q)) (some_is (with_question d q) e k.1) (asked d q g fits p.0 (ltb-true _ _ p.1) shut)
+    let k = guard_some (may_ask d.stage && ltb (length d.questions) most_questions && is_short d.written q) (Some (with_question d q)) e h in
+    let a = may_be_asked d q k.0 in
+    subst (Takes d (question_line q)) (some_is (with_question d q) e k.1) (asked d q g (fits, a.short) a.may a.room shut)
 put_takes d (form.Turn t) e g shut fits h =
     let k = guard_some (may_turn d.stage && ltb (length d.turns) most_turns && leb (last_moment 0 d.turns) t.moment) (Some (with_turn d t)) e h in
     let p = and_parts (may_turn d.stage && ltb (length d.turns) most_turns) (leb (last_moment 0 d.turns) t.moment) k.0 in

@@ -2,7 +2,9 @@
 use Rattle.std.specs.Prelude.{◌≡◌, ℕ, ◌<◌, ◌≤◌, List, [], ◌∷◌, ◌++◌, length, map, codes}
 use Rattle.std.specs.List.{flat_map, AllByRecursion}
 use Rattle.std.specs.declared.net.ip_addr.IpAddr.{IpAddr}
+use Rattle.dns_core.specs.declared.request.Question.{Question}
 use Rattle.dns_core.specs.declared.request.Turn.{Turn}
+use Rattle.recursor_types.specs.declared.options.RecursorOptions.{RecursorOptions}
 use Rattle.recursor_world.specs.declared.script.ScriptLine.{ScriptLine}
 use Rattle.line_forms.specs.declared.option_form.OptionLine.{OptionLine}
 use Rattle.world_lines.specs.Spelling.{world_lines, IsWorld}
@@ -71,6 +73,10 @@ abbrev pub last_moment : ℕ → List Turn → ℕ
 last_moment low [] = low
 last_moment low (t ∷ ts) = last_moment t.moment ts
 
+-- a question of fewer labels than there may be zones on its way
+abbrev pub IsAsked : RecursorOptions → Question → Type 0
+IsAsked options q = IsQuestion q × (length q.query.name.labels < options.ns_recursion_limit)
+
 -- ---- a whole scenario
 
 -- how many roots, questions and turns a scenario may have
@@ -98,7 +104,7 @@ pub record IsScenario (written : List OptionLine) (s : Scenario) : Type 0 where
   pub patience : (1 ≤ s.patience) × (s.patience ≤ 1000)
   pub upstream : IsUpstream s.upstream
   pub few_questions : length s.questions ≤ most_questions
-  pub questions : AllByRecursion IsQuestion s.questions
+  pub questions : AllByRecursion (IsAsked s.options) s.questions
   pub few_turns : length s.turns ≤ most_turns
   pub turns : AllByRecursion IsTurn s.turns
   pub timed : NoneFalls 0 s.turns

@@ -1,12 +1,14 @@
 -- What the lines so far say, and what the next may say.
 use Rattle.std.specs.Prelude.{ℕ, ◌-◌, List, [], ◌∷◌, ◌++◌, length, ◌&&◌, ◌==◌, nat_lt, nat_le, Bool, true, false, Option, Some, None, Ok, if◌then◌else◌}
 use Rattle.dns_core.specs.declared.record.Record.{Record}
+use Rattle.dns_core.specs.declared.request.Question.{Question}
 use Rattle.recursor_world.specs.declared.script.ScriptLine.{ScriptLine}
 use Rattle.recursor_world.specs.declared.script.ScriptLine.TheVariants.{Reply}
 use Rattle.recursor_text.specs.declared.scenario.Scenario.{Scenario}
 use Rattle.recursor_text.specs.declared.scenario.Upstream.TheVariants.{Script as FromScript}
 use Rattle.line_forms.specs.declared.lines.Form.{Form}
 use Rattle.line_forms.specs.declared.lines.Form.TheVariants as form
+use Rattle.line_forms.specs.declared.option_form.OptionLine.{OptionLine}
 use Rattle.line_forms.specs.declared.rules.Counts.{Counts}
 use Rattle.line_forms.specs.declared.rules.OpenRule.{OpenRule}
 use Rattle.recursor_text.specs.declared.reading.draft.Stage.{Stage}
@@ -88,6 +90,10 @@ add o r =
     else if nat_lt 0 o.owed.additionals then Some (record o { message = record o.message { additionals = o.message.additionals ++ r ∷ [] }; owed = record o.owed { additionals = o.owed.additionals - 1 } })
     else None
 
+-- the question has fewer labels than there may be zones on its way
+abbrev pub is_short : List OptionLine → Question → Bool
+is_short written q = nat_lt (length q.query.name.labels) (options_with written).ns_recursion_limit
+
 abbrev pub put : Draft → Form → Option Draft
 put d form.Head = if may_head d.stage then Some (record d { stage = Headed }) else None
 put d (form.Root ip) = if may_root d.stage && nat_lt (length d.roots) most_roots then Some (record d { stage = Rooted; roots = d.roots ++ ip ∷ [] }) else None
@@ -96,7 +102,7 @@ put d (form.Patience n) = if may_wait d.stage then Some (record d { stage = Pati
 put d form.ToldScript = if may_tell d.stage then Some (record d { stage = Scripted }) else None
 put d (form.Reply o) = if may_reply d.stage then Some (settle d o) else None
 put d (form.Rule line) = if may_reply d.stage then Some (record d { rules = d.rules ++ line ∷ [] }) else None
-put d (form.Question q) = if may_ask d.stage && nat_lt (length d.questions) most_questions then Some (record d { stage = Asked; questions = d.questions ++ q ∷ [] }) else None
+put d (form.Question q) = if may_ask d.stage && nat_lt (length d.questions) most_questions && is_short d.written q then Some (record d { stage = Asked; questions = d.questions ++ q ∷ [] }) else None
 put d (form.Turn t) = if may_turn d.stage && nat_lt (length d.turns) most_turns && nat_le (last_moment 0 d.turns) t.moment then Some (record d { stage = Turned; turns = d.turns ++ t ∷ [] }) else None
 put d form.End = if may_end d.stage then Some (record d { stage = Ended }) else None
 

@@ -1,21 +1,18 @@
--- Lines that the format has and that are not read yet. A root, a turn, the end and the lines of a
--- world but its records are read wherever the format has them.
-use Rattle.std.specs.Prelude.{ℕ, Bool, true, false, not, ◌&&◌, ◌||◌, ◌==◌, nat_lt, List, [], ◌∷◌, length, Option, None, is_some, if◌then◌else◌, codes}
+-- Lines that the format has and that are not read yet: options, rules for transports, and questions of
+-- too many labels. All others are read wherever the format has them.
+use Rattle.std.specs.Prelude.{ℕ, Bool, true, false, ◌&&◌, nat_lt, List, [], ◌∷◌, length, Option, None, is_some, if◌then◌else◌, codes}
 use Rattle.std.specs.Str.{bytes_eq}
-use Rattle.dns_core.specs.declared.codes.DnsClass.{DnsClass}
 use Rattle.recursor_text.specs.declared.reading.draft.Draft.{Draft}
 use Rattle.recursor_text.specs.declared.reading.draft.Stage.{Stage}
 use Rattle.recursor_text.specs.declared.reading.draft.Stage.TheVariants.{Rooted, Optioned, Scripted, Asked}
 use Rattle.recursor_text.specs.declared.reading.draft.Place.{Place}
 use Rattle.recursor_text.specs.declared.reading.draft.Refusal.{Refusal}
 use Rattle.recursor_text.specs.declared.reading.draft.Refusal.TheVariants.{Bad, NotBuilt}
-use Rattle.text_words.specs.Addresses.{ip_of, ipv6_of}
-use Rattle.text_words.specs.Codes.{type_of, class_of}
-use Rattle.text_words.specs.Fields.{checked, field, kept, both, whole, wide_field}
-use Rattle.text_words.specs.Hex.{bytes_of}
-use Rattle.line_forms.specs.Lines.{delay_field, connected_fields, answered_fields}
-use Rattle.text_words.specs.Names.{full_name, relaxed_name}
-use Rattle.text_words.specs.Numbers.{◌>>=◌, ipv4_of}
+use Rattle.text_words.specs.Addresses.{ip_of}
+use Rattle.text_words.specs.Codes.{type_of}
+use Rattle.text_words.specs.Fields.{checked, field, both, whole}
+use Rattle.line_forms.specs.Lines.{delay_field, connected_fields, answered_fields, question_fields}
+use Rattle.text_words.specs.Names.{full_name}
 use Rattle.recursor_text.specs.OptionLines.{Line, option_line}
 use Rattle.text_words.specs.Pieces.{pieces}
 use Rattle.line_forms.specs.Spelling.{last_rank}
@@ -31,9 +28,6 @@ is_among (t ∷ ts) w = if bytes_eq w t then true else is_among ts w
 unfoldable pub is_protocol : List ℕ → Bool
 is_protocol w = is_among (codes "udp" ∷ codes "tcp" ∷ codes "tls" ∷ codes "https" ∷ codes "quic" ∷ codes "h3" ∷ []) w
 
-unfoldable pub is_dnssec : List ℕ → Bool
-is_dnssec w = is_among (codes "plain" ∷ codes "dnssec" ∷ []) w
-
 -- ---- lines, each after its first word
 
 unfoldable pub refuse_line : Line
@@ -46,47 +40,7 @@ unfoldable pub reply_line : Line
 reply_line = whole (both (field ip_of) (both (checked is_protocol) (both (field full_name) (both (field type_of) (both delay_field answered_fields))))) (λ x. tt)
 
 unfoldable pub question_line : Line
-question_line = whole (both (field relaxed_name) (both (field type_of) (checked is_dnssec))) (λ x. tt)
-
--- ---- record lines
-
-unfoldable pub ipv4_data : Line
-ipv4_data = whole (field ipv4_of) (λ x. tt)
-
-unfoldable pub ipv6_data : Line
-ipv6_data = whole (field ipv6_of) (λ x. tt)
-
-unfoldable pub name_data : Line
-name_data = whole (field full_name) (λ x. tt)
-
-unfoldable pub soa_data : Line
-soa_data = whole (both (field full_name) (both (field full_name) (both wide_field (both wide_field (both wide_field (both wide_field wide_field)))))) (λ x. tt)
-
-unfoldable pub signature_data : Line
-signature_data = whole (both (field type_of) (field bytes_of)) (λ x. tt)
-
-unfoldable pub bytes_data : Line
-bytes_data = whole (field bytes_of) (λ x. tt)
-
--- the data of the type that a word names
-abbrev pub data_line : Line
-data_line [] = None
-data_line (w ∷ ws) =
-    if bytes_eq w (codes "A") then ipv4_data ws
-    else if bytes_eq w (codes "NS") then name_data ws
-    else if bytes_eq w (codes "CNAME") then name_data ws
-    else if bytes_eq w (codes "SOA") then soa_data ws
-    else if bytes_eq w (codes "RRSIG") then signature_data ws
-    else if bytes_eq w (codes "AAAA") then ipv6_data ws
-    else if is_some (type_of w) then bytes_data ws
-    else None
-
--- IN, or any class where it need not be
-abbrev pub is_allowed_class : Bool → DnsClass → Bool
-is_allowed_class internet c = not internet || c.code == 1
-
-unfoldable pub record_line : Bool → Line
-record_line internet ws = both (field full_name) (both wide_field (field (kept (is_allowed_class internet) class_of))) ws >>= λ x. data_line x.1
+question_line = whole question_fields (λ x. tt)
 
 -- ---- where a line can stand
 
@@ -128,14 +82,14 @@ other_line place (w ∷ ws) =
     if bytes_eq w (codes "option") then stands (is_at_options place.stage) (option_line place.option ws)
     else late_line place w ws
 
--- a line of the format, where it stands
+-- a line of the format, where it stands; all records are read
 unfoldable pub line_at : Place → List ℕ → Option (Unit {0})
-line_at place line = if place.owes then record_line place.internet (pieces 32 line) else other_line place (pieces 32 line)
+line_at place line = if place.owes then None else other_line place (pieces 32 line)
 
 -- ---- refusals
 
 abbrev pub place_of : Draft → Place
-place_of d = record { stage = d.stage; option = last_rank 0 d.written; owes = is_some d.pending; internet = false; room = nat_lt (length d.questions) most_questions }
+place_of d = record { stage = d.stage; option = last_rank 0 d.written; owes = is_some d.pending; room = nat_lt (length d.questions) most_questions }
 
 abbrev pub refusal_at : Place → List ℕ → Refusal
 refusal_at place line = if is_some (line_at place line) then NotBuilt else Bad

@@ -86,7 +86,7 @@ stage_beside w d = if not (may_close w) then Start else if may_reply d.stage the
 
 -- a record that the world owes, or a question after the lines of the world
 abbrev pub place_beside : WorldDraft → Draft → Place
-place_beside w d = record (unbuilt.place_of d) { stage = stage_beside w d; owes = is_some w.pending; internet = true }
+place_beside w d = record (unbuilt.place_of d) { stage = stage_beside w d; owes = is_some w.pending }
 
 abbrev pub place_by : Option WorldDraft → Draft → Place
 place_by None d = unbuilt.place_of d

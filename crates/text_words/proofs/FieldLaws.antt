@@ -1,5 +1,5 @@
 -- Fields of a line: what is read is spelled so, and what is spelled so is read.
-use Rattle.std.proofs.Common.{◌≡◌, ℕ, ◌^◌, ◌<◌, ◌≤◌, Bool, true, false, cond, ltb, List, [], ◌∷◌, ◌++◌, length, Option, Some, None, refl, sym, ap, subst, ◌∙◌, append_assoc, arith, inl, inr}
+use Rattle.std.proofs.Common.{◌≡◌, ℕ, ◌^◌, ◌<◌, ◌≤◌, true, false, cond, ltb, List, [], ◌∷◌, ◌++◌, Option, Some, None, refl, sym, ap, subst, ◌∙◌, append_assoc, arith, inl, inr}
 use Rattle.std.specs.Prelude.{decimal}
 use Rattle.std.specs.Str.{bytes_eq}
 use Rattle.std.specs.List.{AllByRecursion}
@@ -11,8 +11,8 @@ use Rattle.std.specs.Net.Text.{ipv4_text}
 use Rattle.dns_core.specs.Name.{DomainName}
 use Rattle.dns_core.specs.NameText.{text_of}
 use Rattle.text_words.specs.Numbers.{◌>>=◌, number_of, number_within, ipv4_of}
-use Rattle.text_words.specs.Names.{relaxed_name, full_name, short_name}
-use Rattle.text_words.specs.Fields.{Fields, field, kept, literal, in_table, both, skip, whole, nothing, end_of}
+use Rattle.text_words.specs.Names.{relaxed_name, full_name}
+use Rattle.text_words.specs.Fields.{Fields, field, literal, in_table, both, skip, whole, nothing, end_of}
 use Rattle.text_words.specs.Spelling.{IsName, IsFullName}
 use Rattle.text_words.proofs.Binds.{bind_some, guard_some, guard_not, some_is, chosen}
 use Rattle.text_words.proofs.NumberLaws.{number_takes, number_again, ipv4_takes, ipv4_again}
@@ -131,8 +131,11 @@ number_field low most wide = record {
 pub ipv4_field : IsField ipv4_of (λ a. ipv4_text (ipv4_octets a)) IsIpv4Addr
 ipv4_field = record { takes = ipv4_takes; again = ipv4_again }
 
-abbrev pub IsShort : ℕ → DomainName → Type 0
-IsShort most n = IsName n × (length n.labels ≤ most)
+pub relaxed_name_field : IsField relaxed_name text_of IsName
+relaxed_name_field = record {
+  takes = λ w n e. let read = relaxed_takes w n e in (name_takes false w n read, name_again false w n read);
+  again = λ n fits. relaxed_again (text_of n) n fits;
+}
 
 pub full_name_field : IsField full_name text_of IsFullName
 full_name_field = record {
@@ -143,28 +146,6 @@ full_name_field = record {
       let read = relaxed_takes w b.0 b.1 in
       subst (λ (m : DomainName). (w ≡ text_of m) × IsFullName m) is (name_takes false w b.0 read, (name_again false w b.0 read, g.0));
   again = λ n fits. rw (relaxed_again (text_of n) n fits.0, fits.1) refl;
-}
-
-pub short_name_field : (most : ℕ) → IsField (short_name most) text_of (IsShort most)
-short_name_field most = record {
-  takes = λ w n e.
-      let b = bind_some (relaxed_name w) (λ n. cond (ltb most (length n.labels)) None (Some n)) n e in
-      let g = guard_not (ltb most (length b.0.labels)) (Some b.0) n b.2 in
-      let is : b.0 ≡ n = some_is b.0 n g.1 in
-      let read = relaxed_takes w b.0 b.1 in
-      subst (λ (m : DomainName). (w ≡ text_of m) × IsShort most m) is (name_takes false w b.0 read, (name_again false w b.0 read, ltb-false _ _ g.0));
-  again = λ n fits. rw (relaxed_again (text_of n) n fits.0, le-ltb most (length n.labels) fits.1) refl;
-}
-
--- a word whose value passes a test
-pub kept_field : {X : Type 0} (p : List ℕ → Option X) (text : X → List ℕ) (Fits : X → Type 0) → IsField p text Fits → (test : X → Bool) → IsField (kept test p) text (λ x. Fits x × (test x ≡ true))
-kept_field {X = X} p text Fits law test = record {
-  takes = λ w x e.
-      let b = bind_some (p w) (λ y. cond (test y) (Some y) None) x e in
-      let g = guard_some (test b.0) (Some b.0) x b.2 in
-      let t = law.takes w b.0 b.1 in
-      subst (λ (y : X). (w ≡ text y) × (Fits y × (test y ≡ true))) (some_is b.0 x g.1) (t.0, (t.1, g.0));
-  again = λ x fits. rw (law.again x fits.0, fits.1) refl;
 }
 
 -- each entry of a table has the text of its value

@@ -12,25 +12,14 @@ use Rattle.std.proofs.NetLemmas.Alphabet.{IsHexOrColon, All-hex_groups_text}
 use Rattle.dns_core.specs.Name.{DomainName}
 use Rattle.dns_core.specs.NameText.{text_of as name_text}
 use Rattle.text_words.specs.Pieces.{pieces}
-use Rattle.text_words.specs.Codes.{type_of, is_record_type, is_asked_type}
-use Rattle.text_words.specs.Fields.{field, kept, wide_field}
+use Rattle.text_words.specs.Fields.{field, wide_field}
 use Rattle.text_words.specs.Names.{full_name}
-use Rattle.dns_core.specs.CodeTexts.{type_text}
 use Rattle.text_words.specs.Texts.{ip_text}
-use Rattle.text_words.specs.Spelling.{spelled, IsName, IsFullName, IsAddress, IsType, IsRecordType}
+use Rattle.text_words.specs.Spelling.{spelled, IsName, IsFullName, IsAddress}
 use Rattle.text_words.proofs.PlainLaws.{AllBytes, AllPlain, pieces_again}
 use Rattle.text_words.proofs.NumberLaws.{is_word_byte, decimal_plain, ipv4_plain}
 use Rattle.text_words.proofs.NameLaws.{name_plain}
-use Rattle.text_words.proofs.FieldLaws.{IsField, IsSeq, one, kept_field, IsWithin, number_field, full_name_field}
-use Rattle.text_words.proofs.CodeLaws.{type_field}
-
--- ---- each word is read as its value
-
-pub record_type_field : IsField (kept is_record_type type_of) type_text IsRecordType
-record_type_field = kept_field type_of type_text _ type_field is_record_type
-
-pub asked_type_field : IsField (kept is_asked_type type_of) type_text IsType
-asked_type_field = kept_field type_of type_text _ type_field is_asked_type
+use Rattle.text_words.proofs.FieldLaws.{IsSeq, one, IsWithin, number_field, full_name_field}
 
 -- ---- names and numbers
 

@@ -1,7 +1,6 @@
--- The types, classes and response codes that words name, and those that lines may have.
-use Rattle.std.specs.Prelude.{ℕ, Bool, not, ◌&&◌, ◌||◌, ◌==◌, nat_lt, List, [], ◌∷◌, length, take, drop, Option, Some, None, is_some, if◌then◌else◌, codes}
+-- The types, classes and response codes that words name.
+use Rattle.std.specs.Prelude.{ℕ, ◌&&◌, nat_lt, List, [], ◌∷◌, length, take, drop, Option, Some, None, is_some, if◌then◌else◌, codes}
 use Rattle.std.specs.Str.{bytes_eq}
-use Rattle.dns_core.specs.Codes.{is_dnssec_type}
 use Rattle.dns_core.specs.declared.codes.RecordType.{RecordType}
 use Rattle.dns_core.specs.declared.codes.DnsClass.{DnsClass}
 use Rattle.dns_core.specs.declared.codes.ResponseCode.{ResponseCode}
@@ -41,11 +40,3 @@ response_code_of w = code_of code_names (codes "RCODE") w >>= λ n. Some (record
 -- the class that every question has
 abbrev pub class_in : DnsClass
 class_in = record { code = 1 }
-
--- a type of records: no alias, and none of DNSSEC
-abbrev pub is_record_type : RecordType → Bool
-is_record_type t = not (t.code == 5 || is_dnssec_type t)
-
--- a type of rules and questions: one of records, and not ANY
-abbrev pub is_asked_type : RecordType → Bool
-is_asked_type t = not (t.code == 255) && is_record_type t

@@ -27,10 +27,6 @@ abbrev pub in_table : {X : Type 0} → List (List ℕ × X) → List ℕ → Opt
 in_table [] w = None
 in_table (entry ∷ table) w = if bytes_eq w entry.0 then Some entry.1 else in_table table w
 
--- a word whose value passes a test
-abbrev pub kept : {X : Type 0} → (X → Bool) → (List ℕ → Option X) → List ℕ → Option X
-kept test p w = p w >>= λ x. if test x then Some x else None
-
 -- a word that passes a test
 abbrev pub checked : (List ℕ → Bool) → Fields (Unit {0})
 checked test ws = field (λ w. if test w then Some tt else None) ws

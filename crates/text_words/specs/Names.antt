@@ -1,5 +1,5 @@
 -- The names that words spell.
-use Rattle.std.specs.Prelude.{ℕ, nat_lt, false, List, length, Option, Some, None, if◌then◌else◌}
+use Rattle.std.specs.Prelude.{ℕ, false, List, Option, Some, None, if◌then◌else◌}
 use Rattle.std.specs.Result.{result_ok}
 use Rattle.dns_core.specs.Name.{DomainName}
 use Rattle.dns_core.specs.NameText.{name_of}
@@ -12,7 +12,3 @@ relaxed_name w = result_ok (name_of false w)
 -- one that is fully qualified
 abbrev pub full_name : List ℕ → Option DomainName
 full_name w = relaxed_name w >>= λ n. if n.fqdn then Some n else None
-
--- one with at most this many labels
-abbrev pub short_name : ℕ → List ℕ → Option DomainName
-short_name most w = relaxed_name w >>= λ n. if nat_lt most (length n.labels) then None else Some n

@@ -11,7 +11,6 @@ use Rattle.dns_core.specs.declared.codes.RecordType.{RecordType}
 use Rattle.dns_core.specs.declared.codes.DnsClass.{DnsClass}
 use Rattle.dns_core.specs.declared.codes.ResponseCode.{ResponseCode}
 use Rattle.resolver_settings.specs.Net.{Network, width_of}
-use Rattle.text_words.specs.Codes.{is_record_type, is_asked_type}
 use Rattle.text_words.specs.Texts.{ip_text}
 
 -- ---- the texts of values
@@ -47,13 +46,9 @@ abbrev pub IsAddress : IpAddr → Type 0
 IsAddress (V4 a) = IsIpv4Addr a
 IsAddress (V6 a) = IsIpv6Addr a
 
--- a type that rules and questions have
+-- a type has 16 bits
 abbrev pub IsType : RecordType → Type 0
-IsType t = (t.code ≤ 65535) × (is_asked_type t ≡ true)
-
--- a type that records have
-abbrev pub IsRecordType : RecordType → Type 0
-IsRecordType t = (t.code ≤ 65535) × (is_record_type t ≡ true)
+IsType t = t.code ≤ 65535
 
 -- a class has 16 bits
 abbrev pub IsClass : DnsClass → Type 0

@@ -1,7 +1,7 @@
 //! Types, classes and response codes, each by its one word.
 ghost use Rattle.std.specs.Prelude.{◌≡◌, drop};
 ghost use Rattle.dns_core.specs.CodeTexts.{type_names, class_names, code_names};
-ghost use Rattle.text_words.specs.Codes.{code_in, number_behind, type_of, class_of, response_code_of, is_record_type, is_asked_type};
+ghost use Rattle.text_words.specs.Codes.{code_in, number_behind, type_of, class_of, response_code_of};
 
 use crate::numbers::number;
 use dns_core::{DnsClass, RecordType, ResponseCode};
@@ -199,18 +199,4 @@ pub fn response_code(word: &[u8]) -> Option<ResponseCode>
         return None;
     }
     Some(numbered)
-}
-
-/// Records may have the type: it is no alias, and none of DNSSEC.
-pub fn is_record_type(record_type: RecordType) -> bool
-    ensures { result ≡ is_record_type record_type }
-{
-    !(record_type.code == 5 || record_type.is_dnssec())
-}
-
-/// Rules and questions may have the type.
-pub fn is_asked_type(record_type: RecordType) -> bool
-    ensures { result ≡ is_asked_type record_type }
-{
-    record_type.code != 255 && is_record_type(record_type)
 }

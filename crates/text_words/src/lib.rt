@@ -11,6 +11,5 @@ mod numbers;
 mod pieces;
 mod words;
 
-pub use codes::{is_asked_type, is_record_type, record_type};
 pub use pieces::cut;
 pub use words::{LineError, Words, pass};

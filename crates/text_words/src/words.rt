@@ -4,7 +4,7 @@ ghost use Rattle.text_words.specs.Addresses.{ipv6_of, ip_of};
 ghost use Rattle.text_words.specs.Codes.{type_of, class_of, response_code_of};
 ghost use Rattle.text_words.specs.Fields.{GivesFields, Ends, Gives, field, literal};
 ghost use Rattle.text_words.specs.Hex.{bytes_of};
-ghost use Rattle.text_words.specs.Names.{relaxed_name, full_name, short_name};
+ghost use Rattle.text_words.specs.Names.{relaxed_name, full_name};
 ghost use Rattle.text_words.specs.Networks.{nets_of};
 ghost use Rattle.text_words.specs.NumberLists.{ports_of, delays_of};
 ghost use Rattle.text_words.specs.Numbers.{number_within, ipv4_of};
@@ -87,17 +87,6 @@ fn full_name(alloc: Global, word: &[u8]) -> Result<Name, LineError>
         Ok(name)
     } else {
         Err(LineError::Refused)
-    }
-}
-
-fn short_name(alloc: Global, word: &[u8], most: u8) -> Result<Name, LineError>
-    ensures { Gives result (short_name most word.now) }
-{
-    let name = relaxed_name(alloc, word)?;
-    if name.num_labels() > most {
-        Err(LineError::Refused)
-    } else {
-        Ok(name)
     }
 }
 
@@ -287,15 +276,5 @@ impl<'a> Words<'a> {
             return Err(LineError::Refused);
         };
         full_name(alloc, word)
-    }
-
-    /// A name with at most `most` labels.
-    pub fn short_name(&mut self, alloc: Global, most: u8) -> Result<Name, LineError>
-        ensures { GivesFields result self.new (field (short_name most) self.old) }
-    {
-        let Some(word) = self.next() else {
-            return Err(LineError::Refused);
-        };
-        short_name(alloc, word, most)
     }
 }

@@ -232,7 +232,7 @@ abbrev dummy : Record
 dummy = record { name = root; ttl = 0; dns_class = class_in; record_type = record { code = 1 }; rdata = A nowhere; typed = refl }
 
 is_dummy : IsZoneRecord dummy
-is_dummy = record { fits = record { name = (refl, refl); life = lit≤ tt; class = lit≤ tt; type = (lit≤ tt, refl); told = is_ipv4 }; class = refl }
+is_dummy = record { fits = record { name = (refl, refl); life = lit≤ tt; class = lit≤ tt; type = lit≤ tt; told = is_ipv4 }; class = refl }
 
 from_open : (k : ℕ) (d : WorldDraft) (o : OpenZone) → d.stage ≡ Zoned → d.pending ≡ Some o → eqb o.owed 0 ≡ false → o.owed ≡ k → Completes d
 from_open zero d o is owes waits e = absurd (eqb-false o.owed 0 waits e)

@@ -7,12 +7,13 @@ ghost use Rattle.recursor_text.specs.Spelling.{last_moment};
 ghost use Rattle.recursor_text.specs.Whole.{is_late, late};
 ghost use Rattle.recursor_text.specs.declared.reading.draft.Stage.TheVariants.{Scripted};
 ghost use Rattle.recursor_text.specs.Unbuilt.{place_of};
-ghost use Rattle.recursor_text.specs.Steps.{may_head, may_root, may_option, may_wait, may_tell, may_reply, may_ask, may_turn, may_end, is_ended, start, put, settle, add, taken, scenario_of, is_settled, rule_of};
+ghost use Rattle.recursor_text.specs.Steps.{may_head, may_root, may_option, may_wait, may_tell, may_reply, may_ask, may_turn, may_end, is_ended, start, put, settle, add, taken, scenario_of, is_settled, is_short, rule_of};
 
 use crate::scenario::{Scenario, Upstream};
 use dns_core::{Ips, Items, NoMemory, Question, Record, TryClone, Turn};
 use line_forms::{
-    Counts, Form, OpenRule, OptionLine, form_line, last_rank, options_with, record_line,
+    Counts, Form, OpenRule, OptionLine, form_line, last_rank, ns_recursion_limit, options_with,
+    record_line,
 };
 use recursor_world::{Script, ScriptLine};
 use std::alloc::Global;
@@ -34,14 +35,12 @@ pub enum Refusal {
 }
 
 /// Where the next line stands: after which kind of line, behind the rank of which option (0 for
-/// none), whether it is owed as a record, and then whether only one of class IN is, and whether there
-/// is room for a question more.
+/// none), whether it is owed as a record, and whether there is room for a question more.
 #[derive(Clone, Copy, Debug, PartialEq, Eq)]
 pub struct Place {
     pub stage: Stage,
     pub option: u8,
     pub owes: bool,
-    pub internet: bool,
     pub room: bool,
 }
 
@@ -200,6 +199,13 @@ fn rule_of(alloc: Global, whole: OpenRule) -> Result<ScriptLine, NoMemory>
     })
 }
 
+/// Whether a question has fewer labels than there may be zones on its way.
+fn is_short(written: &[OptionLine], question: &Question) -> bool
+    ensures { result ≡ is_short written.now question.now }
+{
+    question.query.name.num_labels() < ns_recursion_limit(written)
+}
+
 /// The moment of the last turn, and 0 where there is none.
 fn last_moment(turns: &[Turn]) -> u64
     ensures { result ≡ last_moment 0 turns.now }
@@ -261,7 +267,6 @@ impl Draft {
             stage: self.stage,
             option: last_rank(self.written.items()),
             owes: self.pending.is_some(),
-            internet: false,
             room: self.questions.len() < MOST_QUESTIONS,
         }
     }
@@ -357,7 +362,11 @@ impl Draft {
     fn put_question(&mut self, question: Question) -> Result<(), LineError>
         ensures { Steps result self.new (put self.old (form.Question question)) }
     {
-        pass(self.stage.may_ask() && self.questions.len() < MOST_QUESTIONS)?;
+        pass(
+            self.stage.may_ask()
+                && self.questions.len() < MOST_QUESTIONS
+                && is_short(self.written.items(), &question),
+        )?;
         self.questions.push(question)?;
         self.stage = Stage::Asked;
         Ok(())

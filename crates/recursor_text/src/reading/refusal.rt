@@ -1,15 +1,14 @@
 //! Lines that are not taken: which of them the format has, though they are not read yet.
 ghost use Rattle.std.specs.Prelude.{◌≡◌, Option, IfOk};
-ghost use Rattle.text_words.specs.Codes.{class_of};
-ghost use Rattle.text_words.specs.Fields.{Gives, GivesFields, checked, field, kept};
-ghost use Rattle.recursor_text.specs.Unbuilt.{is_protocol, is_dnssec, refuse_line, connect_line, reply_line, question_line, ipv4_data, ipv6_data, name_data, soa_data, signature_data, bytes_data, data_line, stands, is_allowed_class, record_line, is_at_options, is_at_rules, is_at_questions, rule_line, late_line, other_line, line_at, refusal_at};
+ghost use Rattle.text_words.specs.Fields.{Gives, GivesFields, checked};
+ghost use Rattle.recursor_text.specs.Unbuilt.{is_protocol, refuse_line, connect_line, reply_line, question_line, stands, is_at_options, is_at_rules, is_at_questions, rule_line, late_line, other_line, line_at, refusal_at};
 
 use super::draft::{Place, Refusal, Stage};
 use super::option_lines::option_line;
-use dns_core::{DnsClass, NoMemory};
-use line_forms::{answered, connected, delay};
+use dns_core::NoMemory;
+use line_forms::{answered, connected, delay, dnssec_word};
 use std::alloc::Global;
-use text_words::{LineError, Words, pass, record_type};
+use text_words::{LineError, Words, pass};
 
 // ---- words
 
@@ -25,13 +24,6 @@ fn is_protocol(word: &[u8]) -> bool
         || word == b"h3".as_slice()
 }
 
-#[tactic(auto, unfolding(crate::specs::Unbuilt::is_dnssec))]
-fn is_dnssec(word: &[u8]) -> bool
-    ensures { result ≡ is_dnssec word.now }
-{
-    word == b"plain".as_slice() || word == b"dnssec".as_slice()
-}
-
 // ---- fields
 
 fn protocol(words: &mut Words) -> Result<(), LineError>
@@ -41,15 +33,6 @@ fn protocol(words: &mut Words) -> Result<(), LineError>
         return Err(LineError::Refused);
     };
     pass(is_protocol(word))
-}
-
-fn dnssec(words: &mut Words) -> Result<(), LineError>
-    ensures { GivesFields result words.new (checked is_dnssec words.old) }
-{
-    let Some(word) = words.next() else {
-        return Err(LineError::Refused);
-    };
-    pass(is_dnssec(word))
 }
 
 // ---- lines, each after its first word
@@ -96,122 +79,9 @@ fn question_line(alloc: Global, words: &mut Words) -> Result<(), LineError>
 {
     let _name = words.relaxed_name(alloc)?;
     words.record_type()?;
-    dnssec(words)?;
+    let _dnssec_ok = dnssec_word(words)?;
     words.end()?;
     Ok(())
-}
-
-// ---- record lines
-
-#[tactic(auto, unfolding(crate::specs::Unbuilt::ipv4_data))]
-fn ipv4_data(words: &mut Words) -> Result<(), LineError>
-    ensures { Gives result (ipv4_data words.old) }
-{
-    words.ipv4()?;
-    words.end()?;
-    Ok(())
-}
-
-#[tactic(auto, unfolding(crate::specs::Unbuilt::ipv6_data))]
-fn ipv6_data(alloc: Global, words: &mut Words) -> Result<(), LineError>
-    ensures { Gives result (ipv6_data words.old) }
-{
-    words.ipv6(alloc)?;
-    words.end()?;
-    Ok(())
-}
-
-#[tactic(auto, unfolding(crate::specs::Unbuilt::name_data))]
-fn name_data(alloc: Global, words: &mut Words) -> Result<(), LineError>
-    ensures { Gives result (name_data words.old) }
-{
-    let _name = words.full_name(alloc)?;
-    words.end()?;
-    Ok(())
-}
-
-#[tactic(auto, unfolding(crate::specs::Unbuilt::soa_data))]
-fn soa_data(alloc: Global, words: &mut Words) -> Result<(), LineError>
-    ensures { Gives result (soa_data words.old) }
-{
-    let _mname = words.full_name(alloc)?;
-    let _rname = words.full_name(alloc)?;
-    words.number(0, 4_294_967_295)?;
-    words.number(0, 4_294_967_295)?;
-    words.number(0, 4_294_967_295)?;
-    words.number(0, 4_294_967_295)?;
-    words.number(0, 4_294_967_295)?;
-    words.end()?;
-    Ok(())
-}
-
-#[tactic(auto, unfolding(crate::specs::Unbuilt::signature_data))]
-fn signature_data(alloc: Global, words: &mut Words) -> Result<(), LineError>
-    ensures { Gives result (signature_data words.old) }
-{
-    words.record_type()?;
-    let _bytes = words.bytes(alloc)?;
-    words.end()?;
-    Ok(())
-}
-
-#[tactic(auto, unfolding(crate::specs::Unbuilt::bytes_data))]
-fn bytes_data(alloc: Global, words: &mut Words) -> Result<(), LineError>
-    ensures { Gives result (bytes_data words.old) }
-{
-    let _bytes = words.bytes(alloc)?;
-    words.end()?;
-    Ok(())
-}
-
-/// The data of the type that the next word names.
-fn data_line(alloc: Global, words: &mut Words) -> Result<(), LineError>
-    ensures { Gives result (data_line words.old) }
-{
-    let Some(word) = words.next() else {
-        return Err(LineError::Refused);
-    };
-    if word == b"A".as_slice() {
-        return ipv4_data(words);
-    }
-    if word == b"NS".as_slice() {
-        return name_data(alloc, words);
-    }
-    if word == b"CNAME".as_slice() {
-        return name_data(alloc, words);
-    }
-    if word == b"SOA".as_slice() {
-        return soa_data(alloc, words);
-    }
-    if word == b"RRSIG".as_slice() {
-        return signature_data(alloc, words);
-    }
-    if word == b"AAAA".as_slice() {
-        return ipv6_data(alloc, words);
-    }
-    if record_type(word).is_some() {
-        return bytes_data(alloc, words);
-    }
-    Err(LineError::Refused)
-}
-
-/// A class, and IN alone where it must be.
-fn class(words: &mut Words, internet: bool) -> Result<DnsClass, LineError>
-    ensures { GivesFields result words.new (field (kept (is_allowed_class internet) class_of) words.old) }
-{
-    let found = words.dns_class()?;
-    pass(!internet || found.code == 1)?;
-    Ok(found)
-}
-
-#[tactic(auto, unfolding(crate::specs::Unbuilt::record_line))]
-fn record_line(alloc: Global, internet: bool, words: &mut Words) -> Result<(), LineError>
-    ensures { Gives result (record_line internet words.old) }
-{
-    let _name = words.full_name(alloc)?;
-    words.number(0, 4_294_967_295)?;
-    class(words, internet)?;
-    data_line(alloc, words)
 }
 
 // ---- where a line can stand
@@ -295,12 +165,11 @@ fn other_line(alloc: Global, place: Place, words: &mut Words) -> Result<(), Line
 fn line_at(alloc: Global, place: Place, line: &[u8]) -> Result<(), LineError>
     ensures { Gives result (line_at place line.now) }
 {
-    let mut words = Words::new(line);
     if place.owes {
-        record_line(alloc, place.internet, &mut words)
-    } else {
-        other_line(alloc, place, &mut words)
+        return Err(LineError::Refused);
     }
+    let mut words = Words::new(line);
+    other_line(alloc, place, &mut words)
 }
 
 /// How a line is refused that is not taken at its place.

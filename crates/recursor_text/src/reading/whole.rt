@@ -46,7 +46,6 @@ fn place_beside(draft: &Draft, world: &WorldDraft) -> Place
     Place {
         stage,
         owes: world.owes(),
-        internet: true,
         ..place
     }
 }
