@@ -25,13 +25,14 @@ use std::{fs, io};
 use subject::Subject;
 
 /// The files of cases, and what each has cases of.
-const FILES: [(&str, Subject); 19] = [
+const FILES: [(&str, Subject); 20] = [
     ("words.cases", Subject::Words),
     ("worked_runs.cases", Subject::Run),
     ("runs.cases", Subject::Run),
     ("answers.cases", Subject::Run),
     ("kept_answers.cases", Subject::Run),
     ("worlds.cases", Subject::Run),
+    ("check.cases", Subject::Check),
     ("scenario.cases", Subject::Scenario),
     ("bad_lines.cases", Subject::Scenario),
     ("bad_options.cases", Subject::Scenario),

@@ -1,4 +1,4 @@
-//! A scenario, and what the command writes for it.
+//! A scenario, and what a command writes for it.
 
 use dns_core::{Items, MemorySink, MemorySource, NoMemory, Numbers, Text};
 use recursor_command::run;
@@ -34,9 +34,14 @@ fn ran(alloc: Global, line: &str, bytes: &[u8]) -> Result<String, NoMemory> {
     told(alloc, sink.written(), status.code())
 }
 
-/// What the command writes for a scenario.
+/// What `resolve` writes for a scenario.
 pub fn answer(alloc: Global, given: &[u8]) -> Result<String, NoMemory> {
     ran(alloc, "resolve", given)
+}
+
+/// What `check` writes for a scenario.
+pub fn check(alloc: Global, given: &[u8]) -> Result<String, NoMemory> {
+    ran(alloc, "check", given)
 }
 
 /// What the command writes with these words, where its source is empty.

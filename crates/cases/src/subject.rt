@@ -7,8 +7,10 @@ use std::alloc::{AllocError, Global};
 /// What a file has cases of.
 #[derive(Clone, Copy)]
 pub enum Subject {
-    /// A scenario, and what the command writes for it.
+    /// A scenario, and what `resolve` writes for it.
     Run,
+    /// A scenario, and what `check` writes for it.
+    Check,
     /// The words of the command, and what it writes for an empty text.
     Words,
     /// A scenario, and what is read of it but its options.
@@ -36,6 +38,7 @@ impl Subject {
     fn told(self, alloc: Global, given: &[u8]) -> Result<String, NoMemory> {
         match self {
             Subject::Run => run::answer(alloc, given),
+            Subject::Check => run::check(alloc, given),
             Subject::Words => run::answer_to_words(alloc, given),
             Subject::Scenario => scenario::answer(alloc, given),
             Subject::Options => scenario::options(alloc, given),

@@ -1,3 +1,4 @@
+pub mod Checked
 pub mod Failures
 pub mod Held
 pub mod LogWords
@@ -5,6 +6,9 @@ pub mod Qualified
 pub mod ReplyWords
 pub mod Runnable
 pub mod Runs
+pub mod ScriptLines
+pub mod Scripts
 pub mod Setup
+pub mod Unread
 pub mod Words
 pub mod WorldWords

@@ -1,5 +1,5 @@
 -- What the command writes for what it reads.
-use Rattle.std.specs.Prelude.{◌≡◌, ◌≢◌, ◌≤◌, ◌⊎◌, ℕ, max, Contains, Some, Bool, true, false, List, [], ◌∷◌, length, codes, IfSome}
+use Rattle.std.specs.Prelude.{◌≡◌, ◌≢◌, ◌≤◌, ◌⊎◌, ℕ, max, Contains, Some, None, false, List, [], ◌∷◌, length, codes, IfSome, if◌then◌else◌}
 use Rattle.std.specs.declared.option.Option.{Option}
 use Rattle.std.specs.Io.KnownBytes.{Appends, Keeps}
 use Rattle.std.specs.Str.{bytes_eq}
@@ -24,7 +24,6 @@ use Rattle.recursor_types.specs.declared.reply.Reply.{Reply}
 use Rattle.recursor_text.specs.declared.scenario.Cause.{Cause}
 use Rattle.recursor_text.specs.declared.scenario.Cause.TheVariants as cause
 use Rattle.recursor_text.specs.declared.scenario.Scenario.{Scenario}
-use Rattle.recursor_text.specs.declared.scenario.ScenarioError.{ScenarioError}
 use Rattle.recursor_text.specs.declared.scenario.Upstream.{Upstream as Told}
 use Rattle.recursor_text.specs.declared.scenario.Upstream.TheVariants as upstream
 use Rattle.transcript_printer.specs.declared.transcript.Transcript.{Transcript}
@@ -34,16 +33,23 @@ use Rattle.recursor_text.specs.Faults.{HasFault}
 use Rattle.transcript_printer.specs.Transcript.{transcript_text}
 use Rattle.dns_core.specs.WholeStreams.{AppendsPart}
 use Rattle.recursor_command.specs.Faults.{fault_text, status_of}
+use Rattle.recursor_command.specs.Checking.{HasFindings, IsNoWorld, TellsScript, TellsNoScript}
+use Rattle.recursor_command.specs.declared.words.Command.{Command}
+use Rattle.recursor_command.specs.declared.words.Command.TheVariants.{Resolve, Check}
 use Rattle.recursor_command.specs.declared.faults.Fault.{Fault}
 use Rattle.recursor_command.specs.declared.faults.Fault.TheVariants.{Words, Line, NotBuilt, Read, Memory}
 use Rattle.recursor_command.specs.declared.status.Status.{Status}
 use Rattle.recursor_command.specs.declared.status.Status.TheVariants as status
 
--- the one word of the command
-abbrev pub are_words : List (List ℕ) → Bool
-are_words [] = false
-are_words (w ∷ []) = bytes_eq w (codes "resolve")
-are_words (w ∷ v ∷ ws) = false
+-- the command of this name
+abbrev pub command_named : List ℕ → Option Command
+command_named name = if bytes_eq name (codes "resolve") then Some Resolve else if bytes_eq name (codes "check") then Some Check else None
+
+-- the command that words ask for: the name of one, and no more
+abbrev pub command_of : List (List ℕ) → Option Command
+command_of [] = None
+command_of (w ∷ []) = command_named w
+command_of (w ∷ v ∷ ws) = None
 
 -- What a run needs of a scenario: there is a root, no least life is above its greatest, servers may start with the first delays,
 -- and its upstream is one that the format spells.
@@ -99,32 +105,39 @@ pub record Ran (s : Scenario) (t : Transcript) : Type 0 where
 abbrev pub HasRun : Scenario → List ℕ → Type 0
 HasRun s text = (t : Transcript) × Ran s t × (text ≡ transcript_text t)
 
--- the bytes are a scenario, and the text is that of a run of it
-abbrev pub HasOutput : List ℕ → List ℕ → Type 0
-HasOutput bytes text = (s : Scenario) × Reads bytes s × HasRun s text
+-- what a command writes for a scenario
+abbrev pub IsOutput : Command → Scenario → List ℕ → Type 0
+IsOutput Resolve s text = HasRun s text
+IsOutput Check s text = HasFindings s text
 
--- how the fault of a text is told
-abbrev pub fault_by : Cause → ℕ → Fault
-fault_by cause.Line n = Line n
-fault_by cause.Cut n = Line n
-fault_by cause.Long n = Line n
-fault_by cause.NotBuilt n = NotBuilt n
-fault_by cause.NoMemory n = Memory
-
-abbrev pub fault_of : ScenarioError → Fault
-fault_of e = fault_by e.cause e.line
+-- the bytes are a scenario, and the text is what the command writes for it: that of a run, or what there is to tell of its world
+abbrev pub HasOutput : Command → List ℕ → List ℕ → Type 0
+HasOutput command bytes text = (s : Scenario) × Reads bytes s × IsOutput command s text
 
 -- the line has the fault, and reading refuses it so: as one that the format does not have there, or as one that is not built
 abbrev pub IsRefusedAs : List ℕ → ℕ → Cause → Type 0
 IsRefusedAs bytes n why = HasFault bytes n why × (scenario_in bytes ≡ fails_at n why)
 
 -- the bytes are no scenario of the forms that are built, for this fault
-abbrev pub IsFaultOf : List ℕ → Fault → Type 0
-IsFaultOf bytes Words = ⊥
-IsFaultOf bytes (Line n) = IsRefusedAs bytes n cause.Line ⊎ (HasFault bytes n cause.Cut ⊎ HasFault bytes n cause.Long)
-IsFaultOf bytes (NotBuilt n) = IsRefusedAs bytes n cause.NotBuilt
-IsFaultOf bytes Read = ⊥
-IsFaultOf bytes Memory = Unit {0}
+abbrev pub IsUnread : List ℕ → Fault → Type 0
+IsUnread bytes Words = ⊥
+IsUnread bytes (Line n) = IsRefusedAs bytes n cause.Line ⊎ (HasFault bytes n cause.Cut ⊎ HasFault bytes n cause.Long)
+IsUnread bytes (NotBuilt n) = IsRefusedAs bytes n cause.NotBuilt
+IsUnread bytes Read = ⊥
+IsUnread bytes Memory = Unit {0}
+
+-- the bytes are no scenario over a world of the forms that are built, for this fault: they tell a script at this line, or they tell none and are no scenario
+abbrev pub IsUnchecked : List ℕ → Fault → Type 0
+IsUnchecked bytes Words = ⊥
+IsUnchecked bytes (Line n) = IsNoWorld bytes × (TellsScript bytes n ⊎ (TellsNoScript bytes × IsUnread bytes (Line n)))
+IsUnchecked bytes (NotBuilt n) = IsNoWorld bytes × TellsNoScript bytes × IsUnread bytes (NotBuilt n)
+IsUnchecked bytes Read = ⊥
+IsUnchecked bytes Memory = Unit {0}
+
+-- the command does not take the bytes, for this fault
+abbrev pub IsFaultOf : Command → List ℕ → Fault → Type 0
+IsFaultOf Resolve bytes fault = IsUnread bytes fault
+IsFaultOf Check bytes fault = IsUnchecked bytes fault
 
 -- nothing was written, or that memory is wanting
 abbrev pub ToldMemory : Option (List ℕ) → Option (List ℕ) → Type 0
@@ -136,28 +149,28 @@ pub record Tells (fault : Fault) (result : Status) (old new : Option (List ℕ))
   pub part : result ≡ status.WriteFault → Rose before now × AppendsPart old new (fault_text fault)
   pub memory : result ≡ status.NoMemory → ToldMemory old new
 
--- the output for the bytes was appended
-abbrev pub HasWritten : List ℕ → Option (List ℕ) → Option (List ℕ) → Type 0
-HasWritten bytes old new = (text : List ℕ) × HasOutput bytes text × Appends old new text
+-- the output of the command for the bytes was appended
+abbrev pub HasWritten : Command → List ℕ → Option (List ℕ) → Option (List ℕ) → Type 0
+HasWritten command bytes old new = (text : List ℕ) × HasOutput command bytes text × Appends old new text
 
--- the bytes are no scenario of the forms that are built, and what is wrong with them was appended
-abbrev pub HasRefused : List ℕ → Option (List ℕ) → Option (List ℕ) → Type 0
-HasRefused bytes old new = (fault : Fault) × IsFaultOf bytes fault × (status_of fault ≡ status.BadScenario) × Appends old new (fault_text fault)
+-- the command does not take the bytes, and what is wrong with them was appended
+abbrev pub HasRefused : Command → List ℕ → Option (List ℕ) → Option (List ℕ) → Type 0
+HasRefused command bytes old new = (fault : Fault) × IsFaultOf command bytes fault × (status_of fault ≡ status.BadScenario) × Appends old new (fault_text fault)
 
--- what is to be written for these bytes: their output, or the text of their fault
-abbrev pub IsTextFor : List ℕ → List ℕ → Type 0
-IsTextFor bytes text = HasOutput bytes text ⊎ ((fault : Fault) × IsFaultOf bytes fault × (text ≡ fault_text fault))
+-- what a command is to write for these bytes: its output for them, or the text of their fault
+abbrev pub IsTextFor : Command → List ℕ → List ℕ → Type 0
+IsTextFor command bytes text = HasOutput command bytes text ⊎ ((fault : Fault) × IsFaultOf command bytes fault × (text ≡ fault_text fault))
 
--- What is to be written, by whether the words are the command's: that they are not; or that the source failed, or the text for
+-- What is to be written, by the command that the words ask for: that they ask for none; or that the source failed, or the text for
 -- what it held.
-abbrev pub IsTextOf : Bool → Option (List ℕ) → ℕ → ℕ → List ℕ → Type 0
-IsTextOf false held before now text = text ≡ fault_text Words
-IsTextOf true held before now text = (Rose before now × (text ≡ fault_text Read)) ⊎ IfSome held (λ bytes. IsTextFor bytes text)
+abbrev pub IsTextOf : Option Command → Option (List ℕ) → ℕ → ℕ → List ℕ → Type 0
+IsTextOf None held before now text = text ≡ fault_text Words
+IsTextOf (Some command) held before now text = (Rose before now × (text ≡ fault_text Read)) ⊎ IfSome held (λ bytes. IsTextFor command bytes text)
 
 -- the sink failed, and a front of a text that was to be written was appended
 abbrev pub WrotePart : (List ℕ → Type 0) → ℕ → ℕ → Option (List ℕ) → Option (List ℕ) → Type 0
 WrotePart IsText before now old new = Rose before now × ((text : List ℕ) × IsText text × AppendsPart old new text)
 
--- how a run ends whose words are none of the command's
+-- how a run ends whose words are no command
 abbrev pub IsRefusal : Status → Type 0
 IsRefusal s = (s ≡ status.BadWords) ⊎ ((s ≡ status.WriteFault) ⊎ (s ≡ status.NoMemory))

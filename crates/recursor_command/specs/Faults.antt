@@ -1,5 +1,8 @@
--- The texts of faults.
+-- Faults, their texts, and the statuses with which they end a run.
 use Rattle.std.specs.Prelude.{ℕ, List, ◌++◌, codes, decimal}
+use Rattle.recursor_text.specs.declared.scenario.Cause.{Cause}
+use Rattle.recursor_text.specs.declared.scenario.Cause.TheVariants as cause
+use Rattle.recursor_text.specs.declared.scenario.ScenarioError.{ScenarioError}
 use Rattle.recursor_command.specs.declared.faults.Fault.{Fault}
 use Rattle.recursor_command.specs.declared.faults.Fault.TheVariants.{Words, Line, NotBuilt, Read, Memory}
 use Rattle.recursor_command.specs.declared.status.Status.{Status}
@@ -19,3 +22,14 @@ status_of (Line n) = status.BadScenario
 status_of (NotBuilt n) = status.BadScenario
 status_of Read = status.ReadFault
 status_of Memory = status.NoMemory
+
+-- how the fault of a text is told
+abbrev pub fault_by : Cause → ℕ → Fault
+fault_by cause.Line n = Line n
+fault_by cause.Cut n = Line n
+fault_by cause.Long n = Line n
+fault_by cause.NotBuilt n = NotBuilt n
+fault_by cause.NoMemory n = Memory
+
+abbrev pub fault_of : ScenarioError → Fault
+fault_of e = fault_by e.cause e.line

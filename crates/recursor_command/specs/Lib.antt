@@ -1,3 +1,4 @@
-pub mod Faults
+pub mod Checking
 pub mod Command
+pub mod Faults
 pub mod Status

@@ -1,254 +1,30 @@
 //! The command over any source and sink.
-ghost use Rattle.std.specs.Prelude.{min, ◌≡◌, ◌≢◌, ◌≤◌, length, false, List, [], Some, IfOk, IfErr, IfSome, IsTrue};
+ghost use Rattle.std.specs.Prelude.{◌≡◌, ◌≢◌, None, IfOk, IfErr, IfSome};
 ghost use Rattle.std.specs.Io.KnownBytes.{IsAtEnd, Appends};
 ghost use Rattle.dns_core.specs.Faults.{Rose};
 ghost use Rattle.dns_core.specs.WholeStreams.{TakesAtMost};
-ghost use Rattle.dns_core.specs.declared.log.LogEntry.{LogEntry};
-ghost use Rattle.recursor_world.specs.Script.{Gives as ScriptGives, is_qualified_script};
-ghost use Rattle.recursor_world.specs.Upstream.{told_by as script_told};
-ghost use Rattle.world_upstream.specs.Giving.{Gives as WorldGives};
-ghost use Rattle.world_upstream.specs.Upstream.{told_by as world_told};
-ghost use Rattle.world_upstream.specs.Qualified.{is_qualified_world};
-ghost use Rattle.resolver_settings.specs.Ttl.{has_reversed};
-ghost use Rattle.recursor_types.specs.Options.{has_bad_first_delays};
-ghost use Rattle.transcript_printer.specs.Transcript.{has_transcript_words, transcript_text};
-ghost use Rattle.recursor_text.specs.Spelling.{Reads};
 ghost use Rattle.recursor_command.specs.Faults.{fault_text};
-ghost use Rattle.recursor_command.specs.Command.{are_words, fault_of, terms_by, IsUntold, IsNewOver, IsRunnable, Resolves, Ran, HasRun, HasOutput, IsFaultOf, Tells, HasWritten, HasRefused, IsTextFor, IsTextOf, WrotePart, ToldMemory, IsRefusal};
+ghost use Rattle.recursor_command.specs.Command.{command_of, HasOutput, IsFaultOf, Tells, HasWritten, HasRefused, IsTextFor, IsTextOf, WrotePart, ToldMemory, IsRefusal};
 
+use crate::checking::findings_for;
 use crate::faults::{Fault, say};
+use crate::resolving::transcript_for;
 use crate::status::Status;
-use dns_core::{
-    ConnectionProvider, Ips, Items, Log, NoMemory, Question, ReadError, Sink, Source, Text,
-    TryClone, Turn, read_all,
-};
-use recursor_core::{Recursor, RecursorError, RecursorOptions, Reply, drive};
-use recursor_text::{
-    Cause, Scenario, ScenarioError, Transcript, Upstream, print_transcript, read_scenario,
-};
-use recursor_world::{Script, ScriptUpstream};
+use crate::words::{Command, command_of};
+use dns_core::{ReadError, Sink, Source, Text, read_all};
 use std::alloc::Global;
-use world_upstream::WorldUpstream;
-use zone_worlds::World;
 
 /// One byte more than a scenario may have, so that one that is too long shows.
 const MOST: usize = 16_777_217;
 
-/// Whether the words are those of the command.
-fn are_words(words: &[Text]) -> bool
-    ensures { result ≡ are_words words.now }
+/// What the command writes for the bytes of a scenario, or the fault that ends the run.
+fn output(alloc: Global, command: Command, bytes: &[u8]) -> Result<Vec<u8>, Fault>
+    ensures ok { IfOk result (λ text. HasOutput command bytes.now text.items) }
+    ensures err { IfErr result (IsFaultOf command bytes.now) }
 {
-    match words {
-        [word] => word.items().as_bytes() == b"resolve".as_slice(),
-        _ => false,
-    }
-}
-
-/// Want of memory, the one refusal that is left where roots and options are right.
-fn only_memory(error: RecursorError) -> NoMemory
-    requires { error ≡ RecursorError.NoMemory }
-{
-    match error {
-        RecursorError::NoMemory => NoMemory,
-        _ => unreachable!(),
-    }
-}
-
-/// A recursor over a provider that told nothing yet.
-fn recursor_over<P: ConnectionProvider>(
-    alloc: Global,
-    roots: &Ips,
-    options: RecursorOptions,
-    provider: P,
-) -> Result<Recursor<P>, NoMemory>
-    requires new { IsUntold (P.log provider) }
-    requires rooted { roots.now ≢ [] }
-    requires ordered { has_reversed options.cache_policy ≡ false }
-    requires delayed { has_bad_first_delays options.first_delays ≡ false }
-    ensures { IfOk result (IsNewOver roots.now options provider) }
-{
-    match Recursor::with_options(alloc, roots.items(), options, provider) {
-        Ok(recursor) => Ok(recursor),
-        Err(error) => Err(only_memory(error)),
-    }
-}
-
-/// A patience, which a new recursor does not lower: it has 32 bits.
-fn first_patience(patience: u32) -> u32
-    ensures same { result ≡ patience }
-    ensures first { min 4294967295 patience ≡ patience }
-{
-    patience
-}
-
-/// Answers questions over a provider that told nothing yet, and hands it back with the replies.
-fn driven<P: ConnectionProvider>(
-    alloc: Global,
-    roots: &Ips,
-    options: RecursorOptions,
-    patience: u32,
-    questions: &[Question],
-    turns: &[Turn],
-    provider: P,
-) -> Result<(P, Vec<Reply>), NoMemory>
-    requires new { IsUntold (P.log provider) }
-    requires rooted { roots.now ≢ [] }
-    requires ordered { has_reversed options.cache_policy ≡ false }
-    requires delayed { has_bad_first_delays options.first_delays ≡ false }
-    ensures resolves { IfOk result (λ run. (log : List LogEntry) → P.log run.0 ≡ Some log → Resolves (terms_by roots.now options patience) questions.now turns.now log run.1.items) }
-    ensures vouches { IfOk result (λ run. (log : List LogEntry) → P.vouches run.0 log → P.vouches provider log) }
-{
-    let mut recursor = recursor_over(alloc, roots, options, provider)?;
-    let replies = drive(
-        alloc,
-        &mut recursor,
-        questions,
-        turns,
-        first_patience(patience),
-    )?;
-    Ok((recursor.into_provider(), replies))
-}
-
-/// The whole log of a script.
-fn script_log(alloc: Global, mut upstream: ScriptUpstream) -> Result<Log, NoMemory>
-    ensures gives { IfOk result (λ log. ScriptGives upstream.script log) }
-    ensures told { IfOk result (λ log. log ≡ script_told upstream) }
-{
-    upstream.gather()?;
-    upstream.log().try_clone(alloc)
-}
-
-/// The whole log of a world.
-fn world_log(alloc: Global, mut upstream: WorldUpstream) -> Result<Log, NoMemory>
-    ensures gives { IfOk result (λ log. WorldGives upstream.world log) }
-    ensures told { IfOk result (λ log. log ≡ world_told upstream) }
-{
-    upstream.gather()?;
-    upstream.log().try_clone(alloc)
-}
-
-/// Answers questions over a script.
-fn ran_script(
-    alloc: Global,
-    roots: &Ips,
-    options: RecursorOptions,
-    patience: u32,
-    questions: &[Question],
-    turns: &[Turn],
-    script: Script,
-) -> Result<Transcript, NoMemory>
-    requires rooted { roots.now ≢ [] }
-    requires ordered { has_reversed options.cache_policy ≡ false }
-    requires delayed { has_bad_first_delays options.first_delays ≡ false }
-    requires qualified { IsTrue (is_qualified_script script) }
-    ensures gives { IfOk result (λ t. ScriptGives script t.log) }
-    ensures resolves { IfOk result (λ t. Resolves (terms_by roots.now options patience) questions.now turns.now t.log t.replies) }
-{
-    let provider = ScriptUpstream::new(alloc, script)?;
-    let run = driven(alloc, roots, options, patience, questions, turns, provider)?;
-    let log = script_log(alloc, run.0)?;
-    let replies = Items::new(run.1);
-    Ok(Transcript { log, replies })
-}
-
-/// Answers questions over a world.
-fn ran_world(
-    alloc: Global,
-    roots: &Ips,
-    options: RecursorOptions,
-    patience: u32,
-    questions: &[Question],
-    turns: &[Turn],
-    world: World,
-) -> Result<Transcript, NoMemory>
-    requires rooted { roots.now ≢ [] }
-    requires ordered { has_reversed options.cache_policy ≡ false }
-    requires delayed { has_bad_first_delays options.first_delays ≡ false }
-    requires qualified { IsTrue (is_qualified_world world) }
-    ensures gives { IfOk result (λ t. WorldGives world t.log) }
-    ensures resolves { IfOk result (λ t. Resolves (terms_by roots.now options patience) questions.now turns.now t.log t.replies) }
-{
-    let provider = WorldUpstream::new(alloc, world)?;
-    let run = driven(alloc, roots, options, patience, questions, turns, provider)?;
-    let log = world_log(alloc, run.0)?;
-    let replies = Items::new(run.1);
-    Ok(Transcript { log, replies })
-}
-
-/// Answers the questions of a scenario over its upstream.
-fn ran(alloc: Global, scenario: Scenario) -> Result<Transcript, NoMemory>
-    requires { IsRunnable scenario }
-    ensures { IfOk result (Ran scenario) }
-{
-    let Scenario {
-        roots,
-        options,
-        patience,
-        upstream,
-        questions,
-        turns,
-    } = scenario;
-    let (asked, turned) = (questions.items(), turns.items());
-    match upstream {
-        Upstream::Script(script) => {
-            ran_script(alloc, &roots, options, patience, asked, turned, script)
-        }
-        Upstream::World(world) => {
-            ran_world(alloc, &roots, options, patience, asked, turned, world)
-        }
-    }
-}
-
-/// The text of a transcript.
-fn printed(alloc: Global, transcript: &Transcript) -> Result<Vec<u8>, NoMemory>
-    requires { IsTrue (has_transcript_words transcript.now) }
-    ensures { IfOk result (λ text. text.items ≡ transcript_text transcript.now) }
-{
-    let mut text = Vec::new(alloc);
-    print_transcript(alloc, transcript, &mut text)?;
-    Ok(text)
-}
-
-/// The transcript of a scenario, as text.
-fn resolved(alloc: Global, scenario: Scenario) -> Result<Vec<u8>, NoMemory>
-    requires { IsRunnable scenario }
-    ensures { IfOk result (λ text. HasRun scenario text.items) }
-{
-    let transcript = ran(alloc, scenario)?;
-    printed(alloc, &transcript)
-}
-
-fn fault_of(error: ScenarioError) -> Fault
-    ensures { result ≡ fault_of error }
-{
-    match error.cause {
-        Cause::Line | Cause::Cut | Cause::Long => Fault::Line(error.line),
-        Cause::NotBuilt => Fault::NotBuilt(error.line),
-        Cause::NoMemory => Fault::Memory,
-    }
-}
-
-/// What is written for a scenario.
-fn answered(alloc: Global, bytes: &[u8], scenario: Scenario) -> Result<Vec<u8>, Fault>
-    requires { Reads bytes.now scenario }
-    ensures ok { IfOk result (λ text. HasOutput bytes.now text.items) }
-    ensures err { IfErr result (IsFaultOf bytes.now) }
-{
-    match resolved(alloc, scenario) {
-        Ok(text) => Ok(text),
-        Err(_) => Err(Fault::Memory),
-    }
-}
-
-/// What is written for the bytes of a scenario, or the fault that ends the run.
-#[tactic(auto, using(crate::proofs::Held::fault_fits))]
-fn output(alloc: Global, bytes: &[u8]) -> Result<Vec<u8>, Fault>
-    ensures ok { IfOk result (λ text. HasOutput bytes.now text.items) }
-    ensures err { IfErr result (IsFaultOf bytes.now) }
-{
-    match read_scenario(alloc, bytes) {
-        Ok(scenario) => answered(alloc, bytes, scenario),
-        Err(error) => Err(fault_of(error)),
+    match command {
+        Command::Resolve => transcript_for(alloc, bytes),
+        Command::Check => findings_for(alloc, bytes),
     }
 }
 
@@ -262,55 +38,57 @@ fn tell<K: Sink>(alloc: Global, sink: &mut K, fault: Fault) -> Status
     }
 }
 
-/// Writes the output for the bytes, or the fault.
-fn finish<K: Sink>(alloc: Global, sink: &mut K, bytes: &[u8]) -> Status
-    ensures done { result ≡ Status.Done → HasWritten bytes.now (K.written sink.old) (K.written sink.new) }
-    ensures scenario { result ≡ Status.BadScenario → HasRefused bytes.now (K.written sink.old) (K.written sink.new) }
-    ensures write { result ≡ Status.WriteFault → WrotePart (IsTextFor bytes.now) (K.faults sink.old) (K.faults sink.new) (K.written sink.old) (K.written sink.new) }
+/// Writes the output of the command for the bytes, or the fault.
+fn finish<K: Sink>(alloc: Global, command: Command, sink: &mut K, bytes: &[u8]) -> Status
+    ensures done { result ≡ Status.Done → HasWritten command bytes.now (K.written sink.old) (K.written sink.new) }
+    ensures scenario { result ≡ Status.BadScenario → HasRefused command bytes.now (K.written sink.old) (K.written sink.new) }
+    ensures write { result ≡ Status.WriteFault → WrotePart (IsTextFor command bytes.now) (K.faults sink.old) (K.faults sink.new) (K.written sink.old) (K.written sink.new) }
     ensures memory { result ≡ Status.NoMemory → ToldMemory (K.written sink.old) (K.written sink.new) }
     ensures read { result ≢ Status.ReadFault }
     ensures words { result ≢ Status.BadWords }
 {
-    match output(alloc, bytes) {
+    match output(alloc, command, bytes) {
         Ok(text) => say(sink, text.as_slice(), Status::Done),
         Err(fault) => tell(alloc, sink, fault),
     }
 }
 
-/// Runs the command: reads a scenario from the source to its end, answers its questions over its
-/// script or its world, and writes the transcript; or writes the text of what is wrong.
+/// Runs the command that the words name: reads a scenario from the source to its end, and writes what
+/// the command says of it, or the text of what is wrong. `resolve` answers the questions over the script
+/// or the world, and writes the transcript. `check` asks nothing: it writes whether the world is well
+/// served, and which questions are valid.
 pub fn run<S: Source, K: Sink>(
     alloc: Global,
     words: &[Text],
     source: &mut S,
     sink: &mut K,
 ) -> Status
-    // The transcript of what the source held, read to its end, was written.
-    ensures done { result ≡ Status.Done → IfSome (S.left source.old) (λ bytes. HasWritten bytes (K.written sink.old) (K.written sink.new)) }
+    // The transcript of what the source held, read to its end, or what there is to tell of it was written.
+    ensures done { result ≡ Status.Done → IfSome (command_of words.now) (λ asked. IfSome (S.left source.old) (λ bytes. HasWritten asked bytes (K.written sink.old) (K.written sink.new))) }
     ensures to_end { result ≡ Status.Done → IsAtEnd (S.left source.new) }
 
     // No more bytes are taken than show that a scenario is too long.
     ensures bound { TakesAtMost 16777217 (S.left source.old) (S.left source.new) }
 
-    // What the source held is no scenario of the forms that are run, and its fault was written.
-    ensures scenario { result ≡ Status.BadScenario → IfSome (S.left source.old) (λ bytes. HasRefused bytes (K.written sink.old) (K.written sink.new)) }
+    // What the source held is no scenario that the command takes, and its fault was written.
+    ensures scenario { result ≡ Status.BadScenario → IfSome (command_of words.now) (λ asked. IfSome (S.left source.old) (λ bytes. HasRefused asked bytes (K.written sink.old) (K.written sink.new))) }
 
-    // The words are none of the command's, which was written; and nothing was read.
-    ensures words { result ≡ Status.BadWords → (are_words words.now ≡ false) × Appends (K.written sink.old) (K.written sink.new) (fault_text Fault.Words) }
-    ensures refused { are_words words.now ≡ false → IsRefusal result × (source.new ≡ source.old) }
+    // The words are no command, which was written; and nothing was read.
+    ensures words { result ≡ Status.BadWords → (command_of words.now ≡ None) × Appends (K.written sink.old) (K.written sink.new) (fault_text Fault.Words) }
+    ensures refused { command_of words.now ≡ None → IsRefusal result × (source.new ≡ source.old) }
 
     // The source failed, which was written; the sink failed, and a front of what was to be written was.
     ensures read { result ≡ Status.ReadFault → Rose (S.faults source.old) (S.faults source.new) × Appends (K.written sink.old) (K.written sink.new) (fault_text Fault.Read) }
-    ensures write { result ≡ Status.WriteFault → WrotePart (IsTextOf (are_words words.now) (S.left source.old) (S.faults source.old) (S.faults source.new)) (K.faults sink.old) (K.faults sink.new) (K.written sink.old) (K.written sink.new) }
+    ensures write { result ≡ Status.WriteFault → WrotePart (IsTextOf (command_of words.now) (S.left source.old) (S.faults source.old) (S.faults source.new)) (K.faults sink.old) (K.faults sink.new) (K.written sink.old) (K.written sink.new) }
 
     // Memory is wanting, which was written, or nothing.
     ensures memory { result ≡ Status.NoMemory → ToldMemory (K.written sink.old) (K.written sink.new) }
 {
-    if !are_words(words) {
+    let Some(command) = command_of(words) else {
         return tell(alloc, sink, Fault::Words);
-    }
+    };
     match read_all(alloc, source, MOST) {
-        Ok(bytes) => finish(alloc, sink, bytes.as_slice()),
+        Ok(bytes) => finish(alloc, command, sink, bytes.as_slice()),
         Err(ReadError::Failed) => tell(alloc, sink, Fault::Read),
         Err(ReadError::NoMemory) => tell(alloc, sink, Fault::Memory),
     }

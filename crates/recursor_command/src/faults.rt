@@ -1,10 +1,11 @@
 //! Faults that end a run, and their texts.
 ghost use Rattle.std.specs.Prelude.{◌≡◌, ◌≢◌, IfOk};
 ghost use Rattle.recursor_command.specs.Status.{Wrote};
-ghost use Rattle.recursor_command.specs.Faults.{fault_text, status_of};
+ghost use Rattle.recursor_command.specs.Faults.{fault_text, status_of, fault_of};
 
 use crate::status::Status;
 use dns_core::{NoMemory, Sink, write_all};
+use recursor_text::{Cause, ScenarioError};
 use std::alloc::Global;
 
 /// What ends a run before its output.
@@ -46,6 +47,17 @@ impl Fault {
             Fault::Read => Ok(Vec::from_slice(alloc, b"error read\n")?),
             Fault::Memory => Ok(Vec::from_slice(alloc, b"error memory\n")?),
         }
+    }
+}
+
+/// The fault of a text that is no scenario.
+pub fn fault_of(error: ScenarioError) -> Fault
+    ensures { result ≡ fault_of error }
+{
+    match error.cause {
+        Cause::Line | Cause::Cut | Cause::Long => Fault::Line(error.line),
+        Cause::NotBuilt => Fault::NotBuilt(error.line),
+        Cause::NoMemory => Fault::Memory,
     }
 }
 

@@ -1,10 +1,13 @@
-//! The command `resolve`: a scenario in, a transcript out, over any source and sink; how it ends, and
-//! what it writes where it fails.
+//! The commands over any source and sink, how they end, and what they write where they fail: `resolve`, a
+//! scenario in and a transcript out, and `check`, a scenario over a world in and what there is to tell of it out.
 #![tactic(auto)]
 
+mod checking;
 mod command;
 mod faults;
+mod resolving;
 mod status;
+mod words;
 
 pub use command::run;
 pub use faults::{Fault, say};

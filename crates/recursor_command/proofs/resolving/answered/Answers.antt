@@ -1,5 +1,5 @@
 use Rattle.recursor_command.proofs.Runnable.{runnable}
-use Rattle.recursor_command.proofs.command.answered.Goals as goal
+use Rattle.recursor_command.proofs.resolving.answered.Goals as goal
 
 pub resolved-requires : goal.resolved-requires
 resolved-requires c = runnable c.args.bytes.now c.args.scenario c.requires

@@ -1,5 +1,5 @@
 use Rattle.recursor_command.proofs.Qualified.{upstream_script, upstream_world}
-use Rattle.recursor_command.proofs.command.ran.Goals as goal
+use Rattle.recursor_command.proofs.resolving.ran.Goals as goal
 
 pub ran_script-requires-clause-qualified : goal.ran_script-requires-clause-qualified
 ran_script-requires-clause-qualified c = let is = c.in-Script.is in upstream_script c.args.scenario.upstream c.in-Script.script c.requires.upstream cc

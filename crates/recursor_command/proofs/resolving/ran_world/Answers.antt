@@ -4,7 +4,7 @@ use Rattle.world_upstream.specs.Giving.{Gives}
 use Rattle.world_upstream.specs.Upstream.{Upstream}
 use Rattle.zone_worlds.specs.declared.world.World.{World}
 use Rattle.recursor_command.specs.Command.{terms_by, Resolves}
-use Rattle.recursor_command.proofs.command.ran_world.Goals as goal
+use Rattle.recursor_command.proofs.resolving.ran_world.Goals as goal
 
 pub returns-clause-gives : goal.returns-clause-gives
 returns-clause-gives c =

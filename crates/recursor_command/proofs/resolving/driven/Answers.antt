@@ -3,7 +3,7 @@ use Rattle.recursor_types.specs.Options.{server_filter_of, answer_filter_of}
 use Rattle.recursor_core.specs.Standing.{run_terms}
 use Rattle.recursor_command.specs.Command.{IsUntold, terms_by}
 use Rattle.recursor_command.proofs.Runs.{terms-are, asks-of, replies-of, moments-of, patient-of}
-use Rattle.recursor_command.proofs.command.driven.Goals as goal
+use Rattle.recursor_command.proofs.resolving.driven.Goals as goal
 
 pub returns-clause-resolves : goal.returns-clause-resolves
 returns-clause-resolves g c = λ log is.

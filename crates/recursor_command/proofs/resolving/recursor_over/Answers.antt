@@ -1,6 +1,6 @@
 use Rattle.std.proofs.Common.{Err, ap, sym, ◌∙◌}
 use Rattle.recursor_command.proofs.Setup.{memory_alone}
-use Rattle.recursor_command.proofs.command.recursor_over.Goals as goal
+use Rattle.recursor_command.proofs.resolving.recursor_over.Goals as goal
 
 pub only_memory-requires : goal.only_memory-requires
 only_memory-requires g c =

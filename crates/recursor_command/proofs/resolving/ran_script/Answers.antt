@@ -4,7 +4,7 @@ use Rattle.recursor_world.specs.Script.{Gives}
 use Rattle.recursor_world.specs.Upstream.{Upstream}
 use Rattle.recursor_world.specs.declared.script.Script.{Script}
 use Rattle.recursor_command.specs.Command.{terms_by, Resolves}
-use Rattle.recursor_command.proofs.command.ran_script.Goals as goal
+use Rattle.recursor_command.proofs.resolving.ran_script.Goals as goal
 
 pub returns-clause-gives : goal.returns-clause-gives
 returns-clause-gives c =
