@@ -4,13 +4,13 @@ use crate::message_samples::{Sight, answer, ip, query, query_of, referral, seen,
 use dns_core::{
     DnsClass, Message, Name, NameError, NetError, NoMemory, Query, RecordType, TryClone,
 };
-use walk_base::addresses;
 use resolver_cache::{CachedResponse, ResponseCache, read_message};
 use resolver_settings::{IpNet, TtlConfig};
 use std::alloc::Global;
 use std::net::IpAddr;
 use std::process::Abort;
 use std::test::Fail;
+use walk_base::addresses;
 
 /// How a response is written: for as long as it says, no longer than the one that it repeats, or so
 /// and by the log entry of a number.

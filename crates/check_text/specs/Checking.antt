@@ -16,16 +16,12 @@ use Rattle.zone_worlds.specs.declared.world.World.{World}
 abbrev pub filters_of : RecursorOptions → WorldFilters
 filters_of options = record { server = server_filter_of options; answer = answer_filter_of options }
 
--- how many names a walk may go down, and how many delegations
-abbrev pub depth_limit : ℕ
-depth_limit = 24
-
--- each question has its truth, in order: whether it is valid
-abbrev pub AreValid : World → List Question → List Bool → Type 0
-AreValid w [] [] = Unit {0}
-AreValid w [] (valid ∷ more) = ⊥
-AreValid w (q ∷ qs) [] = ⊥
-AreValid w (q ∷ qs) (valid ∷ more) = (IsTrue valid ↔ IsValid w depth_limit depth_limit q.query) × AreValid w qs more
+-- each question has its truth, in order: whether it is valid for a recursor of these depth limits
+abbrev pub AreValid : World → ℕ → ℕ → List Question → List Bool → Type 0
+AreValid w depth ns_depth [] [] = Unit {0}
+AreValid w depth ns_depth [] (valid ∷ more) = ⊥
+AreValid w depth ns_depth (q ∷ qs) [] = ⊥
+AreValid w depth ns_depth (q ∷ qs) (valid ∷ more) = (IsTrue valid ↔ IsValid w depth ns_depth q.query) × AreValid w depth ns_depth qs more
 
 -- a world is well served, or this is the lowest clause that fails
 abbrev pub verdict_text : Verdict → List ℕ
@@ -46,5 +42,5 @@ pub record Tells (w : World) (roots : List IpAddr) (options : RecursorOptions) (
   pub verdict : Verdict
   pub valid : List Bool
   pub judged : IsVerdict (clauses w roots (filters_of options) patience) verdict
-  pub asked : AreValid w questions valid
+  pub asked : AreValid w options.recursion_limit options.ns_recursion_limit questions valid
   pub is : text ≡ check_text verdict valid

@@ -5,16 +5,13 @@ ghost use Rattle.transcript_printer.specs.Log.{numbered_text};
 ghost use Rattle.world_check.specs.Clauses.{clauses, IsVerdict};
 ghost use Rattle.check_text.specs.Checking.{filters_of, verdict_text, valid_text, check_text, AreValid, Tells};
 
-use dns_core::{NoMemory, Question};
+use dns_core::{NoMemory, Question, TryClone};
 use recursor_types::RecursorOptions;
 use resolver_settings::{AccessControlSet, AccessControlSetBuilder};
 use std::alloc::Global;
 use std::net::IpAddr;
-use world_check::{Verdict, WorldFilters, check_world};
-use zone_worlds::{World, valid_question};
-
-/// How many names a walk may go down, and how many delegations: an option says neither yet.
-const DEPTH_LIMIT: u8 = 24;
+use world_check::{Verdict, WorldFilters, check_indexed};
+use zone_worlds::{IndexedWorld, World};
 
 fn server_filter(alloc: Global, options: &RecursorOptions) -> Result<AccessControlSet, NoMemory>
     ensures { IfOk result (λ filter. filter ≡ server_filter_of options.now) }
@@ -46,7 +43,7 @@ fn filters(alloc: Global, options: &RecursorOptions) -> Result<WorldFilters, NoM
 /// Whether the world is well served for a recursor of these roots and options.
 fn verdict(
     alloc: Global,
-    world: &World,
+    world: &IndexedWorld,
     roots: &[IpAddr],
     options: &RecursorOptions,
     patience: u32,
@@ -54,20 +51,22 @@ fn verdict(
     ensures { IfOk result (IsVerdict (clauses world.now roots.now (filters_of options.now) patience)) }
 {
     let filters = filters(alloc, options)?;
-    check_world(alloc, world, roots, &filters, patience)
+    check_indexed(alloc, world, roots, &filters, patience)
 }
 
-/// Which questions are valid.
+/// Which questions are valid for a recursor of these depth limits.
 fn valid_questions(
     alloc: Global,
-    world: &World,
+    world: &IndexedWorld,
+    depth: u8,
+    ns_depth: u8,
     questions: &[Question],
 ) -> Result<Vec<bool>, NoMemory>
-    ensures { IfOk result (λ valid. AreValid world.now questions.now valid.items) }
+    ensures { IfOk result (λ valid. AreValid world.now depth ns_depth questions.now valid.items) }
 {
     let mut valid = Vec::new(alloc);
     for question in questions {
-        let is_valid = valid_question(alloc, world, DEPTH_LIMIT, DEPTH_LIMIT, &question.query)?;
+        let is_valid = world.is_valid(alloc, depth, ns_depth, &question.query)?;
         valid.push(is_valid)?;
     }
     Ok(valid)
@@ -124,8 +123,26 @@ fn told(alloc: Global, verdict: Verdict, valid: &[bool]) -> Result<Vec<u8>, NoMe
     Ok(out)
 }
 
+/// What is told of a world that has its index.
+fn text_of(
+    alloc: Global,
+    world: &IndexedWorld,
+    roots: &[IpAddr],
+    options: &RecursorOptions,
+    patience: u32,
+    questions: &[Question],
+) -> Result<Vec<u8>, NoMemory>
+    ensures { IfOk result (λ text. Tells world.now roots.now options.now patience questions.now text.items) }
+{
+    let verdict = verdict(alloc, world, roots, options, patience)?;
+    let depth = options.recursion_limit;
+    let ns_depth = options.ns_recursion_limit;
+    let valid = valid_questions(alloc, world, depth, ns_depth, questions)?;
+    told(alloc, verdict, valid.as_slice())
+}
+
 /// What is told of a world, for a recursor of these roots, options and patience that is asked these
-/// questions.
+/// questions. Makes an index of the world, once.
 pub fn check_text(
     alloc: Global,
     world: &World,
@@ -136,7 +153,7 @@ pub fn check_text(
 ) -> Result<Vec<u8>, NoMemory>
     ensures { IfOk result (λ text. Tells world.now roots.now options.now patience questions.now text.items) }
 {
-    let verdict = verdict(alloc, world, roots, options, patience)?;
-    let valid = valid_questions(alloc, world, questions)?;
-    told(alloc, verdict, valid.as_slice())
+    let copy = world.try_clone(alloc)?;
+    let indexed = IndexedWorld::new(alloc, copy)?;
+    text_of(alloc, &indexed, roots, options, patience, questions)
 }

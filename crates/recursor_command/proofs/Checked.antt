@@ -1,5 +1,5 @@
 -- What `check` says of a scenario that was read.
-use Rattle.std.proofs.Common.{◌≡◌, ◌≤◌, ℕ, List, length, Option, Some, None, Result, Ok, Err, inl, refl, sym, ap, subst, ◌∙◌}
+use Rattle.std.proofs.Common.{◌≡◌, ◌≤◌, ℕ, List, length, Some, None, Result, Ok, Err, inl, sym, ap, subst, ◌∙◌}
 use Rattle.std.specs.Prelude.{IfOk}
 use Rattle.text_words.specs.Pieces.{pieces}
 use Rattle.text_words.proofs.Binds.{some_is}
@@ -8,7 +8,6 @@ use Rattle.recursor_world.specs.declared.script.Script.{Script}
 use Rattle.recursor_text.specs.declared.scenario.Scenario.{Scenario}
 use Rattle.recursor_text.specs.declared.scenario.Upstream.TheVariants.{Script as FromScript, World as FromWorld}
 use Rattle.recursor_text.specs.Reading.{scenario_in}
-use Rattle.recursor_text.specs.Spelling.{Reads}
 use Rattle.recursor_text.proofs.WholeLaws.{found}
 use Rattle.recursor_text.proofs.OnlyLaws.{one_reading}
 use Rattle.recursor_command.specs.Checking.{HasFindings, IsNoWorld, TellsScript, first_told}

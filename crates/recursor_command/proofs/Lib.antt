@@ -9,6 +9,6 @@ pub mod Runs
 pub mod ScriptLines
 pub mod Scripts
 pub mod Setup
+pub mod TranscriptWords
 pub mod Unread
-pub mod Words
 pub mod WorldWords

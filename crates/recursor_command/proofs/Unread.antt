@@ -1,5 +1,5 @@
 -- What a text that is not read is told as.
-use Rattle.std.proofs.Common.{◌≡◌, ◌≤◌, ◌<◌, ℕ, true, false, ltb, List, length, Option, Some, None, Ok, Err, inl, inr, refl, sym, subst, ◌∙◌, arith}
+use Rattle.std.proofs.Common.{◌≡◌, ◌≤◌, ℕ, true, false, ltb, List, length, Option, Some, None, Ok, Err, inl, inr, refl, sym, subst, ◌∙◌, arith}
 use Rattle.std.proofs.lemmas.Bool.{cases_Bool, ltb-true, ltb-false}
 use Rattle.recursor_text.specs.declared.scenario.Cause.{Cause}
 use Rattle.recursor_text.specs.declared.scenario.Cause.TheVariants as cause
@@ -7,7 +7,6 @@ use Rattle.recursor_text.specs.declared.scenario.Scenario.{Scenario}
 use Rattle.recursor_text.specs.declared.scenario.ScenarioError.{ScenarioError}
 use Rattle.recursor_text.specs.Faults.{HasFault}
 use Rattle.recursor_text.specs.Reading.{FailsBy, GivesScenario, scenario_in}
-use Rattle.recursor_text.specs.Spelling.{Reads}
 use Rattle.recursor_text.proofs.ExactLaws.{line_in}
 use Rattle.recursor_text.proofs.OnlyLaws.{only_in}
 use Rattle.recursor_command.specs.Faults.{fault_by, fault_of}

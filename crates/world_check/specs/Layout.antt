@@ -1,10 +1,10 @@
 -- Where the records of a world lie: each in its own zone (RFC 1034 section 4.2.1), and DS records at the parent (RFC 4035 section 2.4).
-use Rattle.std.specs.Prelude.{Bool, not, ◌&&◌, ◌||◌, ◌==◌, length, filter}
+use Rattle.std.specs.Prelude.{Bool, not, ◌&&◌, ◌||◌, ◌==◌, length, filter, if◌then◌else◌}
 use Rattle.std.specs.List.{list_any, list_all}
 use Rattle.dns_core.specs.Name.{DomainName, same_names}
 use Rattle.dns_core.specs.Classifying.{is_soa, is_ns}
 use Rattle.dns_core.specs.declared.record.Record.{Record}
-use Rattle.resolution.specs.Names.{is_above, is_root}
+use Rattle.resolution.specs.Names.{is_above, is_root, base}
 use Rattle.zone_worlds.specs.declared.world.Zone.{Zone}
 use Rattle.zone_worlds.specs.declared.world.World.{World}
 
@@ -26,6 +26,10 @@ is_in_place world zone r = is_above zone.apex r.name && list_all (is_left_by zon
 -- the apex owns exactly one SOA record (RFC 1035 section 5.2) and at least one NS record
 abbrev pub has_authority : Zone → Bool
 has_authority zone = length (filter (λ r. is_soa r && same_names r.name zone.apex) zone.records) == 1 && list_any (λ r. is_ns r && same_names r.name zone.apex) zone.records
+
+-- where the way down to a record ends: above the name of a DS record, which the parent has
+abbrev pub left_name : Record → DomainName
+left_name r = if r.record_type.code == 43 then base r.name else r.name
 
 abbrev pub is_laid_out : World → Bool
 is_laid_out world = list_all (λ zone. list_all (is_in_place world zone) zone.records && has_authority zone) world.zones

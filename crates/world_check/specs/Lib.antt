@@ -3,3 +3,4 @@ pub mod Layout
 pub mod Naming
 pub mod Filters
 pub mod Clauses
+pub mod Sight

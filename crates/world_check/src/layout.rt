@@ -15,7 +15,7 @@ fn is_below(zone: &Zone, deeper: &Zone) -> bool
     is_above(&zone.apex, &deeper.apex) && !(zone.apex == deeper.apex)
 }
 
-fn is_ds_at(r: &Record, apex: &Name) -> bool
+pub(crate) fn is_ds_at(r: &Record, apex: &Name) -> bool
     ensures { result ≡ is_ds_at apex.now r.now }
 {
     r.record_type.code == 43 && r.name == *apex
@@ -27,7 +27,7 @@ fn is_left_by(zone: &Zone, r: &Record, deeper: &Zone) -> bool
     !(is_below(zone, deeper) && is_above(&deeper.apex, &r.name)) || is_ds_at(r, &deeper.apex)
 }
 
-fn is_left_by_all(zone: &Zone, r: &Record, zones: &[Zone]) -> bool
+pub(crate) fn is_left_by_all(zone: &Zone, r: &Record, zones: &[Zone]) -> bool
     ensures { result ≡ list_all (is_left_by zone.now r.now) zones.now }
 {
     zones.iter().all(|deeper| is_left_by(zone, r, deeper))
@@ -66,7 +66,7 @@ fn has_ns(zone: &Zone) -> bool
     zone.records.items().iter().any(|r| is_ns_of(r, &zone.apex))
 }
 
-fn has_authority(zone: &Zone) -> bool
+pub(crate) fn has_authority(zone: &Zone) -> bool
     ensures { result ≡ has_authority zone.now }
 {
     count_soa(zone) == 1 && has_ns(zone)

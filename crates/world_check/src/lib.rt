@@ -2,14 +2,16 @@
 //! whom it is delegated, so that a recursor finds every answer in it.
 //!
 //! `check_world` tells the lowest of the seven clauses that fails (`IsVerdict`). It compares every record
-//! with every zone, as the clauses say it.
+//! with every zone, as the clauses say it; `check_indexed` tells the same of an `IndexedWorld` by look-ups.
 #![tactic(auto)]
 
 mod filters;
 mod layout;
+mod looked_up;
 mod naming;
 mod serving;
+mod sight;
 mod verdict;
 
 pub use filters::WorldFilters;
-pub use verdict::{Verdict, check_world, verdicts_cross_threads};
+pub use verdict::{Verdict, check_indexed, check_world, verdicts_cross_threads};

@@ -1,25 +1,48 @@
 //! The names of a world.
-ghost use Rattle.std.specs.Prelude.{◌≡◌, ◌&&◌, not, length, filter, nat_le};
+ghost use Rattle.std.specs.Prelude.{◌≡◌, ◌&&◌, ◌==◌, not, length, filter, nat_le};
 ghost use Rattle.std.specs.List.{list_any, list_all};
 ghost use Rattle.dns_core.specs.Name.{same_names};
 ghost use Rattle.zone_worlds.specs.Choosing.{is_alias};
+ghost use Rattle.world_check.specs.Sight.{world_of};
 ghost use Rattle.world_check.specs.Naming.{is_aliased, owns_one, is_star, has_star, is_soundly_held, is_soundly_named, has_sound_names};
 
+use crate::sight::Sight;
 use dns_core::{Label, Letter, Name, RData, Record};
-use zone_worlds::{World, Zone, is_alias};
+use zone_worlds::{IndexedWorld, World, Zone, is_alias};
 
 // ---- aliases
 
-fn has_alias(zone: &Zone, name: &Name) -> bool
-    ensures { result ≡ list_any (is_alias name.now) zone.now.records }
+fn has_alias(records: &[Record], name: &Name) -> bool
+    ensures { result ≡ list_any (is_alias name.now) records.now }
 {
-    zone.records.items().iter().any(|r| is_alias(r, name))
+    records.iter().any(|r| is_alias(r, name))
 }
 
-fn is_aliased(world: &World, name: &Name) -> bool
+/// Whether a zone has an alias of the name.
+fn is_aliased_in(world: &World, name: &Name) -> bool
     ensures { result ≡ is_aliased world.now name.now }
 {
-    world.zones.items().iter().any(|zone| has_alias(zone, name))
+    world
+        .zones
+        .items()
+        .iter()
+        .any(|zone| has_alias(zone.records.items(), name))
+}
+
+/// Whether the records of the name have an alias.
+fn is_aliased_by(world: &IndexedWorld, name: &Name) -> bool
+    ensures { result ≡ is_aliased world.now name.now }
+{
+    has_alias(world.named(name), name)
+}
+
+fn is_aliased(world: Sight, name: &Name) -> bool
+    ensures { result ≡ is_aliased (world_of world.entry) name.now }
+{
+    match world {
+        Sight::Plain(world) => is_aliased_in(world, name),
+        Sight::Indexed(world) => is_aliased_by(world, name),
+    }
 }
 
 fn is_owned_by(r: &Record, name: &Name) -> bool
@@ -71,10 +94,36 @@ fn none_owns_two(world: &World, name: &Name) -> bool
         .all(|zone| owns_at_most_one(zone, name))
 }
 
-fn owns_one(world: &World, name: &Name) -> bool
+fn owns_one_in(world: &World, name: &Name) -> bool
     ensures { result ≡ owns_one world.now name.now }
 {
     count_owners(world, name) == 1 && none_owns_two(world, name)
+}
+
+fn is_single(records: &[Record]) -> bool
+    ensures { result ≡ (length records.now == 1) }
+{
+    records.len() == 1
+}
+
+/// Where one record has the name it is the one; else the zones are asked.
+fn owns_one_by(world: &IndexedWorld, name: &Name) -> bool
+    ensures { result ≡ owns_one world.now name.now }
+{
+    let records = world.named(name);
+    if is_single(records) {
+        return true;
+    }
+    owns_one_in(world.world(), name)
+}
+
+fn owns_one(world: Sight, name: &Name) -> bool
+    ensures { result ≡ owns_one (world_of world.entry) name.now }
+{
+    match world {
+        Sight::Plain(world) => owns_one_in(world, name),
+        Sight::Indexed(world) => owns_one_by(world, name),
+    }
 }
 
 // ---- wildcards
@@ -96,8 +145,8 @@ fn has_star(name: &Name) -> bool
 
 // ---- all names
 
-fn is_soundly_held(world: &World, owner: &Name, rdata: &RData) -> bool
-    ensures { result ≡ is_soundly_held world.now owner.now rdata.now }
+fn is_soundly_held(world: Sight, owner: &Name, rdata: &RData) -> bool
+    ensures { result ≡ is_soundly_held (world_of world.entry) owner.now rdata.now }
 {
     match rdata {
         RData::NS(target) => !is_aliased(world, target) && !has_star(target),
@@ -107,14 +156,14 @@ fn is_soundly_held(world: &World, owner: &Name, rdata: &RData) -> bool
     }
 }
 
-fn is_soundly_named(world: &World, r: &Record) -> bool
-    ensures { result ≡ is_soundly_named world.now r.now }
+fn is_soundly_named(world: Sight, r: &Record) -> bool
+    ensures { result ≡ is_soundly_named (world_of world.entry) r.now }
 {
     !has_star(&r.name) && is_soundly_held(world, &r.name, &r.rdata)
 }
 
-fn are_soundly_named(world: &World, zone: &Zone) -> bool
-    ensures { result ≡ list_all (is_soundly_named world.now) zone.now.records }
+fn are_soundly_named(world: Sight, zone: &Zone) -> bool
+    ensures { result ≡ list_all (is_soundly_named (world_of world.entry)) zone.now.records }
 {
     zone.records
         .items()
@@ -122,17 +171,18 @@ fn are_soundly_named(world: &World, zone: &Zone) -> bool
         .all(|r| is_soundly_named(world, r))
 }
 
-fn is_zone_soundly_named(world: &World, zone: &Zone) -> bool
-    ensures { result ≡ (not (has_star zone.now.apex) && list_all (is_soundly_named world.now) zone.now.records) }
+fn is_zone_soundly_named(world: Sight, zone: &Zone) -> bool
+    ensures { result ≡ (not (has_star zone.now.apex) && list_all (is_soundly_named (world_of world.entry)) zone.now.records) }
 {
     !has_star(&zone.apex) && are_soundly_named(world, zone)
 }
 
 /// Whether no server is an alias, no alias owns another record, and no label is a wildcard.
-pub(crate) fn has_sound_names(world: &World) -> bool
-    ensures { result ≡ has_sound_names world.now }
+pub(crate) fn has_sound_names(world: Sight) -> bool
+    ensures { result ≡ has_sound_names (world_of world.entry) }
 {
     world
+        .world()
         .zones
         .items()
         .iter()

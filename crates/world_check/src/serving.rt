@@ -5,11 +5,13 @@ ghost use Rattle.dns_core.specs.Classifying.{is_glue_for};
 ghost use Rattle.resolution.specs.Names.{is_root};
 ghost use Rattle.resolution.specs.Records.{address};
 ghost use Rattle.zone_worlds.specs.Tree.{serves};
+ghost use Rattle.world_check.specs.Sight.{world_of};
 ghost use Rattle.world_check.specs.Serving.{has_served_root, is_own_server, has_own_server, is_delegated_well, is_served_by, is_served_at, is_served_as_named, has_served_zones};
 
+use crate::sight::Sight;
 use dns_core::{Name, RData, Record};
 use std::net::IpAddr;
-use zone_worlds::{World, Zone, is_above};
+use zone_worlds::{IndexedWorld, World, Zone, is_above};
 
 pub(crate) fn is_root(name: &Name) -> bool
     ensures { result ≡ is_root name.now }
@@ -36,17 +38,17 @@ fn any_root(zones: &[Zone]) -> bool
     zones.iter().any(|zone| is_root(&zone.apex))
 }
 
-fn all_serve_root(world: &World, roots: &[IpAddr]) -> bool
-    ensures { result ≡ list_all (λ ip. serves world.now ip []) roots.now }
+fn all_serve_root(world: Sight, roots: &[IpAddr]) -> bool
+    ensures { result ≡ list_all (λ ip. serves (world_of world.entry) ip []) roots.now }
 {
     roots.iter().all(|ip| world.serves(*ip, &[]))
 }
 
 /// Whether there is a root zone, which every root address serves.
-pub(crate) fn has_served_root(world: &World, roots: &[IpAddr]) -> bool
-    ensures { result ≡ has_served_root world.now roots.now }
+pub(crate) fn has_served_root(world: Sight, roots: &[IpAddr]) -> bool
+    ensures { result ≡ has_served_root (world_of world.entry) roots.now }
 {
-    any_root(world.zones.items()) && all_serve_root(world, roots)
+    any_root(world.world().zones.items()) && all_serve_root(world, roots)
 }
 
 // ---- delegations
@@ -98,8 +100,8 @@ pub(crate) fn is_delegated_well(world: &World) -> bool
 
 // ---- servers
 
-fn is_served_by(world: &World, zone: &Zone, target: &Name, r: &Record) -> bool
-    ensures { result ≡ is_served_by world.now zone.now target.now r.now }
+fn is_served_by(world: Sight, zone: &Zone, target: &Name, r: &Record) -> bool
+    ensures { result ≡ is_served_by (world_of world.entry) zone.now target.now r.now }
 {
     match address(r) {
         None => true,
@@ -107,28 +109,43 @@ fn is_served_by(world: &World, zone: &Zone, target: &Name, r: &Record) -> bool
     }
 }
 
-fn are_serving(world: &World, zone: &Zone, target: &Name, holder: &Zone) -> bool
-    ensures { result ≡ list_all (is_served_by world.now zone.now target.now) holder.now.records }
+fn are_serving(world: Sight, zone: &Zone, target: &Name, records: &[Record]) -> bool
+    ensures { result ≡ list_all (is_served_by (world_of world.entry) zone.now target.now) records.now }
 {
-    holder
-        .records
-        .items()
-        .iter()
-        .all(|r| is_served_by(world, zone, target, r))
+    records.iter().all(|r| is_served_by(world, zone, target, r))
 }
 
-fn is_served_at(world: &World, zone: &Zone, target: &Name) -> bool
+/// Whether each address that a zone holds for the target serves the zone.
+fn is_served_in(world: Sight, zone: &Zone, target: &Name) -> bool
+    ensures { result ≡ is_served_at (world_of world.entry) zone.now target.now }
+{
+    world.world().zones.items().iter().all(|holder| are_serving(
+        world,
+        zone,
+        target,
+        holder.records.items(),
+    ))
+}
+
+/// Whether each address among the records of the target serves the zone.
+fn is_served_by_named(world: &IndexedWorld, zone: &Zone, target: &Name) -> bool
     ensures { result ≡ is_served_at world.now zone.now target.now }
 {
-    world
-        .zones
-        .items()
-        .iter()
-        .all(|holder| are_serving(world, zone, target, holder))
+    let records = world.named(target);
+    are_serving(Sight::Indexed(world), zone, target, records)
 }
 
-fn is_served_as_named(world: &World, zone: &Zone, r: &Record) -> bool
-    ensures { result ≡ is_served_as_named world.now zone.now r.now }
+fn is_served_at(world: Sight, zone: &Zone, target: &Name) -> bool
+    ensures { result ≡ is_served_at (world_of world.entry) zone.now target.now }
+{
+    match world {
+        Sight::Plain(_) => is_served_in(world, zone, target),
+        Sight::Indexed(indexed) => is_served_by_named(indexed, zone, target),
+    }
+}
+
+fn is_served_as_named(world: Sight, zone: &Zone, r: &Record) -> bool
+    ensures { result ≡ is_served_as_named (world_of world.entry) zone.now r.now }
 {
     match &r.rdata {
         RData::NS(target) => r.name == zone.apex && is_served_at(world, zone, target),
@@ -136,8 +153,8 @@ fn is_served_as_named(world: &World, zone: &Zone, r: &Record) -> bool
     }
 }
 
-fn are_served_as_named(world: &World, zone: &Zone) -> bool
-    ensures { result ≡ list_all (is_served_as_named world.now zone.now) zone.now.records }
+fn are_served_as_named(world: Sight, zone: &Zone) -> bool
+    ensures { result ≡ list_all (is_served_as_named (world_of world.entry) zone.now) zone.now.records }
 {
     zone.records
         .items()
@@ -146,10 +163,11 @@ fn are_served_as_named(world: &World, zone: &Zone) -> bool
 }
 
 /// Whether NS records stand at an apex only, and each address of their targets serves that zone.
-pub(crate) fn has_served_zones(world: &World) -> bool
-    ensures { result ≡ has_served_zones world.now }
+pub(crate) fn has_served_zones(world: Sight) -> bool
+    ensures { result ≡ has_served_zones (world_of world.entry) }
 {
     world
+        .world()
         .zones
         .items()
         .iter()

@@ -5,19 +5,22 @@ use Rattle.std.specs.Option.{option_map, option_or, is_some}
 use Rattle.std.specs.Bool.{beq}
 use Rattle.std.specs.List.{list_any}
 use Rattle.std.specs.Cmp.Lexicographic.{pointwise}
+use Rattle.std.specs.Cmp.{IsEquivalence}
+use Rattle.std.specs.declared.net.IpAddr.{IpAddr}
+use Rattle.std.specs.contracts.net.ip_addr.IpAddrPartialEq.TheImpl as address
 use Rattle.std.specs.HashMap.{HashMap, get}
 use Rattle.std.specs.HashMap.Eq.{lookup_congr}
 use Rattle.std.proofs.lemmas.Bool.Decides.{nat_tests}
 use Rattle.std.proofs.lemmas.List.Folds.{find-append}
 use Rattle.dns_core.specs.Letters.{same_letter}
 use Rattle.dns_core.specs.Name.{DomainName, same_labels, same_names, is_suffix, last_labels}
-use Rattle.dns_core.specs.NameLaws.{same_names_equiv}
 use Rattle.resolution.specs.Names.{is_above, base}
 use Rattle.resolution.proofs.Above.{labels_equiv}
 use Rattle.resolution.proofs.Caseless.{length-same}
-use Rattle.zone_worlds.specs.Index.{FindsZones}
+use Rattle.zone_worlds.specs.Index.{FindsZones, FindsHosts}
 use Rattle.zone_worlds.specs.Tree.{exists_in}
 use Rattle.zone_worlds.specs.declared.world.Zone.{Zone}
+use Rattle.zone_worlds.specs.declared.world.Host.{Host}
 use Rattle.zone_worlds.specs.declared.world.World.{World}
 
 -- ---- a name is that name or lies above its base
@@ -72,7 +75,7 @@ longer a l ls h =
     ap (λ (b : Bool). b && same_labels a (last_labels (length a) (l ∷ ls))) (not_le (length a) (suc (length ls)) h)
     ∙ sym no ∙ sym (ap (λ (b : Bool). b || is_suffix a ls) apart)
 
-suffix_step : (a : List (List ℕ)) (l : List ℕ) (ls : List (List ℕ)) → Step a l ls
+pub suffix_step : (a : List (List ℕ)) (l : List ℕ) (ls : List (List ℕ)) → Step a l ls
 suffix_step a l ls = at (nat_le (length a) (length ls)) refl (nat_le (length a) (suc (length ls))) refl
   where
     at : (b : Bool) → nat_le (length a) (length ls) ≡ b → (c : Bool) → nat_le (length a) (suc (length ls)) ≡ c → Step a l ls
@@ -125,20 +128,20 @@ or_none : {X : Type 0} (o : Option X) → o ≡ option_or o None
 or_none None = refl
 or_none (Some x) = refl
 
-pub put_new : {S : Type 0} (old new : HashMap DomainName ℕ S) (k n : DomainName) (place : ℕ) → get same_names old k ≡ None → get same_names new n ≡ cond (same_names k n) (Some place) (get same_names old n)
-    → get same_names new n ≡ option_or (get same_names old n) (cond (same_names k n) (Some place) None)
-put_new old new k n place none e = at (same_names k n) refl e
+pub put_new : {K S : Type 0} {same : K → K → Bool} → IsEquivalence same → (old new : HashMap K ℕ S) (k n : K) (place : ℕ) → get same old k ≡ None → get same new n ≡ cond (same k n) (Some place) (get same old n)
+    → get same new n ≡ option_or (get same old n) (cond (same k n) (Some place) None)
+put_new {same = same} laws old new k n place none e = at (same k n) refl e
   where
-    at : (b : Bool) → same_names k n ≡ b → get same_names new n ≡ cond b (Some place) (get same_names old n) → get same_names new n ≡ option_or (get same_names old n) (cond b (Some place) None)
-    at true h e = e ∙ ap (λ (o : Option ℕ). option_or o (Some place)) (sym none ∙ lookup_congr same_names same_names_equiv.congr old.entries k n h)
-    at false h e = e ∙ or_none (get same_names old n)
+    at : (b : Bool) → same k n ≡ b → get same new n ≡ cond b (Some place) (get same old n) → get same new n ≡ option_or (get same old n) (cond b (Some place) None)
+    at true h e = e ∙ ap (λ (o : Option ℕ). option_or o (Some place)) (sym none ∙ lookup_congr same laws.congr old.entries k n h)
+    at false h e = e ∙ or_none (get same old n)
 
-pub put_known : {S : Type 0} (old : HashMap DomainName ℕ S) (k n : DomainName) (place : ℕ) (known : ℕ) → get same_names old k ≡ Some known → get same_names old n ≡ option_or (get same_names old n) (cond (same_names k n) (Some place) None)
-put_known old k n place known some = at (same_names k n) refl
+pub put_known : {K S : Type 0} {same : K → K → Bool} → IsEquivalence same → (old : HashMap K ℕ S) (k n : K) (place : ℕ) (known : ℕ) → get same old k ≡ Some known → get same old n ≡ option_or (get same old n) (cond (same k n) (Some place) None)
+put_known {same = same} laws old k n place known some = at (same k n) refl
   where
-    at : (b : Bool) → same_names k n ≡ b → get same_names old n ≡ option_or (get same_names old n) (cond b (Some place) None)
-    at true h = let here = sym (lookup_congr same_names same_names_equiv.congr old.entries k n h) ∙ some in here ∙ sym (ap (λ (o : Option ℕ). option_or o (Some place)) here)
-    at false h = or_none (get same_names old n)
+    at : (b : Bool) → same k n ≡ b → get same old n ≡ option_or (get same old n) (cond b (Some place) None)
+    at true h = let here = sym (lookup_congr same laws.congr old.entries k n h) ∙ some in here ∙ sym (ap (λ (o : Option ℕ). option_or o (Some place)) here)
+    at false h = or_none (get same old n)
 
 found_more : {L : Type 0} (g : ℕ → Option L) (b : Bool) (o : Option ℕ) (f : Option L) (i : ℕ) (x : L) → g i ≡ Some x → option_map g o ≡ option_map Some f → option_map g (option_or o (cond b (Some i) None)) ≡ option_map Some (option_or f (cond b (Some x) None))
 found_more g b (Some j) (Some y) i x e h = h
@@ -146,6 +149,12 @@ found_more g true None None i x e h = ap Some e
 found_more g false None None i x e h = refl
 found_more g b (Some j) None i x e h = cc
 found_more g b None (Some y) i x e h = cc
+
+pub hosts_more : {S : Type 0} (hosts seen : List Host) (old new : HashMap IpAddr ℕ S) (x : Host) (i : ℕ) → FindsHosts hosts seen old
+    → ((a : IpAddr) → get address.ghosts.eq new a ≡ option_or (get address.ghosts.eq old a) (cond (address.ghosts.eq x.ip a) (Some i) None)) → slice_get hosts i ≡ Some x → FindsHosts hosts (seen ++ x ∷ []) new
+hosts_more hosts seen old new x i h put e = λ a.
+    ap (option_map (slice_get hosts)) (put a) ∙ found_more (slice_get hosts) (address.ghosts.eq x.ip a) (get address.ghosts.eq old a) (find (λ y. address.ghosts.eq y.ip a) seen) i x e (h a)
+    ∙ sym (ap (option_map Some) (find-append (λ y. address.ghosts.eq y.ip a) seen (x ∷ [])))
 
 pub zones_more : {S : Type 0} (zones seen : List Zone) (old new : HashMap DomainName ℕ S) (z : Zone) (i : ℕ) → FindsZones zones seen old
     → ((n : DomainName) → get same_names new n ≡ option_or (get same_names old n) (cond (same_names z.apex n) (Some i) None)) → slice_get zones i ≡ Some z → FindsZones zones (seen ++ z ∷ []) new

@@ -1,5 +1,6 @@
 pub mod Indexing
 pub mod Listed
+pub mod Held
 pub mod MetNames
 pub mod ZonesFound
 pub mod Ways

@@ -1,5 +1,4 @@
 pub mod Tree
-pub mod Zones
 pub mod Choosing
 pub mod Telling
 pub mod Answer

@@ -1,57 +1,56 @@
 //! What a world answers to a question, whoever is asked.
 ghost use Rattle.std.specs.Prelude.{◌≡◌, ◌==◌, [], length, IfOk, IfSome, IfNone, Some, None};
-ghost use Rattle.std.specs.Option.{option_copied};
 ghost use Rattle.resolution.specs.Records.{cname_target};
 ghost use Rattle.resolution.specs.Answering.{with_name};
-ghost use Rattle.zone_worlds.specs.Tree.{zone_of};
+ghost use Rattle.zone_worlds.specs.Index.{IsIndex};
 ghost use Rattle.zone_worlds.specs.Answer.{alias_for, next_alias_for, Leads, NoWay, data_of, found, after, Answers};
 
 use crate::choosing::{Alias, alias_in, owned};
+use crate::index::Index;
 use crate::telling::is_met;
-use crate::tree::{Zones, walked};
-use crate::world::{World, WorldAnswer, Zone};
+use crate::world::{World, WorldAnswer};
 use dns_core::{Items, Name, NoMemory, Query, Record, TryClone};
 use std::alloc::Global;
 
-/// The deepest zone of the world at or above the name, for DS at or above its base name.
-fn zone_of<'w>(world: &'w World, name: &Name, query: &Query) -> Option<&'w Zone>
-    ensures { option_copied result ≡ zone_of world.now (with_name name.now query.now) }
-{
-    if !name.is_fqdn() {
-        return None;
-    }
-    Zones::All(world.zones.items()).nearest(walked(name, query))
-}
-
 /// The alias of a name in that zone. A question for CNAME asks for the alias itself.
-fn alias_for<'w>(world: &'w World, name: &Name, query: &Query) -> Option<Alias<'w>>
-    ensures some { IfSome result (λ alias. alias_for world.now (with_name name.now query.now) ≡ Some alias.record.now) }
-    ensures leads { IfSome result (λ alias. cname_target alias.record.now ≡ Some alias.target.now) }
-    ensures none { IfNone result (alias_for world.now (with_name name.now query.now) ≡ None) }
+fn alias_for<'w>(
+    alloc: Global,
+    world: &'w World,
+    index: &Index,
+    name: &Name,
+    query: &Query,
+) -> Result<Option<Alias<'w>>, NoMemory>
+    requires { IsIndex world.now index.now }
+    ensures some { IfOk result (λ found. IfSome found (λ alias. alias_for world.now (with_name name.now query.now) ≡ Some alias.record.now)) }
+    ensures leads { IfOk result (λ found. IfSome found (λ alias. cname_target alias.record.now ≡ Some alias.target.now)) }
+    ensures none { IfOk result (λ found. IfNone found (alias_for world.now (with_name name.now query.now) ≡ None)) }
 {
     if query.query_type.code == 5 {
-        return None;
+        return Ok(None);
     }
-    match zone_of(world, name, query) {
-        Some(zone) => alias_in(zone, name),
-        None => None,
+    match index.zone_of(alloc, world, name, query)? {
+        Some(zone) => Ok(alias_in(zone, name)),
+        None => Ok(None),
     }
 }
 
 fn next_alias_for<'w>(
+    alloc: Global,
     world: &'w World,
+    index: &Index,
     query: &Query,
     met: &[Name],
     name: &Name,
-) -> Option<Alias<'w>>
-    ensures some { IfSome result (λ alias. next_alias_for world.now query.now met.now name.now ≡ Some alias.record.now) }
-    ensures leads { IfSome result (λ alias. cname_target alias.record.now ≡ Some alias.target.now) }
-    ensures none { IfNone result (next_alias_for world.now query.now met.now name.now ≡ None) }
+) -> Result<Option<Alias<'w>>, NoMemory>
+    requires { IsIndex world.now index.now }
+    ensures some { IfOk result (λ found. IfSome found (λ alias. next_alias_for world.now query.now met.now name.now ≡ Some alias.record.now)) }
+    ensures leads { IfOk result (λ found. IfSome found (λ alias. cname_target alias.record.now ≡ Some alias.target.now)) }
+    ensures none { IfOk result (λ found. IfNone found (next_alias_for world.now query.now met.now name.now ≡ None)) }
 {
     if is_met(met, name) {
-        None
+        Ok(None)
     } else {
-        alias_for(world, name, query)
+        alias_for(alloc, world, index, name, query)
     }
 }
 
@@ -64,14 +63,20 @@ pub(crate) struct Way {
 }
 
 /// The aliases of a question to their end, nothing where a name repeats.
-pub(crate) fn way_of(alloc: Global, world: &World, query: &Query) -> Result<Option<Way>, NoMemory>
+pub(crate) fn way_of(
+    alloc: Global,
+    world: &World,
+    index: &Index,
+    query: &Query,
+) -> Result<Option<Way>, NoMemory>
+    requires { IsIndex world.now index.now }
     ensures some { IfOk result (λ found. IfSome found (λ way. Leads world.now query.now [] query.now.name way.aliases.items way.names.items way.last)) }
     ensures none { IfOk result (λ found. IfNone found (NoWay world.now query.now [] query.now.name)) }
 {
     let mut aliases = Vec::new(alloc);
     let mut met = Vec::new(alloc);
     let mut at = query.name.try_clone(alloc)?;
-    'way: while let Some(alias) = next_alias_for(world, query, met.as_slice(), &at) {
+    'way: while let Some(alias) = next_alias_for(alloc, world, index, query, met.as_slice(), &at)? {
         let target = alias.target.try_clone(alloc)?;
         aliases.push(alias.record.try_clone(alloc)?)?;
         met.push(at)?;
@@ -101,13 +106,20 @@ fn data_of(records: Vec<Record>) -> WorldAnswer
 }
 
 /// The answer at a name without an alias.
-fn found(alloc: Global, world: &World, name: &Name, query: &Query) -> Result<WorldAnswer, NoMemory>
+fn found(
+    alloc: Global,
+    world: &World,
+    index: &Index,
+    name: &Name,
+    query: &Query,
+) -> Result<WorldAnswer, NoMemory>
+    requires { IsIndex world.now index.now }
     ensures { IfOk result (λ answer. answer ≡ found world.now (with_name name.now query.now)) }
 {
-    if !world.exists(name) {
+    if !index.exists(world, name) {
         return Ok(WorldAnswer::NxDomain);
     }
-    let Some(zone) = zone_of(world, name, query) else {
+    let Some(zone) = index.zone_of(alloc, world, name, query)? else {
         return Ok(WorldAnswer::NoData);
     };
     let records = owned(alloc, zone, name, query.query_type)?;
@@ -130,8 +142,26 @@ fn after(aliases: Vec<Record>, answer: WorldAnswer) -> Result<WorldAnswer, NoMem
     }
 }
 
+/// What a world answers to a question, found by its index.
+pub(crate) fn answer_of(
+    alloc: Global,
+    world: &World,
+    index: &Index,
+    query: &Query,
+) -> Result<Option<WorldAnswer>, NoMemory>
+    requires { IsIndex world.now index.now }
+    ensures { IfOk result (Answers world.now query.now) }
+{
+    let Some(way) = way_of(alloc, world, index, query)? else {
+        return Ok(None);
+    };
+    let at_end = found(alloc, world, index, &way.last, query)?;
+    let answer = after(way.aliases, at_end)?;
+    Ok(Some(answer))
+}
+
 /// What the world answers to a question: the aliases of its name, followed by the answer at their end.
-/// There is none exactly where the aliases do not end.
+/// There is none exactly where the aliases do not end. Makes an index of the world for one question.
 pub fn world_answer(
     alloc: Global,
     world: &World,
@@ -139,10 +169,6 @@ pub fn world_answer(
 ) -> Result<Option<WorldAnswer>, NoMemory>
     ensures { IfOk result (Answers world.now query.now) }
 {
-    let Some(way) = way_of(alloc, world, query)? else {
-        return Ok(None);
-    };
-    let at_end = found(alloc, world, &way.last, query)?;
-    let answer = after(way.aliases, at_end)?;
-    Ok(Some(answer))
+    let index = Index::of(alloc, world)?;
+    answer_of(alloc, world, &index, query)
 }

@@ -1,25 +1,33 @@
 //! Where the zones of a world stand and which names exist in it, each found by one look-up.
-ghost use Rattle.std.specs.Prelude.{◌≡◌, ◌||◌, true, false, find, IfOk, OnOk, IsTrue, Some, None, if◌then◌else◌};
+ghost use Rattle.std.specs.Prelude.{◌≡◌, ◌||◌, true, false, find, filter, IfOk, OnOk, IsTrue, Some, None, if◌then◌else◌};
 ghost use Rattle.std.specs.Option.{option_copied, option_or};
 ghost use Rattle.std.specs.List.{list_any};
+ghost use Rattle.std.specs.declared.net.IpAddr.{IpAddr};
+ghost use Rattle.std.specs.contracts.net.ip_addr.IpAddrPartialEq.TheImpl as address;
 ghost use Rattle.std.specs.HashMap.{get};
 ghost use Rattle.std.specs.HashSet.{contains};
 ghost use Rattle.dns_core.specs.Name.{DomainName, same_names};
 ghost use Rattle.resolution.specs.Names.{is_above, walk};
-ghost use Rattle.zone_worlds.specs.Tree.{zone_at, first_cut, exists_in};
+ghost use Rattle.resolution.specs.Answering.{with_name};
+ghost use Rattle.zone_worlds.specs.Tree.{host_of, zone_at, nearest, first_cut, zone_of, exists_in};
 ghost use Rattle.zone_worlds.specs.Telling.{child_of};
-ghost use Rattle.zone_worlds.specs.Index.{FindsZones, FindsNames, IsIndex};
+ghost use Rattle.zone_worlds.specs.Index.{FindsZones, FindsHosts, FindsNames, IsIndex, all_records};
 
-use crate::world::{World, Zone};
-use dns_core::{Name, NoMemory, Query, Record, TryClone};
+use crate::records::held_by;
+use crate::world::{Host, World, Zone};
+use dns_core::{Name, NoMemory, Query, Record, Records, TryClone};
 use std::alloc::Global;
 use std::collections::{HashMap, HashSet};
+use std::net::IpAddr;
 
-/// The place of the first zone of each apex, and each name at or below which a record is owned.
+/// The place of the first zone of each apex, and of the first host of each address, each name at or below which a record is owned, and the
+/// records of each name.
 #[derive(Drop, Debug)]
 pub(crate) struct Index {
     pub zones: HashMap<Name, usize>,
+    pub hosts: HashMap<IpAddr, usize>,
     pub names: HashSet<Name>,
+    pub records: HashMap<Name, Records>,
 }
 
 /// Puts a place under an apex that has none.
@@ -39,6 +47,27 @@ fn places_of(alloc: Global, zones: &[Zone]) -> Result<HashMap<Name, usize>, NoMe
     let mut places = HashMap::new(alloc);
     for (place, zone) in zones.iter().enumerate() {
         put_first(&mut places, zone.apex.try_clone(alloc)?, place)?;
+    }
+    Ok(places)
+}
+
+/// Puts a place under an address that has none.
+fn put_host(hosts: &mut HashMap<IpAddr, usize>, ip: IpAddr, place: usize) -> Result<(), NoMemory>
+    ensures { OnOk result ((a : IpAddr) → get address.ghosts.eq hosts.new a ≡ option_or (get address.ghosts.eq hosts.old a) (if address.ghosts.eq ip a then Some place else None)) }
+{
+    if !hosts.contains_key(&ip) {
+        hosts.insert(ip, place)?;
+    }
+    Ok(())
+}
+
+/// The places of the hosts.
+fn hosts_of(alloc: Global, hosts: &[Host]) -> Result<HashMap<IpAddr, usize>, NoMemory>
+    ensures { IfOk result (FindsHosts hosts.now hosts.now) }
+{
+    let mut places = HashMap::new(alloc);
+    for (place, host) in hosts.iter().enumerate() {
+        put_host(&mut places, host.ip, place)?;
     }
     Ok(places)
 }
@@ -87,14 +116,14 @@ fn names_of(alloc: Global, zones: &[Zone]) -> Result<HashSet<Name>, NoMemory>
     Ok(names)
 }
 
-/// The name to which a question is walked: for DS the base name.
-fn walk(alloc: Global, query: &Query) -> Result<Name, NoMemory>
-    ensures { IfOk result (λ name. name ≡ walk query.now) }
+/// The name to which a question is walked that is asked at this name: for DS the base name.
+fn walk(alloc: Global, name: &Name, query: &Query) -> Result<Name, NoMemory>
+    ensures { IfOk result (λ at. at ≡ walk (with_name name.now query.now)) }
 {
     if query.query_type.code == 43 {
-        query.name.base_name(alloc)
+        name.base_name(alloc)
     } else {
-        query.name.try_clone(alloc)
+        name.try_clone(alloc)
     }
 }
 
@@ -104,8 +133,26 @@ impl Index {
         ensures { IfOk result (IsIndex world.now) }
     {
         let zones = places_of(alloc, world.zones.items())?;
+        let hosts = hosts_of(alloc, world.hosts.items())?;
         let names = names_of(alloc, world.zones.items())?;
-        Ok(Index { zones, names })
+        let records = held_by(alloc, world.zones.items())?;
+        Ok(Index {
+            zones,
+            hosts,
+            names,
+            records,
+        })
+    }
+
+    /// The host with the address.
+    pub fn host<'w>(&self, world: &'w World, ip: IpAddr) -> Option<&'w Host>
+        requires { IsIndex world.now self.now }
+        ensures { option_copied result ≡ host_of world.now ip }
+    {
+        match self.hosts.get(&ip) {
+            Some(place) => world.hosts.items().get(*place),
+            None => None,
+        }
     }
 
     /// The zone with this apex.
@@ -120,9 +167,49 @@ impl Index {
         }
     }
 
+    #[tactic(auto, using(crate::proofs::ZonesFound::nearest_here, crate::proofs::ZonesFound::nearest_none, crate::proofs::ZonesFound::nearest_above))]
+    /// The deepest of the zones at or above the name.
+    fn nearest<'w>(
+        &self,
+        alloc: Global,
+        world: &'w World,
+        name: &Name,
+    ) -> Result<Option<&'w Zone>, NoMemory>
+        requires index { IsIndex world.now self.now }
+        requires qualified { IsTrue name.now.fqdn }
+        ensures { IfOk result (λ found. option_copied found ≡ nearest (λ labels. zone_at world.now.zones labels) name.now.labels) }
+    {
+        if let Some(zone) = self.zone(world, name) {
+            return Ok(Some(zone));
+        }
+        if name.labels().is_empty() {
+            return Ok(None);
+        }
+        let above = name.base_name(alloc)?;
+        self.nearest(alloc, world, &above)
+    }
+
+    /// The deepest zone at or above the name, for a question for DS at or above its base name.
+    pub fn zone_of<'w>(
+        &self,
+        alloc: Global,
+        world: &'w World,
+        name: &Name,
+        query: &Query,
+    ) -> Result<Option<&'w Zone>, NoMemory>
+        requires { IsIndex world.now self.now }
+        ensures { IfOk result (λ found. option_copied found ≡ zone_of world.now (with_name name.now query.now)) }
+    {
+        if !name.is_fqdn() {
+            return Ok(None);
+        }
+        let at = walk(alloc, name, query)?;
+        self.nearest(alloc, world, &at)
+    }
+
     #[tactic(auto, using(crate::proofs::ZonesFound::first_cut_above, crate::proofs::ZonesFound::first_cut_higher, crate::proofs::ZonesFound::first_cut_here))]
     /// The highest of the zones at or above the name that has more labels than `apex`.
-    fn first_cut<'w>(
+    pub fn first_cut<'w>(
         &self,
         alloc: Global,
         world: &'w World,
@@ -156,7 +243,7 @@ impl Index {
         ensures { IfOk result (λ found. option_copied found ≡ child_of world.now zone.now query.now) }
     {
         let apex = zone.apex.labels().len();
-        let name = walk(alloc, query)?;
+        let name = walk(alloc, &query.name, query)?;
         self.first_cut(alloc, world, apex, &name)
     }
 
@@ -167,5 +254,17 @@ impl Index {
     {
         let _world = world;
         name.is_fqdn() && self.names.contains(name)
+    }
+
+    /// The records of a name, of all zones.
+    pub fn named(&self, world: &World, name: &Name) -> &[Record]
+        requires { IsIndex world.now self.now }
+        ensures { result.now ≡ filter (λ r. same_names r.name name.now) (all_records world.now.zones) }
+    {
+        let _world = world;
+        match self.records.get(name) {
+            Some(records) => records.items(),
+            None => &[],
+        }
     }
 }

@@ -2,8 +2,8 @@
 //!
 //! `told` is what an address tells for a question (`Tells`), and `world_answer` what the world answers
 //! to it, whoever is asked (`Answers`). `valid_question` says which questions a recursor must answer as
-//! the world does (`IsValid`). Each goes through the zones name by name, as its definition does; an
-//! `IndexedWorld` tells the same by look-ups.
+//! the world does (`IsValid`). An `IndexedWorld` says the same of its world by look-ups, which it makes
+//! ready once; `told` alone goes through the zones name by name, as its definition does.
 #![tactic(auto)]
 
 mod answer;
@@ -12,6 +12,7 @@ mod copies;
 mod index;
 mod indexed;
 mod laws;
+mod records;
 mod telling;
 mod threads;
 mod tree;

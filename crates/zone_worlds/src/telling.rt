@@ -4,32 +4,40 @@ ghost use Rattle.std.specs.Option.{option_copied};
 ghost use Rattle.std.specs.List.{list_any};
 ghost use Rattle.dns_core.specs.Name.{same_names};
 ghost use Rattle.resolution.specs.Records.{cname_target};
-ghost use Rattle.zone_worlds.specs.Tree.{exists_in};
+ghost use Rattle.zone_worlds.specs.Tree.{host_of, exists_in};
 ghost use Rattle.zone_worlds.specs.Choosing.{owned, alias_in};
 ghost use Rattle.zone_worlds.specs.Telling.{zone_asked, child_of, reply, refusal, referral, negative, positive, alias_of, next_alias, Follows, AnswersByAlias, IsByAlias, Replies, Tells};
 
 use crate::choosing::{Alias, alias_in, owned, server_addresses, servers, soa_of};
-use crate::tree::{Zones, first_cut, is_above, walked};
-use crate::world::{World, Zone};
+use crate::tree::{first_cut, is_above, nearest, walked};
+use crate::world::{Host, World, Zone};
 use dns_core::{
     Items, Message, Name, NoMemory, Query, Record, RecordType, Records, ResponseCode, TryClone,
 };
 use std::alloc::Global;
 use std::net::IpAddr;
 
-/// The deepest zone at or above the question's name that the address serves, for DS strictly above.
-pub(crate) fn zone_asked<'w>(world: &'w World, ip: IpAddr, query: &Query) -> Option<&'w Zone>
+/// The deepest zone at or above the question's name that the address serves, for DS strictly above, where
+/// it is known which host has the address.
+pub(crate) fn zone_asked<'w>(
+    world: &'w World,
+    host: Option<&Host>,
+    ip: IpAddr,
+    query: &Query,
+) -> Option<&'w Zone>
+    requires { option_copied host ≡ host_of world.now ip }
     ensures { option_copied result ≡ zone_asked world.now ip query.now }
 {
     if !query.name.is_fqdn() {
         return None;
     }
-    match world.host(ip) {
+    match host {
         None => None,
-        Some(host) => Zones::Of(world.zones.items(), host.zones.items()).nearest(walked(
-            &query.name,
-            query,
-        )),
+        Some(host) => nearest(
+            world.zones.items(),
+            host.zones.items(),
+            walked(&query.name, query),
+        ),
     }
 }
 
@@ -254,7 +262,7 @@ pub(crate) fn reply_of(
 pub fn told(alloc: Global, world: &World, ip: IpAddr, query: &Query) -> Result<Message, NoMemory>
     ensures { IfOk result (Tells world.now ip query.now) }
 {
-    let Some(zone) = zone_asked(world, ip, query) else {
+    let Some(zone) = zone_asked(world, world.host(ip), ip, query) else {
         return refusal(alloc, query);
     };
     if let Some(child) = child_of(world, zone, query) {

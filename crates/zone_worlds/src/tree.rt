@@ -6,18 +6,10 @@ ghost use Rattle.dns_core.specs.Name.{same_names};
 ghost use Rattle.resolution.specs.Names.{is_above, walk};
 ghost use Rattle.resolution.specs.Answering.{with_name};
 ghost use Rattle.zone_worlds.specs.Tree.{qualified, zone_at, nearest, first_cut, host_of, numbered, has_apex, zone_among, serves, exists_in};
-ghost use Rattle.zone_worlds.specs.Zones.{look_up};
 
 use crate::world::{Host, World, Zone};
 use dns_core::{Label, Name, Query, Record, RecordType};
 use std::net::IpAddr;
-
-/// The zones among which one is looked for: all of a world, or those of some numbers.
-#[derive(Drop)]
-pub(crate) enum Zones<'w> {
-    All(&'w [Zone]),
-    Of(&'w [Zone], &'w [u32]),
-}
 
 /// Whether the zone is at or above the name.
 pub fn is_above(zone: &Name, name: &Name) -> bool
@@ -61,7 +53,11 @@ fn number_with_apex(zones: &[Zone], numbers: &[u32], labels: &[Label]) -> Option
 }
 
 /// The zone of one of these numbers whose apex has these labels.
-fn zone_among<'w>(zones: &'w [Zone], numbers: &[u32], labels: &[Label]) -> Option<&'w Zone>
+pub(crate) fn zone_among<'w>(
+    zones: &'w [Zone],
+    numbers: &[u32],
+    labels: &[Label],
+) -> Option<&'w Zone>
     ensures { option_copied result ≡ zone_among zones.now numbers.now labels.now }
 {
     match number_with_apex(zones, numbers, labels) {
@@ -76,29 +72,18 @@ fn zone_with_apex<'w>(zones: &'w [Zone], labels: &[Label]) -> Option<&'w Zone>
     zones.iter().find(|z| is_apex(z, labels))
 }
 
-impl<'w> Zones<'w> {
-    fn look_up(&self, labels: &[Label]) -> Option<&'w Zone>
-        ensures { option_copied result ≡ look_up self.now labels.now }
-    {
-        match self {
-            Zones::All(zones) => zone_with_apex(zones, labels),
-            Zones::Of(zones, numbers) => zone_among(zones, numbers, labels),
-        }
+#[tactic(auto, using(crate::proofs::ZonesFound::nearest_here, crate::proofs::ZonesFound::nearest_none, crate::proofs::ZonesFound::nearest_above))]
+/// The deepest of the zones of these numbers at or above the fully qualified name with these labels.
+pub(crate) fn nearest<'w>(zones: &'w [Zone], numbers: &[u32], labels: &[Label]) -> Option<&'w Zone>
+    ensures { option_copied result ≡ nearest (λ ls. zone_among zones.now numbers.now ls) labels.now }
+{
+    if let Some(zone) = zone_among(zones, numbers, labels) {
+        return Some(zone);
     }
-
-    #[tactic(auto, using(crate::proofs::ZonesFound::nearest_here, crate::proofs::ZonesFound::nearest_none, crate::proofs::ZonesFound::nearest_above))]
-    /// The deepest of the zones at or above the fully qualified name with these labels.
-    pub(crate) fn nearest(&self, labels: &[Label]) -> Option<&'w Zone>
-        ensures { option_copied result ≡ nearest (look_up self.now) labels.now }
-    {
-        if let Some(zone) = self.look_up(labels) {
-            return Some(zone);
-        }
-        if labels.is_empty() {
-            return None;
-        }
-        self.nearest(&labels[1..])
+    if labels.is_empty() {
+        return None;
     }
+    nearest(zones, numbers, &labels[1..])
 }
 
 #[tactic(auto, using(crate::proofs::ZonesFound::first_cut_above, crate::proofs::ZonesFound::first_cut_higher, crate::proofs::ZonesFound::first_cut_here))]

@@ -1,9 +1,11 @@
 //! Which questions a recursor must answer as the world does.
 ghost use Rattle.std.specs.Prelude.{◌≡◌, ◌↔◌, ◌&&◌, ◌+◌, ◌*◌, ◌<◌, ◌≤◌, ◌==◌, not, length, sum_by, take, IfOk, IsTrue};
 ghost use Rattle.dns_core.specs.Codes.{is_data_type};
+ghost use Rattle.zone_worlds.specs.Index.{IsIndex};
 ghost use Rattle.zone_worlds.specs.Valid.{weight, is_askable, IsShort, IsValid};
 
 use crate::answer::way_of;
+use crate::index::Index;
 use crate::world::World;
 use dns_core::{Name, NoMemory, Query};
 use std::alloc::Global;
@@ -41,7 +43,29 @@ fn is_short(names: &[Name], recursion_limit: u8, ns_recursion_limit: u8) -> bool
     total <= 200 && total < recursion_limit as usize && total < ns_recursion_limit as usize
 }
 
-/// Whether a recursor with these depth limits must answer the question as the world does.
+/// Whether a question is valid, found by the index of the world.
+pub(crate) fn is_valid(
+    alloc: Global,
+    world: &World,
+    index: &Index,
+    recursion_limit: u8,
+    ns_recursion_limit: u8,
+    query: &Query,
+) -> Result<bool, NoMemory>
+    requires { IsIndex world.now index.now }
+    ensures { IfOk result (λ valid. IsTrue valid ↔ IsValid world.now recursion_limit ns_recursion_limit query.now) }
+{
+    if !is_askable(query) {
+        return Ok(false);
+    }
+    let Some(way) = way_of(alloc, world, index, query)? else {
+        return Ok(false);
+    };
+    Ok(is_short(way.names.as_slice(), recursion_limit, ns_recursion_limit))
+}
+
+/// Whether a recursor with these depth limits must answer the question as the world does. Makes an index
+/// of the world for one question.
 pub fn valid_question(
     alloc: Global,
     world: &World,
@@ -51,11 +75,13 @@ pub fn valid_question(
 ) -> Result<bool, NoMemory>
     ensures { IfOk result (λ valid. IsTrue valid ↔ IsValid world.now recursion_limit ns_recursion_limit query.now) }
 {
-    if !is_askable(query) {
-        return Ok(false);
-    }
-    let Some(way) = way_of(alloc, world, query)? else {
-        return Ok(false);
-    };
-    Ok(is_short(way.names.as_slice(), recursion_limit, ns_recursion_limit))
+    let index = Index::of(alloc, world)?;
+    is_valid(
+        alloc,
+        world,
+        &index,
+        recursion_limit,
+        ns_recursion_limit,
+        query,
+    )
 }

@@ -8,5 +8,5 @@ loop-question-preserved c =
     let w = c.args.world.now in
     let qs = c.args.questions.now in
     let i = c.loop-question.question-index in
-    subst (λ (valid : List Bool). AreValid w (take (i + 1) qs) valid) (sym c.in_ok-push.ensures.items)
-    (valid_next w qs c.loop-question.valid.items i c.question-item.result c.in_ok-is_valid.is_valid (omega arith) c.question-item.is c.loop-question.invariant c.in_ok-is_valid.ensures)
+    subst (λ (valid : List Bool). AreValid w c.args.depth c.args.ns_depth (take (i + 1) qs) valid) (sym c.in_ok-push.ensures.items)
+    (valid_next w c.args.depth c.args.ns_depth qs c.loop-question.valid.items i c.question-item.result c.in_ok-is_valid.is_valid (omega arith) c.question-item.is c.loop-question.invariant c.in_ok-is_valid.ensures)

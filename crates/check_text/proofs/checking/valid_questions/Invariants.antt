@@ -3,4 +3,4 @@ use Rattle.check_text.specs.Checking.{AreValid}
 use Rattle.check_text.proofs.checking.valid_questions.Given as goal
 
 abbrev pub invariant-loop-question : goal.invariant-loop-question
-invariant-loop-question l = AreValid l.world (take l.question-index l.questions) l.valid.items
+invariant-loop-question l = AreValid l.world l.depth l.ns_depth (take l.question-index l.questions) l.valid.items

@@ -1,4 +1,4 @@
-use Rattle.recursor_command.proofs.Words.{transcript_worded}
+use Rattle.recursor_command.proofs.TranscriptWords.{transcript_worded}
 use Rattle.recursor_command.proofs.resolving.resolved.Goals as goal
 
 pub printed-requires : goal.printed-requires

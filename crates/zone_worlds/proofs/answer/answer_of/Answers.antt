@@ -5,7 +5,7 @@ use Rattle.zone_worlds.specs.Answer.{Leads, NoWay, found, after, Answers}
 use Rattle.zone_worlds.specs.Answer.Answers.{ends, never_ends}
 use Rattle.zone_worlds.specs.declared.answer.Way.{Way}
 use Rattle.zone_worlds.specs.declared.world.WorldAnswer.{WorldAnswer}
-use Rattle.zone_worlds.proofs.answer.world_answer.Goals as goal
+use Rattle.zone_worlds.proofs.answer.answer_of.Goals as goal
 
 pub returns-in_default : goal.returns-in_default
 returns-in_default c = never_ends (subst (λ (o : Option Way). IfNone o (NoWay c.args.world.now c.args.query.now [] c.args.query.now.name)) c.in_default.is c.in_ok-way.ensures.none)

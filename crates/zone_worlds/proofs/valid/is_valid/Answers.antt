@@ -5,7 +5,7 @@ use Rattle.zone_worlds.specs.Answer.{Leads, NoWay}
 use Rattle.zone_worlds.specs.Valid.{IsShort}
 use Rattle.zone_worlds.specs.declared.answer.Way.{Way}
 use Rattle.zone_worlds.proofs.OneAnswer.{way-one}
-use Rattle.zone_worlds.proofs.valid.valid_question.Goals as goal
+use Rattle.zone_worlds.proofs.valid.is_valid.Goals as goal
 
 pub returns-then-not-is_askable : goal.returns-then-not-is_askable
 returns-then-not-is_askable c = ((λ e. cc), (λ v. let a = v.askable in let w = c.is_askable.ensures in let n = c.if-not-is_askable.true in cc))
