@@ -78,17 +78,19 @@ pub fn answers(alloc: Global, scenario: &str, times: u32) -> Result<u32, Failure
     count_answers(alloc, &mut bench, times)
 }
 
-/// The questions of a scenario, gone over until there are so many.
+/// So many copies of the first of these questions.
 fn repeated(alloc: Global, questions: &[Question], count: u32) -> Result<Vec<Question>, NoMemory> {
     let mut all = Vec::new(alloc);
-    for question in questions.iter().cycle().take(count as usize) {
+    let Some(question) = questions.first() else {
+        return Ok(all);
+    };
+    for _ in 0..count {
         all.push(question.try_clone(alloc)?)?;
     }
     Ok(all)
 }
 
-/// Drives the questions of a scenario, gone over until there are so many, in one run, and counts its
-/// answers.
+/// Drives the first question of a scenario so many times, in one run, and counts its answers.
 pub fn answers_of_one_run(alloc: Global, scenario: &str, count: u32) -> Result<usize, Failure> {
     let mut bench = bench_of(alloc, scenario)?;
     let questions = repeated(alloc, bench.questions.items(), count)?;

@@ -1,7 +1,6 @@
 //! The walk of a question: from the roots down the delegations to the servers of its name, one lookup
-//! at a time; what the cache has comes before each, and what counts of the answer is written into it.
-//! Whoever steps a walk lends it the pools, the cache and the outcomes: it knows neither orders that
-//! are under way nor other questions.
+//! at a time, before each of which comes what the cache has. Whoever steps a walk lends it the pools and
+//! hands it what the cache has: it takes no outcome, and knows of no other question.
 #![tactic(auto)]
 
 mod counted;

@@ -1,0 +1,104 @@
+//! That an index tells what the scan of all zones tells.
+
+use crate::world_samples::{ip, world};
+use dns_core::{DnsClass, Name, Query, RecordType, TryClone};
+use std::alloc::Global;
+use std::test::Fail;
+use zone_worlds::{IndexedWorld, World, told};
+
+const TYPES: [RecordType; 7] = [
+    RecordType::A,
+    RecordType::NS,
+    RecordType::CNAME,
+    RecordType::SOA,
+    RecordType::TXT,
+    RecordType::DS,
+    RecordType::ANY,
+];
+
+/// Names that own nothing: some exist, some are not fully qualified.
+const OTHERS: [&str; 5] = [
+    "no.example.com.",
+    "no.www.example.com.",
+    "no.",
+    "no.com.",
+    "com",
+];
+
+/// Whether two values are equal, of which neither is used again.
+fn are_alike<T: PartialEq + Drop>(left: T, right: T) -> bool {
+    left == right
+}
+
+fn is_told_alike(
+    alloc: Global,
+    world: &World,
+    indexed: &IndexedWorld,
+    from: u8,
+    query: &Query,
+) -> Result<(), Fail> {
+    let scanned = told(alloc, world, ip(from), query)?;
+    let looked_up = indexed.told(alloc, ip(from), query)?;
+    if are_alike(scanned, looked_up) {
+        return Ok(());
+    }
+    Err(Fail::new(format_args!("address {from} tells two things")))
+}
+
+/// Every address, and one that is no host.
+fn is_alike_everywhere(
+    alloc: Global,
+    world: &World,
+    indexed: &IndexedWorld,
+    query: &Query,
+) -> Result<(), Fail> {
+    for from in 1..5u8 {
+        is_told_alike(alloc, world, indexed, from, query)?;
+    }
+    Ok(())
+}
+
+fn is_alike_at(
+    alloc: Global,
+    world: &World,
+    indexed: &IndexedWorld,
+    name: &Name,
+) -> Result<(), Fail> {
+    for query_type in &TYPES {
+        let query = Query {
+            name: name.try_clone(alloc)?,
+            query_type: *query_type,
+            query_class: DnsClass::IN,
+        };
+        is_alike_everywhere(alloc, world, indexed, &query)?;
+    }
+    Ok(())
+}
+
+/// At each name that owns a record of the world.
+fn is_alike_at_owners(alloc: Global, world: &World, indexed: &IndexedWorld) -> Result<(), Fail> {
+    for zone in world.zones.items() {
+        for r in zone.records.items() {
+            is_alike_at(alloc, world, indexed, &r.name)?;
+        }
+    }
+    Ok(())
+}
+
+fn is_alike_at_others(alloc: Global, world: &World, indexed: &IndexedWorld) -> Result<(), Fail> {
+    for text in &OTHERS {
+        let name = Name::parse(alloc, text)?;
+        is_alike_at(alloc, world, indexed, &name)?;
+    }
+    Ok(())
+}
+
+#[test]
+fn an_index_tells_what_a_scan_tells(rt: HostRuntime) -> Result<(), Fail> {
+    let alloc = rt.alloc();
+    let world = world(alloc)?;
+    let copy = world.try_clone(alloc)?;
+    let indexed = IndexedWorld::new(alloc, copy)?;
+    is_alike_at_owners(alloc, &world, &indexed)?;
+    is_alike_at_others(alloc, &world, &indexed)
+}
