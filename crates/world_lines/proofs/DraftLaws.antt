@@ -1,5 +1,5 @@
 -- What a draft of a world holds is what the lines so far say.
-use Rattle.std.proofs.Common.{◌≡◌, ◌≢◌, ℕ, ◌+◌, ◌-◌, ◌<◌, ◌≤◌, Bool, true, false, not, ◌&&◌, cond, eqb, ltb, leb, List, [], ◌∷◌, ◌++◌, length, map, Option, Some, None, refl, sym, ap, subst, ◌∙◌, arith, inl, inr, append_assoc, lit<, lit≤}
+use Rattle.std.proofs.Common.{◌≡◌, ◌≢◌, ℕ, ◌+◌, ◌<◌, ◌≤◌, Bool, true, false, not, ◌&&◌, cond, eqb, ltb, leb, List, [], ◌∷◌, ◌++◌, length, map, Option, Some, None, refl, sym, ap, subst, ◌∙◌, arith, inl, inr, append_assoc, lit<, lit≤}
 use Rattle.std.specs.Prelude.{IfSome}
 use Rattle.std.specs.List.{AllByRecursion}
 use Rattle.std.proofs.lemmas.Bool.{and_parts, ltb-true, leb-true, eqb-true, eqb-false, cases_Bool}
@@ -19,7 +19,7 @@ use Rattle.world_lines.specs.declared.draft.WorldStage.{WorldStage}
 use Rattle.world_lines.specs.declared.draft.WorldStage.TheVariants.{Start, Delayed, Aliased, Zoned, Hosted}
 use Rattle.world_lines.specs.declared.draft.OpenZone.{OpenZone}
 use Rattle.world_lines.specs.declared.draft.WorldDraft.{WorldDraft}
-use Rattle.world_lines.specs.Lines.{most_zones, most_records, world_form_of}
+use Rattle.world_lines.specs.Lines.{most_zones, world_form_of}
 use Rattle.world_lines.specs.Listed.{has_apex, has_address}
 use Rattle.world_lines.specs.Steps.{may_delay, may_alias, may_zone, may_host, most_hosts, start, may_close, opened, filled, settled, name_zones, put, added, taken_at, taken, world_of}
 use Rattle.world_lines.specs.Spelling.{delay_words, aliases_words, zone_words, zone_lines, host_line, to_aliases, to_zones, world_lines, IsZoneRecord, IsZone, RiseWithin, IsHost, Differ, ApexesDiffer, AddressesDiffer, IsWorld}
@@ -47,13 +47,17 @@ rank Aliased = 2
 rank Zoned = 3
 rank Hosted = 4
 
--- a zone that owes records, beside others
+-- a zone that is told up to here, beside others
 pub record IsOpen (zones : List Zone) (o : OpenZone) : Type 0 where
   pub apex : IsFullName o.zone.apex
-  pub few : length o.zone.records + o.owed ≤ most_records
+  pub few : length o.zone.records ≤ o.count
   pub records : AllByRecursion IsZoneRecord o.zone.records
   pub new : has_apex zones o.zone.apex ≡ false
   pub room : length zones < most_zones
+
+-- it has more records than are told
+abbrev pub owes : OpenZone → Type 0
+owes o = eqb (length o.zone.records) o.count ≡ false
 
 -- what is not yet told is empty, and what was told is well formed
 pub record Good (d : WorldDraft) : Type 0 where
@@ -66,13 +70,13 @@ pub record Good (d : WorldDraft) : Type 0 where
   pub zones : AllByRecursion IsZone d.zones
   pub apexes : ApexesDiffer d.zones
   pub pending : IfSome d.pending (IsOpen d.zones)
-  pub waits : IfSome d.pending (λ o. eqb o.owed 0 ≡ false)
+  pub waits : IfSome d.pending owes
   pub few_hosts : length d.hosts ≤ most_hosts
   pub hosts : AllByRecursion (IsHost (length d.zones)) d.hosts
   pub addresses : AddressesDiffer d.hosts
 
 abbrev pub open_lines : OpenZone → List (List ℕ)
-open_lines o = spelled (zone_words o.zone.apex (length o.zone.records + o.owed)) ∷ map record_text o.zone.records
+open_lines o = spelled (zone_words o.zone.apex o.count) ∷ map record_text o.zone.records
 
 abbrev pub pending_lines : Option OpenZone → List (List ℕ)
 pending_lines None = []
@@ -190,27 +194,24 @@ with_zone d z = record d { zones = d.zones ++ z ∷ []; pending = None }
 abbrev with_open : WorldDraft → OpenZone → WorldDraft
 with_open d o = record d { pending = Some o }
 
-whole_zone : (zones : List Zone) (o : OpenZone) → IsOpen zones o → o.owed ≡ 0 → IsZone o.zone
-whole_zone zones o fits none = record { apex = fits.apex; few = omega (arith, fits.few); records = fits.records }
+whole_zone : (zones : List Zone) (o : OpenZone) → IsOpen zones o → IsZone o.zone
+whole_zone zones o fits = record { apex = fits.apex; records = fits.records }
 
 -- a zone that is whole has its lines
-whole_lines : (o : OpenZone) → o.owed ≡ 0 → open_lines o ≡ zone_lines o.zone
-whole_lines o none =
-    let same : length o.zone.records + o.owed ≡ length o.zone.records = omega arith in
-    ap (λ (n : ℕ). spelled (zone_words o.zone.apex n) ∷ map record_text o.zone.records) same
+whole_lines : (o : OpenZone) → length o.zone.records ≡ o.count → zone_lines o.zone ≡ open_lines o
+whole_lines o all = ap (λ (n : ℕ). spelled (zone_words o.zone.apex n) ∷ map record_text o.zone.records) all
 
 -- a zone that is told in part, or whole, stands after the zones before it
 settles : (d : WorldDraft) (o : OpenZone) → Standing d → IsOpen d.zones o → Good (settled d o) × (so_far (settled d o) ≡ to_zones (world_of d) ++ open_lines o)
 settles d o h fits =
     let r : rank d.stage ≡ 3 = ap rank h.stage in
-    elim (cases_Bool (eqb o.owed 0)) [
+    elim (cases_Bool (eqb (length o.zone.records) o.count)) [
       | inl whole ↦
-          let none : o.owed ≡ 0 = eqb-true o.owed 0 whole in
           let made : settled d o ≡ with_zone d o.zone = rw whole refl in
           let e = with_zone d o.zone in
           let spelt : so_far e ≡ to_zones (world_of d) ++ open_lines o =
           ap (λ (s : WorldStage). so_far_at s e) h.stage ∙ append-nil (to_zones (world_of e))
-          ∙ sym (flat_map_more zone_lines (to_aliases (world_of d)) d.zones o.zone) ∙ sym (ap (λ (l : List (List ℕ)). to_zones (world_of d) ++ l) (whole_lines o none)) in
+          ∙ sym (flat_map_more zone_lines (to_aliases (world_of d)) d.zones o.zone) ∙ ap (λ (l : List (List ℕ)). to_zones (world_of d) ++ l) (whole_lines o (eqb-true _ _ whole)) in
           subst (λ (x : WorldDraft). Good x × (so_far x ≡ to_zones (world_of d) ++ open_lines o)) (sym made) (
             record {
               soon = h.soon;
@@ -219,7 +220,7 @@ settles d o h fits =
               no_pending = λ k. refl;
               no_hosts = λ k. h.no_hosts;
               few_zones = omega (arith, fits.room, length_push d.zones o.zone);
-              zones = all_push IsZone d.zones o.zone h.zones (whole_zone d.zones o fits none);
+              zones = all_push IsZone d.zones o.zone h.zones (whole_zone d.zones o fits);
               apexes = differ_from (λ before z. has_apex before z.apex) [] d.zones o.zone h.apexes fits.new;
               pending = tt;
               waits = tt;
@@ -254,14 +255,13 @@ settles d o h fits =
 abbrev zoned : WorldDraft → WorldDraft
 zoned d = record d { stage = Zoned }
 
-zone_put : (d : WorldDraft) (h : ZoneHead) → Good d → IsFullName h.apex × (h.count ≤ most_records) → may_zone d.stage ≡ true → length d.zones < most_zones → has_apex d.zones h.apex ≡ false → d.pending ≡ None
+zone_put : (d : WorldDraft) (h : ZoneHead) → Good d → IsFullName h.apex → may_zone d.stage ≡ true → length d.zones < most_zones → has_apex d.zones h.apex ≡ false → d.pending ≡ None
     → Takes d (spelled (zone_words h.apex h.count)) (settled (zoned d) (opened h))
 zone_put d h g fits e room new shut =
     let at = at_zones d.stage d e shut g.no_zones in
     let standing : Standing (zoned d) = record { stage = refl; soon = g.soon; no_hosts = g.no_hosts (omega (arith, at.0.1)); zones = g.zones; apexes = g.apexes } in
-    let s = settles (zoned d) (opened h) standing (record { apex = fits.0; few = omega (arith, fits.1); records = tt; new = new; room = room }) in
-    let none : length (opened h).zone.records + h.count ≡ h.count = omega arith in
-    (s.0, s.1 ∙ ap (λ (n : ℕ). to_zones (world_of d) ++ spelled (zone_words h.apex n) ∷ []) none ∙ sym (ap (λ (l : List (List ℕ)). l ++ spelled (zone_words h.apex h.count) ∷ []) at.1))
+    let s = settles (zoned d) (opened h) standing (record { apex = fits; few = omega arith; records = tt; new = new; room = room }) in
+    (s.0, s.1 ∙ sym (ap (λ (l : List (List ℕ)). l ++ spelled (zone_words h.apex h.count) ∷ []) at.1))
 
 -- ---- records
 
@@ -276,14 +276,11 @@ class_is : (c : DnsClass) → eqb c.code 1 ≡ true → c ≡ class_in
 class_is c e = ap (λ (n : ℕ). record { code = n }) (eqb-true c.code 1 e)
 
 -- a zone with a record more, of those that it owes
-fills : (zones : List Zone) (o : OpenZone) (r : Record) → IsOpen zones o → eqb o.owed 0 ≡ false → IsZoneRecord r → IsOpen zones (filled o r) × (open_lines (filled o r) ≡ open_lines o ++ record_text r ∷ [])
+fills : (zones : List Zone) (o : OpenZone) (r : Record) → IsOpen zones o → owes o → IsZoneRecord r → IsOpen zones (filled o r) × (open_lines (filled o r) ≡ open_lines o ++ record_text r ∷ [])
 fills zones o r fits waits is =
-    let some : 0 < o.owed = omega (arith, eqb-false o.owed 0 waits) in
-    let long = length_push o.zone.records r in
-    let same : length (o.zone.records ++ r ∷ []) + (o.owed - 1) ≡ length o.zone.records + o.owed = omega (arith, long) in (
-      record { apex = fits.apex; few = omega (arith, same, fits.few); records = all_push IsZoneRecord o.zone.records r fits.records is; new = fits.new; room = fits.room },
-      ap (λ (n : ℕ). spelled (zone_words o.zone.apex n) ∷ map record_text (o.zone.records ++ r ∷ [])) same
-          ∙ ap (λ (l : List (List ℕ)). spelled (zone_words o.zone.apex (length o.zone.records + o.owed)) ∷ l) (map_push record_text o.zone.records r),
+    let more : length (o.zone.records ++ r ∷ []) ≤ o.count = omega (arith, fits.few, length_push o.zone.records r, eqb-false (length o.zone.records) o.count waits) in (
+      record { apex = fits.apex; few = more; records = all_push IsZoneRecord o.zone.records r fits.records is; new = fits.new; room = fits.room },
+      ap (λ (l : List (List ℕ)). spelled (zone_words o.zone.apex o.count) ∷ l) (map_push record_text o.zone.records r),
     )
 
 record_put : (d : WorldDraft) (o : OpenZone) (r : Record) → Good d → d.pending ≡ Some o → IsZoneRecord r → Takes d (record_text r) (settled d (filled o r))
@@ -291,7 +288,7 @@ record_put d o r g is fits =
     let stage : d.stage ≡ Zoned = at_pending d.stage d o is g.no_pending in
     let k : rank d.stage ≡ 3 = ap rank stage in
     let open_zone : IsOpen d.zones o = subst (λ (p : Option OpenZone). IfSome p (IsOpen d.zones)) is g.pending in
-    let waits : eqb o.owed 0 ≡ false = subst (λ (p : Option OpenZone). IfSome p (λ o. eqb o.owed 0 ≡ false)) is g.waits in
+    let waits : owes o = subst (λ (p : Option OpenZone). IfSome p owes) is g.waits in
     let f = fills d.zones o r open_zone waits fits in
     let standing : Standing d = record { stage = stage; soon = g.soon; no_hosts = g.no_hosts (omega arith); zones = g.zones; apexes = g.apexes } in
     let s = settles d (filled o r) standing f.0 in

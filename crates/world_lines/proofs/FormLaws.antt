@@ -15,7 +15,8 @@ use Rattle.line_forms.specs.Lines.{delay_field}
 use Rattle.line_forms.specs.Spelling.{most_delay}
 use Rattle.world_lines.specs.declared.lines.WorldForm.{WorldForm}
 use Rattle.world_lines.specs.declared.lines.WorldForm.TheVariants as form
-use Rattle.world_lines.specs.Lines.{most_zones, most_records, alias_words, zone_fields, head_from, rising, zone_numbers, delay_of, aliases_of, zone_of, host_of, world_forms_of, world_form_of, starts_world, is_world_line}
+use Rattle.world_lines.specs.Counts.{numeral}
+use Rattle.world_lines.specs.Lines.{most_zones, alias_words, zone_fields, head_from, rising, zone_numbers, delay_of, aliases_of, zone_of, host_of, world_forms_of, world_form_of, starts_world, is_world_line}
 use Rattle.world_lines.specs.Spelling.{delay_words, alias_text, aliases_words, zone_words, host_words, RiseWithin}
 use Rattle.text_words.proofs.AddressLaws.{ip_field}
 use Rattle.text_words.proofs.Binds.{bind_some, guard_some, some_is, chosen}
@@ -23,6 +24,7 @@ use Rattle.text_words.proofs.PlainLaws.{AllBytes, AllPlain, pieces_take}
 use Rattle.text_words.proofs.NumberLaws.{is_word_byte}
 use Rattle.text_words.proofs.FieldLaws.{IsField, IsSeq, one, pair_law, table_field, whole_takes, whole_again, IsWithin, number_field, bytes_same}
 use Rattle.text_words.proofs.WordLaws.{full_law, low, address_plain, named_plain, small, words_again}
+use Rattle.world_lines.proofs.CountLaws.{Any, numeral_field, numeral_plain}
 
 -- ---- what the words say
 
@@ -41,7 +43,7 @@ pub record IsHostLine (h : Host) : Type 0 where
 abbrev pub IsForm : WorldForm → Type 0
 IsForm (form.Delay n) = n ≤ most_delay
 IsForm (form.Aliases chain) = Unit {0}
-IsForm (form.Zone h) = IsFullName h.apex × (h.count ≤ most_records)
+IsForm (form.Zone h) = IsFullName h.apex
 IsForm (form.Host h) = IsHostLine h
 
 -- ---- the law of each kind
@@ -59,8 +61,8 @@ alias_again true fits = refl
 alias_law : IsSeq (field (in_table alias_words)) (λ chain. alias_text chain ∷ []) any
 alias_law = one _ _ _ (table_field alias_text any alias_words ((refl, tt), ((refl, tt), tt)) alias_again)
 
-zone_law : IsSeq zone_fields (λ x. name_text x.0 ∷ decimal x.1 ∷ []) (λ x. IsFullName x.0 × IsWithin 0 most_records x.1)
-zone_law = pair_law _ _ _ _ _ _ full_law (one _ _ _ (number_field 0 most_records (lit< tt)))
+zone_law : IsSeq zone_fields (λ x. name_text x.0 ∷ numeral x.1 ∷ []) (λ x. IsFullName x.0 × Any x.1)
+zone_law = pair_law _ _ _ _ _ _ full_law (one _ _ _ numeral_field)
 
 ip_law : IsSeq (field ip_of) (λ a. ip_text a ∷ []) IsAddress
 ip_law = one _ _ _ ip_field
@@ -135,7 +137,7 @@ forms_take [] z e = absurd cc
 forms_take (w ∷ ws) z e = elim (chosen (bytes_eq w (codes "host")) _ _ _ e) [
   | inl h ↦ host_takes w ws z h.0 h.1
   | inr h ↦ elim (chosen (bytes_eq w (codes "zone")) _ _ _ h.1) [
-    | inl h ↦ kind_takes (codes "zone") zone_fields _ _ zone_law (λ x. form.Zone (head_from x)) (λ x. refl) (λ x fits. (fits.0, fits.1.1)) w ws z h.0 h.1
+    | inl h ↦ kind_takes (codes "zone") zone_fields _ _ zone_law (λ x. form.Zone (head_from x)) (λ x. refl) (λ x fits. fits.0) w ws z h.0 h.1
     | inr h ↦ elim (chosen (bytes_eq w (codes "delay")) _ _ _ h.1) [
       | inl h ↦ kind_takes (codes "delay") delay_field _ _ delay_law form.Delay (λ x. refl) (λ x fits. fits.1) w ws z h.0 h.1
       | inr h ↦ let g = guard_some (bytes_eq w (codes "aliases")) (aliases_of ws) z h.1 in
@@ -157,7 +159,7 @@ forms_again : (z : WorldForm) → IsForm z → world_forms_of (form_words z) ≡
 unfolding world_forms_of delay_of aliases_of zone_of
 forms_again (form.Delay n) fits = whole_again _ _ _ delay_law form.Delay n (low most_delay n fits)
 forms_again (form.Aliases chain) fits = whole_again _ _ _ alias_law form.Aliases chain tt
-forms_again (form.Zone h) fits = whole_again _ _ _ zone_law (λ x. form.Zone (head_from x)) (h.apex, h.count) (fits.0, low most_records h.count fits.1)
+forms_again (form.Zone h) fits = whole_again _ _ _ zone_law (λ x. form.Zone (head_from x)) (h.apex, h.count) (fits, tt)
 forms_again (form.Host h) fits = host_again h fits
 
 alias_plain : (chain : Bool) → AllBytes is_word_byte (alias_text chain)
@@ -167,7 +169,7 @@ alias_plain true = refl
 pub form_plain : (z : WorldForm) → IsForm z → AllPlain is_word_byte (form_words z)
 form_plain (form.Delay n) fits = (refl, (small most_delay n fits (lit< tt), tt))
 form_plain (form.Aliases chain) fits = (refl, (alias_plain chain, tt))
-form_plain (form.Zone h) fits = (refl, (named_plain h.apex fits.0.0, (small most_records h.count fits.1 (lit< tt), tt)))
+form_plain (form.Zone h) fits = (refl, (named_plain h.apex fits.0, (numeral_plain h.count, tt)))
 form_plain (form.Host h) fits = (refl, (address_plain h.ip fits.address, numbers_plain 1 h.zones fits.rise))
 
 form_some : (z : WorldForm) → 0 < length (form_words z)

@@ -1,3 +1,4 @@
+mod CountLaws
 pub mod DraftLaws
 pub mod FormLaws
 mod Keys

@@ -2,7 +2,7 @@
 use Rattle.std.proofs.Common.{◌≡◌, ◌≢◌, ℕ, zero, suc, ◌+◌, ◌-◌, ◌<◌, ◌≤◌, Bool, true, false, eqb, ltb, List, [], ◌∷◌, ◌++◌, length, map, Option, Some, None, refl, sym, ap, subst, ◌∙◌, arith, append_assoc, lit≤, inl, inr}
 use Rattle.std.specs.Prelude.{IfSome}
 use Rattle.std.specs.List.{flat_map, AllByRecursion}
-use Rattle.std.proofs.lemmas.Bool.{lt-ltb, le-leb, ne_eqb, eqb-false, cases_Bool}
+use Rattle.std.proofs.lemmas.Bool.{lt-ltb, le-leb, eq-eqb, ne_eqb, eqb-false, cases_Bool}
 use Rattle.std.proofs.lemmas.List.{append-nil, length_push}
 use Rattle.std.specs.declared.net.ipv4_addr.Ipv4Addr.{Ipv4Addr}
 use Rattle.std.specs.Net.Addr.{IsIpv4Addr}
@@ -32,7 +32,7 @@ use Rattle.world_lines.specs.Steps.{may_zone, may_host, most_hosts, start, may_c
 use Rattle.world_lines.specs.Spelling.{zone_lines, host_line, to_aliases, to_zones, world_lines, IsZoneRecord, IsZone, RiseWithin, IsHost, Differ, IsWorld}
 use Rattle.world_lines.specs.Reading.{IsRead, CanStand}
 use Rattle.world_lines.proofs.FormLaws.{form_words, IsHostLine, IsForm, form_again}
-use Rattle.world_lines.proofs.DraftLaws.{rank, Good, so_far, taken_takes, start_good, closed_is}
+use Rattle.world_lines.proofs.DraftLaws.{rank, IsOpen, owes, Good, so_far, taken_takes, start_good, closed_is}
 
 abbrev some : WorldDraft → Option WorldDraft
 some d = Some d
@@ -77,26 +77,26 @@ may_zoned : (zones : List Zone) → may_zone (stage_zoned zones) ≡ true
 may_zoned [] = refl
 may_zoned (z ∷ zs) = refl
 
--- a zone with these records, that owes so many
+-- these records of a zone that has so many
 abbrev part : Zone → List Record → ℕ → OpenZone
-part z records owed = record { zone = record { apex = z.apex; records = records }; owed = owed }
+part z records count = record { zone = record { apex = z.apex; records = records }; count = count }
 
 abbrev done : World → List Zone → Zone → List Record → Option WorldDraft
 done w zones z records = Some (zoned_at Zoned w (zones ++ record { apex = z.apex; records = records } ∷ []))
 
-records_again : (w : World) (zones : List Zone) (z : Zone) (front rs : List Record) → AllByRecursion IsZoneRecord rs
-    → run (settled (zoned_at Zoned w zones) (part z front (length rs))) (map record_text rs) ≡ done w zones z (front ++ rs)
-records_again w zones z front [] all = ap (done w zones z) (sym (append-nil front))
-records_again w zones z front (r ∷ rs) all =
+records_again : (w : World) (zones : List Zone) (z : Zone) (front rs : List Record) (n : ℕ) → length front + length rs ≡ n → AllByRecursion IsZoneRecord rs
+    → run (settled (zoned_at Zoned w zones) (part z front n)) (map record_text rs) ≡ done w zones z (front ++ rs)
+records_again w zones z front [] n is all =
+    let whole : eqb (length front) n ≡ true = eq-eqb (length front) n (omega arith) in
+    rw whole (ap (done w zones z) (sym (append-nil front)))
+records_again w zones z front (r ∷ rs) n is all =
     let d = zoned_at Zoned w zones in
-    let o = part z front (suc (length rs)) in
-    let unsettled : eqb (suc (length rs)) 0 ≡ false = ne_eqb (suc (length rs)) 0 (λ e. omega arith) in
-    let owes : settled d o ≡ record d { pending = Some o } = rw unsettled refl in
-    let less : suc (length rs) - 1 ≡ length rs = omega arith in
-    ap (λ (e : WorldDraft). run e (map record_text (r ∷ rs))) owes
+    let o = part z front n in
+    let unsettled : eqb (length front) n ≡ false = ne_eqb (length front) n (λ e. omega arith) in
+    let waiting : settled d o ≡ record d { pending = Some o } = rw unsettled refl in
+    ap (λ (e : WorldDraft). run e (map record_text (r ∷ rs))) waiting
     ∙ takes_record (record d { pending = Some o }) o r (map record_text rs) refl all.0
-    ∙ ap (λ (n : ℕ). run (settled d (part z (front ++ r ∷ []) n)) (map record_text rs)) less
-    ∙ records_again w zones z (front ++ r ∷ []) rs all.1
+    ∙ records_again w zones z (front ++ r ∷ []) rs n (omega (arith, length_push front r)) all.1
     ∙ ap (done w zones z) (append_assoc front (r ∷ []) rs)
 
 abbrev head_of : Zone → ZoneHead
@@ -109,8 +109,8 @@ puts_zone w zones z lt new =
 
 zone_again : (w : World) (zones : List Zone) (z : Zone) → length zones < most_zones → has_apex zones z.apex ≡ false → IsZone z → run (zoned w zones) (zone_lines z) ≡ Some (zoned w (zones ++ z ∷ []))
 zone_again w zones z lt new fits =
-    takes_form (zoned w zones) (settled (zoned_at Zoned w zones) (opened (head_of z))) (form.Zone (head_of z)) (map record_text z.records) refl (fits.apex, fits.few) (puts_zone w zones z lt new)
-    ∙ records_again w zones z [] z.records fits.records
+    takes_form (zoned w zones) (settled (zoned_at Zoned w zones) (opened (head_of z))) (form.Zone (head_of z)) (map record_text z.records) refl fits.apex (puts_zone w zones z lt new)
+    ∙ records_again w zones z [] z.records (length z.records) (omega arith) fits.records
     ∙ ap (λ (s : WorldStage). Some (zoned_at s w (zones ++ z ∷ []))) (sym (stage_push zones z))
 
 abbrev like_zone : List Zone → Zone → Bool
@@ -210,7 +210,7 @@ root_head = record { apex = root; count = 0 }
 from_aliased : (d : WorldDraft) → d.stage ≡ Aliased → d.pending ≡ None → d.zones ≡ [] → Completes d
 from_aliased d is shut none =
     let e : WorldDraft = record d { stage = Zoned; zones = d.zones ++ root_zone ∷ []; pending = None } in
-    by_form d e (form.Zone root_head) shut ((refl, refl), lit≤ tt) (rw (is, none) refl) (from_close e refl refl)
+    by_form d e (form.Zone root_head) shut (refl, refl) (rw (is, none) refl) (from_close e refl refl)
 
 from_delayed : (d : WorldDraft) → d.stage ≡ Delayed → d.pending ≡ None → d.zones ≡ [] → Completes d
 from_delayed d is shut none =
@@ -234,21 +234,23 @@ dummy = record { name = root; ttl = 0; dns_class = class_in; record_type = recor
 is_dummy : IsZoneRecord dummy
 is_dummy = record { fits = record { name = (refl, refl); life = lit≤ tt; class = lit≤ tt; type = lit≤ tt; told = is_ipv4 }; class = refl }
 
-from_open : (k : ℕ) (d : WorldDraft) (o : OpenZone) → d.stage ≡ Zoned → d.pending ≡ Some o → eqb o.owed 0 ≡ false → o.owed ≡ k → Completes d
-from_open zero d o is owes waits e = absurd (eqb-false o.owed 0 waits e)
-from_open (suc k) d o is owes waits e =
+from_open : (k : ℕ) (d : WorldDraft) (o : OpenZone) → d.stage ≡ Zoned → d.pending ≡ Some o → owes o → length o.zone.records + k ≡ o.count → Completes d
+from_open zero d o is there waits e = absurd (eqb-false (length o.zone.records) o.count waits (omega arith))
+from_open (suc k) d o is there waits e =
     let p = filled o dummy in
-    let next : Completes (settled d p) = elim (cases_Bool (eqb p.owed 0)) [
+    let next : Completes (settled d p) = elim (cases_Bool (eqb (length p.zone.records) p.count)) [
       | inl whole ↦ let made : settled d p ≡ record d { zones = d.zones ++ p.zone ∷ []; pending = None } = rw whole refl in
           subst Completes (sym made) (from_close (record d { zones = d.zones ++ p.zone ∷ []; pending = None }) (ap may_host is) refl)
       | inr rest ↦ let made : settled d p ≡ record d { pending = Some p } = rw rest refl in
-          subst Completes (sym made) (from_open k (record d { pending = Some p }) p is refl rest (omega arith))
+          subst Completes (sym made) (from_open k (record d { pending = Some p }) p is refl rest (omega (arith, length_push o.zone.records dummy)))
     ] in
-    (record_text dummy ∷ next.0, next.1, takes_record d o dummy next.0 owes is_dummy ∙ next.2, next.3)
+    (record_text dummy ∷ next.0, next.1, takes_record d o dummy next.0 there is_dummy ∙ next.2, next.3)
 
 from_zoned : (p : Option OpenZone) (d : WorldDraft) → d.pending ≡ p → d.stage ≡ Zoned → Good d → Completes d
 from_zoned None d shut is g = from_close d (ap may_host is) shut
-from_zoned (Some o) d owes is g = from_open o.owed d o is owes (subst (λ (p : Option OpenZone). IfSome p (λ o. eqb o.owed 0 ≡ false)) owes g.waits) refl
+from_zoned (Some o) d there is g =
+    let fits : IsOpen d.zones o = subst (λ (p : Option OpenZone). IfSome p (IsOpen d.zones)) there g.pending in
+    from_open (o.count - length o.zone.records) d o is there (subst (λ (p : Option OpenZone). IfSome p owes) there g.waits) (omega (arith, fits.few))
 
 other : (s : WorldStage) (d : WorldDraft) → d.stage ≡ s → Good d → rank s ≢ 3 → d.pending ≡ None
 other s d is g ne = g.no_pending (λ e. ne (sym (ap rank is) ∙ e))

@@ -1,3 +1,4 @@
+pub mod Counts
 pub mod Lines
 pub mod Listed
 pub mod Reading

@@ -8,6 +8,7 @@ use Rattle.text_words.specs.Names.{full_name}
 use Rattle.text_words.specs.Numbers.{◌>>=◌, number_within}
 use Rattle.text_words.specs.Pieces.{pieces}
 use Rattle.line_forms.specs.Lines.{delay_field}
+use Rattle.world_lines.specs.Counts.{numeral_value}
 use Rattle.world_lines.specs.declared.lines.ZoneHead.{ZoneHead}
 use Rattle.world_lines.specs.declared.lines.WorldForm.{WorldForm}
 use Rattle.world_lines.specs.declared.lines.WorldForm.TheVariants as form
@@ -20,12 +21,9 @@ most_zones = 10000
 abbrev pub alias_words : List (List ℕ × Bool)
 alias_words = (codes "alone", false) ∷ (codes "chain", true) ∷ []
 
--- how many records a zone may have
-abbrev pub most_records : ℕ
-most_records = 18446744073709551615
-
+-- how many records a zone has
 abbrev pub count_field : Fields ℕ
-count_field = field (number_within 0 most_records)
+count_field = field numeral_value
 
 abbrev pub zone_fields : Fields (DomainName × ℕ)
 zone_fields = both (field full_name) count_field

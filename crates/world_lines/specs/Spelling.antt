@@ -11,7 +11,8 @@ use Rattle.line_forms.specs.Spelling.{record_text, IsRecord, most_delay}
 use Rattle.zone_worlds.specs.declared.world.Zone.{Zone}
 use Rattle.zone_worlds.specs.declared.world.Host.{Host}
 use Rattle.zone_worlds.specs.declared.world.World.{World}
-use Rattle.world_lines.specs.Lines.{most_zones, most_records}
+use Rattle.world_lines.specs.Counts.{numeral}
+use Rattle.world_lines.specs.Lines.{most_zones}
 use Rattle.world_lines.specs.Listed.{has_apex, has_address}
 use Rattle.world_lines.specs.Steps.{most_hosts}
 
@@ -29,7 +30,7 @@ aliases_words chain = codes "aliases" ∷ alias_text chain ∷ []
 
 -- the first line of a zone: its apex, and how many records follow
 abbrev pub zone_words : DomainName → ℕ → List (List ℕ)
-zone_words apex count = codes "zone" ∷ name_text apex ∷ decimal count ∷ []
+zone_words apex count = codes "zone" ∷ name_text apex ∷ numeral count ∷ []
 
 abbrev pub host_words : Host → List (List ℕ)
 host_words h = codes "host" ∷ ip_text h.ip ∷ map decimal h.zones
@@ -62,7 +63,6 @@ pub record IsZoneRecord (r : Record) : Type 0 where
 
 pub record IsZone (z : Zone) : Type 0 where
   pub apex : IsFullName z.apex
-  pub few : length z.records ≤ most_records
   pub records : AllByRecursion IsZoneRecord z.records
 
 -- numbers that rise, the first from low on, up to most

@@ -1,5 +1,5 @@
 -- What the lines of a world so far say, and what the next may say.
-use Rattle.std.specs.Prelude.{◌≡◌, ℕ, ◌-◌, List, [], ◌∷◌, ◌++◌, length, not, ◌&&◌, ◌==◌, nat_lt, nat_le, Bool, true, false, Option, Some, None, is_some, Result, Ok, Err, if◌then◌else◌}
+use Rattle.std.specs.Prelude.{◌≡◌, ℕ, List, [], ◌∷◌, ◌++◌, length, not, ◌&&◌, ◌==◌, nat_lt, nat_le, Bool, true, false, Option, Some, None, is_some, Result, Ok, Err, if◌then◌else◌}
 use Rattle.std.specs.List.{list_all}
 use Rattle.dns_core.specs.declared.record.Record.{Record}
 use Rattle.text_words.specs.declared.words.LineError.{LineError}
@@ -54,15 +54,15 @@ may_close d = may_host d.stage && not (is_some d.pending)
 
 -- a zone none of whose records is there yet
 abbrev pub opened : ZoneHead → OpenZone
-opened h = record { zone = record { apex = h.apex; records = [] }; owed = h.count }
+opened h = record { zone = record { apex = h.apex; records = [] }; count = h.count }
 
 -- the zone with a record more
 abbrev pub filled : OpenZone → Record → OpenZone
-filled o r = record { zone = record o.zone { records = o.zone.records ++ r ∷ [] }; owed = o.owed - 1 }
+filled o r = record o { zone = record o.zone { records = o.zone.records ++ r ∷ [] } }
 
 -- the zone is whole, or still open
 abbrev pub settled : WorldDraft → OpenZone → WorldDraft
-settled d o = if o.owed == 0 then record d { zones = d.zones ++ o.zone ∷ []; pending = None } else record d { pending = Some o }
+settled d o = if length o.zone.records == o.count then record d { zones = d.zones ++ o.zone ∷ []; pending = None } else record d { pending = Some o }
 
 -- each number is that of one of so many zones
 abbrev pub name_zones : ℕ → List ℕ → Bool

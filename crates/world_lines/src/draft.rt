@@ -3,6 +3,7 @@ ghost use Rattle.std.specs.Prelude.{◌≡◌, OnOk, IfOk, is_some};
 ghost use Rattle.world_lines.specs.declared.lines.WorldForm.TheVariants as form;
 ghost use Rattle.world_lines.specs.Steps.{Steps, may_delay, may_alias, may_zone, may_host, start, opened, settled, filled, name_zones, put, added, taken, may_close, world_of};
 
+use crate::counts::Count;
 use crate::lines::{WorldForm, ZoneHead, world_line};
 use crate::listed::{HostList, ZoneList};
 use dns_core::{NoMemory, Record, Records};
@@ -26,11 +27,11 @@ pub enum WorldStage {
     Hosted,
 }
 
-/// A zone that still owes records.
+/// A zone that still owes records: it is whole where it has as many as its count says.
 #[derive(Drop, Debug)]
 pub struct OpenZone {
     pub zone: Zone,
-    pub owed: u64,
+    pub count: Count,
 }
 
 /// What the lines of a world so far say: `pending` is a zone that owes records.
@@ -79,7 +80,7 @@ fn opened(alloc: Global, head: ZoneHead) -> OpenZone
             apex: head.apex,
             records: Records::empty(alloc),
         },
-        owed: head.count,
+        count: head.count,
     }
 }
 
@@ -89,7 +90,6 @@ fn filled(partial: OpenZone, entry: Record) -> Result<OpenZone, NoMemory>
 {
     let mut open = partial;
     open.zone.records.push(entry)?;
-    open.owed = open.owed.saturating_sub(1);
     Ok(open)
 }
 
@@ -143,7 +143,7 @@ impl WorldDraft {
     fn settle(&mut self, alloc: Global, partial: OpenZone) -> Result<(), NoMemory>
         ensures { OnOk result (self.new ≡ settled self.old partial) }
     {
-        if partial.owed == 0 {
+        if partial.count.is(partial.zone.records.len()) {
             self.zones.push(alloc, partial.zone)?;
             self.pending = None;
         } else {

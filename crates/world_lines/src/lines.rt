@@ -3,6 +3,7 @@ ghost use Rattle.std.specs.Prelude.{◌≡◌};
 ghost use Rattle.text_words.specs.Fields.{Gives, GivesFields, field, in_table};
 ghost use Rattle.world_lines.specs.Lines.{alias_words, count_field, zone_numbers, delay_of, aliases_of, zone_of, host_of, world_form_of, is_world_line};
 
+use crate::counts::Count;
 use dns_core::{Items, Name};
 use line_forms::delay;
 use std::alloc::Global;
@@ -16,7 +17,7 @@ pub const MOST_ZONES: u64 = 10_000;
 #[derive(Drop, Debug)]
 pub struct ZoneHead {
     pub apex: Name,
-    pub count: u64,
+    pub count: Count,
 }
 
 /// What a line of a world says that is no record line.
@@ -45,11 +46,13 @@ fn alias_word(words: &mut Words) -> Result<bool, LineError>
 }
 
 /// How many records a zone has.
-fn count(words: &mut Words) -> Result<u64, LineError>
+fn record_count(alloc: Global, words: &mut Words) -> Result<Count, LineError>
     ensures { GivesFields result words.new (count_field words.old) }
 {
-    let count = words.number(0, u64::MAX)?;
-    Ok(count)
+    let Some(word) = words.next() else {
+        return Err(LineError::Refused);
+    };
+    Count::read(alloc, word)
 }
 
 /// The numbers of zones that all words spell: at least one, and each above the one before.
@@ -95,7 +98,7 @@ fn zone_line(alloc: Global, words: &mut Words) -> Result<WorldForm, LineError>
     ensures { Gives result (zone_of words.old) }
 {
     let apex = words.full_name(alloc)?;
-    let count = count(words)?;
+    let count = record_count(alloc, words)?;
     words.end()?;
     Ok(WorldForm::Zone(ZoneHead { apex, count }))
 }
