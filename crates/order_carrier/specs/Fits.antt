@@ -55,6 +55,15 @@ pub record Fits (log : Log) (now : ℕ) (outcome : Outcome) : Type 0 where
   pub within : entry_of outcome < log.next
   pub is : OutcomeIs log now outcome
 
+-- A poll that found nothing is in the log as one of what it waits for, where that is known.
+abbrev pub WaitsBy : Log → Option Sent → Outcome → Type 0
+WaitsBy log (Some s) (Pending entry of) = s.of ≡ of → Closes log s entry (line.Waited of)
+WaitsBy log (Some s) (Connected entry sent) = Unit {0}
+WaitsBy log (Some s) (Told entry sent message) = Unit {0}
+WaitsBy log (Some s) (Failed entry sent refused error) = Unit {0}
+WaitsBy log (Some s) Slept = Unit {0}
+WaitsBy log None o = Unit {0}
+
 -- The entry says that a poll of what entry `of` sent for the order found nothing.
 pub record WaitsStill (log : Log) (order : Order) (entry of : ℕ) : Type 0 where
   pub sent : Sent

@@ -17,8 +17,11 @@ use Rattle.walk_tables.specs.Terms.{Terms, terms_with, given_of}
 use Rattle.recursor_walk.specs.Replies.{ReplyHolds}
 use Rattle.walk_tables.specs.Tried.{machine_timer}
 use Rattle.recursor_core.specs.Derived.{ResolutionHolds, terms_of, Derived}
-use Rattle.recursor_core.specs.Resolving.{SameBegun}
-use Rattle.recursor_core.specs.Machine.{Begun, begun_of, begun_at, rank, GoesOn, ReplyGiven, StepGives, Gives, SameCore}
+use Rattle.recursor_core.specs.Resolving.{SameBegun, want_of, open_of, IfAwaits}
+use Rattle.recursor_core.specs.declared.resolving.Need.{Need}
+use Rattle.walk_tables.specs.declared.pools.Stepped.{Stepped}
+use Rattle.recursor_core.proofs.Ranks.{put_at}
+use Rattle.recursor_core.specs.Machine.{Begun, begun_of, begun_at, given_by, need_in, open_in, GoesOn, StepIs, Steps, ReplyGiven, StepGives, Gives, SameCore}
 use Rattle.recursor_setting.specs.declared.setting.Setting.{Setting}
 use Rattle.recursor_core.specs.declared.machine.RecursorCore.{RecursorCore}
 use Rattle.recursor_core.specs.declared.machine.Step.{Step}
@@ -47,6 +50,14 @@ begun-set (x ∷ xs) zero f g within at same zero =
 begun-set (x ∷ xs) zero f g within at same (suc k) = refl
 begun-set (x ∷ xs) (suc i) f g within at same zero = refl
 begun-set (x ∷ xs) (suc i) f g within at same (suc k) = begun-set xs i f g (omega arith) at same k
+
+-- what a resolution waits for its place waits for
+pub waits-at : (pools : Pools) (xs : List Resolution) (i : ℕ) (g : Resolution) (s : Stepped) → i < length xs → IfAwaits (open_of pools g) s → IfAwaits (open_in pools (slice_get (set xs i g) i)) s
+waits-at pools xs i g s within h = subst (λ (o : Option Resolution). IfAwaits (open_in pools o) s) (sym (put_at xs i g within)) h
+
+-- what a resolution needs its place needs
+pub need-set : (xs : List Resolution) (i : ℕ) (g : Resolution) (n : Need) → i < length xs → want_of g ≡ n → need_in (slice_get (set xs i g) i) ≡ n
+need-set xs i g n within h = ap need_in (put_at xs i g within) ∙ h
 
 -- one more leaves those before it
 pub begun-push : (xs : List Resolution) (r : Resolution) (k : ℕ) → k < length xs
@@ -116,10 +127,22 @@ derived-is core log setting greatest moment cache pools rs a b c d p e bound som
       (subst (All (ResolutionHolds (terms_with setting) greatest moment log)) (sym e) all)));
 }
 
--- on want of memory no step is added
-pub goes-err : (old new : RecursorCore) (result : Result Progress NoMemory) → IsErr result → rank new ≤ rank old → GoesOn old new result
-goes-err old new (Ok p) e h = cc
-goes-err old new (Err e) is h = h
+-- on want of memory no number comes back
+pub goes-err : (old new : RecursorCore) (r : ℕ) (result : Result Progress NoMemory) → IsErr result → given_by old ≤ given_by new → GoesOn old new r result
+goes-err old new r (Ok p) e h = cc
+goes-err old new r (Err e) is h = h
+
+-- so with a step
+pub steps-err : (old new : RecursorCore) (r : ℕ) (result : Result Step NoMemory) → IsErr result → given_by old ≤ given_by new → Steps old new r result
+steps-err old new r (Ok s) e h = cc
+steps-err old new r (Err e) is h = h
+
+-- a step after one that gave no order
+pub step-after : (old mid new : RecursorCore) (r : ℕ) (s : Step) → given_by mid ≡ given_by old → StepIs mid new r s → StepIs old new r s
+step-after old mid new r (step.Order number order) same h = (h.0 ∙ ap (λ (n : ℕ). n + 1) same, h.1 ∙ ap (λ (n : ℕ). n + 1) same, h.2)
+step-after old mid new r (step.Waiting number) same h = (h.0 ∙ same, h.1)
+step-after old mid new r (step.Done reply) same h = (h.0 ∙ same, h.1)
+step-after old mid new r step.Ended same h = h ∙ same
 
 -- what follows with memory and without it follows
 pub either-way : {A : Type 0} (result : Result A NoMemory) (P Q R : Type 0) → OnOk result P → OnErr result Q → (P → R) → (Q → R) → R

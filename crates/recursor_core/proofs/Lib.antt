@@ -1,10 +1,10 @@
-pub mod Plays
-pub mod Ranks
-pub mod Kept
-pub mod Resolved
 pub mod Cores
-pub mod Timed
-pub mod Running
-pub mod Standing
+pub mod Due
+pub mod Kept
 pub mod Moments
 pub mod Playing
+pub mod Plays
+pub mod Ranks
+pub mod Resolved
+pub mod Standing
+pub mod Timed

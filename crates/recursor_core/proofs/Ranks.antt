@@ -7,9 +7,7 @@ use Rattle.std.proofs.lemmas.Option.{slice_get_read}
 use Rattle.walk_tables.specs.Lookup.{LeavesLess}
 use Rattle.walk_tables.specs.declared.pools.Stepped.{Stepped}
 use Rattle.walk_tables.specs.declared.pools.Stepped.TheVariants as stepped
-use Rattle.recursor_core.specs.Resolving.{steps, state_steps, state_want, want_of}
-use Rattle.recursor_core.specs.declared.resolving.State.{State}
-use Rattle.recursor_core.specs.declared.resolving.State.TheVariants.{New, Under, Done, Ended}
+use Rattle.recursor_core.specs.Resolving.{steps}
 use Rattle.recursor_core.specs.declared.resolving.Resolution.{Resolution}
 use Rattle.recursor_core.specs.declared.resolving.Need.TheVariants as need
 use Rattle.recursor_core.specs.Machine.{need_in}
@@ -43,16 +41,6 @@ sum_keeps xs i f g within is h = let moved = rw (sym (ap steps is)) at (sum_by-s
 -- so the sum after a step of one of them
 pub sum_leaves : (xs : List Resolution) (i : ℕ) (f g : Resolution) → i < length xs → f ≡ get_or xs i f → (s : Stepped) → LeavesLess (steps f) (steps g) s
     → LeavesLess (sum_by steps xs) (sum_by steps (set xs i g)) s
-sum_leaves xs i f g within is (stepped.Order number order) h = sum_falls xs i f g within is h
+sum_leaves xs i f g within is (stepped.Order number order) h = sum_keeps xs i f g within is h
 sum_leaves xs i f g within is (stepped.Waiting number) h = sum_keeps xs i f g within is h
 sum_leaves xs i f g within is stepped.Done h = sum_falls xs i f g within is h
-
--- who needs nothing has nothing before it
-ended_nothing : (r : Resolution) (s : State) → r.state ≡ s → state_want s ≡ need.Nothing → steps r ≡ 0
-ended_nothing r New is h = cc
-ended_nothing r (Under w) is h = cc
-ended_nothing r (Done reply) is h = cc
-ended_nothing r Ended is h = ap (state_steps r.question.query) is
-
-pub ended_least : (f g : Resolution) → want_of g ≡ need.Nothing → steps g ≤ steps f
-ended_least f g h = let none = ended_nothing g g.state refl h in omega (arith, none)

@@ -10,7 +10,11 @@ use Rattle.recursor_walk.specs.Counted.{recalled, IsRecalled}
 use Rattle.walk_tables.specs.Remembered.{CacheHolds}
 use Rattle.walk_tables.specs.Terms.{Terms}
 use Rattle.recursor_walk.specs.Walk.{Goes}
-use Rattle.recursor_core.specs.Resolving.{state_want, state_steps, steps, IsSettled, SameBegun}
+use Rattle.recursor_core.specs.Resolving.{state_want, state_steps, steps, open_of, IfAwaits, IsSettled, SameBegun}
+use Rattle.walk_tables.specs.Taking.{IfWaits}
+use Rattle.walk_tables.specs.declared.pools.Pools.{Pools}
+use Rattle.walk_tables.specs.declared.pools.Stepped.{Stepped}
+use Rattle.walk_tables.specs.declared.pools.Stepped.TheVariants as stepped
 use Rattle.recursor_walk.specs.Way.{WalkHolds, WalkComes}
 use Rattle.recursor_core.specs.Derived.{StateHolds, ResolutionHolds}
 use Rattle.recursor_walk.specs.declared.counted.Counted.{Counted}
@@ -34,6 +38,13 @@ pub walk-holds : (terms : Terms) (greatest now : ℕ) (log : Log) (r : Resolutio
     → WalkHolds terms greatest now r.begun log r.question.query w
     → ResolutionHolds terms greatest now log (record { question = r.question; begun = r.begun; state = Under (record b { value = w }) })
 walk-holds terms greatest now log r b w before early later h = record { begun = omega arith; state = h }
+
+-- an order that its walk waits for its resolution waits for
+pub awaits : (pools : Pools) (r : Resolution) (b : Box Walk) (w : Walk) (s : Stepped) → IfWaits pools w.lookup s
+    → IfAwaits (open_of pools (record { question = r.question; begun = r.begun; state = Under (record b { value = w }) })) s
+awaits pools r b w (stepped.Order number order) h = h
+awaits pools r b w (stepped.Waiting number) h = h
+awaits pools r b w stepped.Done h = tt
 
 -- a walk that goes on, or has its reply, or has ended for want of memory
 settled-state : (terms : Terms) (greatest moment t0 : ℕ) (log : Log) (question : Question) (w : Box Walk) (came : Result (Option (Box Reply)) NoMemory) (state : State)

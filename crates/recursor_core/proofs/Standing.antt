@@ -1,6 +1,5 @@
 -- What holds of the machine and its provider goes on holding at each step of the two.
-use Rattle.std.proofs.Common.{◌≡◌, ◌≤◌, ◌<◌, ◌+◌, ◌∙◌, ◌⊎◌, ◌++◌, ⊎_elim, inl, inr, ℕ, zero, suc, Bool, true, false, List, [], ◌∷◌, length, All, Option, Some, None, Result, Ok, Err, OnOk, IfOk, refl, sym, ap, subst, arith, min, max, if◌then◌else◌}
-use Rattle.std.proofs.Math.Nat.{mul-le-mul_left}
+use Rattle.std.proofs.Common.{◌≡◌, ◌≤◌, ◌<◌, ◌+◌, ◌∙◌, ◌⊎◌, ◌++◌, ⊎_elim, inl, inr, ℕ, zero, suc, Bool, true, false, List, [], ◌∷◌, length, All, Option, Some, None, Result, refl, sym, ap, subst, arith, min, max, if◌then◌else◌}
 use Rattle.std.specs.Global.{Box}
 use Rattle.dns_core.specs.Log.{Log, Extends, log_of}
 use Rattle.std.specs.declared.net.ip_addr.IpAddr.{IpAddr}
@@ -12,7 +11,7 @@ use Rattle.resolution.specs.Given.{Given, with_patience}
 use Rattle.resolution.specs.Telling.{Logged, MomentsRise}
 use Rattle.resolution.specs.Asking.{AsksServers}
 use Rattle.resolution.proofs.Keeping.{Serves-later, Serves-extend}
-use Rattle.order_carrier.specs.Fits.{GoesToServer}
+use Rattle.order_carrier.specs.Fits.{WaitsBy, GoesToServer}
 use Rattle.order_carrier.specs.GivingUp.{give_up_entry}
 use Rattle.walk_tables.specs.Terms.{Terms, terms_with, given_of}
 use Rattle.recursor_walk.specs.Replies.{ReplyHolds}
@@ -24,13 +23,11 @@ use Rattle.order_carrier.specs.Patience.{IsPatient}
 use Rattle.resolver_cache.specs.Cached.{Cached}
 use Rattle.walk_tables.specs.Remembered.{EntryHolds, CacheHolds}
 use Rattle.recursor_setting.specs.Setting.{with_patience as setting_with}
-use Rattle.recursor_core.specs.Machine.{Begun, begun_at, ReplyGiven, StepGives, IsNewCore}
-use Rattle.recursor_core.specs.Standing.{IsPast, Holds, Rests, Moves, ReplyTold}
-use Rattle.walk_tables.specs.Order.{WaitsBy, TellsOutcome, is_given_up, IsGivenUpIn, LogGoesOnIf, LogGoesOn}
-use Rattle.recursor_core.specs.Runner.{RunnerHolds, RunnerMoves, polls_left, sent_by, still_awaited, IsLast, HasTold}
-use Rattle.recursor_core.specs.Turns.{due_of, TurnFalls}
-use Rattle.recursor_core.specs.declared.runner.Runner.{Runner}
-use Rattle.recursor_core.specs.declared.runner.Running.{Running}
+use Rattle.recursor_core.specs.Machine.{Begun, begun_at, SameCore, ReplyGiven, StepGives, IsNewCore}
+use Rattle.recursor_core.specs.Standing.{IsPast, Holds, Rests, Moves, Ready, Goes, ReplyTold, TurnedTold}
+use Rattle.walk_tables.specs.Order.{TellsOutcome, is_given_up, IsGivenUpIn, LogGoesOnIf, LogGoesOn}
+use Rattle.order_runner.specs.Runner.{RunnerHolds, RunnerMoves, GoesNowhere, sent_by, still_awaited, IsLast, HasTold}
+use Rattle.order_runner.specs.declared.runner.Runner.{Runner}
 use Rattle.recursor_types.specs.declared.options.RecursorOptions.{RecursorOptions}
 use Rattle.recursor_setting.specs.declared.setting.Setting.{Setting}
 use Rattle.order_carrier.specs.declared.carrier.Carrier.{Carrier}
@@ -185,50 +182,12 @@ pub ReplyTold-later : (terms : Terms) (now : ℕ) (told : Option (List LogEntry)
 ReplyTold-later terms now told None new reply same h = tt
 ReplyTold-later terms now told (Some b) new reply same h = subst (λ (x : Option Begun). ReplyTold terms now told x reply) (same b refl) h
 
--- what a step leaves less a turn leaves less
-turned_falls : (new mid old : ℕ) (t : Turned) → new < mid → mid ≤ old → TurnFalls new old t
-turned_falls new mid old turned.Again h le = omega arith
-turned_falls new mid old turned.Pending h le = omega arith
-turned_falls new mid old (turned.Done reply) h le = omega arith
-turned_falls new mid old turned.Ended h le = omega arith
-
--- what is left falls after a step that does not add to it
-pub turn_falls : (new mid old : ℕ) (result : Result Turned NoMemory) → OnOk result (new < mid) → mid ≤ old → IfOk result (TurnFalls new old)
-turn_falls new mid old (Ok t) h le = turned_falls new mid old t h le
-turn_falls new mid old (Err e) h le = tt
-
 -- a log without entries has none under any number
 unlogged : (n : ℕ) (e : LogEntry) → Logged (log_of []) n e → ⊥
 unlogged zero e h = let is : None ≡ Some e = h.is in cc
 unlogged (suc n) e h = let is : None ≡ Some e = h.is in cc
 
 -- ---- steps
-
--- so does it where less is left, whatever it came to
-pub turn_same : (new old : ℕ) (result : Result Turned NoMemory) → new < old → IfOk result (TurnFalls new old)
-turn_same new old (Ok t) h = turned_falls new (new + 1) old t (omega arith) (omega (arith, h))
-turn_same new old (Err e) h = tt
-
--- whatever it came to
-pub on_ok_below : {T : Type 0} (result : Result T NoMemory) (new mid old : ℕ) → new ≤ mid → mid < old → OnOk result (new < old)
-on_ok_below (Ok t) new mid old h le = omega arith
-on_ok_below (Err e) new mid old h le = tt
-
--- one step less outweighs all polls
-pub due_falls : (most a b x y : ℕ) → a < b → x ≤ most → due_of most a x < due_of most b y
-due_falls most a b x y h l = let next : a + 1 ≤ b = omega arith in let m = mul-le-mul_left (most + 1) next in omega (arith, m)
-
-pub due_keeps : (most a b x y : ℕ) → a ≤ b → x ≤ y → due_of most a x ≤ due_of most b y
-due_keeps most a b x y h l = let m = mul-le-mul_left (most + 1) h in omega (arith, m)
-
--- a poll less is less to do, too
-pub due_polled : (most a b x y : ℕ) → a ≤ b → x < y → due_of most a x < due_of most b y
-due_polled most a b x y h l = let m = mul-le-mul_left (most + 1) h in omega (arith, m)
-
--- no more polls are left than patience allows
-pub polls_few : (patience : ℕ) (running : Option Running) → polls_left patience running ≤ max 1 patience
-polls_few patience None = omega arith
-polls_few patience (Some running) = omega arith
 
 -- a log that stays as it is waits for nothing
 IsPatient-refl : (most : ℕ) (told : Option (List LogEntry)) → IsPatient most told told
@@ -315,21 +274,21 @@ module _ {P C F E : Type 0} (p : Ghosts P C F E) where
       }
 
   -- The machine is fed what the provider told, and its order is given up, or is not.
-  pub holds_settled : (tick : Tick) (core new : RecursorCore) (r later : Runner P C F E p) (o : Outcome) (result : Result After NoMemory) → new.setting ≡ core.setting → new.moment ≡ tick.now
+  holds_settled : (number : ℕ) (tick : Tick) (core new : RecursorCore) (r later : Runner P C F E p) (o : Outcome) (result : Result After NoMemory) → new.setting ≡ core.setting → new.moment ≡ tick.now
       → core.moment ≡ tick.now
-      → ((log told longer : Log) → core.setting.patience ≤ tick.patience → Derived core log → TellsOutcome core.moment log tick (still_awaited o (sent_by r)) o told
-      → LogGoesOn tick.now (still_awaited o (sent_by r)) o result told longer → Derived new longer)
-      → p.log later.carrier.provider ≡ settled_log (is_given_up result) tick.now (sent_by r) (p.log r.carrier.provider)
-      → TellsThat (p.log r.carrier.provider) (HasTold tick.now (sent_by r) o) → Holds p tick.patience core r → Holds p tick.patience core later → Holds p tick.patience new later
-  holds_settled tick core new r later o result setting moment at derived log told h k = record {
+      → ((log told longer : Log) → core.setting.patience ≤ tick.patience → Derived core log → TellsOutcome core.moment log tick (still_awaited o (sent_by r number)) o told
+      → LogGoesOn tick.now (still_awaited o (sent_by r number)) o result told longer → Derived new longer)
+      → p.log later.carrier.provider ≡ settled_log (is_given_up result) tick.now (sent_by r number) (p.log r.carrier.provider)
+      → TellsThat (p.log r.carrier.provider) (HasTold tick.now (sent_by r number) o) → Holds p tick.patience core r → Holds p tick.patience core later → Holds p tick.patience new later
+  holds_settled number tick core new r later o result setting moment at derived log told h k = record {
     runner = k.runner;
     patient = subst (λ (held : Setting). held.patience ≤ tick.patience) (sym setting) k.patient;
     derived = λ es t.
-        let by = settled_by (is_given_up result) tick.now (sent_by r) o (p.log r.carrier.provider) (p.log later.carrier.provider) log told es t in
+        let by = settled_by (is_given_up result) tick.now (sent_by r number) o (p.log r.carrier.provider) (p.log later.carrier.provider) log told es t in
         let heard = told by.before by.was in
         derived (log_of by.before) (log_of by.before) (log_of es) h.patient (h.derived by.before by.was)
-        (record { later = omega arith; extends = Extends-refl (log_of by.before); fits = heard.fits; waits_by = waits-still (log_of by.before) (sent_by r) o heard.waits_by })
-        (goes-still (is_given_up result) tick.now (sent_by r) o (log_of by.before) (log_of es) by.on);
+        (record { later = omega arith; extends = Extends-refl (log_of by.before); fits = heard.fits; waits_by = waits-still (log_of by.before) (sent_by r number) o heard.waits_by })
+        (goes-still (is_given_up result) tick.now (sent_by r number) o (log_of by.before) (log_of es) by.on);
     asks = subst (λ (held : Setting). TellsThat (p.log later.carrier.provider) (AsksServers (given_of (terms_with held)))) (sym setting) k.asks;
     past = IsPast-later core.moment new.moment (p.log later.carrier.provider) (omega arith) k.past;
   }
@@ -358,6 +317,83 @@ module _ {P C F E : Type 0} (p : Ghosts P C F E) where
   pub moves_grown : (patience now : ℕ) (goes : Given → Type 0) (core : RecursorCore) (c new : Carrier P C F E p) → RunnerMoves patience now goes (p.log c.provider) (p.log new.provider)
       → Moves p patience now core core c new
   moves_grown patience now goes core c new moves = record { setting = refl; begun = λ k b e. e; grown = moves.grown; patient = moves.patient }
+
+  module _ (tick : Tick) where
+    -- two steps that go right are one
+    pub goes_trans : (a b c : RecursorCore) (x y z : Runner P C F E p) → Goes p tick a b x y → Goes p tick b c y z → Goes p tick a c x z
+    goes_trans a b c x y z m n = record {
+      vouches = λ es h. m.vouches es (n.vouches es h);
+      ready = n.ready;
+      moves = moves_trans tick.patience tick.now a b c x.carrier y.carrier z.carrier m.moves n.moves;
+    }
+
+    -- a step of the machine alone
+    pub goes_core : (core new : RecursorCore) (r : Runner P C F E p) → SameCore core new → ((log : Log) → Derived core log → Derived new log) → Ready p tick core r → Goes p tick core new r r
+    goes_core core new r same derived ready =
+        let at = same.moment in
+        record {
+          vouches = λ es h. h;
+          ready = record { holds = holds_derived tick.patience core new r same.setting (omega (arith, at)) derived ready.holds; moment = at ∙ ready.moment };
+          moves = moves_core tick.patience tick.now core new r.carrier same.setting same.begun;
+        }
+
+    -- the moment of the step has come
+    pub goes_reached : (core new : RecursorCore) (r : Runner P C F E p) → new.setting ≡ core.setting → new.resolutions ≡ core.resolutions → core.moment ≤ tick.now
+        → new.moment ≡ max core.moment tick.now → ((log : Log) → Derived core log → Derived new log) → Holds p tick.patience core r → Goes p tick core new r r
+    goes_reached core new r setting same early at derived holds = record {
+      vouches = λ es h. h;
+      ready = record { holds = holds_derived tick.patience core new r setting (omega (arith, at)) derived holds; moment = omega (arith, at) };
+      moves = moves_core tick.patience tick.now core new r.carrier setting (λ k. rw same refl);
+    }
+
+    -- a step of what carries out the orders alone
+    pub goes_run : (core : RecursorCore) (r new : Runner P C F E p) (goes : Given → Type 0) → ((es : List LogEntry) → p.vouches new.carrier.provider es → p.vouches r.carrier.provider es)
+        → RunnerHolds p new → RunnerMoves tick.patience tick.now goes (p.log r.carrier.provider) (p.log new.carrier.provider) → goes (given_of (terms_of core)) → Ready p tick core r
+        → Goes p tick core core r new
+    goes_run core r new goes vouches holds moves right ready = record {
+      vouches = vouches;
+      ready = record { holds = holds_grown tick.patience core r new tick.now goes ready.moment holds moves right ready.holds; moment = ready.moment };
+      moves = moves_grown tick.patience tick.now goes core r.carrier new.carrier moves;
+    }
+
+    -- nothing at all
+    pub goes_nowhere : (core : RecursorCore) (r : Runner P C F E p) → Ready p tick core r → Goes p tick core core r r
+    goes_nowhere core r ready = record { vouches = λ es h. h; ready = ready; moves = moves_core tick.patience tick.now core core r.carrier refl (λ k. refl) }
+
+    -- an order is forgotten
+    pub goes_closed : (core : RecursorCore) (r new : Runner P C F E p) → new.carrier ≡ r.carrier → RunnerHolds p new → Ready p tick core r → Goes p tick core core r new
+    goes_closed core r new same holds ready =
+        let still : RunnerMoves tick.patience tick.now GoesNowhere (p.log r.carrier.provider) (p.log r.carrier.provider) = record {
+          grown = Grown-refl tick.now (p.log r.carrier.provider);
+          patient = IsPatient-refl (max 1 tick.patience) (p.log r.carrier.provider);
+          asks = λ given right asks. asks;
+        } in
+        goes_run core r new GoesNowhere (λ es h. subst (λ (c : Carrier P C F E p). p.vouches c.provider es) same h) holds
+        (subst (λ (c : Carrier P C F E p). RunnerMoves tick.patience tick.now GoesNowhere (p.log r.carrier.provider) (p.log c.provider)) (sym same) still) tt ready
+
+    -- what a turn comes to after a step is what it comes to with it
+    pub told_before : (a b : RecursorCore) (x y : Runner P C F E p) (told : Option (List LogEntry)) (r : ℕ) (t : Turned) → Goes p tick a b x y
+        → TurnedTold (terms_of b) tick.now told (begun_at b r) t → TurnedTold (terms_of a) tick.now told (begun_at a r) t
+    told_before a b x y told r turned.Pending goes h = tt
+    told_before a b x y told r (turned.Done reply) goes h =
+        subst (λ (held : Setting). ReplyTold (terms_with held) tick.now told (begun_at a r) reply.value) goes.moves.setting
+        (ReplyTold-later (terms_of b) tick.now told (begun_at a r) (begun_at b r) reply.value (goes.moves.begun r) h)
+    told_before a b x y told r turned.Ended goes h = tt
+
+    -- what the order of the number came to is put, where what carries out the orders has gone on so
+    pub goes_settled : (number : ℕ) (core new : RecursorCore) (r later : Runner P C F E p) (o : Outcome) (result : Result After NoMemory) → new.setting ≡ core.setting
+        → (core.moment ≡ tick.now → new.moment ≡ tick.now) → ((k : ℕ) → begun_at new k ≡ begun_at core k)
+        → ((log told longer : Log) → core.setting.patience ≤ tick.patience → Derived core log → TellsOutcome core.moment log tick (still_awaited o (sent_by r number)) o told
+        → LogGoesOn tick.now (still_awaited o (sent_by r number)) o result told longer → Derived new longer)
+        → p.log later.carrier.provider ≡ settled_log (is_given_up result) tick.now (sent_by r number) (p.log r.carrier.provider)
+        → TellsThat (p.log r.carrier.provider) (HasTold tick.now (sent_by r number) o) → Ready p tick core r → Goes p tick core core r later → Goes p tick core new r later
+    goes_settled number core new r later o result setting moment begun derived log told ready run =
+        let at = moment ready.moment in
+        record {
+          vouches = run.vouches;
+          ready = record { holds = holds_settled number tick core new r later o result setting at ready.moment derived log told ready.holds run.ready.holds; moment = at };
+          moves = moves_trans tick.patience tick.now core core new r.carrier later.carrier later.carrier run.moves (moves_core tick.patience tick.now core new later.carrier setting begun);
+        }
 
   -- a machine at rest begins a run: its questions are left, and its patience may be less
   pub rests_holds : (patience : ℕ) (core new : RecursorCore) (r : Runner P C F E p) → new.setting ≡ setting_with core.setting patience

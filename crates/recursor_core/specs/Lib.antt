@@ -1,5 +1,4 @@
 pub mod Resolving
-pub mod Runner
 pub mod Derived
 pub mod Machine
 pub mod Turns

@@ -11,8 +11,8 @@ use Rattle.walk_tables.specs.Terms.{Terms, given_of}
 use Rattle.recursor_walk.specs.Replies.{ReplyHolds}
 use Rattle.walk_tables.specs.Tried.{machine_timer}
 use Rattle.server_core.specs.declared.order.Order.{Order}
-use Rattle.walk_tables.specs.Pools.{StepGoes, PoolsHold}
-use Rattle.walk_tables.specs.Taking.{IsOpen}
+use Rattle.walk_tables.specs.Pools.{StepGoes, PoolsHold, given_so_far}
+use Rattle.walk_tables.specs.declared.pools.Pools.{Pools}
 use Rattle.walk_tables.specs.declared.pools.Stepped.{Stepped}
 use Rattle.recursor_core.specs.Derived.{terms_of}
 use Rattle.recursor_types.specs.declared.reply.Reply.{Reply}
@@ -83,25 +83,46 @@ pub record SameCore (old new : RecursorCore) : Type 0 where
   pub moment : new.moment ≡ old.moment
   pub begun : (k : ℕ) → begun_at new k ≡ begun_at old k
 
--- how many steps are before the machine, at most
+-- ---- its orders
+
+abbrev pub open_in : Pools → Option Resolution → Option ℕ
+open_in pools None = None
+open_in pools (Some r) = one.open_of pools r
+
+-- the order that the resolution at a place waits for
+abbrev pub open_at : RecursorCore → ℕ → Option ℕ
+open_at core r = open_in core.pools (slice_get core.resolutions.items r)
+
+-- how many orders it gave so far
+abbrev pub given_by : RecursorCore → ℕ
+given_by core = given_so_far core.pools
+
+-- ---- how much is left
+
+-- how many steps are before the machine, at most, till it gives an order, or waits
 abbrev pub rank : RecursorCore → ℕ
 rank core = sum_by one.steps core.resolutions.items
 
-abbrev pub StepFalls : RecursorCore → RecursorCore → Step → Type 0
-StepFalls old new (step.Order number order) = rank new < rank old
-StepFalls old new (step.Waiting number) = (rank new ≤ rank old) × IsOpen new.pools number
-StepFalls old new (step.Done reply) = rank new < rank old
-StepFalls old new step.Ended = rank new ≤ rank old
+-- An order has the next number; no other step gives one. The resolution waits for the order that is given, or for the one that it is said to wait for; its reply is given once.
+abbrev pub StepIs : RecursorCore → RecursorCore → ℕ → Step → Type 0
+StepIs old new r (step.Order number order) = (number ≡ given_by old + 1) × (given_by new ≡ given_by old + 1) × (open_at new r ≡ Some number)
+StepIs old new r (step.Waiting number) = (given_by new ≡ given_by old) × (open_at new r ≡ Some number)
+StepIs old new r (step.Done reply) = (given_by new ≡ given_by old) × (need_at new r ≡ need.Nothing)
+StepIs old new r step.Ended = given_by new ≡ given_by old
 
--- A step leaves less to do, but where an outcome is waited for or nothing is left.
-abbrev pub Steps : RecursorCore → RecursorCore → Result Step NoMemory → Type 0
-Steps old new (Ok s) = StepFalls old new s
-Steps old new (Err e) = rank new ≤ rank old
+-- For want of memory an order may be lost.
+abbrev pub Steps : RecursorCore → RecursorCore → ℕ → Result Step NoMemory → Type 0
+Steps old new r (Ok s) = StepIs old new r s
+Steps old new r (Err e) = given_by old ≤ given_by new
 
-abbrev pub GoesOn : RecursorCore → RecursorCore → Result Progress NoMemory → Type 0
-GoesOn old new (Ok progress.Again) = rank new < rank old
-GoesOn old new (Ok (progress.Step s)) = StepFalls old new s
-GoesOn old new (Err e) = rank new ≤ rank old
+-- Fewer steps are before it, and it gave no order.
+abbrev pub IsNearer : RecursorCore → RecursorCore → Type 0
+IsNearer old new = (rank new < rank old) × (given_by new ≡ given_by old)
+
+abbrev pub GoesOn : RecursorCore → RecursorCore → ℕ → Result Progress NoMemory → Type 0
+GoesOn old new r (Ok progress.Again) = IsNearer old new
+GoesOn old new r (Ok (progress.Step s)) = StepIs old new r s
+GoesOn old new r (Err e) = given_by old ≤ given_by new
 
 abbrev pub ReplyGiven : Terms → ℕ → Log → Option Begun → Reply → Type 0
 ReplyGiven terms now log None reply = Unit {0}

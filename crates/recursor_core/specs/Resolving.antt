@@ -5,7 +5,11 @@ use Rattle.dns_core.specs.declared.message.Query.{Query}
 use Rattle.dns_core.specs.declared.request.DnsRequest.{DnsRequest}
 use Rattle.recursor_walk.specs.Counted.{may_answer}
 use Rattle.walk_tables.specs.Lookup as lookup
+use Rattle.walk_tables.specs.Taking.{awaited_by}
 use Rattle.recursor_walk.specs.Walk as walk
+use Rattle.walk_tables.specs.declared.pools.Pools.{Pools}
+use Rattle.walk_tables.specs.declared.pools.Stepped.{Stepped}
+use Rattle.walk_tables.specs.declared.pools.Stepped.TheVariants as stepped
 use Rattle.recursor_walk.specs.declared.counted.Counted.{Counted}
 use Rattle.recursor_types.specs.declared.reply.Reply.{Reply}
 use Rattle.dns_core.specs.declared.errors.NoMemory.{NoMemory}
@@ -34,6 +38,22 @@ state_steps q Ended = 0
 -- how many steps it has before it
 abbrev pub steps : Resolution → ℕ
 steps r = state_steps r.question.query r.state
+
+abbrev pub state_open : Pools → State → Option ℕ
+state_open pools New = None
+state_open pools (Under w) = awaited_by pools w.value.lookup
+state_open pools (Done reply) = None
+state_open pools Ended = None
+
+-- the order that it waits for
+abbrev pub open_of : Pools → Resolution → Option ℕ
+open_of pools r = state_open pools r.state
+
+-- The order that a step gives, or that it waits for, is this one.
+abbrev pub IfAwaits : Option ℕ → Stepped → Type 0
+IfAwaits awaited (stepped.Order number order) = awaited ≡ Some number
+IfAwaits awaited (stepped.Waiting number) = awaited ≡ Some number
+IfAwaits awaited stepped.Done = Unit {0}
 
 -- the question that it asks now
 abbrev pub asked_of : State → Option Query

@@ -9,6 +9,7 @@ use Rattle.dns_core.specs.declared.provider.ConnectionProvider.{Ghosts}
 use Rattle.resolver_settings.specs.Access.{Access}
 use Rattle.resolver_settings.specs.Ttl.{TtlTable}
 use Rattle.server_core.specs.Context.{Context}
+use Rattle.server_core.specs.declared.order.Tick.{Tick}
 use Rattle.resolution.specs.Telling.{Logged, moment_of, MomentsRise}
 use Rattle.resolution.specs.Asking.{AsksServers}
 use Rattle.resolution.specs.Timing.{known_to_drive}
@@ -20,8 +21,8 @@ use Rattle.recursor_core.specs.Derived.{terms_of, Derived}
 use Rattle.order_carrier.specs.Patience.{IsPatient}
 use Rattle.walk_tables.specs.Pools.{PoolsHold}
 use Rattle.walk_tables.specs.Remembered.{CacheHolds}
-use Rattle.recursor_core.specs.Runner.{RunnerHolds}
-use Rattle.recursor_core.specs.declared.runner.Runner.{Runner}
+use Rattle.order_runner.specs.Runner.{RunnerHolds}
+use Rattle.order_runner.specs.declared.runner.Runner.{Runner}
 use Rattle.recursor_core.specs.Machine.{Begun, begun_at}
 use Rattle.order_carrier.specs.declared.carrier.Carrier.{Carrier}
 use Rattle.recursor_core.specs.declared.machine.RecursorCore.{RecursorCore}
@@ -93,13 +94,23 @@ pub record Moves {P C F E : Type 0} (p : Ghosts P C F E) (patience now : ℕ) (c
   pub grown : Grown now (p.log c.provider) (p.log new.provider)
   pub patient : IsPatient (max 1 patience) (p.log c.provider) (p.log new.provider)
 
+-- The machine and what carries out its orders hold, at the moment of a step.
+pub record Ready {P C F E : Type 0} (p : Ghosts P C F E) (tick : Tick) (core : RecursorCore) (r : Runner P C F E p) : Type 0 where
+  pub holds : Holds p tick.patience core r
+  pub moment : core.moment ≡ tick.now
+
+-- They hold after the step, which moved the log and the questions only so; the provider vouches for no more than before.
+pub record Goes {P C F E : Type 0} (p : Ghosts P C F E) (tick : Tick) (core new_core : RecursorCore) (r new : Runner P C F E p) : Type 0 where
+  pub vouches : (es : List LogEntry) → p.vouches new.carrier.provider es → p.vouches r.carrier.provider es
+  pub ready : Ready p tick new_core new
+  pub moves : Moves p tick.patience tick.now core new_core r.carrier new.carrier
+
 -- a reply holds by the log, where it is told
 abbrev pub ReplyTold : Terms → ℕ → Option (List LogEntry) → Option Begun → Reply → Type 0
 ReplyTold terms now told None reply = Unit {0}
 ReplyTold terms now told (Some b) reply = TellsThat told (λ log. ReplyHolds terms (machine_timer now) log b.moment b.question reply)
 
 abbrev pub TurnedTold : Terms → ℕ → Option (List LogEntry) → Option Begun → Turned → Type 0
-TurnedTold terms now told b turned.Again = Unit {0}
 TurnedTold terms now told b turned.Pending = Unit {0}
 TurnedTold terms now told b (turned.Done reply) = ReplyTold terms now told b reply.value
 TurnedTold terms now told b turned.Ended = Unit {0}

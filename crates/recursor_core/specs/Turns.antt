@@ -1,11 +1,13 @@
 -- How much is left of the questions of a run.
-use Rattle.std.specs.Prelude.{◌≡◌, ◌≤◌, ◌<◌, ◌+◌, ◌*◌, ℕ, max, List, [], Option, Some, None, Err, slice_get, sum_by, ◌⊎◌, Bool, true, false}
+use Rattle.std.specs.Prelude.{◌≡◌, ◌≤◌, ◌<◌, ◌+◌, ◌-◌, ◌*◌, ◌^◌, ℕ, max, List, [], Option, Some, None, IsSome, Err, slice_get, sum_by, ◌⊎◌, Bool, true, false}
+use Rattle.std.specs.BTreeSet.{BTreeSet, contains}
+use Rattle.std.specs.Ordering.{nat_cmp}
 use Rattle.dns_core.specs.declared.provider.ConnectionProvider.{Ghosts}
 use Rattle.dns_core.specs.declared.request.Question.{Question}
 use Rattle.recursor_core.specs.Machine as machine
-use Rattle.recursor_core.specs.Machine.{rank}
-use Rattle.recursor_core.specs.Runner.{polls_left}
-use Rattle.recursor_core.specs.declared.runner.Runner.{Runner}
+use Rattle.recursor_core.specs.Machine.{given_by, open_at}
+use Rattle.order_runner.specs.Runner.{polls_left}
+use Rattle.order_runner.specs.declared.runner.Runner.{Runner}
 use Rattle.recursor_types.specs.declared.error.MessageKind.TheVariants as kind
 use Rattle.recursor_types.specs.declared.error.RecursorError.TheVariants as error
 use Rattle.recursor_types.specs.declared.reply.Reply.{Reply}
@@ -15,12 +17,21 @@ use Rattle.recursor_core.specs.declared.turns.Turned.TheVariants as turned
 use Rattle.recursor_core.specs.declared.turns.Played.{Played}
 use Rattle.recursor_core.specs.declared.turns.Played.TheVariants as played
 
--- A turn leaves less to do, but where nothing was left.
+-- A turn that leaves the question under way leaves less to do.
 abbrev pub TurnFalls : ℕ → ℕ → Turned → Type 0
-TurnFalls new old turned.Again = new < old
 TurnFalls new old turned.Pending = new < old
-TurnFalls new old (turned.Done reply) = new < old
+TurnFalls new old (turned.Done reply) = new ≤ old
 TurnFalls new old turned.Ended = new ≤ old
+
+-- What was asked till it waits gave an order, which leaves less to do; else it waits for an order that was given before, and none was begun.
+abbrev pub AskFalls : {S : Type 0} → ℕ → ℕ → Option ℕ → S → S → Turned → Type 0
+AskFalls new old awaited begun begun_before turned.Pending = (new < old) ⊎ (IsSome awaited × (begun ≡ begun_before))
+AskFalls new old awaited begun begun_before (turned.Done reply) = Unit {0}
+AskFalls new old awaited begun begun_before turned.Ended = Unit {0}
+
+-- Each order that the resolution at a place waits for is among these.
+abbrev pub AllPolled : BTreeSet ℕ → RecursorCore → ℕ → Type 0
+AllPolled polled core r = (number : ℕ) → open_at core r ≡ Some number → contains nat_cmp polled number ≡ true
 
 -- the question has not begun
 abbrev pub is_waiting : Option Played → Bool
@@ -40,12 +51,13 @@ open_play played.Unanswered = 0
 abbrev pub open_plays : List Played → ℕ
 open_plays plays = sum_by open_play plays
 
--- how many steps and polls are before the machine, at most: each step may be as many polls as patience allows
-abbrev pub due_of : ℕ → ℕ → ℕ → ℕ
-due_of most steps polls = (most + 1) * steps + polls
+-- What is left to do where so many orders were given, and the orders under way have so many polls and ends before them: each number that no order
+-- has yet may be that of an order with as many polls as patience allows, and its end.
+unfoldable pub due_of : ℕ → ℕ → ℕ → ℕ
+due_of most given polls = (most + 2) * (2 ^ 64 - given) + polls
 
 abbrev pub due : {P C F E : Type 0} {p : Ghosts P C F E} → ℕ → RecursorCore → Runner P C F E p → ℕ
-due patience core r = due_of (max 1 patience) (rank core) (polls_left patience r.running)
+due patience core r = due_of (max 1 patience) (given_by core) (polls_left patience r)
 
 -- what is left of the questions under way
 abbrev pub work : {P C F E : Type 0} {p : Ghosts P C F E} → ℕ → RecursorCore → Runner P C F E p → List Played → ℕ

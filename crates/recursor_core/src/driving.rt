@@ -17,9 +17,9 @@ ghost use Rattle.dns_core.specs.declared.request.Question.{Question};
 
 use crate::machine::RecursorCore;
 use crate::recursor::Recursor;
-use crate::runner::Runner;
 use crate::turns::{Played, begun, play, take_reply};
 use dns_core::{ConnectionProvider, NoMemory, Question, Turn};
+use order_runner::Runner;
 use recursor_types::Reply;
 use server_core::Tick;
 use std::alloc::Global;

@@ -5,7 +5,6 @@ mod driving;
 mod machine;
 mod recursor;
 mod resolving;
-mod runner;
 mod threads;
 mod turns;
 

@@ -4,16 +4,18 @@ ghost use Rattle.dns_core.specs.Log.{Log};
 ghost use Rattle.server_core.specs.Order.{entry_of};
 ghost use Rattle.walk_tables.specs.Order.{IsNext, is_given_up, closing_of, last_entry, TellsOutcome, LogGoesOn};
 ghost use Rattle.walk_tables.specs.Lookup.{LeavesLess};
-ghost use Rattle.walk_tables.specs.Taking.{IfOpen, Takes};
-ghost use Rattle.server_pool.specs.Orders.{open_at};
+ghost use Rattle.walk_tables.specs.Taking.{Takes};
+ghost use Rattle.std.specs.BTreeSet.{contains};
+ghost use Rattle.std.specs.Ordering.{nat_cmp};
 ghost use Rattle.resolver_settings.specs.Ttl.{has_reversed};
 ghost use Rattle.recursor_setting.specs.Asking.{connect_of};
 ghost use Rattle.recursor_setting.specs.Setting.{with_patience};
 ghost use Rattle.walk_tables.specs.declared.lookup.Want.TheVariants as want;
-ghost use Rattle.walk_tables.specs.Pools.{PoolsHold};
+ghost use Rattle.walk_tables.specs.Pools.{PoolsHold, GivesNext, IsOutcomeOf};
 ghost use Rattle.walk_tables.specs.Remembered.{CacheHolds};
 ghost use Rattle.recursor_core.specs.Derived.{terms_of, Derived};
-ghost use Rattle.recursor_core.specs.Machine.{need_at, begun_at, IsRequestAt, rank, GoesOn, Steps, Gives, StepGives, IsNewError, IsBeginError, IsNewCore, SameCore, LookupGives, IsBegunAt};
+ghost use Rattle.recursor_core.specs.Resolving.{IfAwaits};
+ghost use Rattle.recursor_core.specs.Machine.{need_at, begun_at, open_at, given_by, IsRequestAt, rank, IsNearer, GoesOn, Steps, Gives, StepGives, IsNewError, IsBeginError, IsNewCore, SameCore, LookupGives, IsBegunAt};
 
 use crate::resolving::{Need, Resolution, State};
 use dns_core::{ConnectOptions, DnsRequest, NoMemory, Question, TryClone};
@@ -22,6 +24,7 @@ use recursor_types::{MessageKind, RecursorError, RecursorOptions, Reply};
 use resolver_cache::ResponseCache;
 use server_core::{After, Order, Outcome, PoolContext, Sent, Tick};
 use std::alloc::Global;
+use std::collections::BTreeSet;
 use std::net::IpAddr;
 use walk_tables::{Pools, Stepped, Want};
 
@@ -161,6 +164,7 @@ impl RecursorCore {
         ensures moment { self.new.moment ≡ max self.old.moment now }
         ensures derived { (log : Log) → Derived self.old log → Derived self.new log }
         ensures same { (self.new.setting ≡ self.old.setting) × (self.new.greatest ≡ self.old.greatest) × (self.new.resolutions ≡ self.old.resolutions) × (self.new.cache ≡ self.old.cache) }
+        ensures pools { self.new.pools ≡ self.old.pools }
     {
         self.moment = self.moment.max(now);
     }
@@ -229,7 +233,7 @@ impl RecursorCore {
     /// Answers a resolution with what the cache has for its question, or begins its walk.
     fn set_out(&mut self, alloc: Global, r: usize) -> Result<(), NoMemory>
         requires { need_at self.old r ≡ Need.SetOut }
-        ensures falls { rank self.new < rank self.old }
+        ensures nearer { IsNearer self.old self.new }
         ensures derived { (log : Log) → Derived self.old log → Derived self.new log }
         ensures same { SameCore self.old self.new }
     {
@@ -241,7 +245,7 @@ impl RecursorCore {
     /// Goes by what the cache has for the present lookup of a resolution.
     fn recall(&mut self, alloc: Global, r: usize) -> Result<(), NoMemory>
         requires { need_at self.old r ≡ Need.Send want.Recall }
-        ensures falls { rank self.new < rank self.old }
+        ensures nearer { IsNearer self.old self.new }
         ensures derived { (log : Log) → Derived self.old log → Derived self.new log }
         ensures same { SameCore self.old self.new }
     {
@@ -252,7 +256,7 @@ impl RecursorCore {
 
     fn hear(&mut self, alloc: Global, r: usize) -> Result<(), NoMemory>
         requires { need_at self.old r ≡ Need.Send want.Hear }
-        ensures falls { rank self.new < rank self.old }
+        ensures nearer { IsNearer self.old self.new }
         ensures derived { (log : Log) → Derived self.old log → Derived self.new log }
         ensures same { SameCore self.old self.new }
     {
@@ -275,7 +279,7 @@ impl RecursorCore {
         requires want { need_at self.old r ≡ Need.Send want.Begin }
         requires asks { IsRequestAt request self.old r }
         ensures falls { OnOk result (rank self.new < rank self.old) }
-        ensures keeps { rank self.new ≤ rank self.old }
+        ensures given { given_by self.new ≡ given_by self.old }
         ensures derived { (log : Log) → Derived self.old log → Derived self.new log }
         ensures same { SameCore self.old self.new }
     {
@@ -289,10 +293,10 @@ impl RecursorCore {
     fn step_lookup(&mut self, alloc: Global, r: usize) -> Result<Stepped, NoMemory>
         requires { need_at self.old r ≡ Need.Send want.Step }
         ensures falls { IfOk result (LeavesLess (rank self.old) (rank self.new)) }
-        ensures keeps { rank self.new ≤ rank self.old }
+        ensures given { GivesNext (given_by self.old) (given_by self.new) result }
         ensures derived { (log : Log) → Derived self.old log → Derived self.new log × IfOk result (LookupGives self.old log) }
         ensures same { SameCore self.old self.new }
-        ensures waits { IfOk result (IfOpen self.new.pools) }
+        ensures waits { IfOk result (IfAwaits (open_at self.new r)) }
     {
         let since = self.greatest;
         let tick = self.tick();
@@ -302,7 +306,8 @@ impl RecursorCore {
 
     fn take_reply(&mut self, r: usize) -> Option<Box<Reply>>
         requires { need_at self.old r ≡ Need.Reply }
-        ensures falls { rank self.new < rank self.old }
+        ensures given { given_by self.new ≡ given_by self.old }
+        ensures ended { need_at self.new r ≡ Need.Nothing }
         ensures some { IsSome result }
         ensures derived { (log : Log) → Derived self.old log → Derived self.new log × IfSome result (λ reply. StepGives self.old log r (Step.Done reply)) }
         ensures same { SameCore self.old self.new }
@@ -329,7 +334,7 @@ impl RecursorCore {
     /// Begins the present lookup at the servers of its zone.
     fn begin_asking(&mut self, alloc: Global, r: usize) -> Result<Progress, NoMemory>
         requires { need_at self.old r ≡ Need.Send want.Begin }
-        ensures goes { GoesOn self.old self.new result }
+        ensures goes { GoesOn self.old self.new r result }
         ensures gives { (log : Log) → Derived self.old log → Derived self.new log × IfOk result (Gives self.old log r) }
         ensures same { SameCore self.old self.new }
     {
@@ -342,7 +347,7 @@ impl RecursorCore {
     /// its answer.
     fn give_order(&mut self, alloc: Global, r: usize) -> Result<Progress, NoMemory>
         requires { need_at self.old r ≡ Need.Send want.Step }
-        ensures goes { GoesOn self.old self.new result }
+        ensures goes { GoesOn self.old self.new r result }
         ensures gives { (log : Log) → Derived self.old log → Derived self.new log × IfOk result (Gives self.old log r) }
         ensures same { SameCore self.old self.new }
     {
@@ -358,7 +363,7 @@ impl RecursorCore {
 
     fn reply(&mut self, r: usize) -> Progress
         requires { need_at self.old r ≡ Need.Reply }
-        ensures goes { GoesOn self.old self.new (Ok result) }
+        ensures goes { GoesOn self.old self.new r (Ok result) }
         ensures gives { (log : Log) → Derived self.old log → Derived self.new log × Gives self.old log r result }
         ensures same { SameCore self.old self.new }
     {
@@ -371,7 +376,7 @@ impl RecursorCore {
     /// One step of a send.
     fn send(&mut self, alloc: Global, r: usize, want: Want) -> Result<Progress, NoMemory>
         requires { need_at self.old r ≡ Need.Send want }
-        ensures goes { GoesOn self.old self.new result }
+        ensures goes { GoesOn self.old self.new r result }
         ensures gives { (log : Log) → Derived self.old log → Derived self.new log × IfOk result (Gives self.old log r) }
         ensures same { SameCore self.old self.new }
     {
@@ -390,7 +395,7 @@ impl RecursorCore {
     }
 
     fn step(&mut self, alloc: Global, r: usize) -> Result<Progress, NoMemory>
-        ensures goes { GoesOn self.old self.new result }
+        ensures goes { GoesOn self.old self.new r result }
         ensures gives { (log : Log) → Derived self.old log → Derived self.new log × IfOk result (Gives self.old log r) }
         ensures same { SameCore self.old self.new }
     {
@@ -407,7 +412,7 @@ impl RecursorCore {
 
     /// What a resolution has next: an order, one that it waits for, its reply once, or nothing more.
     pub fn next(&mut self, alloc: Global, r: usize) -> Result<Step, NoMemory>
-        ensures steps { Steps self.old self.new result }
+        ensures steps { Steps self.old self.new r result }
         ensures gives { (log : Log) → Derived self.old log → Derived self.new log × IfOk result (StepGives self.old log r) }
         ensures same { SameCore self.old self.new }
     {
@@ -421,14 +426,14 @@ impl RecursorCore {
 
     /// Whether an entry is later than all that were put before, or there is none.
     fn is_next(&self, entry: u64) -> bool
-        ensures { IsTrue result → IsNext self.now.greatest entry }
+        ensures { IsTrue result ↔ IsNext self.now.greatest entry }
     {
         entry == 0 || self.greatest < entry
     }
 
-    /// Takes the outcome of an order, for the lookup at which it is open, whoever waits for that. One whose
-    /// order is not open, or which is none of it, is late, and changes nothing; so is one whose number is
-    /// not greater than all before; that of a sleep is 0. With a poll that found nothing is handed in what
+    /// Takes the outcome of an order, for the lookup at which it is open, whoever waits for that. It is late,
+    /// and changes nothing, exactly where it is none of an order that is open, or its number is not greater
+    /// than all before; that of a sleep is 0. With a poll that found nothing is handed in what
     /// it waits for. The last such poll that patience allows has ended the order, which is to be given up
     /// by whoever carries it; so is one that still is under way where memory is wanting. What counts of a
     /// response that a lookup came to is written into the cache; on want of memory for this the outcome is
@@ -441,8 +446,8 @@ impl RecursorCore {
         waits: Option<&Sent>,
         tick: Tick,
     ) -> Result<After, NoMemory>
-        ensures keeps { rank self.new ≤ rank self.old }
-        ensures late { open_at number self.old.pools.shared ≡ None → result ≡ Ok After.Late }
+        ensures given { given_by self.new ≡ given_by self.old }
+        ensures late { (result ≡ Ok After.Late) ↔ (IsNext self.old.greatest (entry_of outcome) → IsOutcomeOf self.old.pools number (option_copied waits.entry) outcome → ⊥) }
         ensures derived { (log told longer : Log) → self.old.setting.patience ≤ tick.patience → Derived self.old log
             → TellsOutcome self.old.moment log tick (option_copied waits.entry) outcome told → LogGoesOn tick.now (option_copied waits.entry) outcome result told longer → Derived self.new longer }
         ensures takes { IfOk result (Takes self.old.cache self.new.cache self.old.pools self.new.pools number outcome tick) }
@@ -464,18 +469,41 @@ impl RecursorCore {
         after
     }
 
+    /// The order that a resolution waits for, but for these.
+    pub fn next_open(&self, r: usize, but: &BTreeSet<u64>) -> Option<u64>
+        ensures some { IfSome result (λ number. (open_at self.now r ≡ Some number) × (contains nat_cmp but.now number ≡ false)) }
+        ensures none { IfNone result ((number : ℕ) → open_at self.now r ≡ Some number → contains nat_cmp but.now number ≡ true) }
+    {
+        let number = self.open_order(r)?;
+        if but.contains(&number) {
+            None
+        } else {
+            Some(number)
+        }
+    }
+
+    /// The order that a resolution waits for.
+    fn open_order(&self, r: usize) -> Option<u64>
+        ensures { result ≡ open_at self.now r }
+    {
+        match self.resolutions.get(r) {
+            Some(resolution) => resolution.open_order(&self.pools),
+            None => None,
+        }
+    }
+
     /// Ends a resolution without a reply, and answers the order that it waited for.
     pub fn cancel(&mut self, r: usize) -> Option<u64>
-        ensures keeps { rank self.new ≤ rank self.old }
+        ensures awaited { result ≡ open_at self.old r }
+        ensures given { given_by self.new ≡ given_by self.old }
         ensures derived { (log : Log) → Derived self.old log → Derived self.new log }
         ensures same { SameCore self.old self.new }
     {
-        if r >= self.resolutions.len() {
-            return None;
+        let order = self.open_order(r);
+        if r < self.resolutions.len() {
+            let resolution = &mut self.resolutions[r];
+            resolution.end(&mut self.pools);
         }
-        let resolution = &mut self.resolutions[r];
-        let order = resolution.open_order(&self.pools);
-        resolution.end(&mut self.pools);
         order
     }
 }

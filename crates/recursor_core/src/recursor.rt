@@ -9,9 +9,9 @@ ghost use Rattle.recursor_setting.specs.Asking.{connect_of};
 ghost use Rattle.recursor_core.specs.Standing.{Standing, Rests};
 
 use crate::machine::RecursorCore;
-use crate::runner::Runner;
 use dns_core::{ConnectOptions, ConnectionProvider, NoMemory};
 use order_carrier::Carrier;
+use order_runner::Runner;
 use recursor_types::{MessageKind, RecursorError, RecursorOptions};
 use server_core::PoolContext;
 use std::alloc::Global;
@@ -70,7 +70,7 @@ impl<P: ConnectionProvider> Recursor<P> {
         };
         Ok(Recursor {
             core,
-            runner: Runner::new(Carrier::new(alloc, provider, connect)),
+            runner: Runner::new(alloc, Carrier::new(alloc, provider, connect)),
         })
     }
 

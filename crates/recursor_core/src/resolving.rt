@@ -7,10 +7,9 @@ ghost use Rattle.recursor_walk.specs.Replies.{ReplyHolds};
 ghost use Rattle.walk_tables.specs.Tried.{machine_timer};
 ghost use Rattle.recursor_walk.specs.Counted.{IsRecalled, recalled};
 ghost use Rattle.walk_tables.specs.Remembered.{CacheHolds};
-ghost use Rattle.walk_tables.specs.Taking.{IfOpen, IsOpen};
-ghost use Rattle.recursor_core.specs.Resolving.{want_of, state_steps, steps, IsSettled, SameBegun, asked_of, AsksFor, IsAnswered};
+ghost use Rattle.recursor_core.specs.Resolving.{want_of, state_steps, steps, open_of, IfAwaits, IsSettled, SameBegun, asked_of, AsksFor, IsAnswered};
 ghost use Rattle.walk_tables.specs.Lookup.{want_of as wanted, LeavesLess};
-ghost use Rattle.walk_tables.specs.Pools.{PoolsHold, StepGoes};
+ghost use Rattle.walk_tables.specs.Pools.{PoolsHold, StepGoes, given_so_far, GivesNext};
 ghost use Rattle.walk_tables.specs.declared.lookup.Want.TheVariants as want;
 ghost use Rattle.recursor_walk.specs.Way.{WalkHolds, WalkComes};
 ghost use Rattle.recursor_core.specs.Derived.{StateHolds, ResolutionHolds};
@@ -160,7 +159,7 @@ impl Resolution {
 
     /// The number of the order that it waits for.
     pub fn open_order(&self, pools: &Pools) -> Option<u64>
-        ensures { IfSome result (IsOpen pools.now) }
+        ensures { result ≡ open_of pools.now self.now }
     {
         match &self.state {
             State::Under(walk) => walk.lookup.open_order(pools),
@@ -248,6 +247,7 @@ impl Resolution {
         requires asks { AsksFor request self.old.state }
         ensures falls { OnOk result (steps self.new < steps self.old) }
         ensures err { OnErr result (self.new ≡ self.old) }
+        ensures given { given_so_far pools.new ≡ given_so_far pools.old }
         ensures begun { SameBegun self.old self.new }
         ensures holds { (terms : Terms) (greatest : ℕ) (log : Log) → PoolsHold terms greatest tick.now log pools.old
             → ResolutionHolds terms greatest tick.now log self.old → ResolutionHolds terms greatest tick.now log self.new × PoolsHold terms greatest tick.now log pools.new }
@@ -268,12 +268,12 @@ impl Resolution {
     ) -> Result<Stepped, NoMemory>
         requires { want_of self.old ≡ Need.Send want.Step }
         ensures falls { IfOk result (LeavesLess (steps self.old) (steps self.new)) }
-        ensures keeps { steps self.new ≤ steps self.old }
+        ensures given { GivesNext (given_so_far pools.old) (given_so_far pools.new) result }
         ensures begun { SameBegun self.old self.new }
         ensures holds { (terms : Terms) (log : Log) → PoolsHold terms since tick.now log pools.old
             → ResolutionHolds terms since tick.now log self.old → ResolutionHolds terms since tick.now log self.new × PoolsHold terms since tick.now log pools.new }
         ensures goes { (terms : Terms) (log : Log) → PoolsHold terms since tick.now log pools.old → IfOk result (StepGoes (given_of terms) log (since + 1)) }
-        ensures waits { IfOk result (IfOpen pools.new) }
+        ensures waits { IfOk result (IfAwaits (open_of pools.new self.new)) }
     {
         let begun = self.begun;
         match &mut self.state {
@@ -285,7 +285,7 @@ impl Resolution {
     /// Gives its reply away, and has ended.
     pub fn take_reply(&mut self) -> Option<Box<Reply>>
         requires { want_of self.old ≡ Need.Reply }
-        ensures falls { steps self.new < steps self.old }
+        ensures ended { want_of self.new ≡ Need.Nothing }
         ensures some { IsSome result }
         ensures begun { SameBegun self.old self.new }
         ensures holds { (terms : Terms) (greatest moment : ℕ) (log : Log)
@@ -301,6 +301,7 @@ impl Resolution {
     /// Ends without a reply, and leaves its lookup.
     pub fn end(&mut self, pools: &mut Pools)
         ensures nothing { want_of self.new ≡ Need.Nothing }
+        ensures given { given_so_far pools.new ≡ given_so_far pools.old }
         ensures begun { SameBegun self.old self.new }
         ensures holds { (terms : Terms) (greatest moment : ℕ) (log : Log) → PoolsHold terms greatest moment log pools.old
             → ResolutionHolds terms greatest moment log self.old → ResolutionHolds terms greatest moment log self.new × PoolsHold terms greatest moment log pools.new }

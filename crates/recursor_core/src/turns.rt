@@ -1,5 +1,7 @@
 //! Turns of questions: the machine's orders are carried out until nothing new is found.
-ghost use Rattle.std.specs.Prelude.{Contains, ◌≡◌, ◌≢◌, ◌≤◌, ◌<◌, ◌⊎◌, ℕ, List, [], Option, Some, Err, IfOk, IfSome, IfNone, OnOk, MatchBool, slice_get, slice_set, vec_len};
+ghost use Rattle.std.specs.Prelude.{Contains, ◌≡◌, ◌≢◌, ◌≤◌, ◌<◌, ◌+◌, ◌⊎◌, ℕ, max, true, false, List, [], Option, Some, Err, IfOk, IfSome, IfNone, IsSome, OnOk, MatchBool, slice_get, slice_set, vec_len};
+ghost use Rattle.std.specs.BTreeSet.{contains};
+ghost use Rattle.std.specs.Ordering.{nat_cmp};
 ghost use Rattle.dns_core.specs.Log.{Log};
 ghost use Rattle.dns_core.specs.declared.log.LogEntry.{LogEntry};
 ghost use Rattle.dns_core.specs.declared.request.Question.{Question};
@@ -7,23 +9,24 @@ ghost use Rattle.dns_core.specs.declared.request.Turn.{Turn};
 ghost use Rattle.walk_tables.specs.Terms.{given_of};
 ghost use Rattle.order_carrier.specs.Growing.{TellsThat};
 ghost use Rattle.recursor_core.specs.Derived.{terms_of, Derived};
-ghost use Rattle.recursor_core.specs.Machine.{rank, Begun, begun_at};
-ghost use Rattle.recursor_core.specs.Runner.{GoesRight, RunsUnder, sent_by, HasTold};
-ghost use Rattle.recursor_core.specs.Standing.{Holds, Moves, ReplyTold, TurnedTold, PlaysHold, run_moments};
-ghost use Rattle.recursor_core.specs.Turns.{due, TurnFalls, work, open_plays, IsBegunAt, IsUnderWay, Begins, ReplyOf};
+ghost use Rattle.order_runner.specs.Runner.{GoesRight, held_at, sent_by, HasTold};
+ghost use Rattle.recursor_core.specs.Machine.{Begun, begun_at, open_at, given_by};
+ghost use Rattle.recursor_core.specs.declared.machine.RecursorCore.{RecursorCore};
+ghost use Rattle.recursor_core.specs.Standing.{Holds, Moves, Ready, Goes, ReplyTold, TurnedTold, PlaysHold, run_moments};
+ghost use Rattle.recursor_core.specs.Turns.{due, TurnFalls, AskFalls, AllPolled, work, open_plays, IsBegunAt, IsUnderWay, Begins, ReplyOf};
 
 use crate::machine::{RecursorCore, Step};
-use crate::runner::Runner;
 use dns_core::{ConnectionProvider, NoMemory, Numbers, Question, TryClone};
+use order_runner::Runner;
 use recursor_types::{RecursorError, Reply};
 use server_core::{After, Order, Outcome, Tick};
 use std::alloc::Global;
+use std::collections::BTreeSet;
 use std::mem;
 
-/// What became of a step or of a turn of a question.
+/// What became of a turn of a question: it waits for an order, has its reply, or has ended without one.
 #[derive(Drop, Debug)]
 pub enum Turned {
-    Again,
     Pending,
     Done(Box<Reply>),
     Ended,
@@ -49,9 +52,10 @@ pub fn no_memory(alloc: Global) -> Reply
     }
 }
 
-/// Feeds an outcome of the order that runs to the machine. An order that has ended though it still is
-/// under way is given up: after its last poll, or for want of memory. A late outcome, which no order that
-/// is open has, ends the turn as want of memory does; so does want of memory for the cache.
+/// Feeds an outcome of an order that is under way to the machine. An order that has ended is forgotten; one
+/// that has ended though it still is under way is given up: after its last poll, or for want of memory. A
+/// late outcome, which no order that is open has, ends the turn as want of memory does; so does want of
+/// memory for the cache.
 fn settle<P: ConnectionProvider>(
     alloc: Global,
     core: &mut RecursorCore,
@@ -59,24 +63,23 @@ fn settle<P: ConnectionProvider>(
     number: u64,
     outcome: Outcome,
     tick: Tick,
-) -> Result<Turned, NoMemory>
-    requires holds { Holds P.ConnectionProvider tick.patience core.old runner.old }
-    requires moment { core.old.moment ≡ tick.now }
-    requires told { RunsUnder number runner.old.running × TellsThat (P.log runner.old.carrier.provider) (HasTold tick.now (sent_by runner.old) outcome) }
-    ensures vouches { (es : List LogEntry) → P.vouches runner.new.carrier.provider es → P.vouches runner.old.carrier.provider es }
-    ensures holds { Holds P.ConnectionProvider tick.patience core.new runner.new }
-    ensures moves { Moves P.ConnectionProvider tick.patience tick.now core.old core.new runner.old.carrier runner.new.carrier }
-    ensures moment { core.new.moment ≡ tick.now }
+) -> Result<(), NoMemory>
+    requires ready { Ready P.ConnectionProvider tick core.old runner.old }
+    requires held { IsSome (held_at runner.old number) }
+    requires told { TellsThat (P.log runner.old.carrier.provider) (HasTold tick.now (sent_by runner.old number) outcome) }
+    ensures goes { Goes P.ConnectionProvider tick core.old core.new runner.old runner.new }
     ensures keeps { due tick.patience core.new runner.new ≤ due tick.patience core.old runner.old }
-    ensures told { (b : Option Begun) → IfOk result (TurnedTold (terms_of core.old) tick.now (P.log runner.new.carrier.provider) b) }
 {
-    let waits = runner.awaited(&outcome);
+    let waits = runner.awaited(number, &outcome);
     match core.put(alloc, number, outcome, waits, tick) {
-        Ok(After::Kept) => Ok(Turned::Pending),
-        Ok(After::Ended) => Ok(Turned::Again),
+        Ok(After::Kept) => Ok(()),
+        Ok(After::Ended) => {
+            runner.close(number);
+            Ok(())
+        }
         Ok(After::GiveUp) => {
             runner.give_up(number, tick.now);
-            Ok(Turned::Again)
+            Ok(())
         }
         Ok(After::Late) => Err(NoMemory),
         Err(NoMemory) => {
@@ -86,7 +89,7 @@ fn settle<P: ConnectionProvider>(
     }
 }
 
-/// Starts an order that the machine gave.
+/// Starts an order that the machine gave, and polls it once.
 fn start_order<P: ConnectionProvider>(
     alloc: Global,
     core: &mut RecursorCore,
@@ -94,71 +97,119 @@ fn start_order<P: ConnectionProvider>(
     number: u64,
     order: Box<Order>,
     tick: Tick,
-) -> Result<Turned, NoMemory>
-    requires holds { Holds P.ConnectionProvider tick.patience core.old runner.old }
-    requires moment { core.old.moment ≡ tick.now }
+) -> Result<(), NoMemory>
+    requires ready { Ready P.ConnectionProvider tick core.old runner.old }
     requires goes { GoesRight (P.log runner.old.carrier.provider) order.value (given_of (terms_of core.old)) }
-    ensures vouches { (es : List LogEntry) → P.vouches runner.new.carrier.provider es → P.vouches runner.old.carrier.provider es }
-    ensures holds { Holds P.ConnectionProvider tick.patience core.new runner.new }
-    ensures moves { Moves P.ConnectionProvider tick.patience tick.now core.old core.new runner.old.carrier runner.new.carrier }
-    ensures moment { core.new.moment ≡ tick.now }
-    ensures keeps { rank core.new ≤ rank core.old }
-    ensures told { (b : Option Begun) → IfOk result (TurnedTold (terms_of core.old) tick.now (P.log runner.new.carrier.provider) b) }
+    ensures goes { Goes P.ConnectionProvider tick core.old core.new runner.old runner.new }
+    ensures few { due tick.patience core.new runner.new ≤ due tick.patience core.old runner.old + (max 1 tick.patience + 1) }
 {
     let outcome = runner.start(number, order, tick)?;
     settle(alloc, core, runner, number, outcome, tick)
 }
 
-/// Polls an order that the machine waits for.
+/// Begins an order that the machine gave in this turn, and notes that it was polled in it. Less is left to do
+/// than before it was given.
+fn begin_order<P: ConnectionProvider>(
+    alloc: Global,
+    core: &mut RecursorCore,
+    runner: &mut Runner<P>,
+    polled: &mut BTreeSet<u64>,
+    number: u64,
+    order: Box<Order>,
+    tick: Tick,
+) -> Result<(), NoMemory>
+    requires ready { Ready P.ConnectionProvider tick core.old runner.old }
+    requires goes { GoesRight (P.log runner.old.carrier.provider) order.value (given_of (terms_of core.old)) }
+    ensures goes { Goes P.ConnectionProvider tick core.old core.new runner.old runner.new }
+    ensures falls { (before : RecursorCore) → number ≡ given_by before + 1 → given_by core.old ≡ given_by before + 1
+        → due tick.patience core.new runner.new < due tick.patience before runner.old }
+    ensures noted { OnOk result (contains nat_cmp polled.new number ≡ true) }
+{
+    if !polled.insert(number)? {
+        return Err(NoMemory);
+    }
+    start_order(alloc, core, runner, number, order, tick)
+}
+
+/// Polls an order that a resolution waits for and that was not polled in this turn, and notes that it was.
 fn poll_order<P: ConnectionProvider>(
     alloc: Global,
     core: &mut RecursorCore,
     runner: &mut Runner<P>,
+    polled: &mut BTreeSet<u64>,
+    _r: usize,
     number: u64,
     tick: Tick,
-) -> Result<Turned, NoMemory>
-    requires holds { Holds P.ConnectionProvider tick.patience core.old runner.old }
-    requires moment { core.old.moment ≡ tick.now }
-    ensures vouches { (es : List LogEntry) → P.vouches runner.new.carrier.provider es → P.vouches runner.old.carrier.provider es }
-    ensures holds { Holds P.ConnectionProvider tick.patience core.new runner.new }
-    ensures moves { Moves P.ConnectionProvider tick.patience tick.now core.old core.new runner.old.carrier runner.new.carrier }
-    ensures moment { core.new.moment ≡ tick.now }
+) -> Result<(), NoMemory>
+    requires ready { Ready P.ConnectionProvider tick core.old runner.old }
+    requires awaited { open_at core.old _r ≡ Some number }
+    requires fresh { contains nat_cmp polled.old number ≡ false }
+    ensures goes { Goes P.ConnectionProvider tick core.old core.new runner.old runner.new }
     ensures falls { OnOk result (due tick.patience core.new runner.new < due tick.patience core.old runner.old) }
     ensures keeps { due tick.patience core.new runner.new ≤ due tick.patience core.old runner.old }
-    ensures told { (b : Option Begun) → IfOk result (TurnedTold (terms_of core.old) tick.now (P.log runner.new.carrier.provider) b) }
+    ensures noted { OnOk result (contains nat_cmp polled.new number ≡ true) }
 {
+    let _new = polled.insert(number)?;
     let outcome = runner.poll(number, tick)?;
     settle(alloc, core, runner, number, outcome, tick)
 }
 
-/// One step of a question: an order is started, or polled, or its reply given.
-fn step<P: ConnectionProvider>(
+/// The first half of a turn: the machine is asked until the resolution waits or is done, and each order that
+/// it gives is begun.
+fn ask<P: ConnectionProvider>(
     alloc: Global,
     core: &mut RecursorCore,
     runner: &mut Runner<P>,
+    polled: &mut BTreeSet<u64>,
     r: usize,
     tick: Tick,
 ) -> Result<Turned, NoMemory>
-    requires holds { Holds P.ConnectionProvider tick.patience core.old runner.old }
-    requires moment { core.old.moment ≡ tick.now }
-    ensures vouches { (es : List LogEntry) → P.vouches runner.new.carrier.provider es → P.vouches runner.old.carrier.provider es }
-    ensures holds { Holds P.ConnectionProvider tick.patience core.new runner.new }
-    ensures moves { Moves P.ConnectionProvider tick.patience tick.now core.old core.new runner.old.carrier runner.new.carrier }
-    ensures moment { core.new.moment ≡ tick.now }
+    requires ready { Ready P.ConnectionProvider tick core.old runner.old }
+    ensures goes { Goes P.ConnectionProvider tick core.old core.new runner.old runner.new }
     ensures told { IfOk result (TurnedTold (terms_of core.old) tick.now (P.log runner.new.carrier.provider) (begun_at core.old r)) }
-    ensures falls { IfOk result (TurnFalls (due tick.patience core.new runner.new) (due tick.patience core.old runner.old)) }
+    ensures falls { IfOk result (AskFalls (due tick.patience core.new runner.new) (due tick.patience core.old runner.old) (open_at core.new r) polled.new polled.old) }
     ensures keeps { due tick.patience core.new runner.new ≤ due tick.patience core.old runner.old }
 {
-    let next = core.next(alloc, r)?;
-    match next {
-        Step::Order { number, order } => start_order(alloc, core, runner, number, order, tick),
-        Step::Waiting { number } => poll_order(alloc, core, runner, number, tick),
-        Step::Done(reply) => Ok(Turned::Done(reply)),
-        Step::Ended => Ok(Turned::Ended),
+    'orders: loop {
+        match core.next(alloc, r)? {
+            Step::Order { number, order } => {
+                begin_order(alloc, core, runner, polled, number, order, tick)?;
+            }
+            Step::Waiting { .. } => return Ok(Turned::Pending),
+            Step::Done(reply) => return Ok(Turned::Done(reply)),
+            Step::Ended => return Ok(Turned::Ended),
+        }
     }
 }
 
-/// A turn: steps until an order stays pending, or the question is answered.
+/// The second half of a turn: each order that the resolution waits for is polled, by rising number, where it
+/// was not polled in this turn. It answers whether there was one.
+fn poll_rest<P: ConnectionProvider>(
+    alloc: Global,
+    core: &mut RecursorCore,
+    runner: &mut Runner<P>,
+    polled: &mut BTreeSet<u64>,
+    r: usize,
+    tick: Tick,
+) -> Result<bool, NoMemory>
+    requires ready { Ready P.ConnectionProvider tick core.old runner.old }
+    ensures goes { Goes P.ConnectionProvider tick core.old core.new runner.old runner.new }
+    ensures falls { IfOk result (λ some. MatchBool some (due tick.patience core.new runner.new < due tick.patience core.old runner.old) (AllPolled polled.old core.old r)) }
+    ensures keeps { due tick.patience core.new runner.new ≤ due tick.patience core.old runner.old }
+    ensures all { IfOk result (λ some. AllPolled polled.new core.new r) }
+{
+    let mut some = false;
+    'orders: loop {
+        let Some(number) = core.next_open(r, polled) else {
+            return Ok(some);
+        };
+        poll_order(alloc, core, runner, polled, r, number, tick)?;
+        some = true;
+    }
+}
+
+/// A turn: until nothing new is found the machine is asked till the resolution waits, each order that it
+/// gives is begun, and each other order that the resolution waits for is polled, once in a turn.
 fn turn<P: ConnectionProvider>(
     alloc: Global,
     core: &mut RecursorCore,
@@ -166,22 +217,21 @@ fn turn<P: ConnectionProvider>(
     r: usize,
     tick: Tick,
 ) -> Result<Turned, NoMemory>
-    requires holds { Holds P.ConnectionProvider tick.patience core.old runner.old }
-    requires moment { core.old.moment ≡ tick.now }
-    ensures vouches { (es : List LogEntry) → P.vouches runner.new.carrier.provider es → P.vouches runner.old.carrier.provider es }
-    ensures holds { Holds P.ConnectionProvider tick.patience core.new runner.new }
-    ensures moves { Moves P.ConnectionProvider tick.patience tick.now core.old core.new runner.old.carrier runner.new.carrier }
-    ensures moment { core.new.moment ≡ tick.now }
+    requires ready { Ready P.ConnectionProvider tick core.old runner.old }
+    ensures goes { Goes P.ConnectionProvider tick core.old core.new runner.old runner.new }
     ensures told { IfOk result (TurnedTold (terms_of core.old) tick.now (P.log runner.new.carrier.provider) (begun_at core.old r)) }
     ensures falls { IfOk result (TurnFalls (due tick.patience core.new runner.new) (due tick.patience core.old runner.old)) }
     ensures keeps { due tick.patience core.new runner.new ≤ due tick.patience core.old runner.old }
 {
-    'steps: loop {
-        match step(alloc, core, runner, r, tick)? {
-            Turned::Again => {}
-            Turned::Pending => return Ok(Turned::Pending),
+    let mut polled = BTreeSet::new(alloc);
+    'rounds: loop {
+        match ask(alloc, core, runner, &mut polled, r, tick)? {
+            Turned::Pending => {}
             Turned::Done(reply) => return Ok(Turned::Done(reply)),
             Turned::Ended => return Ok(Turned::Ended),
+        }
+        if !poll_rest(alloc, core, runner, &mut polled, r, tick)? {
+            return Ok(Turned::Pending);
         }
     }
 }
@@ -193,13 +243,10 @@ fn abandon<P: ConnectionProvider>(
     r: usize,
     tick: Tick,
 )
-    requires holds { Holds P.ConnectionProvider tick.patience core.old runner.old }
-    requires moment { core.old.moment ≡ tick.now }
-    ensures vouches { (es : List LogEntry) → P.vouches runner.new.carrier.provider es → P.vouches runner.old.carrier.provider es }
-    ensures holds { Holds P.ConnectionProvider tick.patience core.new runner.new }
-    ensures moves { Moves P.ConnectionProvider tick.patience tick.now core.old core.new runner.old.carrier runner.new.carrier }
-    ensures moment { core.new.moment ≡ tick.now }
-    ensures keeps { (p : ℕ) → due p core.new runner.new ≤ due p core.old runner.old }
+    requires ready { Ready P.ConnectionProvider tick core.old runner.old }
+    ensures goes { Goes P.ConnectionProvider tick core.old core.new runner.old runner.new }
+    ensures keeps { due tick.patience core.new runner.new ≤ due tick.patience core.old runner.old }
+    ensures withdrawn { (number : ℕ) → open_at core.old r ≡ Some number → held_at runner.new number ≡ None }
 {
     if let Some(number) = core.cancel(r) {
         runner.give_up(number, tick.now);
@@ -217,10 +264,7 @@ fn answer_of<P: ConnectionProvider>(
 ) -> Result<Option<Box<Reply>>, NoMemory>
     requires holds { Holds P.ConnectionProvider tick.patience core.old runner.old }
     requires moment { core.old.moment ≤ tick.now }
-    ensures vouches { (es : List LogEntry) → P.vouches runner.new.carrier.provider es → P.vouches runner.old.carrier.provider es }
-    ensures holds { Holds P.ConnectionProvider tick.patience core.new runner.new }
-    ensures moves { Moves P.ConnectionProvider tick.patience tick.now core.old core.new runner.old.carrier runner.new.carrier }
-    ensures moment { core.new.moment ≡ tick.now }
+    ensures goes { Goes P.ConnectionProvider tick core.old core.new runner.old runner.new }
     ensures told { IfOk result (λ reply. IfSome reply (λ given. ReplyTold (terms_of core.old) tick.now (P.log runner.new.carrier.provider) (begun_at core.old r) given.value)) }
     ensures falls { IfOk result (λ reply. IfNone reply (due tick.patience core.new runner.new < due tick.patience core.old runner.old)) }
     ensures keeps { due tick.patience core.new runner.new ≤ due tick.patience core.old runner.old }
@@ -304,10 +348,7 @@ fn play_at<P: ConnectionProvider>(
     requires holds { Holds P.ConnectionProvider tick.patience core.old runner.old }
     requires moment { core.old.moment ≤ tick.now }
     requires under_way { IsUnderWay plays.old.items q (Some place) }
-    ensures vouches { (es : List LogEntry) → P.vouches runner.new.carrier.provider es → P.vouches runner.old.carrier.provider es }
-    ensures holds { Holds P.ConnectionProvider tick.patience core.new runner.new }
-    ensures moves { Moves P.ConnectionProvider tick.patience tick.now core.old core.new runner.old.carrier runner.new.carrier }
-    ensures moment { core.new.moment ≡ tick.now }
+    ensures goes { Goes P.ConnectionProvider tick core.old core.new runner.old runner.new }
     ensures plays { (start : ℕ) (turns rest : List Turn) (questions : List Question) → Contains (run_moments start turns) tick.now → PlaysHold core.old (P.log runner.old.carrier.provider) start turns rest questions plays.old.items
         → PlaysHold core.new (P.log runner.new.carrier.provider) start turns rest questions plays.new.items }
     ensures falls { work tick.patience core.new runner.new plays.new.items < work tick.patience core.old runner.old plays.old.items }

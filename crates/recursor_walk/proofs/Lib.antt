@@ -5,3 +5,4 @@ pub mod Candidates
 pub mod Walks
 pub mod Kept
 pub mod Earlier
+pub mod Ending

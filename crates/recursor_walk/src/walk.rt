@@ -1,16 +1,16 @@
 //! The way of one question: from the roots down the zone cuts to the servers of its name, and the
 //! question itself at them; at each step what the cache has comes first (RFC 1034 section 5.3.3).
-ghost use Rattle.std.specs.Prelude.{◌≡◌, ◌<◌, ◌≤◌, ◌+◌, [], ℕ, true, length, Ok, Err, Some, None, IfOk, IfSome, IsSome, OnOk, OnErr};
+ghost use Rattle.std.specs.Prelude.{◌≡◌, ◌<◌, ◌+◌, [], ℕ, true, length, Ok, Err, Some, None, IfOk, IfSome, IsSome, OnOk, OnErr};
 ghost use Rattle.dns_core.specs.Log.{Log};
 ghost use Rattle.dns_core.specs.declared.message.Query.{Query};
 ghost use Rattle.walk_tables.specs.Terms.{Terms, given_of};
 ghost use Rattle.recursor_walk.specs.Replies.{ReplyHolds, IsReply};
 ghost use Rattle.walk_tables.specs.Tried.{machine_timer};
 ghost use Rattle.walk_tables.specs.Lookup.{want_of, LeavesLess, FoundHolds};
-ghost use Rattle.walk_tables.specs.Taking.{IfOpen};
-ghost use Rattle.walk_tables.specs.Pools.{PoolsHold, StepGoes};
+ghost use Rattle.walk_tables.specs.Taking.{IfWaits};
+ghost use Rattle.walk_tables.specs.Pools.{PoolsHold, StepGoes, given_so_far, GivesNext};
 ghost use Rattle.walk_base.specs.Stage.{IsCandidate};
-ghost use Rattle.recursor_walk.specs.Walk.{steps, begin_steps, Goes, Recalls};
+ghost use Rattle.recursor_walk.specs.Walk.{steps, begin_steps, Goes, Ends, EndsIf, verdict_told, verdict_found, verdict_heard, Recalls};
 ghost use Rattle.recursor_walk.specs.Counted.{Stands, Answers, IsRecalled, may_answer};
 ghost use Rattle.walk_tables.specs.declared.lookup.Want.TheVariants as want;
 ghost use Rattle.recursor_walk.specs.Way.{WayHolds, WalkHolds, WalkComes, LeavesBehind};
@@ -140,6 +140,7 @@ impl Walk {
         requires asks { request.query ≡ self.old.lookup.query }
         ensures falls { OnOk result (steps self.new < steps self.old) }
         ensures err { OnErr result (self.new ≡ self.old) }
+        ensures given { given_so_far pools.new ≡ given_so_far pools.old }
         ensures holds { (terms : Terms) (greatest t0 : ℕ) (log : Log) (q : Query) → PoolsHold terms greatest tick.now log pools.old
             → WalkHolds terms greatest tick.now t0 log q self.old → WalkHolds terms greatest tick.now t0 log q self.new × PoolsHold terms greatest tick.now log pools.new }
     {
@@ -159,11 +160,11 @@ impl Walk {
     ) -> Result<Stepped, NoMemory>
         requires want { want_of self.old.lookup.ask ≡ want.Step }
         ensures falls { IfOk result (LeavesLess (steps self.old) (steps self.new)) }
-        ensures keeps { steps self.new ≤ steps self.old }
+        ensures given { GivesNext (given_so_far pools.old) (given_so_far pools.new) result }
         ensures holds { (terms : Terms) (log : Log) (q : Query) → PoolsHold terms since tick.now log pools.old
             → WalkHolds terms since tick.now begun log q self.old → WalkHolds terms since tick.now begun log q self.new × PoolsHold terms since tick.now log pools.new }
         ensures goes { (terms : Terms) (log : Log) → PoolsHold terms since tick.now log pools.old → IfOk result (StepGoes (given_of terms) log (since + 1)) }
-        ensures waits { IfOk result (IfOpen pools.new) }
+        ensures waits { IfOk result (IfWaits pools.new self.new.lookup) }
     {
         self.lookup
             .step(alloc, pools, &self.zone, begun, since, tick)
@@ -178,6 +179,7 @@ impl Walk {
     ) -> Result<Option<Box<Reply>>, NoMemory>
         requires { want_of self.old.lookup.ask ≡ want.Hear }
         ensures falls { Goes self.old self.new result }
+        ensures ends { EndsIf self.old.stage (verdict_heard self.old) result }
         ensures holds { (terms : Terms) (greatest moment t0 : ℕ) (log : Log) → terms.server_filter ≡ filter.now
             → WalkHolds terms greatest moment t0 log question.now.query self.old
             → IfOk result (WalkComes terms greatest moment t0 log question.now self.new) }
@@ -197,6 +199,7 @@ impl Walk {
         found: Found,
     ) -> Result<Option<Box<Reply>>, NoMemory>
         ensures falls { Goes self.old self.new result }
+        ensures ends { EndsIf self.old.stage (verdict_found self.old.zone self.old.lookup.query found) result }
         ensures holds { (terms : Terms) (greatest moment t0 : ℕ) (log : Log) → terms.server_filter ≡ filter.now
             → WayHolds terms greatest log question.now.query self.old
             → FoundHolds terms greatest moment t0 log self.old.zone self.old.lookup.query self.old.lookup.ends found
@@ -220,6 +223,7 @@ impl Walk {
     ) -> Result<Option<Box<Reply>>, NoMemory>
         requires { IsCandidate self.old.stage }
         ensures falls { Goes self.old self.new result }
+        ensures ends { EndsIf self.old.stage (verdict_found self.old.zone self.old.lookup.query found) result }
         ensures holds { (terms : Terms) (greatest moment t0 : ℕ) (log : Log) → terms.server_filter ≡ filter.now
             → WayHolds terms greatest log question.now.query self.old
             → FoundHolds terms greatest moment t0 log self.old.zone self.old.lookup.query self.old.lookup.ends found
@@ -247,6 +251,7 @@ impl Walk {
     ) -> Result<Option<Box<Reply>>, NoMemory>
         requires { IsCandidate self.old.stage }
         ensures falls { Goes self.old self.new result }
+        ensures ends { EndsIf self.old.stage (verdict_told self.old.zone self.old.lookup.query class) result }
         ensures holds { (terms : Terms) (greatest moment t0 : ℕ) (log : Log) → terms.server_filter ≡ filter.now
             → WayHolds terms greatest log question.now.query self.old
             → FoundHolds terms greatest moment t0 log self.old.zone self.old.lookup.query self.old.lookup.ends (Found.Told entry _at class)
@@ -271,6 +276,7 @@ impl Walk {
     ) -> Result<Option<Box<Reply>>, NoMemory>
         requires { IsCandidate self.old.stage }
         ensures falls { Goes self.old self.new result }
+        ensures ends { Ends self.old.stage counted.verdict result }
         ensures holds { (terms : Terms) (greatest moment t0 : ℕ) (log : Log) → terms.server_filter ≡ filter.now
             → WayHolds terms greatest log question.now.query self.old
             → Stands terms greatest t0 log self.old.lookup.query counted.entry counted.verdict
@@ -297,6 +303,7 @@ impl Walk {
     ) -> Result<Option<Box<Reply>>, NoMemory>
         requires { IsCandidate self.old.stage }
         ensures falls { Goes self.old self.new result }
+        ensures ends { Ends self.old.stage (Verdict.Neg found) result }
         ensures holds { (terms : Terms) (greatest moment t0 : ℕ) (log : Log) → WayHolds terms greatest log question.now.query self.old
             → Stands terms greatest t0 log self.old.lookup.query entry (Verdict.Neg found)
             → IfOk result (WalkComes terms greatest moment t0 log question.now self.new) }

@@ -38,9 +38,9 @@ use Rattle.server_core.specs.declared.server_send.ServerSend.{ServerSend}
 use Rattle.retry_rules.specs.Agenda.{class_of_sent}
 use Rattle.retry_lookup.specs.Hearing.{closing_entry}
 use Rattle.retry_lookup.specs.Running.{IsFor as IsAt_stage}
-use Rattle.order_carrier.specs.Fits.{Closes, OutcomeIs}
+use Rattle.order_carrier.specs.Fits.{Closes, WaitsBy, OutcomeIs}
 use Rattle.server_pool.proofs.ByAddress.{told_class_itself}
-use Rattle.walk_tables.specs.Order.{IsFor, WaitsBy, IsGivenUpIn, is_given_up, LogGoesOnIf, LogGoesOn, last_entry}
+use Rattle.walk_tables.specs.Order.{IsFor, IsGivenUpIn, is_given_up, LogGoesOnIf, LogGoesOn, last_entry}
 use Rattle.walk_tables.specs.Asked.{AskedAs}
 use Rattle.walk_tables.specs.Terms.{Terms, given_of}
 use Rattle.walk_tables.specs.Tried.{is_response, told_of}

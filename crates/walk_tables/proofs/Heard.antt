@@ -1,14 +1,12 @@
 -- Lookups that were answered, and what is left to them.
-use Rattle.std.proofs.Common.{◌≡◌, ℕ, ◌≤◌, Ok, Err, refl, arith}
+use Rattle.std.proofs.Common.{◌≡◌, ℕ, Ok, Err, refl}
 use Rattle.dns_core.specs.declared.net_error.NetError.{NetError}
 use Rattle.dns_core.specs.declared.net_error.NetError.TheVariants as net
 use Rattle.dns_core.specs.declared.net_error.DnsError.TheVariants as dns
 use Rattle.resolution.specs.Lookups.{Answered}
-use Rattle.server_core.specs.declared.order.After.TheVariants as after
 use Rattle.walk_tables.specs.Lookup.{want_of, failed_by, answered_by, ask_steps}
 use Rattle.walk_tables.specs.declared.lookup.Ask.{Ask}
 use Rattle.walk_tables.specs.declared.lookup.Ask.TheVariants as ask
-use Rattle.walk_tables.specs.declared.lookup.Under.{Under}
 use Rattle.walk_tables.specs.declared.lookup.Want.TheVariants.{Hear}
 
 -- what was answered is to be heard
@@ -37,7 +35,3 @@ hears-one (ask.Under u) is = cc
 hears-one (ask.Told entry at class) is = refl
 hears-one (ask.Failed error) is = refl
 hears-one ask.Heard is = cc
-
--- one that is answered has no more before it than one that is under way
-pub heard-less : (a : Ask) (u : Under) → want_of a ≡ Hear → ask_steps a ≤ ask_steps (ask.Under u)
-heard-less a u is = let one = hears-one a is in omega (arith, one)

@@ -22,3 +22,6 @@ pub mod Puts
 pub mod Counting
 pub mod Remembering
 pub mod Taking
+pub mod Numbering
+pub mod Awaited
+pub mod Late

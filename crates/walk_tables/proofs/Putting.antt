@@ -38,8 +38,8 @@ use Rattle.server_pool.specs.Lookups.{moved_to}
 use Rattle.server_pool.specs.Shared.{lookup_at, lookup_of, SameBut}
 use Rattle.server_pool.proofs.Beside.{beside_push}
 use Rattle.server_pool.proofs.ByAddress.{address_from_pool}
-use Rattle.order_carrier.specs.Fits.{OutcomeIs}
-use Rattle.walk_tables.specs.Order.{TellsOutcome, WaitsBy, LogGoesOn, last_entry}
+use Rattle.order_carrier.specs.Fits.{WaitsBy, OutcomeIs}
+use Rattle.walk_tables.specs.Order.{TellsOutcome, LogGoesOn, last_entry}
 use Rattle.walk_tables.specs.Terms.{Terms, given_of}
 use Rattle.walk_tables.specs.Tried.{Tried, Began, BeganBy}
 use Rattle.walk_tables.specs.Pools.{AreNumbered, PoolsHold, sought_at, server_at, IsAt, IsWaitedFor, IsSentTo, GivenHolds, SoughtHolds, MayTake, either, sent_to, polled_by, given_after}

@@ -21,9 +21,9 @@ use Rattle.resolution.specs.Timing.{is_send}
 use Rattle.resolution.proofs.Caseless.{both}
 use Rattle.resolution.proofs.Keeping.{Logged-extend}
 use Rattle.resolution.proofs.Addresses.{same_ip-itself}
-use Rattle.order_carrier.specs.Fits.{entry_for, IsSent, Closes, OutcomeIs}
+use Rattle.order_carrier.specs.Fits.{entry_for, IsSent, Closes, WaitsBy, OutcomeIs}
 use Rattle.order_carrier.proofs.Holding.{IsSent-extend}
-use Rattle.walk_tables.specs.Order.{IsFor, IsLost, WaitsBy, IsGivenUpIn}
+use Rattle.walk_tables.specs.Order.{IsFor, IsLost, IsGivenUpIn}
 use Rattle.walk_tables.specs.Tried.{BeganBy}
 use Rattle.server_core.specs.declared.order.Sent.{Sent}
 use Rattle.server_core.specs.declared.order.Outcome.{Outcome}

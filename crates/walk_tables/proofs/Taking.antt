@@ -9,7 +9,6 @@ use Rattle.dns_core.specs.Log.{Log, Extends}
 use Rattle.dns_core.specs.declared.errors.NoMemory.{NoMemory}
 use Rattle.dns_core.specs.declared.message.Query.{Query}
 use Rattle.dns_core.specs.declared.net_error.NetError.TheVariants as net
-use Rattle.dns_core.specs.declared.net_error.DnsError.TheVariants as dns
 use Rattle.resolver_cache.specs.Cached.{Cached}
 use Rattle.resolution.specs.Lookups.{Answered}
 use Rattle.resolution.specs.Walking.{Walked}

@@ -17,9 +17,8 @@ use Rattle.server_core.specs.declared.order.Outcome.{Outcome}
 use Rattle.server_core.specs.declared.order.Outcome.TheVariants.{Pending, Connected, Told, Failed, Slept}
 use Rattle.server_core.specs.declared.order.Sent.{Sent}
 use Rattle.server_core.specs.Order.{entry_of}
-use Rattle.order_carrier.specs.Fits.{IsSent, OutcomeIs}
+use Rattle.order_carrier.specs.Fits.{IsSent, WaitsBy, OutcomeIs}
 use Rattle.dns_core.specs.declared.net_error.NetError.{NetError}
-use Rattle.walk_tables.specs.Order.{WaitsBy}
 use Rattle.walk_tables.specs.Terms.{Terms, given_of}
 use Rattle.walk_tables.specs.Tried.{BeganBy, Began, AreHeard, Tried}
 use Rattle.walk_tables.specs.Pools.{IsOf, MayTake, sent_to, either}

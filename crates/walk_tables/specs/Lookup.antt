@@ -1,5 +1,5 @@
--- Where a lookup stands, how much of it is left, and what it came to.
-use Rattle.std.specs.Prelude.{◌≡◌, ℕ, ◌+◌, ◌^◌, ◌≤◌, ◌<◌, Bool, true, false, IsTrue, if◌then◌else◌, List, [], Option, Some, None, Result, Ok, Err}
+-- Where a lookup stands, how many steps it has before it, and what it came to.
+use Rattle.std.specs.Prelude.{◌≡◌, ℕ, ◌≤◌, ◌<◌, Bool, true, false, IsTrue, if◌then◌else◌, List, [], Option, Some, None, Result, Ok, Err}
 use Rattle.std.specs.List.{last_or}
 use Rattle.std.specs.declared.net.ip_addr.IpAddr.{IpAddr}
 use Rattle.dns_core.specs.Name.{DomainName}
@@ -56,11 +56,11 @@ abbrev pub answered_by : ℕ → ℕ → Answered → Ask
 answered_by entry at (Ok message) = ask.Told entry at (Ok message)
 answered_by entry at (Err error) = failed_by entry at error
 
--- how many steps it has before it: one for each order that it may still give
+-- how many steps it has before it, beside those by which it gives orders and waits for them
 abbrev pub ask_steps : Ask → ℕ
-ask_steps ask.Fresh = 2 ^ 66 + 1
-ask_steps ask.Ready = 2 ^ 66
-ask_steps (ask.Under under) = 2 + under.left
+ask_steps ask.Fresh = 4
+ask_steps ask.Ready = 3
+ask_steps (ask.Under under) = 2
 ask_steps (ask.Told entry at class) = 1
 ask_steps (ask.Failed error) = 1
 ask_steps ask.Heard = 0
@@ -68,19 +68,22 @@ ask_steps ask.Heard = 0
 abbrev pub steps : Lookup → ℕ
 steps l = ask_steps l.ask
 
--- An order that is given leaves fewer to give.
-abbrev pub GivesLess : ℕ → ℕ → Stepped → Type 0
-GivesLess old new (stepped.Order number order) = new < old
-GivesLess old new (stepped.Waiting number) = new ≤ old
-GivesLess old new stepped.Done = new ≤ old
-
--- A step leaves less to do than before, but where it waits.
+-- A step leaves less to do than before, but where it gives an order, or waits for one.
 abbrev pub LeavesLess : ℕ → ℕ → Stepped → Type 0
-LeavesLess old new (stepped.Order number order) = new < old
+LeavesLess old new (stepped.Order number order) = new ≤ old
 LeavesLess old new (stepped.Waiting number) = new ≤ old
 LeavesLess old new stepped.Done = new < old
 
 -- ---- what it came to
+
+-- what one that is to be heard came to
+abbrev pub found_in : Ask → Option Found
+found_in ask.Fresh = None
+found_in ask.Ready = None
+found_in (ask.Under under) = None
+found_in (ask.Told entry at class) = Some (found.Told entry at class)
+found_in (ask.Failed error) = Some (found.Error error)
+found_in ask.Heard = None
 
 -- what is left for a question where the filter of answers leaves nothing
 abbrev pub nothing_left_for : Query → NoRecords

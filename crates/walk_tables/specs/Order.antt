@@ -15,7 +15,7 @@ use Rattle.server_core.specs.declared.order.Outcome.{Outcome}
 use Rattle.server_core.specs.declared.order.Outcome.TheVariants.{Pending, Connected, Told, Failed, Slept}
 use Rattle.server_core.specs.declared.order.Sent.{Sent}
 use Rattle.server_core.specs.declared.order.Tick.{Tick}
-use Rattle.order_carrier.specs.Fits.{Fits, Closes, IsSent}
+use Rattle.order_carrier.specs.Fits.{Fits, WaitsBy, IsSent}
 
 -- ---- what was lost
 
@@ -36,15 +36,6 @@ pub record IsLost (given : Given) (log : Log) (now entry : ℕ) (s : Sent) (erro
 -- an entry is later than all that were put before, or there is none
 abbrev pub IsNext : ℕ → ℕ → Type 0
 IsNext greatest entry = (greatest < entry) ⊎ (entry ≡ 0)
-
--- A poll that found nothing is in the log as one of what it waits for, where that is known.
-abbrev pub WaitsBy : Log → Option Sent → Outcome → Type 0
-WaitsBy log (Some s) (Pending entry of) = s.of ≡ of → Closes log s entry (line.Waited of)
-WaitsBy log (Some s) (Connected entry sent) = Unit {0}
-WaitsBy log (Some s) (Told entry sent message) = Unit {0}
-WaitsBy log (Some s) (Failed entry sent refused error) = Unit {0}
-WaitsBy log (Some s) Slept = Unit {0}
-WaitsBy log None o = Unit {0}
 
 -- The log has gone on to the moment of the step, which is no earlier than the last one, and tells the outcome.
 pub record TellsOutcome (moment : ℕ) (log : Log) (tick : Tick) (waits : Option Sent) (o : Outcome) (told : Log) : Type 0 where

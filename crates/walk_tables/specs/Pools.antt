@@ -1,5 +1,5 @@
 -- The servers that were met, and the lookups that are under way at pools of them.
-use Rattle.std.specs.Prelude.{◌≡◌, ◌≢◌, ℕ, ◌+◌, ◌≤◌, ◌<◌, ◌++◌, nat_lt, unwrap_or, if◌then◌else◌, Bool, true, false, not, ◌==◌, IsTrue, List, [], ◌∷◌, length, map, option_map, All, Contains, IfSome, Option, Some, None}
+use Rattle.std.specs.Prelude.{◌≡◌, ◌≢◌, ℕ, ◌+◌, ◌≤◌, ◌<◌, ◌++◌, nat_lt, unwrap_or, if◌then◌else◌, Bool, true, false, not, ◌==◌, IsTrue, List, [], ◌∷◌, length, map, option_map, All, Contains, IfSome, Option, Some, None, Result, Ok, Err}
 use Rattle.std.specs.BTreeMap as tree
 use Rattle.std.specs.Ordering.{nat_cmp}
 use Rattle.std.specs.List.Sorted.{IsPermutation}
@@ -7,6 +7,7 @@ use Rattle.std.specs.declared.net.ip_addr.IpAddr.{IpAddr}
 use Rattle.std.specs.contracts.net.ip_addr.IpAddrOrd.TheImpl as address
 use Rattle.dns_core.specs.Name.{DomainName}
 use Rattle.dns_core.specs.Log.{Log}
+use Rattle.dns_core.specs.declared.errors.NoMemory.{NoMemory}
 use Rattle.dns_core.specs.declared.message.Query.{Query}
 use Rattle.dns_core.specs.declared.net_error.NetError.{NetError}
 use Rattle.dns_core.specs.declared.net_error.NetError.TheVariants as net
@@ -37,6 +38,7 @@ use Rattle.retry_rules.specs.Agenda.{class_of_sent}
 use Rattle.server_pool.specs.ByAddress.{SameEnds, at_address}
 use Rattle.order_carrier.specs.Fits.{GoesToServer}
 use Rattle.server_pool.specs.Lookups.{is_last, after_leave, closed_by}
+use Rattle.server_pool.specs.Orders.{open_at}
 use Rattle.server_pool.specs.Shared.{Shared, lookup_at, lookup_of}
 use Rattle.retry_rules.specs.declared.candidate.Candidate.{Candidate}
 use Rattle.server_pool.specs.declared.open_lookup.OpenLookup.{OpenLookup}
@@ -313,6 +315,27 @@ pub record IsGivenFor (pools : Pools) (n : ℕ) (waits : Option Sent) (o : Outco
   pub ended : Bool
   pub none : ended ≡ not (length (closed_by (lookup_at pools.shared n)) == 0)
   pub may : MayTakeBy sought ended g g.aim waits o
+
+-- ---- how many orders were given
+
+-- how many orders were given so far
+abbrev pub given_so_far : Pools → ℕ
+given_so_far p = p.shared.given
+
+-- An order has the next number; else none was given.
+abbrev pub GivesNext : ℕ → ℕ → Result Stepped NoMemory → Type 0
+GivesNext old new (Ok (stepped.Order number order)) = (number ≡ old + 1) × (new ≡ old + 1)
+GivesNext old new (Ok (stepped.Waiting number)) = new ≡ old
+GivesNext old new (Ok stepped.Done) = new ≡ old
+GivesNext old new (Err e) = new ≡ old
+
+-- The outcome is one of the order of the number, which is open at a lookup.
+pub record IsOutcomeOf (pools : Pools) (number : ℕ) (waits : Option Sent) (o : Outcome) : Type 0 where
+  pub n : ℕ
+  pub open_there : open_at number pools.shared ≡ Some n
+  pub given : Given
+  pub named : given.number ≡ number
+  pub is : IsGivenFor pools n waits o given
 
 -- an order stays open where it is kept
 abbrev pub given_after : Given → After → Option Given

@@ -1,5 +1,5 @@
 -- What the outcome of an order leaves of the pools, and what it writes into the cache.
-use Rattle.std.specs.Prelude.{◌≡◌, ◌⊎◌, ℕ, Bool, nat_lt, length, if◌then◌else◌, Option, Some, Ok, option_and_then}
+use Rattle.std.specs.Prelude.{◌≡◌, ◌⊎◌, ◌==◌, ℕ, Bool, false, nat_lt, length, if◌then◌else◌, Option, Some, None, Ok, option_and_then}
 use Rattle.dns_core.specs.Log.{Log}
 use Rattle.server_core.specs.declared.order.After.{After}
 use Rattle.server_core.specs.declared.order.After.TheVariants as after
@@ -17,6 +17,10 @@ use Rattle.walk_tables.specs.Lookup.{last_of, answered_by}
 use Rattle.walk_tables.specs.Pools.{sought_at, PoolsHold}
 use Rattle.walk_tables.specs.Remembered.{CacheHolds, Telling, telling, remembered}
 use Rattle.walk_tables.specs.Terms.{Terms}
+use Rattle.walk_tables.specs.declared.lookup.Ask.{Ask}
+use Rattle.walk_tables.specs.declared.lookup.Ask.TheVariants as ask
+use Rattle.walk_tables.specs.declared.lookup.Lookup.{Lookup}
+use Rattle.walk_tables.specs.declared.pools.Given.{Given}
 use Rattle.walk_tables.specs.declared.pools.Pools.{Pools}
 use Rattle.walk_tables.specs.declared.pools.Sought.{Sought}
 use Rattle.walk_tables.specs.declared.pools.Stepped.{Stepped}
@@ -69,18 +73,38 @@ pub record TablesHold (terms : Terms) (greatest moment : ℕ) (log : Log) (kept 
   pub cache : CacheHolds terms greatest log kept
   pub pools : PoolsHold terms greatest moment log under_way
 
--- The order is open at some lookup.
-abbrev pub IsOpen : Pools → ℕ → Type 0
-IsOpen pools number = (n : ℕ) × (open_at number pools.shared ≡ Some n)
+-- the order is open at the lookup of the number
+abbrev pub is_open_at : Pools → ℕ → ℕ → Bool
+is_open_at pools n number = elim (open_at number pools.shared) [ None ↦ false | Some at ↦ at == n ]
 
--- A lookup waits only for an order that is open at it.
+-- its number, where it is
+abbrev pub if_open_at : Pools → ℕ → Given → Option ℕ
+if_open_at pools n g = if is_open_at pools n g.number then Some g.number else None
+
+-- the order that the lookup of the number waits for: the one that was given for it last, while it is open at it
+abbrev pub awaited_in : Pools → ℕ → Option ℕ
+awaited_in pools n = option_and_then (if_open_at pools n) (option_and_then (λ (s : Sought). s.given) (sought_at pools n))
+
+-- so it is with a lookup that is under way; another one waits for none
+abbrev pub awaited_when : Pools → Ask → Option ℕ
+awaited_when pools ask.Fresh = None
+awaited_when pools ask.Ready = None
+awaited_when pools (ask.Under under) = awaited_in pools under.number
+awaited_when pools (ask.Told entry at class) = None
+awaited_when pools (ask.Failed error) = None
+awaited_when pools ask.Heard = None
+
+abbrev pub awaited_by : Pools → Lookup → Option ℕ
+awaited_by pools l = awaited_when pools l.ask
+
+-- The lookup of the number waits for this order, also where it was given just now.
 abbrev pub IfAwaited : Pools → ℕ → Stepped → Type 0
-IfAwaited pools n (stepped.Order number order) = Unit {0}
-IfAwaited pools n (stepped.Waiting number) = open_at number pools.shared ≡ Some n
+IfAwaited pools n (stepped.Order number order) = awaited_in pools n ≡ Some number
+IfAwaited pools n (stepped.Waiting number) = awaited_in pools n ≡ Some number
 IfAwaited pools n stepped.Done = Unit {0}
 
--- It waits only for an order that is open.
-abbrev pub IfOpen : Pools → Stepped → Type 0
-IfOpen pools (stepped.Order number order) = Unit {0}
-IfOpen pools (stepped.Waiting number) = IsOpen pools number
-IfOpen pools stepped.Done = Unit {0}
+-- So it does.
+abbrev pub IfWaits : Pools → Lookup → Stepped → Type 0
+IfWaits pools l (stepped.Order number order) = awaited_by pools l ≡ Some number
+IfWaits pools l (stepped.Waiting number) = awaited_by pools l ≡ Some number
+IfWaits pools l stepped.Done = Unit {0}

@@ -7,6 +7,6 @@ mod lookup;
 mod pools;
 mod threads;
 
-pub use lookup::{Ask, Found, Lookup, Under, Want};
+pub use lookup::{Ask, Found, Lookup, Want};
 pub use pools::{Answer, Pools, Stepped};
 pub use threads::tables_cross_threads;

@@ -1,14 +1,13 @@
 //! One question put to the servers of a zone.
-ghost use Rattle.std.specs.Prelude.{◌≡◌, ◌≤◌, ◌<◌, ◌+◌, ◌^◌, ℕ, max, None, Ok, IfOk, IfSome, IsSome, OnOk, OnErr, IsTrue, MatchBool, option_copied};
+ghost use Rattle.std.specs.Prelude.{◌≡◌, ◌<◌, ◌+◌, ℕ, IfOk, IfSome, IsSome, OnErr, IsTrue, MatchBool, MatchResult};
 ghost use Rattle.dns_core.specs.Name.{DomainName};
 ghost use Rattle.dns_core.specs.Log.{Log};
 ghost use Rattle.resolution.specs.Names.{is_above, walk};
 ghost use Rattle.resolution.specs.Walking.{Walked};
-ghost use Rattle.walk_tables.specs.Taking.{IfOpen, IsOpen};
+ghost use Rattle.walk_tables.specs.Taking.{awaited_by, IfWaits};
 ghost use Rattle.walk_tables.specs.Terms.{Terms, given_of};
-ghost use Rattle.walk_tables.specs.Pools.{PoolsHold, StepGoes, ArePool};
-ghost use Rattle.walk_tables.specs.Lookup.{want_of, answered_by, failed_by, last_of, ask_steps, steps, GivesLess, LeavesLess, LookupHolds, FoundHolds};
-ghost use Rattle.walk_tables.specs.declared.lookup.Ask.TheVariants as ask;
+ghost use Rattle.walk_tables.specs.Pools.{PoolsHold, StepGoes, ArePool, given_so_far, GivesNext};
+ghost use Rattle.walk_tables.specs.Lookup.{want_of, answered_by, failed_by, last_of, steps, LeavesLess, found_in, LookupHolds, FoundHolds};
 
 use crate::pools::{Answer, Pools, Stepped};
 use dns_core::{DnsError, DnsRequest, Message, Name, NetError, NoMemory, Numbers, Query};
@@ -18,21 +17,13 @@ use std::alloc::Global;
 use std::mem;
 use std::net::IpAddr;
 
-/// A lookup that is under way at a pool, and how many orders it may still give, which are more than any
-/// lookup gives.
-#[derive(Drop, Debug)]
-pub struct Under {
-    pub lookup: PoolLookup,
-    pub left: u64,
-}
-
 /// Where a lookup stands. At first the cache was not looked at; then it is to begin, or is under way at
 /// a pool; at last a response was told by an entry, at a moment, or it failed, and that was heard.
 #[derive(Drop, Debug)]
 pub enum Ask {
     Fresh,
     Ready,
-    Under(Under),
+    Under(PoolLookup),
     Told {
         entry: u64,
         at: u64,
@@ -69,12 +60,6 @@ pub enum Found {
         class: Result<Message, DnsError>,
     },
     Error(NetError),
-}
-
-/// More orders than a lookup at so many servers gives: it makes five sends to each and one more, each of
-/// which opens and asks twice at most, and it sleeps four times.
-fn most_orders(servers: usize) -> u64 {
-    (servers as u64).saturating_mul(20).saturating_add(8)
 }
 
 /// The last of these numbers, 0 where there is none.
@@ -115,36 +100,10 @@ pub(crate) fn answered_by(entry: u64, at: u64, told: Result<Message, NetError>) 
     }
 }
 
-impl Under {
-    /// What it has next at its pool: an order, one that it waits for, or its answer.
-    fn next(
-        &mut self,
-        alloc: Global,
-        pools: &mut Pools,
-        since: u64,
-        tick: Tick,
-    ) -> Result<Stepped, NoMemory>
-        ensures falls { IfOk result (GivesLess (ask_steps (ask.Under self.old)) (ask_steps (ask.Under self.new))) }
-        ensures keeps { ask_steps (ask.Under self.new) ≤ ask_steps (ask.Under self.old) }
-        ensures holds { (terms : Terms) (log : Log) → PoolsHold terms since tick.now log pools.old → PoolsHold terms since tick.now log pools.new }
-        ensures goes { (terms : Terms) (log : Log) → PoolsHold terms since tick.now log pools.old → IfOk result (StepGoes (given_of terms) log (since + 1)) }
-        ensures waits { IfOk result (IfOpen pools.new) }
-    {
-        if self.left == 0 {
-            return Err(NoMemory);
-        }
-        let stepped = pools.next(alloc, &mut self.lookup, since, tick)?;
-        if let Stepped::Order { .. } = &stepped {
-            self.left -= 1;
-        }
-        Ok(stepped)
-    }
-}
-
 impl Lookup {
     /// A lookup of a question, in the cache first.
     pub fn new(alloc: Global, query: Query) -> Lookup
-        ensures steps { steps result ≡ 2 ^ 66 + 1 }
+        ensures steps { steps result ≡ 4 }
         ensures holds { (terms : Terms) (greatest moment t0 : ℕ) (log : Log) (zone : DomainName)
             → IsTrue (is_above zone (walk query)) → LookupHolds terms greatest moment t0 log zone result }
         ensures query { result.query ≡ query }
@@ -191,8 +150,8 @@ impl Lookup {
     ) -> Result<(), NoMemory>
         requires want { want_of self.old.ask ≡ Want.Begin }
         requires asks { request.query ≡ self.old.query }
-        ensures falls { OnOk result (steps self.new < steps self.old) }
-        ensures err { OnErr result (self.new ≡ self.old) }
+        ensures falls { MatchResult result (λ sent. steps self.new < steps self.old) (λ error. self.new ≡ self.old) }
+        ensures given { given_so_far pools.new ≡ given_so_far pools.old }
         ensures holds { (terms : Terms) (greatest moment t0 : ℕ) (log : Log)
             → LookupHolds terms greatest moment t0 log zone.now self.old → LookupHolds terms greatest moment t0 log zone.now self.new }
         ensures pools { (terms : Terms) (greatest : ℕ) (log : Log) → IsTrue (is_above zone.now (walk self.old.query)) → Walked (given_of terms) log self.old.query zone.now
@@ -200,10 +159,7 @@ impl Lookup {
         ensures query { self.new.query ≡ self.old.query }
     {
         let lookup = pools.begin(alloc, zone, ips, request, tick)?;
-        self.ask = Ask::Under(Under {
-            lookup,
-            left: most_orders(ips.len()),
-        });
+        self.ask = Ask::Under(lookup);
         Ok(())
     }
 
@@ -217,14 +173,15 @@ impl Lookup {
     ) -> Result<bool, NoMemory>
         ensures falls { IfOk result (λ settled. MatchBool settled (steps self.new < steps self.old) ((self.new ≡ self.old) × (pools.new ≡ pools.old))) }
         ensures err { OnErr result (self.new ≡ self.old) }
+        ensures given { given_so_far pools.new ≡ given_so_far pools.old }
         ensures holds { (terms : Terms) (greatest moment : ℕ) (log : Log) → PoolsHold terms greatest moment log pools.old
             → LookupHolds terms greatest moment begun log zone.now self.old → LookupHolds terms greatest moment begun log zone.now self.new × PoolsHold terms greatest moment log pools.new }
         ensures query { self.new.query ≡ self.old.query }
     {
-        let Ask::Under(under) = &self.ask else {
+        let Ask::Under(lookup) = &self.ask else {
             return Ok(false);
         };
-        let answer = pools.answer(alloc, &under.lookup, &self.query, zone, begun)?;
+        let answer = pools.answer(alloc, lookup, &self.query, zone, begun)?;
         let Some(Answer { told, ends, at }) = answer else {
             return Ok(false);
         };
@@ -237,10 +194,10 @@ impl Lookup {
 
     /// The number of the order that it waits for, which is open, if there is one.
     pub fn open_order(&self, pools: &Pools) -> Option<u64>
-        ensures { IfSome result (IsOpen pools.now) }
+        ensures { result ≡ awaited_by pools.now self.now }
     {
         match &self.ask {
-            Ask::Under(under) => pools.awaited(under.lookup.number()),
+            Ask::Under(lookup) => pools.awaited(lookup.number()),
             _ => None,
         }
     }
@@ -248,10 +205,11 @@ impl Lookup {
     /// Ends the interest in the lookup at its pool, if there is one.
     pub fn leave(&mut self, pools: &mut Pools)
         ensures pools { (terms : Terms) (greatest moment : ℕ) (log : Log) → PoolsHold terms greatest moment log pools.old → PoolsHold terms greatest moment log pools.new }
+        ensures given { given_so_far pools.new ≡ given_so_far pools.old }
         ensures same { (self.new.query ≡ self.old.query) × (self.new.ends ≡ self.old.ends) }
     {
         match mem::replace(&mut self.ask, Ask::Ready) {
-            Ask::Under(under) => pools.leave(under.lookup),
+            Ask::Under(lookup) => pools.leave(lookup),
             other => self.ask = other,
         }
     }
@@ -269,20 +227,20 @@ impl Lookup {
     ) -> Result<Stepped, NoMemory>
         requires { want_of self.old.ask ≡ Want.Step }
         ensures falls { IfOk result (LeavesLess (steps self.old) (steps self.new)) }
-        ensures keeps { steps self.new ≤ steps self.old }
+        ensures given { GivesNext (given_so_far pools.old) (given_so_far pools.new) result }
         ensures holds { (terms : Terms) (log : Log) → PoolsHold terms since tick.now log pools.old
             → LookupHolds terms since tick.now begun log zone.now self.old → LookupHolds terms since tick.now begun log zone.now self.new × PoolsHold terms since tick.now log pools.new }
         ensures goes { (terms : Terms) (log : Log) → PoolsHold terms since tick.now log pools.old → IfOk result (StepGoes (given_of terms) log (since + 1)) }
-        ensures waits { IfOk result (IfOpen pools.new) }
+        ensures waits { IfOk result (IfWaits pools.new self.new) }
         ensures query { self.new.query ≡ self.old.query }
     {
         if self.settle(alloc, pools, zone, begun)? {
             return Ok(Stepped::Done);
         }
-        let Ask::Under(under) = &mut self.ask else {
+        let Ask::Under(lookup) = &mut self.ask else {
             return Err(NoMemory);
         };
-        match under.next(alloc, pools, since, tick)? {
+        match pools.next(alloc, lookup, since, tick)? {
             Stepped::Order { number, order } => Ok(Stepped::Order { number, order }),
             Stepped::Waiting { number } => Ok(Stepped::Waiting { number }),
             Stepped::Done => self.finish(alloc, pools, zone, begun),
@@ -299,6 +257,7 @@ impl Lookup {
     ) -> Result<Stepped, NoMemory>
         ensures falls { IfOk result (λ stepped. (stepped ≡ Stepped.Done) × (steps self.new < steps self.old)) }
         ensures err { OnErr result (self.new ≡ self.old) }
+        ensures given { given_so_far pools.new ≡ given_so_far pools.old }
         ensures holds { (terms : Terms) (greatest moment : ℕ) (log : Log) → PoolsHold terms greatest moment log pools.old
             → LookupHolds terms greatest moment begun log zone.now self.old → LookupHolds terms greatest moment begun log zone.now self.new × PoolsHold terms greatest moment log pools.new }
         ensures query { self.new.query ≡ self.old.query }
@@ -315,6 +274,7 @@ impl Lookup {
         requires { want_of self.old.ask ≡ Want.Hear }
         ensures falls { steps self.new < steps self.old }
         ensures found { IsSome result }
+        ensures hears { result ≡ found_in self.old.ask }
         ensures holds { (terms : Terms) (greatest moment t0 : ℕ) (log : Log) (zone : DomainName)
             → LookupHolds terms greatest moment t0 log zone self.old → IfSome result (FoundHolds terms greatest moment t0 log zone self.new.query self.new.ends) }
         ensures query { self.new.query ≡ self.old.query }

@@ -1,6 +1,6 @@
 //! The servers that were met, each under its address, the pools of them, and the lookups that are under
 //! way at these.
-ghost use Rattle.std.specs.Prelude.{◌≡◌, ◌≢◌, ◌≤◌, ◌<◌, ◌+◌, ◌==◌, ℕ, [], max, true, false, length, Some, None, Ok, Err, IfOk, IfSome, OnOk, OnErr, IsTrue, All, if◌then◌else◌, option_copied};
+ghost use Rattle.std.specs.Prelude.{◌≡◌, ◌≢◌, ◌↔◌, ◌≤◌, ◌<◌, ◌+◌, ◌==◌, ℕ, [], max, true, false, length, Some, None, Ok, Err, IfOk, IfSome, OnOk, OnErr, IsTrue, All, if◌then◌else◌, option_copied};
 ghost use Rattle.std.specs.List.{AllZip};
 ghost use Rattle.std.specs.declared.net.ip_addr.IpAddr.{IpAddr};
 ghost use Rattle.dns_core.specs.Name.{DomainName};
@@ -14,13 +14,14 @@ ghost use Rattle.walk_tables.specs.Terms.{Terms, given_of};
 ghost use Rattle.recursor_types.specs.Options.{answer_filter_of};
 ghost use Rattle.recursor_setting.specs.Setting.{context_of};
 ghost use Rattle.recursor_setting.specs.Delays.{turn_at, delay_at};
-ghost use Rattle.walk_tables.specs.Pools.{number_of, config_at, first_delay_at, server_at, sought_at, ServersHold, SoughtHolds, PoolsHold, IsSentOver, IsFirst, IsOf, IsStill, MayTake, MayTakeBy, is_denial, IsMet, IsGrown, HasForgotten, HasNoted, HasKept, HasLeft, noted, aim_of, sent_to, first_of, polled_by, StepGoes, IsGivenFor, NotesOutcome, Seeks, ArePool};
+ghost use Rattle.walk_tables.specs.Pools.{number_of, config_at, first_delay_at, server_at, sought_at, ServersHold, SoughtHolds, PoolsHold, IsSentOver, IsFirst, IsOf, IsStill, MayWait, MayTake, MayTakeBy, IsOutcomeOf, is_denial, IsMet, IsGrown, HasForgotten, HasNoted, HasKept, HasLeft, noted, aim_of, sent_to, first_of, polled_by, StepGoes, IsGivenFor, NotesOutcome, Seeks, ArePool, given_so_far, GivesNext};
 ghost use Rattle.walk_tables.specs.Lookup.{AnswerHolds};
 ghost use Rattle.walk_tables.specs.Remembered.{remembered};
-ghost use Rattle.walk_tables.specs.Taking.{telling_at, Took, Takes, TablesHold, IfAwaited};
+ghost use Rattle.walk_tables.specs.Taking.{telling_at, Took, Takes, TablesHold, is_open_at, awaited_in, IfAwaited};
 ghost use Rattle.resolution.specs.Names.{is_above, walk};
 ghost use Rattle.resolution.specs.Walking.{Walked};
 ghost use Rattle.server_pool.specs.Orders.{open_at};
+ghost use Rattle.walk_tables.specs.declared.pools.Given.{Given};
 
 use crate::keeping::write;
 use crate::lookup::{Ask, answered_by, last_of};
@@ -116,7 +117,7 @@ fn is_memory(told: &Result<Message, NetError>) -> bool
 
 /// Whether two questions are equal, also in the case of their names.
 fn is_identical(left: &Query, right: &Query) -> bool
-    ensures { IsTrue result → left.now ≡ right.now }
+    ensures { IsTrue result ↔ (left.now ≡ right.now) }
 {
     left.query_type == right.query_type
         && left.query_class == right.query_class
@@ -175,7 +176,7 @@ fn polled_by(outcome: &Outcome) -> Option<u64>
 
 /// Whether what a poll waits for is what the polls before it waited for.
 fn is_still(polled: Option<u64>, of: u64) -> bool
-    ensures { IsTrue result → IsStill polled of }
+    ensures { IsTrue result ↔ IsStill polled of }
 {
     match polled {
         None => true,
@@ -194,7 +195,7 @@ impl Sought {
     /// Whether this was sent for its open order: to the address, and where it asks with the question
     /// and later than what was put before.
     fn sends(&self, asks: bool, ip: IpAddr, since: u64, sent: &Sent) -> bool
-        ensures { IsTrue result → IsSentOver asks ip self.now.query since sent.now }
+        ensures { IsTrue result ↔ IsSentOver asks ip self.now.query since sent.now }
     {
         if sent.ip != ip {
             return false;
@@ -207,7 +208,7 @@ impl Sought {
 
     /// Whether the first send began with this, at the start of the lookup, or is known to go there.
     fn begins(&self, ended: bool, sent: &Sent) -> bool
-        ensures { IsTrue result → IsFirst self.now.start self.now.first ended sent.now }
+        ensures { IsTrue result ↔ IsFirst self.now.start self.now.first ended sent.now }
     {
         match &self.first {
             None => sent.moment == self.start,
@@ -216,7 +217,7 @@ impl Sought {
     }
 
     fn is_of(&self, ended: bool, asks: bool, ip: IpAddr, since: u64, sent: &Sent) -> bool
-        ensures { IsTrue result → IsOf self.now.start self.now.query self.now.first ended since asks ip sent.now }
+        ensures { IsTrue result ↔ IsOf self.now.start self.now.query self.now.first ended since asks ip sent.now }
     {
         self.sends(asks, ip, since, sent) && self.begins(ended, sent)
     }
@@ -232,7 +233,7 @@ impl Sought {
         of: u64,
         waits: Option<&Sent>,
     ) -> bool
-        ensures { IsTrue result → (entry : ℕ) → MayTake self.now.start self.now.query self.now.first ended given.now.since given.now.polled asks ip (option_copied waits.entry) (Outcome.Pending entry of) }
+        ensures { IsTrue result ↔ MayWait self.now.start self.now.query self.now.first ended given.now.since given.now.polled asks ip (option_copied waits.entry) of }
     {
         match waits {
             Some(sent) => {
@@ -254,7 +255,7 @@ impl Sought {
         outcome: &Outcome,
         waits: Option<&Sent>,
     ) -> bool
-        ensures { IsTrue result → MayTake self.now.start self.now.query self.now.first ended given.now.since given.now.polled asks ip (option_copied waits.entry) outcome.now }
+        ensures { IsTrue result ↔ MayTake self.now.start self.now.query self.now.first ended given.now.since given.now.polled asks ip (option_copied waits.entry) outcome.now }
     {
         match outcome {
             Outcome::Pending { of, .. } => self.is_polled(ended, asks, ip, given, *of, waits),
@@ -277,7 +278,7 @@ impl Sought {
 
     /// Whether this is an outcome of an order that it gave; a sleep may end by any.
     fn may_take(&self, ended: bool, given: &Given, outcome: &Outcome, waits: Option<&Sent>) -> bool
-        ensures { IsTrue result → MayTakeBy self.now ended given.now given.now.aim (option_copied waits.entry) outcome.now }
+        ensures { IsTrue result ↔ MayTakeBy self.now ended given.now given.now.aim (option_copied waits.entry) outcome.now }
     {
         match &given.aim {
             Aim::Open { ip } => {
@@ -398,6 +399,7 @@ impl Pools {
     ) -> Result<PoolLookup, NoMemory>
         ensures holds { (terms : Terms) (greatest : ℕ) (log : Log) → IsTrue (is_above zone.now (walk request.query)) → Walked (given_of terms) log request.query zone.now
             → ArePool terms log (greatest + 1) zone.now ips.now → PoolsHold terms greatest tick.now log self.old → PoolsHold terms greatest tick.now log self.new }
+        ensures given { given_so_far self.new ≡ given_so_far self.old }
     {
         let sought = Sought {
             query: request.query.try_clone(alloc)?,
@@ -435,13 +437,23 @@ impl Pools {
         }
     }
 
+    /// Whether an order is open at a lookup.
+    fn is_open_at(&self, lookup: u64, number: u64) -> bool
+        ensures { result ≡ is_open_at self.now lookup number }
+    {
+        match self.shared.open_at(number) {
+            Some(at) => at == lookup,
+            None => false,
+        }
+    }
+
     /// The order that a lookup waits for, where one is open at it.
     pub fn awaited(&self, lookup: u64) -> Option<u64>
-        ensures { IfSome result (λ number. open_at number self.now.shared ≡ Some lookup) }
+        ensures { result ≡ awaited_in self.now lookup }
     {
         let sought = self.sought.get(&lookup)?;
         let given = sought.given?;
-        if self.shared.open_at(given.number) == Some(lookup) {
+        if self.is_open_at(lookup, given.number) {
             Some(given.number)
         } else {
             None
@@ -460,6 +472,8 @@ impl Pools {
         ensures holds { (terms : Terms) (log : Log) → PoolsHold terms since tick.now log self.old → PoolsHold terms since tick.now log self.new }
         ensures goes { (terms : Terms) (log : Log) → PoolsHold terms since tick.now log self.old → IfOk result (StepGoes (given_of terms) log (since + 1)) }
         ensures waits { IfOk result (IfAwaited self.new lookup.old.number) }
+        ensures given { GivesNext (given_so_far self.old) (given_so_far self.new) result }
+        ensures same { lookup.new ≡ lookup.old }
     {
         match self.awaited(lookup.number()) {
             Some(number) => Ok(Stepped::Waiting { number }),
@@ -478,6 +492,8 @@ impl Pools {
         ensures holds { (terms : Terms) (log : Log) → PoolsHold terms since tick.now log self.old → PoolsHold terms since tick.now log self.new }
         ensures goes { (terms : Terms) (log : Log) → PoolsHold terms since tick.now log self.old → IfOk result (StepGoes (given_of terms) log (since + 1)) }
         ensures waits { IfOk result (IfAwaited self.new lookup.old.number) }
+        ensures given { GivesNext (given_so_far self.old) (given_so_far self.new) result }
+        ensures same { lookup.new ≡ lookup.old }
     {
         let n = lookup.number();
         if !self.sought.contains_key(&n) {
@@ -499,7 +515,11 @@ impl Pools {
                 self.note(n, None, None, None);
                 Ok(Stepped::Done)
             }
-            Ok(PoolStep::Waiting) | Err(_) => {
+            Ok(PoolStep::Waiting) => {
+                self.forget(n);
+                Err(NoMemory)
+            }
+            Err(NoMemory) => {
                 self.forget(n);
                 Err(NoMemory)
             }
@@ -514,7 +534,8 @@ impl Pools {
         outcome: &Outcome,
         waits: Option<&Sent>,
     ) -> Option<Given>
-        ensures { IfSome result (λ g. (g.number ≡ number) × IsGivenFor self.now lookup (option_copied waits.entry) outcome.now g) }
+        ensures some { IfSome result (λ g. (g.number ≡ number) × IsGivenFor self.now lookup (option_copied waits.entry) outcome.now g) }
+        ensures none { result ≡ None → (g : Given) → g.number ≡ number → IsGivenFor self.now lookup (option_copied waits.entry) outcome.now g → ⊥ }
     {
         let ended = !self.shared.ends(lookup).is_empty();
         let sought = self.sought.get(&lookup)?;
@@ -560,6 +581,7 @@ impl Pools {
         requires open { open_at given.number self.old.shared ≡ Some lookup }
         requires given { IsGivenFor self.old lookup (option_copied waits) outcome given }
         ensures took { IfOk result (Took self.old self.new lookup given.number outcome tick) }
+        ensures given { given_so_far self.new ≡ given_so_far self.old }
         ensures holds { (terms : Terms) (greatest moment : ℕ) (log longer : Log) → terms.patience ≤ tick.patience
             → IsPut greatest moment log tick (option_copied waits.entry) outcome result longer
             → PoolsHold terms greatest moment log self.old
@@ -623,8 +645,9 @@ impl Pools {
         tick: Tick,
     ) -> Result<After, NoMemory>
         ensures takes { IfOk result (Takes cache.old cache.new self.old self.new number outcome tick) }
-        ensures late { open_at number self.old.shared ≡ None → result ≡ Ok After.Late }
+        ensures late { (result ≡ Ok After.Late) ↔ (IsOutcomeOf self.old number (option_copied waits.entry) outcome → ⊥) }
         ensures err { OnErr result (cache.new ≡ cache.old) }
+        ensures given { given_so_far self.new ≡ given_so_far self.old }
         ensures holds { (terms : Terms) (greatest moment : ℕ) (log longer : Log) → terms.patience ≤ tick.patience
             → IsPut greatest moment log tick (option_copied waits.entry) outcome result longer
             → TablesHold terms greatest moment log cache.old self.old
@@ -684,6 +707,7 @@ impl Pools {
     pub fn leave(&mut self, lookup: PoolLookup)
         ensures holds { (terms : Terms) (greatest moment : ℕ) (log : Log) → PoolsHold terms greatest moment log self.old → PoolsHold terms greatest moment log self.new }
         ensures gone { sought_at self.new lookup.number ≡ None }
+        ensures given { given_so_far self.new ≡ given_so_far self.old }
     {
         self.forget(lookup.number());
         lookup.leave(&mut self.shared);
@@ -693,6 +717,7 @@ impl Pools {
     pub fn clear(&mut self)
         ensures holds { (terms : Terms) (less greatest moment : ℕ) (log : Log) → PoolsHold terms greatest moment log self.old → PoolsHold (record terms { patience = less }) greatest moment log self.new }
         ensures gone { (n : ℕ) → sought_at self.new n ≡ None }
+        ensures given { given_so_far self.new ≡ given_so_far self.old }
     {
         self.sought.clear();
     }

@@ -1,6 +1,6 @@
 //! Each type of this crate may go to another thread, and be shared among threads.
 
-use crate::lookup::{Ask, Found, Lookup, Under, Want};
+use crate::lookup::{Ask, Found, Lookup, Want};
 use crate::pools::{Answer, Pools, Stepped};
 
 fn crosses<T: Send + Sync>() {}
@@ -13,6 +13,5 @@ pub fn tables_cross_threads() {
     crosses::<Lookup>();
     crosses::<Pools>();
     crosses::<Stepped>();
-    crosses::<Under>();
     crosses::<Want>();
 }

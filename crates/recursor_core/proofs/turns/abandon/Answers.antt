@@ -1,39 +1,23 @@
-use Rattle.std.proofs.Common.{◌≡◌, ◌∙◌, max, ap, arith}
-use Rattle.recursor_core.specs.Machine.{rank}
-use Rattle.recursor_core.specs.Runner.{polls_left}
-use Rattle.recursor_core.proofs.Standing.{holds_derived, holds_grown, moves_core, moves_grown, moves_trans, due_keeps}
+use Rattle.std.proofs.Common.{arith}
+use Rattle.recursor_core.proofs.Due.{due_later}
+use Rattle.recursor_core.proofs.Standing.{goes_core, goes_run, goes_trans}
 use Rattle.recursor_core.proofs.turns.abandon.Goals as goal
 
-pub returns-in-Some-clause-holds : goal.returns-in-Some-clause-holds
-returns-in-Some-clause-holds g c =
-    let new = c.cancel.new.self in
-    let patience = c.args.tick.patience in
-    let same : new.moment ≡ c.args.core.now.moment = c.cancel.ensures.same.moment in
-    holds_grown g.P.ConnectionProvider patience new c.args.runner.now c.give_up.new.self c.args.tick.now _ (same ∙ c.requires.moment) c.give_up.ensures.holds (c.give_up.ensures.moves patience) tt
-    (holds_derived g.P.ConnectionProvider patience c.args.core.now new c.args.runner.now c.cancel.ensures.same.setting (omega (arith, same)) c.cancel.ensures.derived c.requires.holds)
-
-pub returns-in_default-clause-holds : goal.returns-in_default-clause-holds
-returns-in_default-clause-holds g c =
-    let new = c.cancel.new.self in
-    let patience = c.args.tick.patience in
-    let same : new.moment ≡ c.args.core.now.moment = c.cancel.ensures.same.moment in
-    holds_derived g.P.ConnectionProvider patience c.args.core.now new c.args.runner.now c.cancel.ensures.same.setting (omega (arith, same)) c.cancel.ensures.derived c.requires.holds
-
-pub returns-in-Some-clause-moves : goal.returns-in-Some-clause-moves
-returns-in-Some-clause-moves g c =
+pub returns-in-Some-clause-goes : goal.returns-in-Some-clause-goes
+returns-in-Some-clause-goes g c =
     let p = g.P.ConnectionProvider in
     let tick = c.args.tick in
-    let new = c.cancel.new.self in
-    let r = c.args.runner.now.carrier in
-    moves_trans p tick.patience tick.now c.args.core.now new new r r c.give_up.new.self.carrier
-    (moves_core p tick.patience tick.now c.args.core.now new r c.cancel.ensures.same.setting c.cancel.ensures.same.begun)
-    (moves_grown p tick.patience tick.now _ new r c.give_up.new.self.carrier (c.give_up.ensures.moves tick.patience))
+    let r = c.args.runner.now in
+    let up = c.give_up.ensures in
+    let left = goes_core p tick c.args.core.now c.cancel.new.self r c.cancel.ensures.same c.cancel.ensures.derived c.requires.ready in
+    goes_trans p tick _ _ _ _ _ _ left (goes_run p tick c.cancel.new.self r c.give_up.new.self _ up.vouches up.holds (up.moves tick.patience) tt left.ready)
+
+pub returns-in_default-clause-goes : goal.returns-in_default-clause-goes
+returns-in_default-clause-goes g c =
+    goes_core g.P.ConnectionProvider c.args.tick c.args.core.now c.cancel.new.self c.args.runner.now c.cancel.ensures.same c.cancel.ensures.derived c.requires.ready
 
 pub returns-in-Some-clause-keeps : goal.returns-in-Some-clause-keeps
-returns-in-Some-clause-keeps g c patience =
-    let same = ap (polls_left patience) c.give_up.ensures.running in
-    due_keeps (max 1 patience) (rank c.cancel.new.self) (rank c.args.core.now) _ (polls_left patience c.args.runner.now.running) c.cancel.ensures.keeps (omega (arith, same))
+returns-in-Some-clause-keeps g c = let same = c.cancel.ensures.given in due_later _ _ _ _ _ (omega (arith, same)) (c.give_up.ensures.polls c.args.tick.patience)
 
 pub returns-in_default-clause-keeps : goal.returns-in_default-clause-keeps
-returns-in_default-clause-keeps g c patience =
-    due_keeps (max 1 patience) (rank c.cancel.new.self) (rank c.args.core.now) _ (polls_left patience c.args.runner.now.running) c.cancel.ensures.keeps (omega arith)
+returns-in_default-clause-keeps g c = let same = c.cancel.ensures.given in due_later _ _ _ _ _ (omega (arith, same)) (omega arith)

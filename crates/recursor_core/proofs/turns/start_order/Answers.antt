@@ -1,24 +1,38 @@
-use Rattle.recursor_core.proofs.Standing.{holds_grown, moves_grown, moves_trans}
+use Rattle.std.proofs.Common.{◌+◌, max, arith}
+use Rattle.order_runner.specs.Runner.{polls_left}
+use Rattle.recursor_core.specs.Machine.{given_by}
+use Rattle.recursor_core.proofs.Due.{due_more}
+use Rattle.recursor_core.proofs.Standing.{goes_run, goes_trans}
 use Rattle.recursor_core.proofs.turns.start_order.Goals as goal
 
-pub returns-in_err-outcome-clause-holds : goal.returns-in_err-outcome-clause-holds
-returns-in_err-outcome-clause-holds g c =
-    holds_grown g.P.ConnectionProvider c.args.tick.patience c.args.core.now c.args.runner.now c.start.new.self c.args.tick.now _ c.requires.moment c.start.ensures.holds c.start.ensures.moves
-    c.requires.goes c.requires.holds
+pub returns-in_err-outcome-clause-goes : goal.returns-in_err-outcome-clause-goes
+returns-in_err-outcome-clause-goes g c =
+    let s = c.start.ensures in
+    goes_run g.P.ConnectionProvider c.args.tick c.args.core.now c.args.runner.now c.start.new.self _ s.vouches s.holds s.moves c.requires.goes c.requires.ready
 
-pub returns-in_err-outcome-clause-moves : goal.returns-in_err-outcome-clause-moves
-returns-in_err-outcome-clause-moves g c =
-    moves_grown g.P.ConnectionProvider c.args.tick.patience c.args.tick.now _ c.args.core.now c.args.runner.now.carrier c.start.new.self.carrier c.start.ensures.moves
+pub returns-in_err-outcome-clause-few : goal.returns-in_err-outcome-clause-few
+returns-in_err-outcome-clause-few g c =
+    let p = c.args.tick.patience in
+    due_more (max 1 p) (given_by c.args.core.now) (polls_left p c.start.new.self) (polls_left p c.args.runner.now) (max 1 p + 1) (let most = c.start.ensures.polls.most in omega (arith, most))
 
-pub settle-requires-clause-holds : goal.settle-requires-clause-holds
-settle-requires-clause-holds g c =
-    holds_grown g.P.ConnectionProvider c.args.tick.patience c.args.core.now c.args.runner.now c.start.new.self c.args.tick.now _ c.requires.moment c.start.ensures.holds c.start.ensures.moves
-    c.requires.goes c.requires.holds
+pub settle-requires-clause-ready : goal.settle-requires-clause-ready
+settle-requires-clause-ready g c =
+    let s = c.start.ensures in
+    let run = goes_run g.P.ConnectionProvider c.args.tick c.args.core.now c.args.runner.now c.start.new.self _ s.vouches s.holds s.moves c.requires.goes c.requires.ready in
+    run.ready
 
-pub settle-requires-clause-told : goal.settle-requires-clause-told
-settle-requires-clause-told g c = (c.in_ok-outcome.ensures.runs, c.in_ok-outcome.ensures.told)
+pub settle-requires-clause-held : goal.settle-requires-clause-held
+settle-requires-clause-held g c = c.in_ok-outcome.ensures.held.held
 
-pub returns-clause-moves : goal.returns-clause-moves
-returns-clause-moves g c =
-    moves_trans g.P.ConnectionProvider c.args.tick.patience c.args.tick.now _ _ _ _ _ _
-    (moves_grown g.P.ConnectionProvider c.args.tick.patience c.args.tick.now _ c.args.core.now c.args.runner.now.carrier c.start.new.self.carrier c.start.ensures.moves) c.settle.ensures.moves
+pub returns-clause-goes : goal.returns-clause-goes
+returns-clause-goes g c =
+    let s = c.start.ensures in
+    let run = goes_run g.P.ConnectionProvider c.args.tick c.args.core.now c.args.runner.now c.start.new.self _ s.vouches s.holds s.moves c.requires.goes c.requires.ready in
+    goes_trans g.P.ConnectionProvider c.args.tick _ _ _ _ _ _ run c.settle.ensures.goes
+
+pub returns-clause-few : goal.returns-clause-few
+returns-clause-few g c =
+    let p = c.args.tick.patience in
+    let more = due_more (max 1 p) (given_by c.args.core.now) (polls_left p c.start.new.self) (polls_left p c.args.runner.now) (max 1 p + 1)
+    (let most = c.start.ensures.polls.most in omega (arith, most)) in
+    omega (arith, more, c.settle.ensures.keeps)

@@ -1,10 +1,9 @@
-use Rattle.std.proofs.Common.{◌<◌, ◌≤◌, length, refl, ap, arith}
+use Rattle.std.proofs.Common.{◌<◌, length, refl}
 use Rattle.std.proofs.lemmas.List.Elements.{All-set}
 use Rattle.std.proofs.lemmas.Result.{on_ok_weaker}
 use Rattle.recursor_core.specs.Derived.{terms_of, ResolutionHolds}
-use Rattle.recursor_core.specs.Resolving.{steps}
-use Rattle.recursor_core.proofs.Ranks.{sum_falls, sum_keeps, need_within}
-use Rattle.recursor_core.proofs.Cores.{held-at, begun-set, either-way}
+use Rattle.recursor_core.proofs.Ranks.{sum_falls, need_within}
+use Rattle.recursor_core.proofs.Cores.{held-at, begun-set}
 use Rattle.recursor_core.proofs.machine.RecursorCore.begin_lookup.Goals as goal
 
 pub returns-clause-falls : goal.returns-clause-falls
@@ -14,17 +13,6 @@ returns-clause-falls c =
     let at = c.index_mut-resolution.ensures.value in
     let within : c.args.r < length xs = need_within xs c.args.r (λ e. cc) in
     on_ok_weaker c.send.result (λ fewer. sum_falls xs c.args.r f c.send.new.self within at fewer) c.send.ensures.falls
-
-pub returns-clause-keeps : goal.returns-clause-keeps
-returns-clause-keeps c =
-    let xs = c.args.self.now.resolutions.items in
-    let f = c.index_mut-resolution.result.now in
-    let at = c.index_mut-resolution.ensures.value in
-    let within : c.args.r < length xs = need_within xs c.args.r (λ e. cc) in
-    let g = c.send.new.self in
-    let most : steps g ≤ steps f = either-way c.send.result _ _ _ c.send.ensures.falls c.send.ensures.err
-    (λ fewer. omega (arith, fewer)) (λ as_before. let same = ap steps as_before in omega (arith, same)) in
-    sum_keeps xs c.args.r f g within at most
 
 pub returns-clause-derived : goal.returns-clause-derived
 returns-clause-derived c log d =

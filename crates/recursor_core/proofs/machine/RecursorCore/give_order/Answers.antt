@@ -1,4 +1,4 @@
-use Rattle.std.proofs.Common.{◌+◌, sym, subst}
+use Rattle.std.proofs.Common.{◌+◌, sym, subst, arith}
 use Rattle.std.proofs.lemmas.Result.{IfOk-from_err}
 use Rattle.server_core.specs.declared.order.Order.{Order}
 use Rattle.order_carrier.specs.Fits.{GoesToServer}
@@ -9,7 +9,14 @@ use Rattle.recursor_core.proofs.machine.RecursorCore.give_order.Goals as goal
 
 pub returns-in_err-number-clause-goes : goal.returns-in_err-number-clause-goes
 returns-in_err-number-clause-goes c =
-    goes-err c.args.self.now c.step_lookup.new.self c.from_residual.result c.from_residual.ensures.0 c.in_err-number.ensures.keeps
+    goes-err c.args.self.now c.step_lookup.new.self c.args.r c.from_residual.result c.from_residual.ensures.0
+    (let same = c.in_err-number.ensures.given in omega (arith, same))
+
+pub returns-in_err-order-in-Order-clause-goes : goal.returns-in_err-order-in-Order-clause-goes
+returns-in_err-order-in-Order-clause-goes c =
+    let given = rw c.in-Order.is at c.in_ok-number.ensures.given in
+    goes-err c.args.self.now c.step_lookup.new.self c.args.r c.from_residual-in_err-order-in-Order.result c.from_residual-in_err-order-in-Order.ensures.0
+    (let next = given.1 in omega (arith, next))
 
 pub returns-in_err-number-clause-gives : goal.returns-in_err-number-clause-gives
 returns-in_err-number-clause-gives c log d =

@@ -1,12 +1,12 @@
-use Rattle.std.proofs.Common.{◌≤◌}
+use Rattle.std.proofs.Common.{◌≡◌}
 use Rattle.dns_core.specs.Log.{Log}
 use Rattle.recursor_core.specs.Derived.{Derived}
-use Rattle.recursor_core.specs.Machine.{rank, SameCore}
+use Rattle.recursor_core.specs.Machine.{rank, given_by, SameCore}
 use Rattle.recursor_core.proofs.machine.RecursorCore.next.Given as goal
 
 abbrev pub invariant-steps : goal.invariant-steps
 invariant-steps l = record {
-  rank : rank l.self ≤ rank l.fn.self;
+  given : given_by l.self ≡ given_by l.fn.self;
   derived : (log : Log) → Derived l.fn.self log → Derived l.self log;
   same : SameCore l.fn.self l.self;
 }

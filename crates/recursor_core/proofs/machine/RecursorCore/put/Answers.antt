@@ -1,5 +1,5 @@
-use Rattle.std.proofs.Common.{◌≡◌, max, refl, Result, Ok, arith}
-use Rattle.std.specs.Prelude.{option_copied}
+use Rattle.std.proofs.Common.{◌≡◌, Bool, true, false, max, refl, sym, subst, Result, Ok, arith}
+use Rattle.std.specs.Prelude.{option_copied, IsTrue}
 use Rattle.dns_core.specs.declared.errors.NoMemory.{NoMemory}
 use Rattle.server_core.specs.declared.order.After.{After}
 use Rattle.server_core.specs.declared.order.After.TheVariants as after
@@ -11,9 +11,23 @@ use Rattle.recursor_core.proofs.Cores.{derived-is}
 use Rattle.recursor_core.proofs.Kept.{Derived-extends, resolutions-kept}
 use Rattle.recursor_core.proofs.machine.RecursorCore.put.Goals as goal
 
+-- what is not so is not so
+not-both : (b : Bool) → b ≡ false → IsTrue b → ⊥
+not-both true is h = cc
+not-both false is h = cc
+
 -- what is late changes nothing
 abbrev was_late : Result After NoMemory
 was_late = Ok after.Late
+
+pub returns-then-not-is_next-clause-late : goal.returns-then-not-is_next-clause-late
+returns-then-not-is_next-clause-late c =
+    (λ is next of. not-both c.is_next.result c.if-not-is_next.true (c.is_next.ensures.1 (subst (IsNext c.args.self.now.greatest) (sym c.entry-entry.ensures) next)), λ none. refl)
+
+pub returns-clause-late : goal.returns-clause-late
+returns-clause-late c =
+    let next : IsNext c.args.self.now.greatest (entry_of c.args.outcome) = rw c.entry-entry.ensures at c.is_next.ensures.0 c.if-not-is_next.false in
+    (λ is was of. c.put-after.ensures.late.0 is of, λ none. c.put-after.ensures.late.1 (none next))
 
 pub returns-then-not-is_next-clause-derived : goal.returns-then-not-is_next-clause-derived
 returns-then-not-is_next-clause-derived c log told longer patient d tells on =
@@ -25,7 +39,7 @@ returns-clause-derived c log told longer patient d tells on =
     let terms = terms_of core in
     let waits = option_copied c.args.waits in
     let now = c.args.tick.now in
-    let next : IsNext core.greatest (entry_of c.args.outcome) = rw c.entry-entry.ensures at c.is_next.ensures c.if-not-is_next.false in
+    let next : IsNext core.greatest (entry_of c.args.outcome) = rw c.entry-entry.ensures at c.is_next.ensures.0 c.if-not-is_next.false in
     let put : IsPut core.greatest core.moment log c.args.tick waits c.args.outcome c.put-after.result longer = record { bound = d.bound; next = next; told = told; tells = tells; goes_on = on } in
     let tables = c.put-after.ensures.holds terms core.greatest core.moment log longer patient put (record { cache = d.cache; pools = d.pools }) in
     let last = last-chosen c.put-after.result waits c.args.outcome c.last_entry-last.result c.entry-entry.result c.closing_of-closing.result c.last_entry-last.ensures c.entry-entry.ensures c.closing_of-closing.ensures in

@@ -4,13 +4,13 @@ use Rattle.recursor_core.proofs.Ranks.{sum_falls, need_within}
 use Rattle.recursor_core.proofs.Cores.{all-after, begun-set}
 use Rattle.recursor_core.proofs.machine.RecursorCore.set_out.Goals as goal
 
-pub returns-clause-falls : goal.returns-clause-falls
-returns-clause-falls c =
+pub returns-clause-nearer : goal.returns-clause-nearer
+returns-clause-nearer c =
     let xs = c.args.self.now.resolutions.items in
     let f = c.index_mut-resolution.result.now in
     let at = c.index_mut-resolution.ensures.value in
     let within : c.args.r < length xs = need_within xs c.args.r (λ e. cc) in
-    sum_falls xs c.args.r f c.set_out.new.self within at c.set_out.ensures.falls
+    (sum_falls xs c.args.r f c.set_out.new.self within at c.set_out.ensures.falls, refl)
 
 pub returns-clause-derived : goal.returns-clause-derived
 returns-clause-derived c log d =

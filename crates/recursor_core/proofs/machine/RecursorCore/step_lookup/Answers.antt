@@ -2,8 +2,8 @@ use Rattle.std.proofs.Common.{◌<◌, length, refl}
 use Rattle.std.proofs.lemmas.List.Elements.{All-set}
 use Rattle.std.proofs.lemmas.Result.{IfOk-weaker}
 use Rattle.recursor_core.specs.Derived.{terms_of, ResolutionHolds}
-use Rattle.recursor_core.proofs.Ranks.{sum_leaves, sum_keeps, need_within}
-use Rattle.recursor_core.proofs.Cores.{held-at, begun-set}
+use Rattle.recursor_core.proofs.Ranks.{sum_leaves, need_within}
+use Rattle.recursor_core.proofs.Cores.{held-at, begun-set, waits-at}
 use Rattle.recursor_core.proofs.machine.RecursorCore.step_lookup.Goals as goal
 
 pub returns-clause-falls : goal.returns-clause-falls
@@ -14,13 +14,11 @@ returns-clause-falls c =
     let within : c.args.r < length xs = need_within xs c.args.r (λ e. cc) in
     IfOk-weaker c.step.result _ _ (λ stepped fewer. sum_leaves xs c.args.r f c.step.new.self within at stepped fewer) c.step.ensures.falls
 
-pub returns-clause-keeps : goal.returns-clause-keeps
-returns-clause-keeps c =
+pub returns-clause-waits : goal.returns-clause-waits
+returns-clause-waits c =
     let xs = c.args.self.now.resolutions.items in
-    let f = c.index_mut-resolution.result.now in
-    let at = c.index_mut-resolution.ensures.value in
     let within : c.args.r < length xs = need_within xs c.args.r (λ e. cc) in
-    sum_keeps xs c.args.r f c.step.new.self within at c.step.ensures.keeps
+    IfOk-weaker c.step.result _ _ (λ stepped waits. waits-at c.step.new.pools xs c.args.r c.step.new.self stepped within waits) c.step.ensures.waits
 
 pub returns-clause-derived : goal.returns-clause-derived
 returns-clause-derived c log d =

@@ -3,17 +3,9 @@ use Rattle.std.proofs.lemmas.List.Elements.{All-set}
 use Rattle.recursor_core.specs.Derived.{terms_of, ResolutionHolds}
 use Rattle.std.specs.Option.{option_map}
 use Rattle.recursor_core.specs.Machine.{begun_of}
-use Rattle.recursor_core.proofs.Ranks.{sum_falls, read_at, need_within}
-use Rattle.recursor_core.proofs.Cores.{held-at, begun-set, given-some}
+use Rattle.recursor_core.proofs.Ranks.{read_at, need_within}
+use Rattle.recursor_core.proofs.Cores.{held-at, begun-set, need-set, given-some}
 use Rattle.recursor_core.proofs.machine.RecursorCore.take_reply.Goals as goal
-
-pub returns-clause-falls : goal.returns-clause-falls
-returns-clause-falls c =
-    let xs = c.args.self.now.resolutions.items in
-    let f = c.index_mut-resolution.result.now in
-    let at = c.index_mut-resolution.ensures.value in
-    let within : c.args.r < length xs = need_within xs c.args.r (λ e. cc) in
-    sum_falls xs c.args.r f c.take_reply.new.self within at c.take_reply.ensures.falls
 
 pub returns-clause-derived : goal.returns-clause-derived
 returns-clause-derived c log d =
@@ -29,6 +21,12 @@ returns-clause-derived c log d =
       record { bound = d.bound; some = d.some; cache = d.cache; pools = d.pools; resolutions = All-set P xs c.args.r c.take_reply.new.self taken.0 d.resolutions },
       given-some terms core.moment log c.take_reply.result _ (begun_of f) (ap (option_map begun_of) read) taken.1,
     )
+
+pub returns-clause-ended : goal.returns-clause-ended
+returns-clause-ended c =
+    let xs = c.args.self.now.resolutions.items in
+    let within : c.args.r < length xs = need_within xs c.args.r (λ e. cc) in
+    need-set xs c.args.r c.take_reply.new.self _ within c.take_reply.ensures.ended
 
 pub returns-clause-same : goal.returns-clause-same
 returns-clause-same c =

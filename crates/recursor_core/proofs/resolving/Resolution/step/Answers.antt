@@ -1,10 +1,10 @@
-use Rattle.std.proofs.Common.{◌≤◌, arith, subst, sym}
+use Rattle.std.proofs.Common.{arith, subst, sym}
 use Rattle.std.proofs.lemmas.Result.{IfOk-weaker}
 use Rattle.walk_tables.specs.Lookup.{LeavesLess}
 use Rattle.recursor_walk.specs.Walk as walk
 use Rattle.recursor_core.specs.Resolving.{state_steps}
 use Rattle.recursor_core.specs.declared.resolving.State.{State}
-use Rattle.recursor_core.proofs.Resolved.{walk-holds}
+use Rattle.recursor_core.proofs.Resolved.{walk-holds, awaits}
 use Rattle.recursor_core.proofs.resolving.Resolution.step.Goals as goal
 
 pub returns-in-Under-clause-falls : goal.returns-in-Under-clause-falls
@@ -13,9 +13,8 @@ returns-in-Under-clause-falls c =
     subst (λ (s : State). LeavesLess (state_steps c.args.self.now.question.query s) (walk.steps c.step.new.self) stepped) (sym c.in-Under.is) falls)
     (rw c.deref_mut.ensures.value at c.step.ensures.falls)
 
-pub returns-in-Under-clause-keeps : goal.returns-in-Under-clause-keeps
-returns-in-Under-clause-keeps c =
-    subst (λ (s : State). walk.steps c.step.new.self ≤ state_steps c.args.self.now.question.query s) (sym c.in-Under.is) (rw c.deref_mut.ensures.value at c.step.ensures.keeps)
+pub returns-in-Under-clause-waits : goal.returns-in-Under-clause-waits
+returns-in-Under-clause-waits c = IfOk-weaker c.step.result _ _ (λ stepped waits. awaits c.step.new.pools c.args.self.now c.in-Under.walk c.step.new.self stepped waits) c.step.ensures.waits
 
 pub returns-in-Under-clause-holds : goal.returns-in-Under-clause-holds
 returns-in-Under-clause-holds c terms log pools h =

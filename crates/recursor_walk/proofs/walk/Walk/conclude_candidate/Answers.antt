@@ -15,6 +15,8 @@ use Rattle.recursor_types.specs.declared.error.WalkCause.TheVariants.{Timeout}
 use Rattle.recursor_types.specs.declared.reply.Reply.{Reply}
 use Rattle.recursor_walk.proofs.Denials.{stops}
 use Rattle.recursor_walk.proofs.Walks.{timed-out, leaves-failed}
+use Rattle.walk_tables.specs.declared.lookup.Found.{Found}
+use Rattle.recursor_walk.specs.Walk.{EndsIf, verdict_found}
 use Rattle.recursor_walk.proofs.walk.Walk.conclude_candidate.Goals.{in-Timeout, in_default}
 use Rattle.recursor_walk.proofs.walk.Walk.conclude_candidate.Goals as goal
 
@@ -49,3 +51,13 @@ returns-after-error-clause-holds c terms greatest moment t0 log filtered way fou
           (v.advance.ensures.holds terms greatest moment t0 log way
           (leaves-failed terms greatest log asked.query w c.requires way moment t0 c.in-Error.error failed.concluded (not-timeout c.in-Error.error v.in_default.not-Timeout)))
     ]
+
+pub returns-in-Told-clause-ends : goal.returns-in-Told-clause-ends
+returns-in-Told-clause-ends c =
+    let w = c.args.self.now in
+    subst (λ (f : Found). EndsIf w.stage (verdict_found w.zone w.lookup.query f) c.hear_candidate.result) (sym c.in-Told.is) c.hear_candidate.ensures.ends
+
+pub returns-after-error-clause-ends : goal.returns-after-error-clause-ends
+returns-after-error-clause-ends c =
+    let w = c.args.self.now in
+    subst (λ (f : Found). EndsIf w.stage (verdict_found w.zone w.lookup.query f) c.match-error.result) (sym c.in-Error.is) tt

@@ -1,4 +1,4 @@
-use Rattle.std.proofs.Common.{sym, subst, ◌∙◌, [], ◌∷◌, refl}
+use Rattle.std.proofs.Common.{sym, subst, ◌∙◌, [], ◌∷◌, refl, ◌≡◌, true, false}
 use Rattle.dns_core.specs.declared.message.Query.{Query}
 use Rattle.resolution.specs.declared.verdict.Verdict.TheVariants.{Neg}
 use Rattle.recursor_walk.specs.Causes.{ErrorHolds}
@@ -7,6 +7,7 @@ use Rattle.walk_tables.specs.Terms.{given_of}
 use Rattle.walk_tables.specs.Tried.{machine_timer}
 use Rattle.recursor_walk.proofs.Denials.{answers-on-the-way, denied}
 use Rattle.recursor_walk.proofs.Walks.{candidate-asked, candidate-on-the-way, leaves-told}
+use Rattle.walk_base.specs.Answer.{ends_walk}
 use Rattle.recursor_walk.proofs.walk.Walk.deny_candidate.Goals as goal
 
 pub returns-then-ends_walk-clause-holds : goal.returns-then-ends_walk-clause-holds
@@ -26,3 +27,9 @@ pub returns-clause-holds : goal.returns-clause-holds
 returns-clause-holds c terms greatest moment t0 log way stands =
     c.advance.ensures.holds terms greatest moment t0 log way
     (leaves-told terms greatest log c.args.question.now.query c.args.self.now c.requires way t0 c.args.entry (Neg c.args.found) stands refl)
+
+pub returns-clause-ends : goal.returns-clause-ends
+returns-clause-ends c here ends =
+    let no : ends_walk c.args.found ≡ false = sym c.ends_walk.ensures ∙ c.if-ends_walk.false in
+    let yes : ends_walk c.args.found ≡ true = ends in
+    cc

@@ -9,6 +9,8 @@ use Rattle.walk_tables.specs.Tried.{machine_timer}
 use Rattle.walk_base.specs.Answer.{made_negative}
 use Rattle.recursor_walk.proofs.Denials.{made-on-the-way, denied}
 use Rattle.recursor_walk.proofs.Walks.{candidate-asked, candidate-on-the-way}
+use Rattle.std.specs.Prelude.{IsTrue}
+use Rattle.resolution.specs.Failing.{ends_walk}
 use Rattle.recursor_walk.proofs.walk.Walk.heed_candidate.Goals as goal
 
 pub returns-in-Pos-clause-holds : goal.returns-in-Pos-clause-holds
@@ -35,3 +37,9 @@ returns-in_ok-reply_by-in-Made-clause-holds c terms greatest moment t0 log filte
     let told = subst (λ (p : Query). ErrorHolds (given_of terms) (machine_timer moment log t0) log t0 q (entry ∷ []) (made_negative p cause)) (sym at) made in
     denied terms moment t0 log asked c.in_ok-reply_by-in-Made.field-0.value c.in_ok-denial-in-Made.denial (entry ∷ []) c.in_ok-reply_by-in-Made.ensures
     (subst (ErrorHolds (given_of terms) (machine_timer moment log t0) log t0 q (entry ∷ [])) (sym c.in_ok-denial-in-Made.ensures) told)
+
+pub returns-in-Pos-clause-ends : goal.returns-in-Pos-clause-ends
+returns-in-Pos-clause-ends c here ends = let no = subst (λ (v : Verdict). IsTrue (ends_walk v)) c.in-Pos.is ends in cc
+
+pub returns-in-Neg-clause-ends : goal.returns-in-Neg-clause-ends
+returns-in-Neg-clause-ends c here ends = c.deny_candidate.ensures.ends here (subst (λ (v : Verdict). IsTrue (ends_walk v)) c.in-Neg.is ends)

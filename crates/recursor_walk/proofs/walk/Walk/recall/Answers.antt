@@ -1,4 +1,5 @@
 use Rattle.std.proofs.Common.{IfSome, Option, sym, subst}
+use Rattle.walk_base.specs.Stage.{IsCandidate}
 use Rattle.recursor_walk.specs.Counted.{IsRecalled}
 use Rattle.recursor_walk.specs.Walk.{Recalls}
 use Rattle.recursor_walk.specs.declared.counted.Counted.{Counted}
@@ -10,6 +11,11 @@ returns-in-Candidate-clause-holds c terms greatest moment t0 log filtered recall
     let found = subst (λ (o : Option Counted). IfSome o (IsRecalled terms greatest t0 log c.args.self.now.lookup.query)) c.in-Some.is recalled in
     c.heed_candidate.ensures.holds terms greatest moment t0 log filtered h.way found.stands
 
+pub returns-in-Candidate-clause-answers : goal.returns-in-Candidate-clause-answers
+returns-in-Candidate-clause-answers c =
+    subst (λ (o : Option Counted). Recalls c.args.self.now o c.heed_candidate.result) (sym c.in-Some.is)
+    (λ other may. absurd (other (subst IsCandidate (sym c.in-Candidate.is) tt)), c.heed_candidate.ensures.ends)
+
 pub returns-in-Last : goal.returns-in-Last
 returns-in-Last c = record {
   falls = c.recall_answer.ensures.falls;
@@ -17,7 +23,7 @@ returns-in-Last c = record {
       c.recall_answer.ensures.holds terms greatest moment t0 log
       (subst (λ (o : Option Counted). IfSome o (IsRecalled terms greatest t0 log c.args.self.now.lookup.query)) c.in-Some.is recalled) h;
   answers = subst (λ (o : Option Counted). Recalls c.args.self.now o c.recall_answer.result) (sym c.in-Some.is)
-      (λ other may. c.recall_answer.ensures.answers may);
+      (λ other may. c.recall_answer.ensures.answers may, λ here ends. absurd (subst IsCandidate c.in-Last.is here));
 }
 
 pub returns-in_default-clause-holds : goal.returns-in_default-clause-holds

@@ -9,6 +9,7 @@ use Rattle.walk_tables.specs.declared.pools.Sought.{Sought}
 use Rattle.walk_tables.proofs.Pooling.{pools-grown}
 use Rattle.walk_tables.proofs.Beginning.{begun-holds}
 use Rattle.walk_tables.proofs.Begun.{pools-numbered, met-numbered, has-begun, pools-begun}
+use Rattle.walk_tables.proofs.Numbering.{sent-count, kept-count}
 use Rattle.walk_tables.proofs.Sharing.{begun-there, begun-fresh, begun-rest, begun-numbered}
 use Rattle.walk_tables.proofs.pools.Pools.begin.Goals as goal
 
@@ -17,6 +18,7 @@ pub returns-in_err-servers : goal.returns-in_err-servers
 returns-in_err-servers c = record {
   holds = λ terms greatest log above walked servers h.
       pools-grown terms greatest c.args.tick.now log c.args.self.now c.meet_all.new.self c.meet_all.ensures.grown (c.meet_all.ensures.servers terms h.servers) h;
+  given = c.meet_all.ensures.grown.given;
 }
 
 pub returns-in_err-pool : goal.returns-in_err-pool
@@ -24,6 +26,7 @@ returns-in_err-pool c = record {
   holds = λ terms greatest log above walked servers h.
       let met = pools-grown terms greatest c.args.tick.now log c.args.self.now c.meet_all.new.self c.meet_all.ensures.grown (c.meet_all.ensures.servers terms h.servers) h in
       subst (λ shared. PoolsHold terms greatest c.args.tick.now log (record c.meet_all.new.self { shared = shared })) (sym c.in_err-pool.ensures.err) met;
+  given = ap (λ (shared : Shared). shared.given) c.in_err-pool.ensures.err ∙ c.meet_all.ensures.grown.given;
 }
 
 pub returns-in_err-lookup : goal.returns-in_err-lookup
@@ -34,6 +37,7 @@ returns-in_err-lookup c = record {
       let numbered : Pools = record first { shared = c.from_nameservers.new.shared } in
       subst (λ shared. PoolsHold terms greatest c.args.tick.now log (record first { shared = shared })) (sym c.in_err-lookup.ensures.err)
       (pools-numbered terms greatest c.args.tick.now log first numbered (first.shared.pools + 1) (omega arith) c.in_ok-pool.ensures.ok refl refl met);
+  given = ap (λ (shared : Shared). shared.given) (c.in_err-lookup.ensures.err ∙ c.in_ok-pool.ensures.ok) ∙ c.meet_all.ensures.grown.given;
 }
 
 pub returns : goal.returns
@@ -66,4 +70,8 @@ returns c = record {
       pools-begun terms greatest now log n sought old mid c.keep.new.self (begun-rest pool numbers request now old.shared mid.shared n begun)
       (begun-numbered pool numbers request now old.shared mid.shared n begun within numbered.numbered) refl refl numbered c.keep.result c.in_ok-lookup.lookup
       (begun-fresh pool numbers request now old.shared mid.shared n begun numbered.numbered) holds c.keep.ensures.ok c.keep.ensures.err;
+  given =
+      kept-count c.in_ok-lookup.lookup _ (record c.meet_all.new.self { shared = c.send.new.shared }) c.keep.new.self c.keep.result c.keep.ensures.ok c.keep.ensures.err
+      ∙ sent-count _ _ _ _ c.from_nameservers.new.shared c.send.new.shared c.in_ok-lookup.lookup.number c.in_ok-lookup.ensures.sent
+      ∙ ap (λ (shared : Shared). shared.given) c.in_ok-pool.ensures.ok ∙ c.meet_all.ensures.grown.given;
 }

@@ -1,4 +1,4 @@
-use Rattle.std.proofs.Common.{◌≡◌, ℕ, List, Some, subst, ap}
+use Rattle.std.proofs.Common.{◌≡◌, ℕ, List, Some, refl, subst, ap}
 use Rattle.std.specs.BTreeMap as tree
 use Rattle.std.specs.Map.{lookup}
 use Rattle.std.specs.Ordering.{nat_cmp}
@@ -14,5 +14,6 @@ returns c = record {
     numbered = h.numbered;
     lookups = λ n s is. absurd (none-some s (subst (λ (es : List (ℕ × Sought)). lookup (tree.is_at (nat_cmp n)) es ≡ Some s) c.clear.ensures.empty is));
   };
+  given = refl;
   gone = λ n. ap (λ (es : List (ℕ × Sought)). lookup (tree.is_at (nat_cmp n)) es) c.clear.ensures.empty;
 }

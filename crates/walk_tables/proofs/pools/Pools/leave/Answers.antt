@@ -1,4 +1,5 @@
-use Rattle.std.proofs.Common.{refl}
+use Rattle.std.proofs.Common.{refl, ap, ◌∙◌}
+use Rattle.server_pool.specs.Shared.{Shared}
 use Rattle.walk_tables.proofs.Pooling.{pools-forgotten, pools-left}
 use Rattle.walk_tables.proofs.pools.Pools.leave.Goals as goal
 
@@ -10,5 +11,6 @@ returns c = record {
       let forgotten = rw c.number.ensures at c.forget.ensures in
       pools-left terms greatest moment log n mid _ (record { left = c.leave.ensures.left; last = c.leave.ensures.last; numbers = refl; sought = λ m. refl }) forgotten.none
       (pools-forgotten terms greatest moment log n c.args.self.now mid forgotten h);
+  given = ap (λ (shared : Shared). shared.given) (c.leave.ensures.left) ∙ ap (λ (shared : Shared). shared.given) c.forget.ensures.same.shared;
   gone = (rw c.number.ensures at c.forget.ensures).none;
 }

@@ -1,9 +1,13 @@
-use Rattle.std.proofs.Common.{◌≡◌, ℕ, max, inr, subst, Ok, Result, arith}
+use Rattle.std.proofs.Common.{◌≡◌, ◌∙◌, ℕ, max, inr, sym, refl, subst, Some, None, Ok, Result, arith, rules}
 use Rattle.std.specs.Option.{option_copied}
 use Rattle.dns_core.specs.declared.errors.NoMemory.{NoMemory}
 use Rattle.server_core.specs.declared.order.After.{After}
+use Rattle.server_core.specs.declared.order.After.TheVariants.{Late}
+use Rattle.server_pool.specs.Orders.{open_at}
+use Rattle.walk_tables.specs.Pools.{IsOutcomeOf}
 use Rattle.walk_tables.specs.Order.{last_entry, closing_of}
 use Rattle.walk_tables.specs.Taking.{Took, TablesHold}
+use Rattle.walk_tables.proofs.Late.{late-other, open-late}
 use Rattle.walk_tables.proofs.Puts.{longer-put, err-last, err-is, was-put}
 use Rattle.walk_tables.proofs.Remembering.{cache-kept}
 use Rattle.walk_tables.proofs.Taking.{remembered-kept, tables-kept}
@@ -55,7 +59,7 @@ returns-in_err-remember-clause-holds c terms greatest moment log longer patient 
 
 pub returns-clause-takes : goal.returns-clause-takes
 returns-clause-takes c =
-    let given = rw c.in-Some-given_for.is at c.given_for.ensures in
+    let given = rw c.in-Some-given_for.is at c.given_for.ensures.some in
     inr (record {
       n = c.in-Some.lookup;
       took = subst (λ (k : ℕ). Took c.args.self.now c.take.new.self c.in-Some.lookup k c.args.outcome c.args.tick c.in_ok-after.after) given.0 c.in_ok-after.ensures.took;
@@ -75,3 +79,25 @@ returns-clause-holds c terms greatest moment log longer patient put h =
       cache = remembered-kept terms g now longer c.take.new.self c.in-Some.lookup pools c.args.cache.now c.remember.new.cache c.remember.result c.remember.ensures.ok c.remember.ensures.err cache;
       pools = pools;
     }
+
+-- ---- which outcomes are late
+
+pub returns-in_default-given_for-clause-late : goal.returns-in_default-given_for-clause-late
+returns-in_default-given_for-clause-late c =
+    let pools = c.args.self.now in
+    let there : open_at c.args.number pools.shared ≡ Some c.in-Some.lookup = cc in
+    let none : c.given_for.result ≡ None = search rules in
+    (λ same. late-other pools c.args.number c.in-Some.lookup (option_copied c.args.waits) c.args.outcome there (c.given_for.ensures.none none), λ none. refl)
+
+pub returns-clause-late : goal.returns-clause-late
+returns-clause-late c =
+    let pools = c.args.self.now in
+    let number = c.args.number in
+    let took = c.in_ok-after.ensures.took in
+    let given = rw c.in-Some-given_for.is at c.given_for.ensures.some in
+    let there : open_at number pools.shared ≡ Some c.in-Some.lookup = cc in
+    let outcome : IsOutcomeOf pools number (option_copied c.args.waits) c.args.outcome =
+    record { n = c.in-Some.lookup; open_there = there; given = c.in-Some-given_for.given; named = given.0; is = given.1 } in (
+      λ same of. open-late c.args.tick.patience c.in-Some-given_for.given.number c.args.outcome took.lookup.lookup took.opens.waits (sym took.put.did ∙ (let late : c.in_ok-after.after ≡ Late = cc in late)),
+      λ none. absurd (none outcome),
+    )

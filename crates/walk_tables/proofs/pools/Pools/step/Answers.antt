@@ -1,7 +1,12 @@
-use Rattle.std.proofs.Common.{refl, sym, ◌∙◌, Some, None}
+use Rattle.std.proofs.Common.{refl, sym, ap, subst, ◌∙◌, Some, None, Ok, Err}
+use Rattle.server_pool.specs.Shared.{Shared}
+use Rattle.server_pool.specs.declared.pool_shared.PoolStep.{PoolStep}
 use Rattle.walk_tables.specs.Pools.{HasNoted, noted, aim_of}
+use Rattle.walk_tables.specs.declared.pools.Given.{Given}
 use Rattle.walk_tables.proofs.Giving.{pools-ordered, pools-done, pools-go}
 use Rattle.walk_tables.proofs.Losing.{pools-waits}
+use Rattle.walk_tables.proofs.Awaited.{awaits-order}
+use Rattle.walk_tables.proofs.Numbering.{GivesAs, step-count}
 use Rattle.walk_tables.proofs.pools.Pools.step.Goals as goal
 
 pub returns-in-Ok-Order-clause-holds : goal.returns-in-Ok-Order-clause-holds
@@ -28,9 +33,64 @@ returns-in-Ok-Done-clause-holds c terms log h =
     (rw c.number-n.ensures at (sym c.contains_key.ensures ∙ c.if-not-contains_key.false)) c.in-Ok-Done.ensures.steps (rw c.number-n.ensures at c.note-in-Ok-Done.ensures)
 
 -- where memory is wanting, or it waits, it is forgotten
+pub returns-in-Ok-Waiting-clause-holds : goal.returns-in-Ok-Waiting-clause-holds
+returns-in-Ok-Waiting-clause-holds c terms log h =
+    let old = c.args.self.now in
+    let n = c.args.lookup.now.number in
+    pools-waits terms c.args.since c.args.tick.now log n old (record old { shared = c.next.new.shared }) c.forget.new.self (Ok c.in-Ok-Waiting.field-0) refl refl
+    (rw c.number-n.ensures at (sym c.contains_key.ensures ∙ c.if-not-contains_key.false)) c.in-Ok-Waiting.ensures.steps c.in-Ok-Waiting.ensures.halts (rw c.number-n.ensures at c.forget.ensures) h
+
 pub returns-clause-holds : goal.returns-clause-holds
 returns-clause-holds c terms log h =
     let old = c.args.self.now in
     let n = c.args.lookup.now.number in
-    pools-waits terms c.args.since c.args.tick.now log n old (record old { shared = c.next.new.shared }) c.forget.new.self c.next.result refl refl
-    (rw c.number-n.ensures at (sym c.contains_key.ensures ∙ c.if-not-contains_key.false)) c.next.ensures.steps c.next.ensures.halts (rw c.number-n.ensures at c.forget.ensures) h
+    let none = c.in-Err.ensures in
+    pools-waits terms c.args.since c.args.tick.now log n old (record old { shared = c.next.new.shared }) c.forget-in-Err.new.self (Err c.in-Err.field-0) refl refl
+    (rw c.number-n.ensures at (sym c.contains_key.ensures ∙ c.if-not-contains_key.false)) none.steps none.halts (rw c.number-n.ensures at c.forget-in-Err.ensures) h
+
+-- ---- how many orders were given
+
+pub returns-in-Ok-Order-clause-given : goal.returns-in-Ok-Order-clause-given
+returns-in-Ok-Order-clause-given c =
+    let old = c.args.self.now.shared in
+    let new = c.next.new.shared in
+    let first = c.in-Ok-Order.ensures in
+    let count = step-count c.args.lookup.now.number c.args.tick.now old new (Ok c.in-Ok-Order.field-0) first.steps first.halts first.gone in
+    let gave = subst (λ (t : PoolStep). GivesAs old.given new.given (Ok t)) c.in-Ok-Order.field-0-is count in
+    (gave.0, ap (λ (x : Shared). x.given) c.note.ensures.same.shared ∙ gave.1)
+
+pub returns-in-Ok-Done-clause-given : goal.returns-in-Ok-Done-clause-given
+returns-in-Ok-Done-clause-given c =
+    let old = c.args.self.now.shared in
+    let new = c.next.new.shared in
+    let done = c.in-Ok-Done.ensures in
+    let count = step-count c.args.lookup.now.number c.args.tick.now old new (Ok c.in-Ok-Done.field-0) done.steps done.halts done.gone in
+    ap (λ (x : Shared). x.given) c.note-in-Ok-Done.ensures.same.shared ∙ subst (λ (t : PoolStep). GivesAs old.given new.given (Ok t)) c.in-Ok-Done.field-0-is count
+
+pub returns-in-Ok-Waiting-clause-given : goal.returns-in-Ok-Waiting-clause-given
+returns-in-Ok-Waiting-clause-given c =
+    let old = c.args.self.now.shared in
+    let new = c.next.new.shared in
+    let none = c.in-Ok-Waiting.ensures in
+    let count = step-count c.args.lookup.now.number c.args.tick.now old new (Ok c.in-Ok-Waiting.field-0) none.steps none.halts none.gone in
+    ap (λ (x : Shared). x.given) c.forget.ensures.same.shared ∙ subst (λ (t : PoolStep). GivesAs old.given new.given (Ok t)) c.in-Ok-Waiting.field-0-is count
+
+pub returns-clause-given : goal.returns-clause-given
+returns-clause-given c =
+    let old = c.args.self.now.shared in
+    let new = c.next.new.shared in
+    let none = c.in-Err.ensures in
+    ap (λ (x : Shared). x.given) c.forget-in-Err.ensures.same.shared ∙ step-count c.args.lookup.now.number c.args.tick.now old new (Err c.in-Err.field-0) none.steps none.halts none.gone
+
+-- ---- the order is the one that is waited for
+
+pub returns-in-Ok-Order-clause-waits : goal.returns-in-Ok-Order-clause-waits
+returns-in-Ok-Order-clause-waits c =
+    let old = c.args.self.now in
+    let n = c.args.lookup.now.number in
+    let mid = record old { shared = c.next.new.shared } in
+    let first = c.in-Ok-Order.ensures in
+    let given : Given = record { number = c.in-Ok-Order.number; aim = aim_of c.in-Ok-Order.order; since = c.args.since; polled = None } in
+    let note : HasNoted n (noted (Some given) None None) mid c.note.new.self = rw (c.number-n.ensures, c.aim_of-aim.ensures) at c.note.ensures in
+    awaits-order n c.args.tick.now old mid c.note.new.self c.in-Ok-Order.field-0 c.in-Ok-Order.number c.in-Ok-Order.order c.in-Ok-Order.field-0-is first.steps (λ none. (first.gone none).0) refl
+    (rw c.number-n.ensures at (sym c.contains_key.ensures ∙ c.if-not-contains_key.false)) given refl note

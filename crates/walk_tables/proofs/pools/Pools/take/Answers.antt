@@ -1,5 +1,7 @@
-use Rattle.std.proofs.Common.{refl, ap, length, arith}
+use Rattle.std.proofs.Common.{refl, ap, length, ◌∙◌, arith}
 use Rattle.std.specs.Option.{option_copied}
+use Rattle.server_pool.specs.Shared.{Shared}
+use Rattle.server_pool.proofs.Listed.{opened}
 use Rattle.walk_tables.specs.Pools.{NotesOutcome, first_of, polled_by}
 use Rattle.walk_tables.specs.declared.pools.Given.{Given}
 use Rattle.walk_tables.proofs.KeptPools.{pools-kept}
@@ -22,6 +24,7 @@ returns-in-Ok c =
     let note : NotesOutcome n again (first_of g.aim w c.args.outcome) before c.in-Ok.after c.args.tick.now mid c.note_outcome.new.self =
     rw (c.first_of-first.ensures, c.polled_by.ensures) at c.note_outcome.ensures in
     record {
+      given = ap (λ (shared : Shared). shared.given) (note.noted.same.shared ∙ (let at = opened g.number n old.shared c.requires.open in c.in-Ok.ensures.puts n at.0 at.1).is);
       took = took-by old mid c.note_outcome.new.self n g w c.args.outcome c.args.tick again (first_of g.aim w c.args.outcome) before c.in-Ok.after c.requires.given c.requires.open refl many note c.in-Ok.ensures.puts;
       holds = λ terms greatest moment log longer patient put h.
           pools-put terms greatest moment log longer old mid c.note_outcome.new.self n c.args.tick w c.args.outcome g before c.in-Ok.after patient put refl refl c.requires.given many note h
@@ -31,6 +34,8 @@ returns-in-Ok c =
 pub returns-in-Err : goal.returns-in-Err
 returns-in-Err c = record {
   took = tt;
+  given = ap (λ (shared : Shared). shared.given)
+      (c.forget.ensures.same.shared ∙ (let at = opened c.args.given.number c.args.lookup c.args.self.now.shared c.requires.open in c.in-Err.ensures.puts c.args.lookup at.0 at.1).is);
   holds = λ terms greatest moment log longer patient put h.
       let old = c.args.self.now in
       let n = c.args.lookup in

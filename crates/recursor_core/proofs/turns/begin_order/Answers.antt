@@ -1,0 +1,29 @@
+use Rattle.std.proofs.Common.{max, arith}
+use Rattle.order_runner.specs.Runner.{polls_left}
+use Rattle.recursor_core.specs.Machine.{given_by}
+use Rattle.recursor_core.proofs.Due.{due_order}
+use Rattle.recursor_core.proofs.Standing.{goes_nowhere}
+use Rattle.recursor_core.proofs.turns.begin_order.Goals as goal
+
+pub returns-in_err-insert-clause-goes : goal.returns-in_err-insert-clause-goes
+returns-in_err-insert-clause-goes g c = goes_nowhere g.P.ConnectionProvider c.args.tick c.args.core.now c.args.runner.now c.requires.ready
+
+pub returns-then-not-branch-clause-goes : goal.returns-then-not-branch-clause-goes
+returns-then-not-branch-clause-goes g c = goes_nowhere g.P.ConnectionProvider c.args.tick c.args.core.now c.args.runner.now c.requires.ready
+
+pub returns-in_err-insert-clause-falls : goal.returns-in_err-insert-clause-falls
+returns-in_err-insert-clause-falls g c before next given =
+    let p = c.args.tick.patience in
+    let less = due_order (max 1 p) (given_by before) (given_by c.args.core.now) (polls_left p c.args.runner.now) given (omega (arith, given, next, c.ranges.number)) in omega (arith, less)
+
+pub returns-then-not-branch-clause-falls : goal.returns-then-not-branch-clause-falls
+returns-then-not-branch-clause-falls g c before next given =
+    let p = c.args.tick.patience in
+    let less = due_order (max 1 p) (given_by before) (given_by c.args.core.now) (polls_left p c.args.runner.now) given (omega (arith, given, next, c.ranges.number)) in omega (arith, less)
+
+pub returns-clause-falls : goal.returns-clause-falls
+returns-clause-falls g c before next given =
+    let p = c.args.tick.patience in
+    let less = due_order (max 1 p) (given_by before) (given_by c.args.core.now) (polls_left p c.args.runner.now) given (omega (arith, given, next, c.ranges.number)) in
+    let few = c.start_order.ensures.few in
+    omega (arith, less, few)
