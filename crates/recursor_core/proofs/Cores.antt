@@ -1,7 +1,7 @@
 -- The machine after a step of one of its resolutions.
 use Rattle.std.proofs.Common.{◌≡◌, ◌≤◌, ◌<◌, ◌+◌, ℕ, zero, suc, List, [], ◌∷◌, ◌++◌, length, All, get_or, Option, Some, None, Result, Ok, Err, refl, sym, ◌∙◌, ap, subst, arith}
 use Rattle.std.specs.Global.{Box}
-use Rattle.std.specs.Prelude.{slice_get, IfSome, IsErr, OnOk, OnErr}
+use Rattle.std.specs.Prelude.{slice_get, IfSome, IsErr}
 use Rattle.std.proofs.lemmas.List.Elements.{All-set}
 use Rattle.std.proofs.Math.ListN.{set}
 use Rattle.std.specs.Option.{option_map}
@@ -19,15 +19,15 @@ use Rattle.walk_tables.specs.Tried.{machine_timer}
 use Rattle.recursor_core.specs.Derived.{ResolutionHolds, terms_of, Derived}
 use Rattle.recursor_core.specs.Resolving.{SameBegun, want_of, open_of, IfAwaits}
 use Rattle.recursor_core.specs.declared.resolving.Need.{Need}
+use Rattle.recursor_core.specs.declared.resolving.Need.TheVariants as need
 use Rattle.walk_tables.specs.declared.pools.Stepped.{Stepped}
 use Rattle.recursor_core.proofs.Ranks.{put_at}
-use Rattle.recursor_core.specs.Machine.{Begun, begun_of, begun_at, given_by, need_in, open_in, GoesOn, StepIs, Steps, ReplyGiven, StepGives, Gives, SameCore}
+use Rattle.recursor_core.specs.Machine.{Begun, begun_of, begun_at, given_by, need_in, open_in, GoesOn, StepIs, Steps, ReplyGiven, StepGives, SameCore}
 use Rattle.recursor_setting.specs.declared.setting.Setting.{Setting}
 use Rattle.recursor_core.specs.declared.machine.RecursorCore.{RecursorCore}
 use Rattle.recursor_core.specs.declared.machine.Step.{Step}
 use Rattle.recursor_core.specs.declared.machine.Step.TheVariants as step
 use Rattle.recursor_core.specs.declared.machine.Progress.{Progress}
-use Rattle.recursor_core.specs.declared.machine.Progress.TheVariants as progress
 use Rattle.recursor_types.specs.declared.reply.Reply.{Reply}
 use Rattle.recursor_core.specs.declared.resolving.Resolution.{Resolution}
 
@@ -59,6 +59,13 @@ waits-at pools xs i g s within h = subst (λ (o : Option Resolution). IfAwaits (
 pub need-set : (xs : List Resolution) (i : ℕ) (g : Resolution) (n : Need) → i < length xs → want_of g ≡ n → need_in (slice_get (set xs i g) i) ≡ n
 need-set xs i g n within h = ap need_in (put_at xs i g within) ∙ h
 
+-- beyond the last one nothing is needed
+pub need-past : (xs : List Resolution) (i : ℕ) → length xs ≤ i → need_in (slice_get xs i) ≡ need.Nothing
+need-past [] zero h = refl
+need-past [] (suc i) h = refl
+need-past (x ∷ xs) zero h = absurd (omega (arith, h))
+need-past (x ∷ xs) (suc i) h = need-past xs i (omega (arith, h))
+
 -- one more leaves those before it
 pub begun-push : (xs : List Resolution) (r : Resolution) (k : ℕ) → k < length xs
     → option_map begun_of (slice_get (xs ++ r ∷ []) k) ≡ option_map begun_of (slice_get xs k)
@@ -89,12 +96,6 @@ gives-before old mid log r (step.Done reply) same h =
     (subst (λ (n : ℕ). ReplyGiven (terms_of mid) n log (begun_at old r) reply.value) same.moment
     (subst (λ (o : Option Begun). ReplyGiven (terms_of mid) mid.moment log o reply.value) (same.begun r) h))
 gives-before old mid log r step.Ended same h = tt
-
--- so with a step inside the machine
-pub progress-before : (old mid : RecursorCore) (log : Log) (r : ℕ) (p : Progress) → SameCore old mid
-    → Gives mid log r p → Gives old log r p
-progress-before old mid log r progress.Again same h = tt
-progress-before old mid log r (progress.Step s) same h = gives-before old mid log r s same h
 
 -- two steps
 pub same-trans : (a b c : RecursorCore) → SameCore a b → SameCore b c → SameCore a c
@@ -143,8 +144,3 @@ step-after old mid new r (step.Order number order) same h = (h.0 ∙ ap (λ (n :
 step-after old mid new r (step.Waiting number) same h = (h.0 ∙ same, h.1)
 step-after old mid new r (step.Done reply) same h = (h.0 ∙ same, h.1)
 step-after old mid new r step.Ended same h = h ∙ same
-
--- what follows with memory and without it follows
-pub either-way : {A : Type 0} (result : Result A NoMemory) (P Q R : Type 0) → OnOk result P → OnErr result Q → (P → R) → (Q → R) → R
-either-way (Ok x) P Q R p q f g = f p
-either-way (Err e) P Q R p q f g = g q

@@ -1,9 +1,10 @@
+pub mod Answered
 pub mod Cores
 pub mod Due
 pub mod Kept
+pub mod Leading
 pub mod Moments
 pub mod Playing
-pub mod Plays
 pub mod Ranks
 pub mod Resolved
 pub mod Standing

@@ -1,5 +1,5 @@
 -- The questions of a run, as their turns are played.
-use Rattle.std.proofs.Common.{◌≡◌, ◌≢◌, ◌≤◌, ◌<◌, ◌+◌, ◌-◌, ◌++◌, ◌∙◌, ◌⊎◌, ⊎_elim, inl, inr, ℕ, zero, suc, max, List, [], ◌∷◌, length, get_or, Bool, true, false, MatchBool, Option, Some, None, Err, refl, sym, ap, subst, arith, slice_get, if◌then◌else◌, eq-eqb, All, Contains}
+use Rattle.std.proofs.Common.{◌≡◌, ◌≢◌, ◌≤◌, ◌<◌, ◌+◌, ◌-◌, ◌++◌, ◌∙◌, ◌⊎◌, ⊎_elim, inl, inr, ℕ, zero, suc, max, List, [], ◌∷◌, length, get_or, Option, Some, None, Err, refl, sym, ap, subst, arith, slice_get, if◌then◌else◌, eq-eqb, All, Contains}
 use Rattle.std.specs.Global.{Box}
 use Rattle.std.proofs.Math.ListN.{set}
 use Rattle.std.proofs.lemmas.Bool.{ne_eqb}
@@ -23,8 +23,8 @@ use Rattle.order_carrier.specs.declared.carrier.Carrier.{Carrier}
 use Rattle.recursor_types.specs.declared.error.RecursorError.TheVariants as error
 use Rattle.recursor_core.specs.declared.machine.RecursorCore.{RecursorCore}
 use Rattle.recursor_types.specs.declared.reply.Reply.{Reply}
-use Rattle.recursor_core.specs.declared.turns.Played.{Played}
-use Rattle.recursor_core.specs.declared.turns.Played.TheVariants as played
+use Rattle.recursor_core.specs.declared.plays.Played.{Played}
+use Rattle.recursor_core.specs.declared.plays.Played.TheVariants as played
 use Rattle.recursor_walk.proofs.Earlier.{ReplyHolds-earlier}
 use Rattle.recursor_core.proofs.Standing.{ReplyHolds-grown, Grown-refl}
 use Rattle.recursor_core.proofs.Timed.{reply-timed, run_first}
@@ -61,7 +61,7 @@ first_here : (t : Turn) (rest : List Turn) (q : ℕ) → t.question ≡ q + 1 �
 first_here t rest q e = ap (λ b. if b then Some t.moment else first_moment rest q) (eq-eqb t.question (q + 1) e)
 
 -- the first turn of another question is one of those after it
-first_other : (t : Turn) (rest : List Turn) (q : ℕ) → t.question ≢ q + 1 → first_moment (t ∷ rest) q ≡ first_moment rest q
+pub first_other : (t : Turn) (rest : List Turn) (q : ℕ) → t.question ≢ q + 1 → first_moment (t ∷ rest) q ≡ first_moment rest q
 first_other t rest q ne = ap (λ b. if b then Some t.moment else first_moment rest q) (ne_eqb t.question (q + 1) ne)
 
 -- the moment at which a question begins, by that of its first turn
@@ -69,21 +69,13 @@ abbrev moment_of : (start : ℕ) (turns : List Turn) → Option ℕ → ℕ
 moment_of start turns found = max start (elim found [ Some moment ↦ moment | None ↦ last_moment start turns ])
 
 -- when the question of the next turn begins
-begins_now : (start : ℕ) (turns rest : List Turn) (t : Turn) (q : ℕ) → t.question ≡ q + 1 → first_moment turns q ≡ first_moment (t ∷ rest) q
+pub begins_now : (start : ℕ) (turns rest : List Turn) (t : Turn) (q : ℕ) → t.question ≡ q + 1 → first_moment turns q ≡ first_moment (t ∷ rest) q
     → begin_moment start turns q ≡ max start t.moment
 begins_now start turns rest t q e h = ap (moment_of start turns) (h ∙ first_here t rest q e)
 
 -- and one of no turn
-begins_last : (start : ℕ) (turns : List Turn) (q : ℕ) → first_moment turns q ≡ None → begin_moment start turns q ≡ max start (last_moment start turns)
+pub begins_last : (start : ℕ) (turns : List Turn) (q : ℕ) → first_moment turns q ≡ None → begin_moment start turns q ≡ max start (last_moment start turns)
 begins_last start turns q h = ap (moment_of start turns) h
-
--- a maximum is no less than the first
-larger : (a b : ℕ) → a ≤ max a b
-larger a b = omega arith
-
--- no question begins before the run
-begins_in_run : (start : ℕ) (turns : List Turn) (q : ℕ) → start ≤ begin_moment start turns q
-begins_in_run start turns q = larger start _
 
 -- want of memory may always be answered, with no grounds
 memory_holds : (terms : Terms) (timer : Timer) (log : Log) (moment : ℕ) (question : Question) (reply : Reply) → reply.outcome ≡ Err error.NoMemory
@@ -111,16 +103,6 @@ begins_else (Some x) now core (Some played.Waiting) ne = absurd (ne refl)
 begins_else (Some x) now core (Some (played.Begun r)) ne = refl
 begins_else (Some x) now core (Some (played.Answered a)) ne = refl
 begins_else (Some x) now core (Some played.Unanswered) ne = refl
-
--- where there was a turn, less is left
-pub work_then : (busy : Bool) (new mid old : ℕ) → MatchBool busy (mid < old) (mid ≤ old) → new < mid → new < old
-work_then true new mid old h less = omega arith
-work_then false new mid old h less = omega arith
-
--- where there was none, what is left is no more
-pub work_else : (busy : Bool) (new mid old : ℕ) → MatchBool busy (mid < old) (mid ≤ old) → new ≤ mid → MatchBool busy (new < old) (new ≤ old)
-work_else true new mid old h le = omega arith
-work_else false new mid old h le = omega arith
 
 -- a question that goes on as it was
 play_on : (now : ℕ) (core new : RecursorCore) (told later : Option (List LogEntry)) (start : ℕ) (turns rest left : List Turn) (q : ℕ)
@@ -166,7 +148,7 @@ begin_here core new told start turns rest left q now question (Some played.Unans
     subst (λ (x : Played). PlayHolds new told start turns left q question x) (sym (same_Some _ _ begins)) tt
 
 -- Where a question waits at the place it begins, if its moment has come; the others go on.
-begins_hold : (core new : RecursorCore) (told : Option (List LogEntry)) (start : ℕ) (turns rest left : List Turn) (questions : List Question)
+pub begins_hold : (core new : RecursorCore) (told : Option (List LogEntry)) (start : ℕ) (turns rest left : List Turn) (questions : List Question)
     (old plays : List Played) (q now : ℕ)
     → new.setting ≡ core.setting → ((k : ℕ) (b : Begun) → begun_at core k ≡ Some b → begun_at new k ≡ Some b)
     → ((k : ℕ) → k ≢ q → slice_get plays k ≡ slice_get old k)
@@ -278,26 +260,6 @@ pub plays_skip : (core : RecursorCore) (told : Option (List LogEntry)) (start : 
 plays_skip core told start turns rest t questions plays none h q question p asks at =
     play_on 0 core core told told start turns (t ∷ rest) rest q question p refl (λ k b e. e) (Grown-refl 0 told)
     (λ e. first_other t rest q (λ named. omega arith)) (h q question p asks at)
-
--- at its turn a question begins, if it waits
-pub plays_turn : (core new : RecursorCore) (told : Option (List LogEntry)) (start : ℕ) (turns rest : List Turn) (t : Turn)
-    (questions : List Question) (old plays : List Played) (q now : ℕ)
-    → t.question ≡ q + 1 → start ≤ now → t.moment ≤ now → new.setting ≡ core.setting → ((k : ℕ) (b : Begun) → begun_at core k ≡ Some b → begun_at new k ≡ Some b)
-    → ((k : ℕ) → k ≢ q → slice_get plays k ≡ slice_get old k) → BeginsAt questions q now new (slice_get old q) (slice_get plays q)
-    → PlaysHold core told start turns (t ∷ rest) questions old → PlaysHold new told start turns rest questions plays
-plays_turn core new told start turns rest t questions old plays q now names after due setting begun others begins h =
-    begins_hold core new told start turns (t ∷ rest) rest questions old plays q now setting begun others begins
-    (λ k ne. first_other t rest k (λ named. ne (omega arith))) (λ e. let is = begins_now start turns rest t q names e in omega (arith, is, after, due)) h
-
--- after the turns a question begins that waits still
-pub plays_end : (core new : RecursorCore) (told : Option (List LogEntry)) (start : ℕ) (turns : List Turn) (questions : List Question)
-    (old plays : List Played) (q now : ℕ)
-    → start ≤ now → last_moment start turns ≤ now → new.setting ≡ core.setting → ((k : ℕ) (b : Begun) → begun_at core k ≡ Some b → begun_at new k ≡ Some b)
-    → ((k : ℕ) → k ≢ q → slice_get plays k ≡ slice_get old k) → BeginsAt questions q now new (slice_get old q) (slice_get plays q)
-    → PlaysHold core told start turns [] questions old → PlaysHold new told start turns [] questions plays
-plays_end core new told start turns questions old plays q now after due setting begun others begins h =
-    begins_hold core new told start turns [] [] questions old plays q now setting begun others begins
-    (λ k ne. refl) (λ e. let is = begins_last start turns q e in omega (arith, is, after, due)) h
 
 -- the last turn is at the last moment
 pub last_is : (start : ℕ) (turns : List Turn) (t : Turn) → Some t ≡ slice_get turns (length turns - 1) → t.moment ≡ last_moment start turns

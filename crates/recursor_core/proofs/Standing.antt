@@ -124,10 +124,6 @@ ReplyHolds-grown now at terms moment question reply old new grown h es t =
 
 -- ---- moments: each step leaves it as it was, or at this one
 
--- so do two steps
-pub moments_then : (a b c now : ℕ) → (b ≡ a) ⊎ (b ≡ now) → (c ≡ b) ⊎ (c ≡ now) → (c ≡ a) ⊎ (c ≡ now)
-moments_then a b c now first second = ⊎_elim (λ same. ⊎_elim (λ was. inl (same ∙ was)) (λ at. inr (same ∙ at)) first) (λ at. inr at) second
-
 -- it is no earlier than before
 pub moment_later : (a b now : ℕ) → a ≤ now → (b ≡ a) ⊎ (b ≡ now) → a ≤ b
 moment_later a b now le = ⊎_elim (λ same. omega (arith, same)) (λ at. omega (arith, at, le))
@@ -190,7 +186,7 @@ unlogged (suc n) e h = let is : None ≡ Some e = h.is in cc
 -- ---- steps
 
 -- a log that stays as it is waits for nothing
-IsPatient-refl : (most : ℕ) (told : Option (List LogEntry)) → IsPatient most told told
+pub IsPatient-refl : (most : ℕ) (told : Option (List LogEntry)) → IsPatient most told told
 IsPatient-refl most told = patient-none most told told (WaitsFor-refl told)
 
 -- what was given up after an outcome is in the log from then on

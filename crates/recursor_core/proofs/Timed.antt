@@ -49,11 +49,11 @@ reply-timed terms at log start turns t0 question reply here h =
     (timed_in_run (given_of terms) t0 at (run_moments start turns) log here) question reply.grounds reply.outcome h
 
 -- the first of a list is in it
-contains_first : {X : Type 0} (x : X) (xs : List X) → Contains (x ∷ xs) x
+pub contains_first : {X : Type 0} (x : X) (xs : List X) → Contains (x ∷ xs) x
 contains_first x xs = (0, omega arith, refl)
 
 -- what is in a list is in a longer one
-contains_later : {X : Type 0} (x y : X) (xs : List X) → Contains xs y → Contains (x ∷ xs) y
+pub contains_later : {X : Type 0} (x y : X) (xs : List X) → Contains xs y → Contains (x ∷ xs) y
 contains_later x y xs (k, low, is) = (suc k, omega arith, is)
 
 -- the greater of two of them is one of them

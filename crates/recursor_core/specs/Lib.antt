@@ -3,4 +3,5 @@ pub mod Derived
 pub mod Machine
 pub mod Turns
 pub mod Standing
+pub mod Runs
 pub mod Recursor

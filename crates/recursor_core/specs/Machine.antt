@@ -10,7 +10,6 @@ use Rattle.order_carrier.specs.Fits.{GoesToServer}
 use Rattle.walk_tables.specs.Terms.{Terms, given_of}
 use Rattle.recursor_walk.specs.Replies.{ReplyHolds}
 use Rattle.walk_tables.specs.Tried.{machine_timer}
-use Rattle.server_core.specs.declared.order.Order.{Order}
 use Rattle.walk_tables.specs.Pools.{StepGoes, PoolsHold, given_so_far}
 use Rattle.walk_tables.specs.declared.pools.Pools.{Pools}
 use Rattle.walk_tables.specs.declared.pools.Stepped.{Stepped}

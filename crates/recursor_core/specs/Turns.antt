@@ -14,8 +14,8 @@ use Rattle.recursor_types.specs.declared.reply.Reply.{Reply}
 use Rattle.recursor_core.specs.declared.machine.RecursorCore.{RecursorCore}
 use Rattle.recursor_core.specs.declared.turns.Turned.{Turned}
 use Rattle.recursor_core.specs.declared.turns.Turned.TheVariants as turned
-use Rattle.recursor_core.specs.declared.turns.Played.{Played}
-use Rattle.recursor_core.specs.declared.turns.Played.TheVariants as played
+use Rattle.recursor_core.specs.declared.plays.Played.{Played}
+use Rattle.recursor_core.specs.declared.plays.Played.TheVariants as played
 
 -- A turn that leaves the question under way leaves less to do.
 abbrev pub TurnFalls : ℕ → ℕ → Turned → Type 0
@@ -58,10 +58,6 @@ due_of most given polls = (most + 2) * (2 ^ 64 - given) + polls
 
 abbrev pub due : {P C F E : Type 0} {p : Ghosts P C F E} → ℕ → RecursorCore → Runner P C F E p → ℕ
 due patience core r = due_of (max 1 patience) (given_by core) (polls_left patience r)
-
--- what is left of the questions under way
-abbrev pub work : {P C F E : Type 0} {p : Ghosts P C F E} → ℕ → RecursorCore → Runner P C F E p → List Played → ℕ
-work patience core r plays = due patience core r + open_plays plays
 
 -- the question at a place is under way
 abbrev pub IsBegunAt : List Played → ℕ → Type 0

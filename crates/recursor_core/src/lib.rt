@@ -3,8 +3,10 @@
 
 mod driving;
 mod machine;
+mod plays;
 mod recursor;
 mod resolving;
+mod run;
 mod threads;
 mod turns;
 

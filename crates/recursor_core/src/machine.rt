@@ -182,16 +182,16 @@ impl RecursorCore {
         self.setting.with_patience(patience);
     }
 
-    /// Begins a question, and answers its place among the resolutions.
+    /// Begins a question, and answers its place among the resolutions. One whose name is not fully
+    /// qualified changes nothing.
     pub fn begin(&mut self, question: Question, now: u64) -> Result<usize, RecursorError>
         ensures not_qualified { (result ≡ Err (RecursorError.Message MessageKind.NotQualified)) ↔ (question.query.name.fqdn ≡ false) }
         ensures only { IfErr result IsBeginError }
+        ensures refused { question.query.name.fqdn ≡ false → self.new ≡ self.old }
         ensures derived { (log : Log) → self.old.moment ≤ now → Derived self.old log → Derived self.new log }
-        ensures setting { self.new.setting ≡ self.old.setting }
-        ensures moment { self.old.moment ≤ now → (self.new.moment ≡ self.old.moment) ⊎ (self.new.moment ≡ now) }
+        ensures stays { (self.new.setting ≡ self.old.setting) × (self.old.moment ≤ now → (self.new.moment ≡ self.old.moment) ⊎ (self.new.moment ≡ now)) }
         ensures others { (k : ℕ) → k < length self.old.resolutions.items → begun_at self.new k ≡ begun_at self.old k }
         ensures begun { IfOk result (λ r. (r ≡ length self.old.resolutions.items) × IsBegunAt self.new r question now) }
-        ensures count { length self.old.resolutions.items ≤ length self.new.resolutions.items }
     {
         if !question.query.name.is_fqdn() {
             return Err(RecursorError::Message(MessageKind::NotQualified));
@@ -214,7 +214,6 @@ impl RecursorCore {
         ensures begun { IfOk result (λ r. (r ≡ length self.old.resolutions.items) × IsBegunAt self.new r question now) }
         ensures pools { self.new.pools ≡ self.old.pools }
         ensures err { IfErr result (λ e. self.new.resolutions.items ≡ self.old.resolutions.items) }
-        ensures count { length self.old.resolutions.items ≤ length self.new.resolutions.items }
     {
         let place = self.resolutions.len();
         self.resolutions.push(Resolution::begin(question, now))?;
@@ -495,6 +494,7 @@ impl RecursorCore {
     /// Ends a resolution without a reply, and answers the order that it waited for.
     pub fn cancel(&mut self, r: usize) -> Option<u64>
         ensures awaited { result ≡ open_at self.old r }
+        ensures ended { need_at self.new r ≡ Need.Nothing }
         ensures given { given_by self.new ≡ given_by self.old }
         ensures derived { (log : Log) → Derived self.old log → Derived self.new log }
         ensures same { SameCore self.old self.new }

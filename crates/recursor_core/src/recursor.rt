@@ -9,6 +9,7 @@ ghost use Rattle.recursor_setting.specs.Asking.{connect_of};
 ghost use Rattle.recursor_core.specs.Standing.{Standing, Rests};
 
 use crate::machine::RecursorCore;
+use crate::run::Run;
 use dns_core::{ConnectOptions, ConnectionProvider, NoMemory};
 use order_carrier::Carrier;
 use order_runner::Runner;
@@ -23,16 +24,15 @@ use std::net::IpAddr;
 /// far. What it keeps, its cache of responses too, is derived from the provider's log.
 #[derive(Drop)]
 pub struct Recursor<P: ConnectionProvider> {
-    pub(crate) core: RecursorCore,
-    pub(crate) runner: Runner<P>,
+    pub(crate) run: Run<P>,
 }
 
 impl<P: ConnectionProvider> Model for Recursor<P> {
     ghost Value = { Standing P };
 
-    ghost view = { λ a. record { provider = a.runner.carrier.provider; roots = a.core.setting.roots; server_filter = a.core.setting.server_filter; answer_filter = a.core.setting.answer_filter; lives = a.core.setting.lives; context = a.core.setting.context; patience = a.core.setting.patience; moment = a.core.moment } };
+    ghost view = { λ a. record { provider = a.run.runner.carrier.provider; roots = a.run.core.setting.roots; server_filter = a.run.core.setting.server_filter; answer_filter = a.run.core.setting.answer_filter; lives = a.run.core.setting.lives; context = a.run.core.setting.context; patience = a.run.core.setting.patience; moment = a.run.core.moment } };
 
-    ghost invariant = { λ a. Rests P.ConnectionProvider a.core a.runner };
+    ghost invariant = { λ a. Rests P.ConnectionProvider a.run.core a.run.runner };
 }
 
 impl<P: ConnectionProvider> Recursor<P> {
@@ -68,17 +68,20 @@ impl<P: ConnectionProvider> Recursor<P> {
         let Ok(connect) = core.connect_options(alloc) else {
             return Err(RecursorError::NoMemory);
         };
-        Ok(Recursor {
+        let run = Run {
             core,
             runner: Runner::new(alloc, Carrier::new(alloc, provider, connect)),
-        })
+            plays: Vec::new(alloc),
+            patience: 0,
+        };
+        Ok(Recursor { run })
     }
 
     /// The provider.
     pub fn provider(&self) -> &P
         ensures { result.now ≡ self.now.provider }
     {
-        self.runner.provider()
+        self.run.runner.provider()
     }
 
     /// What its pools of servers are set to: how servers are asked, one at a time and without the wish
@@ -86,7 +89,7 @@ impl<P: ConnectionProvider> Recursor<P> {
     pub fn pool_context(&self) -> &PoolContext
         ensures { result.now ≡ self.now.context }
     {
-        self.core.pool_context()
+        self.run.core.pool_context()
     }
 
     /// What each connection is opened with, as the options of its pools say. It fails for want of memory
@@ -94,20 +97,27 @@ impl<P: ConnectionProvider> Recursor<P> {
     pub fn connect_options(&self, alloc: Global) -> Result<ConnectOptions, NoMemory>
         ensures { IfOk result (λ connect. connect ≡ connect_of self.now.context.options) }
     {
-        self.core.connect_options(alloc)
+        self.run.core.connect_options(alloc)
     }
 
     /// The greatest moment handed in so far, 0 at first, in microseconds.
     pub fn moment(&self) -> u64
         ensures { result ≡ self.now.moment }
     {
-        self.core.moment()
+        self.run.core.moment()
     }
 
     /// Gives the provider back.
     pub fn into_provider(self) -> P
         ensures { result ≡ self.provider }
     {
-        self.runner.into_provider()
+        let Recursor { run } = self;
+        let Run {
+            core: _,
+            runner,
+            plays: _,
+            patience: _,
+        } = run;
+        runner.into_provider()
     }
 }

@@ -11,26 +11,26 @@ use Rattle.recursor_core.proofs.driving.drive.Goals as goal
 pub answer-requires : goal.answer-requires
 answer-requires g c =
     let was = c.recursor.inside in
-    rests_holds g.P.ConnectionProvider c.args.patience was.core c.clear.new.self was.runner c.clear.ensures.setting c.clear.ensures.same.1
+    rests_holds g.P.ConnectionProvider c.args.patience was.run.core c.clear.new.self was.run.runner c.clear.ensures.setting c.clear.ensures.same.1
     c.clear.ensures.derived c.recursor.invariant
 
 pub invariant_of-recursor : goal.invariant_of-recursor
 invariant_of-recursor g c =
-    let same = c.answer.ensures.setting ∙ c.clear.ensures.setting in
-    let some : 0 < length c.answer.new.core.setting.roots = subst (λ (held : Setting). 0 < length held.roots) (sym same) c.recursor.invariant.some in
+    let same = c.answer.ensures.leads.setting ∙ c.clear.ensures.setting in
+    let some : 0 < length c.answer.new.self.core.setting.roots = subst (λ (held : Setting). 0 < length held.roots) (sym same) c.recursor.invariant.some in
     let log = g.P.ConnectionProvider.log in
     let was = c.recursor.inside in
     let start = c.clear.new.self.moment in
-    let old = log was.runner.carrier.provider in
+    let old = log was.run.runner.carrier.provider in
     let past = subst (λ (m : ℕ). TellsThat old (IsPast m)) (sym c.clear.ensures.same.1) c.recursor.invariant.past in
-    let rises = rises_over (run_moments start c.args.turns.now) start old (log c.answer.new.runner.carrier.provider) past c.recursor.invariant.rises c.answer.ensures.grown in
-    holds_rests g.P.ConnectionProvider c.args.patience c.answer.new.core c.answer.new.runner some rises c.answer.ensures.holds
+    let rises = rises_over (run_moments start c.args.turns.now) start old (log c.answer.new.self.runner.carrier.provider) past c.recursor.invariant.rises c.answer.ensures.leads.grown in
+    holds_rests g.P.ConnectionProvider c.answer.new.self.patience c.answer.new.self.core c.answer.new.self.runner some rises c.answer.ensures.leads.runs
 
 pub returns-clause-replies : goal.returns-clause-replies
 returns-clause-replies g c =
-    let told = g.P.ConnectionProvider.log c.answer.new.runner.carrier.provider in
+    let told = g.P.ConnectionProvider.log c.answer.new.self.runner.carrier.provider in
     let patience = c.args.patience in
-    let was = c.recursor.inside.core in
+    let was = c.recursor.inside.run.core in
     let new = c.clear.new.self in
     let by_setting = subst (λ (held : Setting). IfOk c.answer.result (λ replies. TellsThat told (λ log.
     RepliesHold (terms_with held) log new.moment c.args.turns.now c.args.questions.now replies.items))) c.clear.ensures.setting
@@ -46,6 +46,6 @@ pub returns-clause-rises : goal.returns-clause-rises
 returns-clause-rises g c =
     let log = g.P.ConnectionProvider.log in
     let start = c.clear.new.self.moment in
-    let old = log c.recursor.inside.runner.carrier.provider in
+    let old = log c.recursor.inside.run.runner.carrier.provider in
     let past = subst (λ (m : ℕ). TellsThat old (IsPast m)) (sym c.clear.ensures.same.1) c.recursor.invariant.past in
-    rises_over (run_moments start c.args.turns.now) start old (log c.answer.new.runner.carrier.provider) past c.recursor.invariant.rises c.answer.ensures.grown
+    rises_over (run_moments start c.args.turns.now) start old (log c.answer.new.self.runner.carrier.provider) past c.recursor.invariant.rises c.answer.ensures.leads.grown

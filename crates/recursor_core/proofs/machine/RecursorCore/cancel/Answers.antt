@@ -1,7 +1,7 @@
-use Rattle.std.proofs.Common.{◌<◌, length, refl, arith}
+use Rattle.std.proofs.Common.{◌<◌, ◌≤◌, length, refl, arith}
 use Rattle.std.proofs.lemmas.List.Elements.{All-set}
 use Rattle.recursor_core.specs.Derived.{terms_of, ResolutionHolds}
-use Rattle.recursor_core.proofs.Cores.{held-at, begun-set}
+use Rattle.recursor_core.proofs.Cores.{held-at, begun-set, need-set, need-past}
 use Rattle.recursor_core.proofs.machine.RecursorCore.cancel.Goals as goal
 
 pub returns-then-r-len-clause-derived : goal.returns-then-r-len-clause-derived
@@ -23,3 +23,15 @@ returns-then-r-len-clause-same c =
     let at = c.index_mut-resolution.ensures.value in
     let within : c.args.r < length xs = omega (arith, c.if-r-len.true) in
     record { setting = refl; cache = refl; greatest = refl; moment = refl; begun = begun-set xs c.args.r f c.end.new.self within at c.end.ensures.begun }
+
+pub returns-then-r-len-clause-ended : goal.returns-then-r-len-clause-ended
+returns-then-r-len-clause-ended c =
+    let xs = c.args.self.now.resolutions.items in
+    let within : c.args.r < length xs = omega (arith, c.if-r-len.true) in
+    need-set xs c.args.r c.end.new.self _ within c.end.ensures.nothing
+
+pub returns-else-r-len-clause-ended : goal.returns-else-r-len-clause-ended
+returns-else-r-len-clause-ended c =
+    let xs = c.args.self.now.resolutions.items in
+    let past : length xs ≤ c.args.r = omega (arith, c.if-r-len.false) in
+    need-past xs c.args.r past

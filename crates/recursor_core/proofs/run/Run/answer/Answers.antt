@@ -1,0 +1,28 @@
+use Rattle.std.proofs.Common.{[], subst}
+use Rattle.std.proofs.lemmas.Result.{IfOk-weaker}
+use Rattle.order_carrier.specs.Growing.{TellsThat}
+use Rattle.walk_tables.specs.Terms.{terms_with}
+use Rattle.recursor_setting.specs.declared.setting.Setting.{Setting}
+use Rattle.recursor_core.specs.Standing.{RepliesHold, run_moments}
+use Rattle.recursor_core.proofs.Leading.{leads_refl}
+use Rattle.recursor_core.proofs.Playing.{plays_wait, replies_hold}
+use Rattle.recursor_core.proofs.Timed.{run_first}
+use Rattle.recursor_core.proofs.run.Run.answer.Goals as goal
+
+pub returns-in_err-self-clause-leads : goal.returns-in_err-self-clause-leads
+returns-in_err-self-clause-leads g c =
+    let run = c.args.self.now in
+    leads_refl g.P.ConnectionProvider (run_moments run.core.moment c.args.turns.now) run.patience run.core run.runner (run_first run.core.moment c.args.turns.now) c.requires
+
+pub returns-clause-replies : goal.returns-clause-replies
+returns-clause-replies g c =
+    let run = c.args.self.now in
+    let start = run.core.moment in
+    let turns = c.args.turns.now in
+    let questions = c.args.questions.now in
+    let played = c.play_all.new.self in
+    let told = g.P.ConnectionProvider.log played.runner.carrier.provider in
+    let waits = plays_wait run.core (g.P.ConnectionProvider.log run.runner.carrier.provider) start turns questions c.in_ok-self.field-0.items c.in_ok-self.ensures.waits in
+    IfOk-weaker c.replies.result _ _ (λ v each.
+    subst (λ (held : Setting). TellsThat told (λ log. RepliesHold (terms_with held) log start turns questions v.items)) c.play_all.ensures.leads.setting
+    (replies_hold played.core told start turns [] questions played.plays.items v.items (c.play_all.ensures.plays waits) each)) c.replies.ensures.each
