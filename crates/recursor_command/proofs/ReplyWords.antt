@@ -35,7 +35,7 @@ use Rattle.recursor_types.specs.declared.error.RecursorError.TheVariants as erro
 use Rattle.recursor_types.specs.declared.reply.Reply.{Reply}
 use Rattle.recursor_walk.specs.Causes.{ErrorHolds, HasFailed}
 use Rattle.walk_tables.specs.Lookup.{is_lookup_error}
-use Rattle.walk_tables.specs.Terms.{Terms}
+use Rattle.recursor_setting.specs.declared.setting.Setting.{Setting}
 use Rattle.recursor_walk.specs.Replies.{OutcomeHolds}
 use Rattle.recursor_core.specs.Standing.{RepliesHold}
 use Rattle.text_words.specs.Texts.{has_error_word}
@@ -245,7 +245,7 @@ question_at [] i b = absurd (not_below i b)
 question_at (x ∷ xs) zero b = (x, refl)
 question_at (x ∷ xs) (suc i) b = question_at xs i (omega (arith, b))
 
-pub replies_worded : (terms : Terms) (es : List LogEntry) (start : ℕ) (turns : List Turn) (questions : List Question) (replies : List Reply)
+pub replies_worded : (terms : Setting) (es : List LogEntry) (start : ℕ) (turns : List Turn) (questions : List Question) (replies : List Reply)
     → ((n : ℕ) (e : LogEntry) → numbered es n ≡ Some e → has_entry_words e ≡ true) → length replies ≡ length questions → RepliesHold terms (log_of es) start turns questions replies
     → list_all has_reply_words replies ≡ true
 replies_worded terms es start turns questions replies w same h = all_at_places has_reply_words replies (λ q reply at.

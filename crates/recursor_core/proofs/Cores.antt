@@ -8,16 +8,13 @@ use Rattle.std.specs.Option.{option_map}
 use Rattle.dns_core.specs.Log.{Log}
 use Rattle.dns_core.specs.declared.request.Question.{Question}
 use Rattle.dns_core.specs.declared.errors.NoMemory.{NoMemory}
-use Rattle.resolver_cache.specs.Cached.{Cached}
 use Rattle.order_carrier.specs.Fits.{GoesToServer}
-use Rattle.walk_tables.specs.Pools.{PoolsHold}
 use Rattle.walk_tables.specs.declared.pools.Pools.{Pools}
-use Rattle.walk_tables.specs.Remembered.{CacheHolds}
-use Rattle.walk_tables.specs.Terms.{Terms, terms_with, given_of}
-use Rattle.recursor_walk.specs.Replies.{ReplyHolds}
-use Rattle.walk_tables.specs.Tried.{machine_timer}
-use Rattle.recursor_core.specs.Derived.{ResolutionHolds, terms_of, Derived}
-use Rattle.recursor_core.specs.Resolving.{SameBegun, want_of, open_of, IfAwaits}
+use Rattle.walk_tables.specs.View.{View, seen_at, given_of}
+use Rattle.recursor_walk.specs.Replies.{Replied}
+use Rattle.recursor_core.specs.Derived.{seen_by, Derived, ResolutionHolds}
+use Rattle.recursor_core.specs.Resolving.{SameBegun, want_of, open_of}
+use Rattle.walk_tables.specs.Taking.{IfAwaits}
 use Rattle.recursor_core.specs.declared.resolving.Need.{Need}
 use Rattle.recursor_core.specs.declared.resolving.Need.TheVariants as need
 use Rattle.walk_tables.specs.declared.pools.Stepped.{Stepped}
@@ -30,15 +27,12 @@ use Rattle.recursor_core.specs.declared.machine.Step.TheVariants as step
 use Rattle.recursor_core.specs.declared.machine.Progress.{Progress}
 use Rattle.recursor_types.specs.declared.reply.Reply.{Reply}
 use Rattle.recursor_core.specs.declared.resolving.Resolution.{Resolution}
+use Rattle.walk_tables.specs.Pools.{PoolsHold}
+use Rattle.walk_tables.specs.Remembered.{CacheHolds}
 
 -- what holds of all holds of the one at a place that was read
 pub held-at : (P : Resolution → Type 0) (xs : List Resolution) (i : ℕ) (f : Resolution) → i < length xs → f ≡ get_or xs i f → All P xs → P f
 held-at P xs i f within at all = subst P (sym at) (all i f within)
-
--- and of all after a step that keeps it
-pub all-after : (P : Resolution → Type 0) (xs : List Resolution) (i : ℕ) (f g : Resolution) → i < length xs → f ≡ get_or xs i f → (P f → P g)
-    → All P xs → All P (set xs i g)
-all-after P xs i f g within at step all = All-set P xs i g (step (held-at P xs i f within at all)) all
 
 -- a resolution that is still of its question leaves the questions as they are
 pub begun-set : (xs : List Resolution) (i : ℕ) (f g : Resolution) → i < length xs → f ≡ get_or xs i f → SameBegun f g → (k : ℕ)
@@ -78,23 +72,55 @@ pub begun-last : (xs : List Resolution) (r : Resolution) → option_map begun_of
 begun-last [] r = refl
 begun-last (x ∷ xs) r = begun-last xs r
 
+-- a step of one resolution that is still of its question leaves the machine as it is
+pub same-at : (core new : RecursorCore) (i : ℕ) (f g : Resolution) → i < length core.resolutions.items → f ≡ get_or core.resolutions.items i f → SameBegun f g
+    → new ≡ record core { pools = new.pools; resolutions = new.resolutions } → new.resolutions.items ≡ set core.resolutions.items i g → SameCore core new
+same-at core new i f g within at same is items = record {
+  setting = ap (λ (c : RecursorCore). c.setting) is;
+  cache = ap (λ (c : RecursorCore). c.cache) is;
+  greatest = ap (λ (c : RecursorCore). c.greatest) is;
+  moment = ap (λ (c : RecursorCore). c.moment) is;
+  begun = λ k. ap (λ (rs : List Resolution). option_map begun_of (slice_get rs k)) items ∙ begun-set core.resolutions.items i f g within at same k;
+}
+
+-- and what it keeps is derived, where the resolution and the pools hold
+pub derived-at : (core new : RecursorCore) (log : Log) (i : ℕ) (f g : Resolution) → i < length core.resolutions.items → f ≡ get_or core.resolutions.items i f
+    → new ≡ record core { pools = new.pools; resolutions = new.resolutions } → new.resolutions.items ≡ set core.resolutions.items i g → Derived core log
+    → (ResolutionHolds (seen_by core log) f → ResolutionHolds (seen_by core log) g × PoolsHold (seen_by core log) new.pools) → Derived new log
+derived-at core new log i f g within at is items d step =
+    let seen = seen_by core log in
+    let same : seen_by new log ≡ seen = ap (λ (c : RecursorCore). seen_by c log) is in
+    let stepped = step (held-at (ResolutionHolds seen) core.resolutions.items i f within at d.resolutions) in
+    record {
+      bound = subst (λ (v : View). v.greatest < log.next) (sym same) d.bound;
+      some = subst (λ (v : View). 0 < length v.setting.roots) (sym same) d.some;
+      cache = subst (λ (v : View). CacheHolds v new.cache) (sym same) (subst (CacheHolds seen) (sym (ap (λ (c : RecursorCore). c.cache) is)) d.cache);
+      pools = subst (λ (v : View). PoolsHold v new.pools) (sym same) stepped.1;
+      resolutions = subst (λ (v : View). All (ResolutionHolds v) new.resolutions.items) (sym same)
+          (subst (All (ResolutionHolds seen)) (sym items) (All-set (ResolutionHolds seen) core.resolutions.items i g stepped.0 d.resolutions));
+    }
+
 -- a reply that holds is one that a step gives
-pub given-some : (terms : Terms) (now : ℕ) (log : Log) (reply : Option (Box Reply)) (here : Option Begun) (b : Begun) → here ≡ Some b
-    → IfSome reply (λ given. ReplyHolds terms (machine_timer now) log b.moment b.question given.value) → IfSome reply (λ given. ReplyGiven terms now log here given.value)
-given-some terms now log None here b is h = tt
-given-some terms now log (Some reply) here b is h = subst (λ (o : Option Begun). ReplyGiven terms now log o reply.value) (sym is) h
+pub given-some : (seen : View) (reply : Option (Box Reply)) (here : Option Begun) (b : Begun) → here ≡ Some b → IfSome reply (λ given. Replied seen b.moment b.question given.value)
+    → IfSome reply (λ given. ReplyGiven seen here given.value)
+given-some seen None here b is h = tt
+given-some seen (Some reply) here b is h = subst (λ (o : Option Begun). ReplyGiven seen o reply.value) (sym is) h
+
+-- two machines that agree see the same
+pub same-seen : (old mid : RecursorCore) (log : Log) → SameCore old mid → seen_by mid log ≡ seen_by old log
+same-seen old mid log same =
+    ap (λ (s : Setting). seen_at s mid.greatest mid.moment log) same.setting ∙ ap (λ (g : ℕ). seen_at old.setting g mid.moment log) same.greatest
+    ∙ ap (λ (m : ℕ). seen_at old.setting old.greatest m log) same.moment
 
 -- what a step gives holds by the machine before it too, where the two agree
 pub gives-before : (old mid : RecursorCore) (log : Log) (r : ℕ) (s : Step) → SameCore old mid
     → StepGives mid log r s → StepGives old log r s
 gives-before old mid log r (step.Order number order) same h =
-    subst (λ (held : Setting). GoesToServer (given_of (terms_with held)) log (old.greatest + 1) order.value) same.setting
-    (subst (λ (g : ℕ). GoesToServer (given_of (terms_of mid)) log (g + 1) order.value) same.greatest h)
+    subst (λ (seen : View). GoesToServer (given_of seen.setting) log (seen.greatest + 1) order.value) (same-seen old mid log same) h
 gives-before old mid log r (step.Waiting number) same h = tt
 gives-before old mid log r (step.Done reply) same h =
-    subst (λ (held : Setting). ReplyGiven (terms_with held) old.moment log (begun_at old r) reply.value) same.setting
-    (subst (λ (n : ℕ). ReplyGiven (terms_of mid) n log (begun_at old r) reply.value) same.moment
-    (subst (λ (o : Option Begun). ReplyGiven (terms_of mid) mid.moment log o reply.value) (same.begun r) h))
+    subst (λ (seen : View). ReplyGiven seen (begun_at old r) reply.value) (same-seen old mid log same)
+    (subst (λ (o : Option Begun). ReplyGiven (seen_by mid log) o reply.value) (same.begun r) h)
 gives-before old mid log r step.Ended same h = tt
 
 -- two steps
@@ -105,27 +131,6 @@ same-trans a b c x y = record {
   greatest = y.greatest ∙ x.greatest;
   moment = y.moment ∙ x.moment;
   begun = λ k. y.begun k ∙ x.begun k;
-}
-
--- what is derived, by its parts
-pub derived-is : (core : RecursorCore) (log : Log) (setting : Setting) (greatest moment : ℕ) (cache : Cached) (pools : Pools) (rs : List Resolution) → core.setting ≡ setting
-    → core.greatest ≡ greatest → core.moment ≡ moment → core.cache ≡ cache → core.pools ≡ pools → core.resolutions.items ≡ rs → greatest < log.next → 0 < length setting.roots
-    → CacheHolds (terms_with setting) greatest log cache → PoolsHold (terms_with setting) greatest moment log pools
-    → All (ResolutionHolds (terms_with setting) greatest moment log) rs → Derived core log
-derived-is core log setting greatest moment cache pools rs a b c d p e bound some kept held all = record {
-  bound = subst (λ (g : ℕ). g < log.next) (sym b) bound;
-  some = subst (λ (held : Setting). 0 < length held.roots) (sym a) some;
-  cache = subst (λ (held : Setting). CacheHolds (terms_with held) core.greatest log core.cache) (sym a)
-      (subst (λ (g : ℕ). CacheHolds (terms_with setting) g log core.cache) (sym b)
-      (subst (CacheHolds (terms_with setting) greatest log) (sym d) kept));
-  pools = subst (λ (s : Setting). PoolsHold (terms_with s) core.greatest core.moment log core.pools) (sym a)
-      (subst (λ (g : ℕ). PoolsHold (terms_with setting) g core.moment log core.pools) (sym b)
-      (subst (λ (m : ℕ). PoolsHold (terms_with setting) greatest m log core.pools) (sym c)
-      (subst (PoolsHold (terms_with setting) greatest moment log) (sym p) held)));
-  resolutions = subst (λ (held : Setting). All (ResolutionHolds (terms_with held) core.greatest core.moment log) core.resolutions.items) (sym a)
-      (subst (λ (g : ℕ). All (ResolutionHolds (terms_with setting) g core.moment log) core.resolutions.items) (sym b)
-      (subst (λ (m : ℕ). All (ResolutionHolds (terms_with setting) greatest m log) core.resolutions.items) (sym c)
-      (subst (All (ResolutionHolds (terms_with setting) greatest moment log)) (sym e) all)));
 }
 
 -- on want of memory no number comes back

@@ -1,7 +1,7 @@
 pub mod Answered
 pub mod Cores
 pub mod Due
-pub mod Kept
+pub mod Later
 pub mod Leading
 pub mod Moments
 pub mod Playing

@@ -5,7 +5,8 @@ use Rattle.dns_core.specs.declared.log.LogEntry.{LogEntry}
 use Rattle.resolution.specs.Telling.{MomentsRise}
 use Rattle.order_carrier.specs.Growing.{TellsThat, Grown}
 use Rattle.recursor_core.specs.Standing.{IsPast, GrownOver}
-use Rattle.recursor_core.proofs.Standing.{Extends-refl, Extends-trans, entry_sides}
+use Rattle.order_carrier.proofs.Growing.{Extends-refl, Extends-trans}
+use Rattle.recursor_core.proofs.Standing.{entry_sides}
 
 -- a log that stays as it is has grown by nothing
 pub over_refl : (moments : List ℕ) (from : ℕ) (told : Option (List LogEntry)) → GrownOver moments from told told
@@ -45,7 +46,7 @@ over_trans moments from mid a b c le past x y es t =
     record {
       before = one.before;
       was = one.was;
-      extends = Extends-trans one.extends two.extends;
+      extends = Extends-trans (log_of one.before) (log_of two.before) (log_of es) one.extends two.extends;
       at = λ i moment e high logged is. ⊎_elim
           (λ early. one.at i moment e high early is)
           (λ late. let found = two.at i moment e late logged is in (found.0, omega (arith, found.1, le)))

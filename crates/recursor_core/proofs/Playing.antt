@@ -10,11 +10,9 @@ use Rattle.dns_core.specs.declared.log.LogEntry.{LogEntry}
 use Rattle.dns_core.specs.declared.request.Question.{Question}
 use Rattle.dns_core.specs.declared.request.Turn.{Turn}
 use Rattle.dns_core.specs.declared.provider.ConnectionProvider.{Ghosts}
-use Rattle.walk_tables.specs.Terms.{Terms, terms_with}
 use Rattle.walk_tables.specs.Tried.{Timer, machine_timer}
 use Rattle.recursor_walk.specs.Replies.{ReplyHolds}
 use Rattle.order_carrier.specs.Growing.{TellsThat, Grown}
-use Rattle.recursor_core.specs.Derived.{terms_of}
 use Rattle.recursor_core.specs.Machine.{Begun, begun_at}
 use Rattle.recursor_core.specs.Standing.{Moves, ReplyTold, first_moment, last_moment, begin_moment, run_moments, run_timer, PlayHolds, PlaysHold, RepliesHold}
 use Rattle.recursor_core.specs.Turns.{Begins, BeginsIf, BeginsAt, IsRefused, ReplyOf}
@@ -25,9 +23,10 @@ use Rattle.recursor_core.specs.declared.machine.RecursorCore.{RecursorCore}
 use Rattle.recursor_types.specs.declared.reply.Reply.{Reply}
 use Rattle.recursor_core.specs.declared.plays.Played.{Played}
 use Rattle.recursor_core.specs.declared.plays.Played.TheVariants as played
-use Rattle.recursor_walk.proofs.Earlier.{ReplyHolds-earlier}
+use Rattle.recursor_walk.proofs.Earlier.{reply-earlier}
 use Rattle.recursor_core.proofs.Standing.{ReplyHolds-grown, Grown-refl}
 use Rattle.recursor_core.proofs.Timed.{reply-timed, run_first}
+use Rattle.walk_tables.specs.View.{seen_at}
 
 -- two numbers are equal, or not
 same_or_not : (k n : ℕ) → (k ≡ n) ⊎ (k ≢ n)
@@ -78,14 +77,14 @@ pub begins_last : (start : ℕ) (turns : List Turn) (q : ℕ) → first_moment t
 begins_last start turns q h = ap (moment_of start turns) h
 
 -- want of memory may always be answered, with no grounds
-memory_holds : (terms : Terms) (timer : Timer) (log : Log) (moment : ℕ) (question : Question) (reply : Reply) → reply.outcome ≡ Err error.NoMemory
-    → reply.grounds ≡ [] → ReplyHolds terms timer log moment question reply
-memory_holds terms timer log moment question reply h none = rw h none
+memory_holds : (setting : Setting) (timer : Timer) (log : Log) (moment : ℕ) (question : Question) (reply : Reply) → reply.outcome ≡ Err error.NoMemory
+    → reply.grounds ≡ [] → ReplyHolds setting timer log moment question reply
+memory_holds setting timer log moment question reply h none = rw h none
 
 -- a question is refused for its cause
-refused_holds : (terms : Terms) (timer : Timer) (log : Log) (moment : ℕ) (question : Question) (reply : Reply) → IsRefused question reply
-    → ReplyHolds terms timer log moment question reply
-refused_holds terms timer log moment question reply r = ⊎_elim (λ h. memory_holds terms timer log moment question reply h r.0) (λ h. rw h.0 (refl, h.1, r.0)) r.1
+refused_holds : (setting : Setting) (timer : Timer) (log : Log) (moment : ℕ) (question : Question) (reply : Reply) → IsRefused question reply
+    → ReplyHolds setting timer log moment question reply
+refused_holds setting timer log moment question reply r = ⊎_elim (λ h. memory_holds setting timer log moment question reply h r.0) (λ h. rw h.0 (refl, h.1, r.0)) r.1
 
 -- a question that waits begins at its place
 pub begins_waiting : (questions : List Question) (plays : List Played) (q now : ℕ) (core : RecursorCore) (question : Question) (new : Played)
@@ -117,9 +116,9 @@ play_on now core new told later start turns rest left q question (played.Answere
     record {
       now = h.now;
       in_run = h.in_run;
-      holds = subst (λ (held : Setting). TellsThat later (λ log. ReplyHolds (terms_with held) (machine_timer h.now) log
+      holds = subst (λ (held : Setting). TellsThat later (λ log. ReplyHolds held (machine_timer h.now) log
           (begin_moment start turns q) question reply.value)) (sym setting)
-          (ReplyHolds-grown now h.now (terms_of core) (begin_moment start turns q) question reply.value told later grown h.holds);
+          (ReplyHolds-grown now h.now core.setting (begin_moment start turns q) question reply.value told later grown h.holds);
     }
 play_on now core new told later start turns rest left q question played.Unanswered setting begun grown same h = tt
 
@@ -135,7 +134,7 @@ begin_here core new told start turns rest left q now question (Some played.Waiti
 begin_here core new told start turns rest left q now question (Some played.Waiting) (played.Begun r) setting begun due begins h =
     record { begun = record { question = question; moment = now }; is = begins; question = refl; late = due (h played.Waiting refl) }
 begin_here core new told start turns rest left q now question (Some played.Waiting) (played.Answered reply) setting begun due begins h =
-    record { now = start; in_run = run_first start turns; holds = λ es t. refused_holds (terms_of new) (machine_timer start) (log_of es) (begin_moment start turns q) question reply.value begins }
+    record { now = start; in_run = run_first start turns; holds = λ es t. refused_holds new.setting (machine_timer start) (log_of es) (begin_moment start turns q) question reply.value begins }
 begin_here core new told start turns rest left q now question (Some played.Waiting) played.Unanswered setting begun due begins h = tt
 begin_here core new told start turns rest left q now question (Some (played.Begun r)) p setting begun due begins h =
     subst (λ (x : Played). PlayHolds new told start turns left q question x) (sym (same_Some _ _ begins))
@@ -178,7 +177,7 @@ module _ {P C F E : Type 0} (p : Ghosts P C F E) (patience now : ℕ) (core new 
 
   -- one has its reply
   pub plays_answered : (start : ℕ) (turns rest : List Turn) (questions : List Question) (plays : List Played) (q r : ℕ) (reply : Box Reply)
-      → slice_get plays q ≡ Some (played.Begun r) → Contains (run_moments start turns) now → ReplyTold (terms_of core) now (p.log later.provider) (begun_at core r) reply.value
+      → slice_get plays q ≡ Some (played.Begun r) → Contains (run_moments start turns) now → ReplyTold core.setting now (p.log later.provider) (begun_at core r) reply.value
       → PlaysHold core (p.log c.provider) start turns rest questions plays
       → PlaysHold new (p.log later.provider) start turns rest questions (set plays q (played.Answered reply))
   plays_answered start turns rest questions plays q r reply at here told h k question play asks play_k = ⊎_elim
@@ -189,14 +188,14 @@ module _ {P C F E : Type 0} (p : Ghosts P C F E) (patience now : ℕ) (core new 
       (ap (slice_get (set plays q (played.Answered reply))) same ∙ slice_get-set_same plays q (played.Answered reply) (slice_get_within plays q _ at))) in
       let f = h q question (played.Begun r) asks_q at in
       let b = f.begun in
-      let holds : TellsThat told_now (λ log. ReplyHolds (terms_of core) (machine_timer now) log b.moment b.question reply.value) = rw f.is at told in
+      let holds : TellsThat told_now (λ log. ReplyHolds core.setting (machine_timer now) log b.moment b.question reply.value) = rw f.is at told in
       let given : PlayHolds new told_now start turns rest q question (played.Answered reply) = record {
         now = now;
         in_run = here;
         holds = λ es t.
-            ReplyHolds-earlier (terms_of new) now (log_of es) (begin_moment start turns q) b.moment question reply.value f.late
-            (subst (λ (held : Setting). ReplyHolds (terms_with held) (machine_timer now) (log_of es) b.moment question reply.value) (sym moves.setting)
-            (subst (λ (x : Question). ReplyHolds (terms_of core) (machine_timer now) (log_of es) b.moment x reply.value) f.question (holds es t)));
+            reply-earlier (seen_at new.setting 0 now (log_of es)) (begin_moment start turns q) b.moment question reply.value f.late
+            (subst (λ (held : Setting). ReplyHolds held (machine_timer now) (log_of es) b.moment question reply.value) (sym moves.setting)
+            (subst (λ (x : Question). ReplyHolds core.setting (machine_timer now) (log_of es) b.moment x reply.value) f.question (holds es t)));
       } in
       subst (λ i. PlayHolds new told_now start turns rest i question play) (sym same)
       (subst (λ (x : Played). PlayHolds new told_now start turns rest q question x) (sym is) given))
@@ -221,26 +220,26 @@ reply_of_play : (core : RecursorCore) (told : Option (List LogEntry)) (start : �
     (found : Option Played) (reply : Reply) (es : List LogEntry)
     → told ≡ Some es → ReplyOf found reply
     → ((p : Played) → found ≡ Some p → PlayHolds core told start turns rest q question p)
-    → ReplyHolds (terms_of core) (run_timer start turns) (log_of es) (begin_moment start turns q) question reply
+    → ReplyHolds core.setting (run_timer start turns) (log_of es) (begin_moment start turns q) question reply
 reply_of_play core told start turns rest q question None reply es t of h =
-    memory_holds (terms_of core) (run_timer start turns) (log_of es) (begin_moment start turns q) question reply of.0 of.1
+    memory_holds core.setting (run_timer start turns) (log_of es) (begin_moment start turns q) question reply of.0 of.1
 reply_of_play core told start turns rest q question (Some played.Waiting) reply es t of h =
-    memory_holds (terms_of core) (run_timer start turns) (log_of es) (begin_moment start turns q) question reply of.0 of.1
+    memory_holds core.setting (run_timer start turns) (log_of es) (begin_moment start turns q) question reply of.0 of.1
 reply_of_play core told start turns rest q question (Some (played.Begun r)) reply es t of h =
-    memory_holds (terms_of core) (run_timer start turns) (log_of es) (begin_moment start turns q) question reply of.0 of.1
+    memory_holds core.setting (run_timer start turns) (log_of es) (begin_moment start turns q) question reply of.0 of.1
 reply_of_play core told start turns rest q question (Some (played.Answered a)) reply es t of h =
-    subst (λ (x : Reply). ReplyHolds (terms_of core) (run_timer start turns) (log_of es) (begin_moment start turns q) question x) (sym of)
+    subst (λ (x : Reply). ReplyHolds core.setting (run_timer start turns) (log_of es) (begin_moment start turns q) question x) (sym of)
     (let given = h (played.Answered a) refl in
-    reply-timed (terms_of core) given.now (log_of es) start turns (begin_moment start turns q) question a.value given.in_run (given.holds es t))
+    reply-timed core.setting given.now (log_of es) start turns (begin_moment start turns q) question a.value given.in_run (given.holds es t))
 reply_of_play core told start turns rest q question (Some played.Unanswered) reply es t of h =
-    memory_holds (terms_of core) (run_timer start turns) (log_of es) (begin_moment start turns q) question reply of.0 of.1
+    memory_holds core.setting (run_timer start turns) (log_of es) (begin_moment start turns q) question reply of.0 of.1
 
 -- the replies that are given hold
 pub replies_hold : (core : RecursorCore) (told : Option (List LogEntry)) (start : ℕ) (turns rest : List Turn) (questions : List Question)
     (plays : List Played) (replies : List Reply)
     → PlaysHold core told start turns rest questions plays
     → ((q : ℕ) (reply : Reply) → slice_get replies q ≡ Some reply → ReplyOf (slice_get plays q) reply)
-    → TellsThat told (λ log. RepliesHold (terms_of core) log start turns questions replies)
+    → TellsThat told (λ log. RepliesHold core.setting log start turns questions replies)
 replies_hold core told start turns rest questions plays replies h of es t q question reply asks at =
     reply_of_play core told start turns rest q question (slice_get plays q) reply es t (of q reply at) (λ p e. h q question p asks e)
 

@@ -1,19 +1,15 @@
 -- A resolution after a step.
 use Rattle.std.proofs.Common.{◌≡◌, ◌≤◌, ◌<◌, ◌∙◌, ℕ, true, Option, Some, None, Result, Ok, Err, IfOk, IfSome, sym, ap, subst, arith}
 use Rattle.std.specs.Global.{Box}
-use Rattle.dns_core.specs.Log.{Log}
 use Rattle.dns_core.specs.declared.message.Query.{Query}
 use Rattle.dns_core.specs.declared.request.Question.{Question}
 use Rattle.dns_core.specs.declared.errors.NoMemory.{NoMemory}
 use Rattle.resolver_cache.specs.Cached.{Cached}
 use Rattle.recursor_walk.specs.Counted.{recalled, IsRecalled}
 use Rattle.walk_tables.specs.Remembered.{CacheHolds}
-use Rattle.walk_tables.specs.Terms.{Terms}
+use Rattle.walk_tables.specs.View.{View}
 use Rattle.recursor_walk.specs.Walk.{Goes}
-use Rattle.recursor_core.specs.Resolving.{state_want, state_steps, steps, open_of, IfAwaits, IsSettled, SameBegun}
-use Rattle.walk_tables.specs.Taking.{IfWaits}
-use Rattle.walk_tables.specs.declared.pools.Pools.{Pools}
-use Rattle.walk_tables.specs.declared.pools.Stepped.{Stepped}
+use Rattle.recursor_core.specs.Resolving.{state_want, state_steps, steps, IsSettled, SameBegun}
 use Rattle.walk_tables.specs.declared.pools.Stepped.TheVariants as stepped
 use Rattle.recursor_walk.specs.Way.{WalkHolds, WalkComes}
 use Rattle.recursor_core.specs.Derived.{StateHolds, ResolutionHolds}
@@ -34,34 +30,26 @@ same-walk r b w is same =
     ap (λ (s : State). let new : Resolution = record { question = r.question; begun = r.begun; state = s } in new) state
 
 -- a resolution whose walk has gone on
-pub walk-holds : (terms : Terms) (greatest now : ℕ) (log : Log) (r : Resolution) (b : Box Walk) (w : Walk) (before : ℕ) → r.begun ≤ before → before ≤ now
-    → WalkHolds terms greatest now r.begun log r.question.query w
-    → ResolutionHolds terms greatest now log (record { question = r.question; begun = r.begun; state = Under (record b { value = w }) })
-walk-holds terms greatest now log r b w before early later h = record { begun = omega arith; state = h }
-
--- an order that its walk waits for its resolution waits for
-pub awaits : (pools : Pools) (r : Resolution) (b : Box Walk) (w : Walk) (s : Stepped) → IfWaits pools w.lookup s
-    → IfAwaits (open_of pools (record { question = r.question; begun = r.begun; state = Under (record b { value = w }) })) s
-awaits pools r b w (stepped.Order number order) h = h
-awaits pools r b w (stepped.Waiting number) h = h
-awaits pools r b w stepped.Done h = tt
+pub walk-holds : (seen : View) (r : Resolution) (b : Box Walk) (w : Walk) → r.begun ≤ seen.moment → WalkHolds seen r.begun r.question.query w
+    → ResolutionHolds seen (record { question = r.question; begun = r.begun; state = Under (record b { value = w }) })
+walk-holds seen r b w early h = record { begun = early; state = h }
 
 -- a walk that goes on, or has its reply, or has ended for want of memory
-settled-state : (terms : Terms) (greatest moment t0 : ℕ) (log : Log) (question : Question) (w : Box Walk) (came : Result (Option (Box Reply)) NoMemory) (state : State)
-    → IsSettled came (Under w) state → IfOk came (WalkComes terms greatest moment t0 log question w.value) → StateHolds terms greatest moment t0 log question state
-settled-state terms greatest moment t0 log question w (Ok None) state is h = subst (StateHolds terms greatest moment t0 log question) (sym is) h
-settled-state terms greatest moment t0 log question w (Ok (Some reply)) state is h = subst (StateHolds terms greatest moment t0 log question) (sym is) h
-settled-state terms greatest moment t0 log question w (Err e) state is h = subst (StateHolds terms greatest moment t0 log question) (sym is) tt
+settled-state : (seen : View) (t0 : ℕ) (question : Question) (w : Box Walk) (came : Result (Option (Box Reply)) NoMemory) (state : State)
+    → IsSettled came (Under w) state → IfOk came (WalkComes seen t0 question w.value) → StateHolds seen t0 question state
+settled-state seen t0 question w (Ok None) state is h = subst (StateHolds seen t0 question) (sym is) h
+settled-state seen t0 question w (Ok (Some reply)) state is h = subst (StateHolds seen t0 question) (sym is) h
+settled-state seen t0 question w (Err e) state is h = subst (StateHolds seen t0 question) (sym is) tt
 
 -- so it is with its resolution
-pub settled-holds : (terms : Terms) (greatest moment : ℕ) (log : Log) (old new : Resolution) (w : Box Walk) (came : Result (Option (Box Reply)) NoMemory)
-    → SameBegun old new → IsSettled came (Under w) new.state → old.begun ≤ moment → IfOk came (WalkComes terms greatest moment old.begun log old.question w.value)
-    → ResolutionHolds terms greatest moment log new
-settled-holds terms greatest moment log old new w came same is early h = record {
-  begun = subst (λ (t : ℕ). t ≤ moment) (sym same.1) early;
-  state = subst (λ (t : ℕ). StateHolds terms greatest moment t log new.question new.state) (sym same.1)
-      (subst (λ (q : Question). StateHolds terms greatest moment old.begun log q new.state) (sym same.0)
-      (settled-state terms greatest moment old.begun log old.question w came new.state is h));
+pub settled-holds : (seen : View) (old new : Resolution) (w : Box Walk) (came : Result (Option (Box Reply)) NoMemory)
+    → SameBegun old new → IsSettled came (Under w) new.state → old.begun ≤ seen.moment → IfOk came (WalkComes seen old.begun old.question w.value)
+    → ResolutionHolds seen new
+settled-holds seen old new w came same is early h = record {
+  begun = subst (λ (t : ℕ). t ≤ seen.moment) (sym same.1) early;
+  state = subst (λ (t : ℕ). StateHolds seen t new.question new.state) (sym same.1)
+      (subst (λ (q : Question). StateHolds seen old.begun q new.state) (sym same.0)
+      (settled-state seen old.begun old.question w came new.state is h));
 }
 
 -- it has less before it
@@ -81,15 +69,15 @@ settled-falls old new was w came began same is h =
     omega (arith, less, here, there)
 
 -- what was read from the cache stands, if anything was
-pub recalled-for : (terms : Terms) (greatest t0 now : ℕ) (log : Log) (cache : Cached) (q : Query) (found : Option Counted) → t0 ≤ now
-    → CacheHolds terms greatest log cache → found ≡ recalled cache q now → IfSome found (IsRecalled terms greatest t0 log q)
-recalled-for terms greatest t0 now log cache q None begun holds is = tt
-recalled-for terms greatest t0 now log cache q (Some c) begun holds is = recalled-stands terms greatest t0 now log cache q begun holds c (sym is)
+pub recalled-for : (seen : View) (t0 : ℕ) (cache : Cached) (q : Query) (found : Option Counted) → t0 ≤ seen.moment
+    → CacheHolds seen cache → found ≡ recalled cache q seen.moment → IfSome found (IsRecalled seen t0 q)
+recalled-for seen t0 cache q None begun holds is = tt
+recalled-for seen t0 cache q (Some c) begun holds is = recalled-stands seen t0 cache q begun holds c (sym is)
 
 -- the name of a question that is to set out is fully qualified
-pub new-qualified : (terms : Terms) (greatest moment t0 : ℕ) (log : Log) (question : Question) (s : State) → state_want s ≡ need.SetOut
-    → StateHolds terms greatest moment t0 log question s → question.query.name.fqdn ≡ true
-new-qualified terms greatest moment t0 log question New is h = h
-new-qualified terms greatest moment t0 log question (Under w) is h = cc
-new-qualified terms greatest moment t0 log question (Done reply) is h = cc
-new-qualified terms greatest moment t0 log question Ended is h = cc
+pub new-qualified : (seen : View) (t0 : ℕ) (question : Question) (s : State) → state_want s ≡ need.SetOut
+    → StateHolds seen t0 question s → question.query.name.fqdn ≡ true
+new-qualified seen t0 question New is h = h
+new-qualified seen t0 question (Under w) is h = cc
+new-qualified seen t0 question (Done reply) is h = cc
+new-qualified seen t0 question Ended is h = cc

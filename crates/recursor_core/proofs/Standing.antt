@@ -13,19 +13,19 @@ use Rattle.resolution.specs.Asking.{AsksServers}
 use Rattle.resolution.proofs.Keeping.{Serves-later, Serves-extend}
 use Rattle.order_carrier.specs.Fits.{WaitsBy, GoesToServer}
 use Rattle.order_carrier.specs.GivingUp.{give_up_entry}
-use Rattle.walk_tables.specs.Terms.{Terms, terms_with, given_of}
+use Rattle.walk_tables.specs.View.{given_of, seen_at}
 use Rattle.recursor_walk.specs.Replies.{ReplyHolds}
 use Rattle.walk_tables.specs.Tried.{machine_timer}
 use Rattle.order_carrier.specs.Growing.{TellsThat, Grown, with_entries}
-use Rattle.walk_tables.specs.Pools.{PoolsHold}
-use Rattle.recursor_core.specs.Derived.{terms_of, Derived}
+use Rattle.recursor_core.specs.Derived.{seen_by, Derived}
 use Rattle.order_carrier.specs.Patience.{IsPatient}
 use Rattle.resolver_cache.specs.Cached.{Cached}
-use Rattle.walk_tables.specs.Remembered.{EntryHolds, CacheHolds}
+use Rattle.walk_tables.specs.Remembered.{EntryHolds}
+use Rattle.walk_tables.specs.Taking.{TablesHold}
 use Rattle.recursor_setting.specs.Setting.{with_patience as setting_with}
-use Rattle.recursor_core.specs.Machine.{Begun, begun_at, SameCore, ReplyGiven, StepGives, IsNewCore}
+use Rattle.recursor_core.specs.Machine.{Begun, begun_at, SameCore, ReplyGiven, StepGives, IsNewCore, TellsTo}
 use Rattle.recursor_core.specs.Standing.{IsPast, Holds, Rests, Moves, Ready, Goes, ReplyTold, TurnedTold}
-use Rattle.walk_tables.specs.Order.{TellsOutcome, is_given_up, IsGivenUpIn, LogGoesOnIf, LogGoesOn}
+use Rattle.walk_tables.specs.Order.{is_given_up, IsGivenUpIn, LogGoesOnIf}
 use Rattle.order_runner.specs.Runner.{RunnerHolds, RunnerMoves, GoesNowhere, sent_by, still_awaited, IsLast, HasTold}
 use Rattle.order_runner.specs.declared.runner.Runner.{Runner}
 use Rattle.recursor_types.specs.declared.options.RecursorOptions.{RecursorOptions}
@@ -45,20 +45,13 @@ use Rattle.server_core.specs.declared.order.Outcome.TheVariants.{Pending, Connec
 use Rattle.server_core.specs.declared.order.Sent.{Sent}
 use Rattle.server_core.specs.declared.order.Tick.{Tick}
 use Rattle.recursor_types.specs.declared.reply.Reply.{Reply}
-use Rattle.order_carrier.proofs.Growing.{Longer-from_added, Extends-added, Logged-newest}
+use Rattle.order_carrier.proofs.Growing.{Extends-refl, Extends-trans, Longer-from_added, Extends-added, Logged-newest}
 use Rattle.order_carrier.proofs.Waiting.{IsPatient-trans, WaitsFor-refl, patient-none}
-use Rattle.recursor_walk.proofs.Kept.{ReplyHolds-extends}
-use Rattle.recursor_core.proofs.Kept.{Derived-extends}
+use Rattle.walk_tables.proofs.Later.{later-by}
+use Rattle.recursor_walk.proofs.Later.{reply-later}
+use Rattle.recursor_core.proofs.Later.{Derived-extends}
 
 -- ---- growing logs
-
--- a log has its own entries
-pub Extends-refl : (log : Log) → Extends log log
-Extends-refl log = record { later = omega arith; kept = λ n h. refl }
-
--- a log that extends one that extends another extends that one
-pub Extends-trans : {a b c : Log} → Extends a b → Extends b c → Extends a c
-Extends-trans x y = record { later = omega (arith, x.later, y.later); kept = λ n h. y.kept n (omega (arith, h, x.later)) ∙ x.kept n h }
 
 -- a number is below another, or not
 pub below_or_not : (i n : ℕ) → (i < n) ⊎ (n ≤ i)
@@ -91,7 +84,7 @@ Grown-trans now a b c x y es t =
     record {
       before = one.before;
       was = one.was;
-      extends = Extends-trans one.extends two.extends;
+      extends = Extends-trans (log_of one.before) (log_of two.before) (log_of es) one.extends two.extends;
       at = λ i moment e high logged is. ⊎_elim
           (λ early. one.at i moment e high early is)
           (λ late. two.at i moment e late logged is)
@@ -115,12 +108,13 @@ Derived-grown : (now : ℕ) (core : RecursorCore) (old new : Option (List LogEnt
 Derived-grown now core old new grown d es t = let l = grown es t in Derived-extends core (log_of l.before) (log_of es) l.extends (d l.before l.was)
 
 -- a reply holds by a longer log
-pub ReplyHolds-grown : (now at : ℕ) (terms : Terms) (moment : ℕ) (question : Question) (reply : Reply) (old new : Option (List LogEntry)) → Grown now old new
-    → TellsThat old (λ log. ReplyHolds terms (machine_timer at) log moment question reply)
-    → TellsThat new (λ log. ReplyHolds terms (machine_timer at) log moment question reply)
-ReplyHolds-grown now at terms moment question reply old new grown h es t =
+pub ReplyHolds-grown : (now at : ℕ) (setting : Setting) (moment : ℕ) (question : Question) (reply : Reply) (old new : Option (List LogEntry)) → Grown now old new
+    → TellsThat old (λ log. ReplyHolds setting (machine_timer at) log moment question reply)
+    → TellsThat new (λ log. ReplyHolds setting (machine_timer at) log moment question reply)
+ReplyHolds-grown now at setting moment question reply old new grown h es t =
     let l = grown es t in
-    ReplyHolds-extends terms at at (log_of l.before) (log_of es) moment question reply (omega arith) l.extends (h l.before l.was)
+    reply-later (seen_at setting 0 at (log_of l.before)) (seen_at setting 0 at (log_of es)) (later-by setting 0 0 at at (log_of l.before) (log_of es) (omega arith) (omega arith) l.extends) moment question reply
+    (h l.before l.was)
 
 -- ---- moments: each step leaves it as it was, or at this one
 
@@ -140,23 +134,23 @@ module _ (core new : RecursorCore) (told : Option (List LogEntry)) where
   -- an order that the machine gives goes to a server by all that is told
   pub step_goes : (r number : ℕ) (next : Step) (order : Box Order) → next ≡ step.Order number order → new.setting ≡ core.setting → TellsThat told (Derived core)
       → ((log : Log) → Derived core log → Derived new log × StepGives core log r next)
-      → TellsThat told (λ log. GoesToServer (given_of (terms_of new)) log log.next order.value)
+      → TellsThat told (λ log. GoesToServer (given_of new.setting) log log.next order.value)
   step_goes r number next order is setting d gives es t =
       let given = subst (λ (s : Step). StepGives core (log_of es) r s) is (gives (log_of es) (d es t)).1 in
       let b : core.greatest < length es + 1 = (d es t).bound in
-      subst (λ (held : Setting). GoesToServer (given_of (terms_with held)) (log_of es) (length es + 1) order.value) (sym setting)
-      (GoesToServer-later (given_of (terms_of core)) (log_of es) (core.greatest + 1) (length es + 1) order.value (omega arith) given)
+      subst (λ (held : Setting). GoesToServer (given_of held) (log_of es) (length es + 1) order.value) (sym setting)
+      (GoesToServer-later (given_of core.setting) (log_of es) (core.greatest + 1) (length es + 1) order.value (omega arith) given)
 
   -- a reply that is given to a question that has begun is told
-  reply_told : (b : Option Begun) (reply : Reply) → TellsThat told (λ log. ReplyGiven (terms_of core) core.moment log b reply)
-      → ReplyTold (terms_of core) core.moment told b reply
+  reply_told : (b : Option Begun) (reply : Reply) → TellsThat told (λ log. ReplyGiven (seen_by core log) b reply)
+      → ReplyTold core.setting core.moment told b reply
   reply_told None reply h = tt
   reply_told (Some b) reply h = h
 
   -- a reply that it gives is told
   pub step_replies : (r : ℕ) (next : Step) (reply : Box Reply) → next ≡ step.Done reply → TellsThat told (Derived core)
       → ((log : Log) → Derived core log → Derived new log × StepGives core log r next)
-      → ReplyTold (terms_of core) core.moment told (begun_at core r) reply.value
+      → ReplyTold core.setting core.moment told (begun_at core r) reply.value
   step_replies r next reply is d gives =
       reply_told (begun_at core r) reply.value (λ es t. subst (λ (s : Step). StepGives core (log_of es) r s) is (gives (log_of es) (d es t)).1)
 
@@ -173,10 +167,10 @@ AsksServers-patience given patience log a =
     }
 
 -- a reply to a question that has begun is one to the same question later
-pub ReplyTold-later : (terms : Terms) (now : ℕ) (told : Option (List LogEntry)) (old new : Option Begun) (reply : Reply) → ((b : Begun) → old ≡ Some b → new ≡ Some b)
-    → ReplyTold terms now told new reply → ReplyTold terms now told old reply
-ReplyTold-later terms now told None new reply same h = tt
-ReplyTold-later terms now told (Some b) new reply same h = subst (λ (x : Option Begun). ReplyTold terms now told x reply) (same b refl) h
+pub ReplyTold-later : (setting : Setting) (now : ℕ) (told : Option (List LogEntry)) (old new : Option Begun) (reply : Reply) → ((b : Begun) → old ≡ Some b → new ≡ Some b)
+    → ReplyTold setting now told new reply → ReplyTold setting now told old reply
+ReplyTold-later setting now told None new reply same h = tt
+ReplyTold-later setting now told (Some b) new reply same h = subst (λ (x : Option Begun). ReplyTold setting now told x reply) (same b refl) h
 
 -- a log without entries has none under any number
 unlogged : (n : ℕ) (e : LogEntry) → Logged (log_of []) n e → ⊥
@@ -251,13 +245,13 @@ module _ {P C F E : Type 0} (p : Ghosts P C F E) where
     runner = h.runner;
     patient = subst (λ (held : Setting). held.patience ≤ patience) (sym setting) h.patient;
     derived = λ es t. derived (log_of es) (h.derived es t);
-    asks = subst (λ (held : Setting). TellsThat (p.log r.carrier.provider) (AsksServers (given_of (terms_with held)))) (sym setting) h.asks;
+    asks = subst (λ (held : Setting). TellsThat (p.log r.carrier.provider) (AsksServers (given_of held))) (sym setting) h.asks;
     past = IsPast-later core.moment new.moment (p.log r.carrier.provider) later h.past;
   }
 
   -- a step of the provider alone, at the moment of the machine
   pub holds_grown : (patience : ℕ) (core : RecursorCore) (r new : Runner P C F E p) (now : ℕ) (goes : Given → Type 0) → core.moment ≡ now → RunnerHolds p new
-      → RunnerMoves patience now goes (p.log r.carrier.provider) (p.log new.carrier.provider) → goes (given_of (terms_of core)) → Holds p patience core r → Holds p patience core new
+      → RunnerMoves patience now goes (p.log r.carrier.provider) (p.log new.carrier.provider) → goes (given_of core.setting) → Holds p patience core r → Holds p patience core new
   holds_grown patience core r new now goes at runner moves right h =
       let old_log = p.log r.carrier.provider in
       let new_log = p.log new.carrier.provider in
@@ -265,15 +259,14 @@ module _ {P C F E : Type 0} (p : Ghosts P C F E) where
         runner = runner;
         patient = h.patient;
         derived = Derived-grown now core old_log new_log moves.grown h.derived;
-        asks = moves.asks (given_of (terms_of core)) right h.asks;
+        asks = moves.asks (given_of core.setting) right h.asks;
         past = subst (λ m. TellsThat new_log (IsPast m)) (sym at) (IsPast-grown now old_log new_log moves.grown (subst (λ m. TellsThat old_log (IsPast m)) at h.past));
       }
 
   -- The machine is fed what the provider told, and its order is given up, or is not.
   holds_settled : (number : ℕ) (tick : Tick) (core new : RecursorCore) (r later : Runner P C F E p) (o : Outcome) (result : Result After NoMemory) → new.setting ≡ core.setting → new.moment ≡ tick.now
       → core.moment ≡ tick.now
-      → ((log told longer : Log) → core.setting.patience ≤ tick.patience → Derived core log → TellsOutcome core.moment log tick (still_awaited o (sent_by r number)) o told
-      → LogGoesOn tick.now (still_awaited o (sent_by r number)) o result told longer → Derived new longer)
+      → ((log longer : Log) → Derived core log → TellsTo core log tick (still_awaited o (sent_by r number)) o result longer → Derived new longer)
       → p.log later.carrier.provider ≡ settled_log (is_given_up result) tick.now (sent_by r number) (p.log r.carrier.provider)
       → TellsThat (p.log r.carrier.provider) (HasTold tick.now (sent_by r number) o) → Holds p tick.patience core r → Holds p tick.patience core later → Holds p tick.patience new later
   holds_settled number tick core new r later o result setting moment at derived log told h k = record {
@@ -282,10 +275,15 @@ module _ {P C F E : Type 0} (p : Ghosts P C F E) where
     derived = λ es t.
         let by = settled_by (is_given_up result) tick.now (sent_by r number) o (p.log r.carrier.provider) (p.log later.carrier.provider) log told es t in
         let heard = told by.before by.was in
-        derived (log_of by.before) (log_of by.before) (log_of es) h.patient (h.derived by.before by.was)
-        (record { later = omega arith; extends = Extends-refl (log_of by.before); fits = heard.fits; waits_by = waits-still (log_of by.before) (sent_by r number) o heard.waits_by })
-        (goes-still (is_given_up result) tick.now (sent_by r number) o (log_of by.before) (log_of es) by.on);
-    asks = subst (λ (held : Setting). TellsThat (p.log later.carrier.provider) (AsksServers (given_of (terms_with held)))) (sym setting) k.asks;
+        derived (log_of by.before) (log_of es) (h.derived by.before by.was) (record {
+          patient = h.patient;
+          on = record {
+            told = log_of by.before;
+            tells = record { later = omega arith; extends = Extends-refl (log_of by.before); fits = heard.fits; waits_by = waits-still (log_of by.before) (sent_by r number) o heard.waits_by };
+            goes_on = goes-still (is_given_up result) tick.now (sent_by r number) o (log_of by.before) (log_of es) by.on;
+          };
+        });
+    asks = subst (λ (held : Setting). TellsThat (p.log later.carrier.provider) (AsksServers (given_of held))) (sym setting) k.asks;
     past = IsPast-later core.moment new.moment (p.log later.carrier.provider) (omega arith) k.past;
   }
 
@@ -344,7 +342,7 @@ module _ {P C F E : Type 0} (p : Ghosts P C F E) where
 
     -- a step of what carries out the orders alone
     pub goes_run : (core : RecursorCore) (r new : Runner P C F E p) (goes : Given → Type 0) → ((es : List LogEntry) → p.vouches new.carrier.provider es → p.vouches r.carrier.provider es)
-        → RunnerHolds p new → RunnerMoves tick.patience tick.now goes (p.log r.carrier.provider) (p.log new.carrier.provider) → goes (given_of (terms_of core)) → Ready p tick core r
+        → RunnerHolds p new → RunnerMoves tick.patience tick.now goes (p.log r.carrier.provider) (p.log new.carrier.provider) → goes (given_of core.setting) → Ready p tick core r
         → Goes p tick core core r new
     goes_run core r new goes vouches holds moves right ready = record {
       vouches = vouches;
@@ -369,18 +367,17 @@ module _ {P C F E : Type 0} (p : Ghosts P C F E) where
 
     -- what a turn comes to after a step is what it comes to with it
     pub told_before : (a b : RecursorCore) (x y : Runner P C F E p) (told : Option (List LogEntry)) (r : ℕ) (t : Turned) → Goes p tick a b x y
-        → TurnedTold (terms_of b) tick.now told (begun_at b r) t → TurnedTold (terms_of a) tick.now told (begun_at a r) t
+        → TurnedTold b.setting tick.now told (begun_at b r) t → TurnedTold a.setting tick.now told (begun_at a r) t
     told_before a b x y told r turned.Pending goes h = tt
     told_before a b x y told r (turned.Done reply) goes h =
-        subst (λ (held : Setting). ReplyTold (terms_with held) tick.now told (begun_at a r) reply.value) goes.moves.setting
-        (ReplyTold-later (terms_of b) tick.now told (begun_at a r) (begun_at b r) reply.value (goes.moves.begun r) h)
+        subst (λ (held : Setting). ReplyTold held tick.now told (begun_at a r) reply.value) goes.moves.setting
+        (ReplyTold-later b.setting tick.now told (begun_at a r) (begun_at b r) reply.value (goes.moves.begun r) h)
     told_before a b x y told r turned.Ended goes h = tt
 
     -- what the order of the number came to is put, where what carries out the orders has gone on so
     pub goes_settled : (number : ℕ) (core new : RecursorCore) (r later : Runner P C F E p) (o : Outcome) (result : Result After NoMemory) → new.setting ≡ core.setting
         → (core.moment ≡ tick.now → new.moment ≡ tick.now) → ((k : ℕ) → begun_at new k ≡ begun_at core k)
-        → ((log told longer : Log) → core.setting.patience ≤ tick.patience → Derived core log → TellsOutcome core.moment log tick (still_awaited o (sent_by r number)) o told
-        → LogGoesOn tick.now (still_awaited o (sent_by r number)) o result told longer → Derived new longer)
+        → ((log longer : Log) → Derived core log → TellsTo core log tick (still_awaited o (sent_by r number)) o result longer → Derived new longer)
         → p.log later.carrier.provider ≡ settled_log (is_given_up result) tick.now (sent_by r number) (p.log r.carrier.provider)
         → TellsThat (p.log r.carrier.provider) (HasTold tick.now (sent_by r number) o) → Ready p tick core r → Goes p tick core core r later → Goes p tick core new r later
     goes_settled number core new r later o result setting moment begun derived log told ready run =
@@ -394,15 +391,14 @@ module _ {P C F E : Type 0} (p : Ghosts P C F E) where
   -- a machine at rest begins a run: its questions are left, and its patience may be less
   pub rests_holds : (patience : ℕ) (core new : RecursorCore) (r : Runner P C F E p) → new.setting ≡ setting_with core.setting patience
       → new.moment ≡ core.moment
-      → ((log : Log) → core.greatest < log.next → 0 < length core.setting.roots → CacheHolds (terms_of core) core.greatest log core.cache
-      → PoolsHold (terms_of core) core.greatest core.moment log core.pools → Derived new log)
+      → ((log : Log) → core.greatest < log.next → 0 < length core.setting.roots → TablesHold (seen_by core log) core.cache core.pools → Derived new log)
       → Rests p core r → Holds p patience new r
   rests_holds patience core new r setting moment derived h = record {
     runner = h.runner;
     patient = subst (λ (held : Setting). held.patience ≤ patience) (sym setting) (omega arith);
-    derived = λ es t. derived (log_of es) (h.bound es t) h.some (h.cache es t) (h.pools es t);
-    asks = subst (λ (held : Setting). TellsThat (p.log r.carrier.provider) (AsksServers (given_of (terms_with held)))) (sym setting)
-        (λ es t. AsksServers-patience (given_of (terms_of core)) (min core.setting.patience patience) (log_of es) (h.asks es t));
+    derived = λ es t. derived (log_of es) (h.bound es t) h.some (record { cache = h.cache es t; pools = h.pools es t });
+    asks = subst (λ (held : Setting). TellsThat (p.log r.carrier.provider) (AsksServers (given_of held))) (sym setting)
+        (λ es t. AsksServers-patience (given_of core.setting) (min core.setting.patience patience) (log_of es) (h.asks es t));
     past = subst (λ m. TellsThat (p.log r.carrier.provider) (IsPast m)) (sym moment) h.past;
   }
 
@@ -429,10 +425,10 @@ module _ {P C F E : Type 0} (p : Ghosts P C F E) where
     bound = λ es t. let zero = new.greatest in omega arith;
     cache = λ es t. record {
       lives = ap (λ (kept : Cached). kept.config) new.cache ∙ sym (ap (λ (held : Setting). held.lives) new.setting);
-      entries = subst (λ (kept : Cached). All (EntryHolds (terms_of core) core.greatest (log_of es)) kept.entries) (sym new.cache)
+      entries = subst (λ (kept : Cached). All (EntryHolds (seen_by core (log_of es))) kept.entries) (sym new.cache)
           (λ k d low. absurd (omega (arith, low)));
     };
-    pools = λ es t. new.pools (terms_of core) core.greatest core.moment (log_of es) (ap (λ (held : Setting). held.answer_filter) new.setting);
+    pools = λ es t. new.pools (seen_by core (log_of es)) (ap (λ (held : Setting). held.answer_filter) new.setting);
     asks = λ es t. record {
       opened = λ n ip protocol moment refused at. absurd (unlogged n (Opened ip protocol moment refused)
           (subst (λ (xs : List LogEntry). Logged (log_of xs) n (Opened ip protocol moment refused)) (empty es t) at));

@@ -10,13 +10,14 @@ use Rattle.resolution.specs.Lookups.{End}
 use Rattle.resolution.specs.Ending.{EndSends}
 use Rattle.resolution.specs.Ending.EndSends.{no_send, and_send}
 use Rattle.resolution.specs.Timing.{DriveTimed}
-use Rattle.walk_tables.specs.Terms.{Terms, given_of}
+use Rattle.walk_tables.specs.View.{given_of}
 use Rattle.recursor_walk.specs.Replies.{ReplyHolds}
 use Rattle.walk_tables.specs.Tried.{IsTimed, machine_timer}
 use Rattle.recursor_core.specs.Standing.{last_moment, run_moments, run_timer}
 use Rattle.recursor_types.specs.declared.reply.Reply.{Reply}
 use Rattle.recursor_walk.proofs.Earlier.{outcome-earlier}
 use Rattle.recursor_core.proofs.Standing.{below_or_not}
+use Rattle.recursor_setting.specs.declared.setting.Setting.{Setting}
 
 -- a lookup of the machine is one of a run, where it was heard at a moment of the run
 timed_in_run : (given : Given) (t0 at : ℕ) (run : List ℕ) (log : Log) → Contains run at
@@ -41,12 +42,12 @@ timed_in_run given t0 at run log here q ips _ _ _ start now (and_send e c r) ask
     )
 
 -- a reply of the machine is one of the run
-pub reply-timed : (terms : Terms) (at : ℕ) (log : Log) (start : ℕ) (turns : List Turn) (t0 : ℕ) (question : Question) (reply : Reply)
+pub reply-timed : (setting : Setting) (at : ℕ) (log : Log) (start : ℕ) (turns : List Turn) (t0 : ℕ) (question : Question) (reply : Reply)
     → Contains (run_moments start turns) at
-    → ReplyHolds terms (machine_timer at) log t0 question reply → ReplyHolds terms (run_timer start turns) log t0 question reply
-reply-timed terms at log start turns t0 question reply here h =
-    outcome-earlier (given_of terms) log t0 t0 (omega arith) (machine_timer at log t0) (run_timer start turns log t0)
-    (timed_in_run (given_of terms) t0 at (run_moments start turns) log here) question reply.grounds reply.outcome h
+    → ReplyHolds setting (machine_timer at) log t0 question reply → ReplyHolds setting (run_timer start turns) log t0 question reply
+reply-timed setting at log start turns t0 question reply here h =
+    outcome-earlier (given_of setting) log t0 t0 (omega arith) (machine_timer at log t0) (run_timer start turns log t0)
+    (timed_in_run (given_of setting) t0 at (run_moments start turns) log here) question reply.grounds reply.outcome h
 
 -- the first of a list is in it
 pub contains_first : {X : Type 0} (x : X) (xs : List X) → Contains (x ∷ xs) x

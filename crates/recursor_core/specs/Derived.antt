@@ -1,10 +1,10 @@
 -- What the machine keeps, as derived from a log.
-use Rattle.std.specs.Prelude.{◌≡◌, ℕ, ◌≤◌, ◌<◌, length, true, All}
+use Rattle.std.specs.Prelude.{◌≡◌, ℕ, ◌≤◌, ◌<◌, length, true, All, Result, IfOk}
 use Rattle.dns_core.specs.Log.{Log}
 use Rattle.dns_core.specs.declared.request.Question.{Question}
-use Rattle.walk_tables.specs.Terms.{Terms, terms_with}
-use Rattle.recursor_walk.specs.Replies.{ReplyHolds}
-use Rattle.walk_tables.specs.Tried.{machine_timer}
+use Rattle.dns_core.specs.declared.errors.NoMemory.{NoMemory}
+use Rattle.walk_tables.specs.View.{View, seen_at}
+use Rattle.recursor_walk.specs.Replies.{Replied}
 use Rattle.walk_tables.specs.Pools.{PoolsHold}
 use Rattle.walk_tables.specs.Remembered.{CacheHolds}
 use Rattle.recursor_core.specs.declared.resolving.State.{State}
@@ -13,24 +13,28 @@ use Rattle.recursor_core.specs.declared.resolving.Resolution.{Resolution}
 use Rattle.recursor_core.specs.declared.machine.RecursorCore.{RecursorCore}
 use Rattle.recursor_walk.specs.Way.{WalkHolds}
 
-abbrev pub StateHolds : Terms → ℕ → ℕ → ℕ → Log → Question → State → Type 0
-StateHolds terms greatest moment t0 log question state.New = question.query.name.fqdn ≡ true
-StateHolds terms greatest moment t0 log question (state.Under w) = WalkHolds terms greatest moment t0 log question.query w.value
-StateHolds terms greatest moment t0 log question (state.Done reply) = ReplyHolds terms (machine_timer moment) log t0 question reply.value
-StateHolds terms greatest moment t0 log question state.Ended = Unit {0}
+abbrev pub StateHolds : View → ℕ → Question → State → Type 0
+StateHolds seen t0 question state.New = question.query.name.fqdn ≡ true
+StateHolds seen t0 question (state.Under w) = WalkHolds seen t0 question.query w.value
+StateHolds seen t0 question (state.Done reply) = Replied seen t0 question reply.value
+StateHolds seen t0 question state.Ended = Unit {0}
 
-pub record ResolutionHolds (terms : Terms) (greatest moment : ℕ) (log : Log) (r : Resolution) : Type 0 where
-  pub begun : r.begun ≤ moment
-  pub state : StateHolds terms greatest moment r.begun log r.question r.state
+-- so it stands where memory was not wanting
+abbrev pub StandsSo : View → ℕ → Question → Result State NoMemory → Type 0
+StandsSo seen t0 question result = IfOk result (StateHolds seen t0 question)
 
--- what it is set to
-abbrev pub terms_of : RecursorCore → Terms
-terms_of core = terms_with core.setting
+pub record ResolutionHolds (seen : View) (r : Resolution) : Type 0 where
+  pub begun : r.begun ≤ seen.moment
+  pub state : StateHolds seen r.begun r.question r.state
+
+-- what the machine sees of a log
+abbrev pub seen_by : RecursorCore → Log → View
+seen_by core log = seen_at core.setting core.greatest core.moment log
 
 -- All that the machine keeps is derived from the log.
 pub record Derived (core : RecursorCore) (log : Log) : Type 0 where
   pub bound : core.greatest < log.next
   pub some : 0 < length core.setting.roots
-  pub cache : CacheHolds (terms_of core) core.greatest log core.cache
-  pub pools : PoolsHold (terms_of core) core.greatest core.moment log core.pools
-  pub resolutions : All (ResolutionHolds (terms_of core) core.greatest core.moment log) core.resolutions.items
+  pub cache : CacheHolds (seen_by core log) core.cache
+  pub pools : PoolsHold (seen_by core log) core.pools
+  pub resolutions : All (ResolutionHolds (seen_by core log)) core.resolutions.items

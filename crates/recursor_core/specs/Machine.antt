@@ -7,13 +7,17 @@ use Rattle.dns_core.specs.declared.message.Query.{Query}
 use Rattle.dns_core.specs.declared.request.Question.{Question}
 use Rattle.dns_core.specs.declared.request.DnsRequest.{DnsRequest}
 use Rattle.order_carrier.specs.Fits.{GoesToServer}
-use Rattle.walk_tables.specs.Terms.{Terms, given_of}
-use Rattle.recursor_walk.specs.Replies.{ReplyHolds}
-use Rattle.walk_tables.specs.Tried.{machine_timer}
+use Rattle.server_core.specs.declared.order.After.{After}
+use Rattle.server_core.specs.declared.order.Outcome.{Outcome}
+use Rattle.server_core.specs.declared.order.Sent.{Sent}
+use Rattle.server_core.specs.declared.order.Tick.{Tick}
+use Rattle.walk_tables.specs.Order.{TellsOn}
+use Rattle.walk_tables.specs.View.{View, given_of}
+use Rattle.recursor_walk.specs.Replies.{Replied}
 use Rattle.walk_tables.specs.Pools.{StepGoes, PoolsHold, given_so_far}
 use Rattle.walk_tables.specs.declared.pools.Pools.{Pools}
 use Rattle.walk_tables.specs.declared.pools.Stepped.{Stepped}
-use Rattle.recursor_core.specs.Derived.{terms_of}
+use Rattle.recursor_core.specs.Derived.{seen_by}
 use Rattle.recursor_types.specs.declared.reply.Reply.{Reply}
 use Rattle.dns_core.specs.declared.errors.NoMemory.{NoMemory}
 use Rattle.recursor_core.specs.Resolving as one
@@ -123,20 +127,25 @@ GoesOn old new r (Ok progress.Again) = IsNearer old new
 GoesOn old new r (Ok (progress.Step s)) = StepIs old new r s
 GoesOn old new r (Err e) = given_by old ≤ given_by new
 
-abbrev pub ReplyGiven : Terms → ℕ → Log → Option Begun → Reply → Type 0
-ReplyGiven terms now log None reply = Unit {0}
-ReplyGiven terms now log (Some b) reply = ReplyHolds terms (machine_timer now) log b.moment b.question reply
+-- A log goes on to tell an outcome to the machine, whose patience is no greater.
+pub record TellsTo (core : RecursorCore) (log : Log) (tick : Tick) (waits : Option Sent) (o : Outcome) (result : Result After NoMemory) (longer : Log) : Type 0 where
+  pub patient : core.setting.patience ≤ tick.patience
+  pub on : TellsOn core.moment log tick waits o result longer
+
+abbrev pub ReplyGiven : View → Option Begun → Reply → Type 0
+ReplyGiven seen None reply = Unit {0}
+ReplyGiven seen (Some b) reply = Replied seen b.moment b.question reply
 
 -- what a step gives is derived: an order goes to a server by what was put before, and a reply holds
 abbrev pub StepGives : RecursorCore → Log → ℕ → Step → Type 0
-StepGives core log r (step.Order number order) = GoesToServer (given_of (terms_of core)) log (core.greatest + 1) order.value
+StepGives core log r (step.Order number order) = GoesToServer (given_of core.setting) log (core.greatest + 1) order.value
 StepGives core log r (step.Waiting number) = Unit {0}
-StepGives core log r (step.Done reply) = ReplyGiven (terms_of core) core.moment log (begun_at core r) reply.value
+StepGives core log r (step.Done reply) = ReplyGiven (seen_by core log) (begun_at core r) reply.value
 StepGives core log r step.Ended = Unit {0}
 
 -- what a step of a lookup gives is derived: an order goes to a server by what was put before
 abbrev pub LookupGives : RecursorCore → Log → Stepped → Type 0
-LookupGives core log given = StepGoes (given_of (terms_of core)) log (core.greatest + 1) given
+LookupGives core log given = StepGoes (seen_by core log) given
 
 abbrev pub Gives : RecursorCore → Log → ℕ → Progress → Type 0
 Gives core log r progress.Again = Unit {0}
@@ -155,7 +164,7 @@ pub record IsNewCore (roots : List IpAddr) (options : RecursorOptions) (core : R
   pub greatest : core.greatest ≡ 0
   pub resolutions : core.resolutions.items ≡ []
   pub context : core.pools.shared.context ≡ core.setting.context
-  pub pools : (terms : Terms) (greatest moment : ℕ) (log : Log) → terms.answer_filter ≡ answer_filter_of options → PoolsHold terms greatest moment log core.pools
+  pub pools : (seen : View) → seen.setting.answer_filter ≡ answer_filter_of options → PoolsHold seen core.pools
 
 -- what a question is refused for as it begins
 abbrev pub IsBeginError : RecursorError → Type 0

@@ -1,15 +1,15 @@
 -- What a resolution needs, and how much of it is left.
-use Rattle.std.specs.Prelude.{◌≡◌, ℕ, IsTrue, Option, Some, None, Result, Ok, Err}
+use Rattle.std.specs.Prelude.{◌≡◌, ℕ, Option, Some, None, Result, Ok, Err, MatchBool}
 use Rattle.std.specs.Global.{Box}
 use Rattle.dns_core.specs.declared.message.Query.{Query}
 use Rattle.dns_core.specs.declared.request.DnsRequest.{DnsRequest}
+use Rattle.dns_core.specs.declared.request.Question.{Question}
 use Rattle.recursor_walk.specs.Counted.{may_answer}
+use Rattle.recursor_walk.specs.Replies.{reply_with}
 use Rattle.walk_tables.specs.Lookup as lookup
 use Rattle.walk_tables.specs.Taking.{awaited_by}
 use Rattle.recursor_walk.specs.Walk as walk
 use Rattle.walk_tables.specs.declared.pools.Pools.{Pools}
-use Rattle.walk_tables.specs.declared.pools.Stepped.{Stepped}
-use Rattle.walk_tables.specs.declared.pools.Stepped.TheVariants as stepped
 use Rattle.recursor_walk.specs.declared.counted.Counted.{Counted}
 use Rattle.recursor_types.specs.declared.reply.Reply.{Reply}
 use Rattle.dns_core.specs.declared.errors.NoMemory.{NoMemory}
@@ -48,12 +48,6 @@ state_open pools Ended = None
 abbrev pub open_of : Pools → Resolution → Option ℕ
 open_of pools r = state_open pools r.state
 
--- The order that a step gives, or that it waits for, is this one.
-abbrev pub IfAwaits : Option ℕ → Stepped → Type 0
-IfAwaits awaited (stepped.Order number order) = awaited ≡ Some number
-IfAwaits awaited (stepped.Waiting number) = awaited ≡ Some number
-IfAwaits awaited stepped.Done = Unit {0}
-
 -- the question that it asks now
 abbrev pub asked_of : State → Option Query
 asked_of New = None
@@ -75,13 +69,19 @@ IsSettled (Ok None) old new = new ≡ old
 IsSettled (Ok (Some reply)) old new = new ≡ Done reply
 IsSettled (Err e) old new = new ≡ Ended
 
-abbrev pub IsDone : State → Type 0
-IsDone New = ⊥
-IsDone (Under w) = ⊥
-IsDone (Done reply) = Unit {0}
-IsDone Ended = ⊥
+abbrev pub IsUnder : State → Type 0
+IsUnder New = ⊥
+IsUnder (Under w) = Unit {0}
+IsUnder (Done reply) = ⊥
+IsUnder Ended = ⊥
 
--- where the cache has for a question what may be answered, it is answered
-abbrev pub IsAnswered : Option Counted → State → Type 0
-IsAnswered None state = Unit {0}
-IsAnswered (Some c) state = IsTrue (may_answer c.verdict) → IsDone state
+abbrev pub IsDoneWith : Reply → State → Type 0
+IsDoneWith reply New = ⊥
+IsDoneWith reply (Under w) = ⊥
+IsDoneWith reply (Done given) = given.value ≡ reply
+IsDoneWith reply Ended = ⊥
+
+-- Where the cache has for a question what may be answered, the reply is the one with that; else its walk begins.
+abbrev pub IsAnswered : Question → Option Counted → State → Type 0
+IsAnswered question None state = IsUnder state
+IsAnswered question (Some c) state = MatchBool (may_answer c.verdict) (IsDoneWith (reply_with question c) state) (IsUnder state)

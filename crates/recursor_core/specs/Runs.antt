@@ -39,15 +39,24 @@ Leads p moments run new = Leading p moments run.patience new.patience run.core n
 abbrev pub Plays : {P C F E : Type 0} (p : Ghosts P C F E) → Run P C F E p → ℕ → List Turn → List Turn → List Question → Type 0
 Plays p run start turns rest questions = PlaysHold run.core (told_by p run) start turns rest questions run.plays.items
 
+-- What became of them goes on holding, where these are the turns that are left then.
+abbrev pub PlaysOn : {P C F E : Type 0} (p : Ghosts P C F E) → ℕ → List Turn → List Turn → List Turn → List Question → Run P C F E p → Run P C F E p → Type 0
+PlaysOn p start turns rest left questions run new = Plays p run start turns rest questions → Plays p new start turns left questions
+
 -- A step at this moment of the run keeps that.
 abbrev pub PlaysGoOn : {P C F E : Type 0} (p : Ghosts P C F E) → ℕ → Run P C F E p → Run P C F E p → Type 0
-PlaysGoOn p now run new = (start : ℕ) (turns rest : List Turn) (questions : List Question) → Contains (run_moments start turns) now
-    → Plays p run start turns rest questions → Plays p new start turns rest questions
+PlaysGoOn p now run new = (start : ℕ) (turns rest : List Turn) (questions : List Question) → Contains (run_moments start turns) now → PlaysOn p start turns rest rest questions run new
 
 -- Between these two, no question but the one at a place has its first turn; and its own, or the end of the turns, has come, where it had none before.
 pub record IsDue (start : ℕ) (turns rest left : List Turn) (q now : ℕ) : Type 0 where
   pub others : (k : ℕ) → k ≢ q → first_moment rest k ≡ first_moment left k
   pub due : first_moment turns q ≡ first_moment rest q → begin_moment start turns q ≤ now
+
+-- A turn comes to a run at one of its moments, where it stands at another, no earlier than its start.
+pub record ComesIn {P C F E : Type 0} {p : Ghosts P C F E} (start : ℕ) (turns : List Turn) (run : Run P C F E p) (t : Turn) : Type 0 where
+  pub after : start ≤ run.core.moment
+  pub was_in : Contains (run_moments start turns) run.core.moment
+  pub is_in : Contains (run_moments start turns) t.moment
 
 -- The turns are over at a moment of the run.
 pub record IsOver (start : ℕ) (turns : List Turn) (now : ℕ) : Type 0 where

@@ -13,11 +13,12 @@ use Rattle.server_core.specs.declared.order.Tick.{Tick}
 use Rattle.resolution.specs.Telling.{Logged, moment_of, MomentsRise}
 use Rattle.resolution.specs.Asking.{AsksServers}
 use Rattle.resolution.specs.Timing.{known_to_drive}
-use Rattle.walk_tables.specs.Terms.{Terms, given_of}
+use Rattle.recursor_setting.specs.declared.setting.Setting.{Setting}
+use Rattle.walk_tables.specs.View.{given_of}
 use Rattle.walk_tables.specs.Tried.{Timer, machine_timer}
 use Rattle.recursor_walk.specs.Replies.{ReplyHolds}
 use Rattle.order_carrier.specs.Growing.{TellsThat, Grown}
-use Rattle.recursor_core.specs.Derived.{terms_of, Derived}
+use Rattle.recursor_core.specs.Derived.{seen_by, Derived}
 use Rattle.order_carrier.specs.Patience.{IsPatient}
 use Rattle.walk_tables.specs.Pools.{PoolsHold}
 use Rattle.walk_tables.specs.Remembered.{CacheHolds}
@@ -44,9 +45,9 @@ pub record Standing (P : Type 0) : Type 0 where
   pub patience : ℕ
   pub moment : ℕ
 
--- the terms of a run with this patience, or with the least one of the runs before
-abbrev pub run_terms : {P : Type 0} → ℕ → Standing P → Terms
-run_terms patience recursor = record { roots = recursor.roots; server_filter = recursor.server_filter; answer_filter = recursor.answer_filter; lives = recursor.lives; patience = min recursor.patience patience }
+-- what a run is set to with this patience, or with the least one of the runs before
+abbrev pub run_terms : {P : Type 0} → ℕ → Standing P → Setting
+run_terms patience recursor = record { roots = recursor.roots; server_filter = recursor.server_filter; answer_filter = recursor.answer_filter; lives = recursor.lives; context = recursor.context; patience = min recursor.patience patience }
 
 -- no entry carries a later moment
 abbrev pub IsPast : ℕ → Log → Type 0
@@ -73,7 +74,7 @@ pub record Holds {P C F E : Type 0} (p : Ghosts P C F E) (patience : ℕ) (core 
   pub runner : RunnerHolds p r
   pub patient : core.setting.patience ≤ patience
   pub derived : TellsThat (p.log r.carrier.provider) (Derived core)
-  pub asks : TellsThat (p.log r.carrier.provider) (AsksServers (given_of (terms_of core)))
+  pub asks : TellsThat (p.log r.carrier.provider) (AsksServers (given_of core.setting))
   pub past : TellsThat (p.log r.carrier.provider) (IsPast core.moment)
 
 -- So it is between two runs, once the questions of the last one are left.
@@ -81,9 +82,9 @@ pub record Rests {P C F E : Type 0} (p : Ghosts P C F E) (core : RecursorCore) (
   pub some : 0 < length core.setting.roots
   pub runner : RunnerHolds p r
   pub bound : TellsThat (p.log r.carrier.provider) (λ log. core.greatest < log.next)
-  pub cache : TellsThat (p.log r.carrier.provider) (λ log. CacheHolds (terms_of core) core.greatest log core.cache)
-  pub pools : TellsThat (p.log r.carrier.provider) (λ log. PoolsHold (terms_of core) core.greatest core.moment log core.pools)
-  pub asks : TellsThat (p.log r.carrier.provider) (AsksServers (given_of (terms_of core)))
+  pub cache : TellsThat (p.log r.carrier.provider) (λ log. CacheHolds (seen_by core log) core.cache)
+  pub pools : TellsThat (p.log r.carrier.provider) (λ log. PoolsHold (seen_by core log) core.pools)
+  pub asks : TellsThat (p.log r.carrier.provider) (AsksServers (given_of core.setting))
   pub past : TellsThat (p.log r.carrier.provider) (IsPast core.moment)
   pub rises : TellsThat (p.log r.carrier.provider) MomentsRise
 
@@ -106,14 +107,14 @@ pub record Goes {P C F E : Type 0} (p : Ghosts P C F E) (tick : Tick) (core new_
   pub moves : Moves p tick.patience tick.now core new_core r.carrier new.carrier
 
 -- a reply holds by the log, where it is told
-abbrev pub ReplyTold : Terms → ℕ → Option (List LogEntry) → Option Begun → Reply → Type 0
-ReplyTold terms now told None reply = Unit {0}
-ReplyTold terms now told (Some b) reply = TellsThat told (λ log. ReplyHolds terms (machine_timer now) log b.moment b.question reply)
+abbrev pub ReplyTold : Setting → ℕ → Option (List LogEntry) → Option Begun → Reply → Type 0
+ReplyTold setting now told None reply = Unit {0}
+ReplyTold setting now told (Some b) reply = TellsThat told (λ log. ReplyHolds setting (machine_timer now) log b.moment b.question reply)
 
-abbrev pub TurnedTold : Terms → ℕ → Option (List LogEntry) → Option Begun → Turned → Type 0
-TurnedTold terms now told b turned.Pending = Unit {0}
-TurnedTold terms now told b (turned.Done reply) = ReplyTold terms now told b reply.value
-TurnedTold terms now told b turned.Ended = Unit {0}
+abbrev pub TurnedTold : Setting → ℕ → Option (List LogEntry) → Option Begun → Turned → Type 0
+TurnedTold setting now told b turned.Pending = Unit {0}
+TurnedTold setting now told b (turned.Done reply) = ReplyTold setting now told b reply.value
+TurnedTold setting now told b turned.Ended = Unit {0}
 
 -- the moment of the first turn of the question at a place
 abbrev pub first_moment : List Turn → ℕ → Option ℕ
@@ -145,10 +146,10 @@ pub record IsBegunFrom (core : RecursorCore) (r : ℕ) (q : Question) (moment : 
   pub late : moment ≤ begun.moment
 
 -- The reply was given at a moment of the run, and holds.
-pub record AnsweredAt (terms : Terms) (told : Option (List LogEntry)) (moments : List ℕ) (t0 : ℕ) (question : Question) (reply : Reply) : Type 0 where
+pub record AnsweredAt (setting : Setting) (told : Option (List LogEntry)) (moments : List ℕ) (t0 : ℕ) (question : Question) (reply : Reply) : Type 0 where
   pub now : ℕ
   pub in_run : Contains moments now
-  pub holds : TellsThat told (λ log. ReplyHolds terms (machine_timer now) log t0 question reply)
+  pub holds : TellsThat told (λ log. ReplyHolds setting (machine_timer now) log t0 question reply)
 
 -- A question that waits is named by no turn so far; one under way has begun at or after its moment; the reply of one that is answered holds, and
 -- for one that is not answered memory was wanting.
@@ -156,7 +157,7 @@ abbrev pub PlayHolds : RecursorCore → Option (List LogEntry) → ℕ → List 
 PlayHolds core told start turns rest q question played.Waiting = first_moment turns q ≡ first_moment rest q
 PlayHolds core told start turns rest q question (played.Begun r) = IsBegunFrom core r question (begin_moment start turns q)
 PlayHolds core told start turns rest q question (played.Answered reply) =
-    AnsweredAt (terms_of core) told (run_moments start turns) (begin_moment start turns q) question reply.value
+    AnsweredAt core.setting told (run_moments start turns) (begin_moment start turns q) question reply.value
 PlayHolds core told start turns rest q question played.Unanswered = Unit {0}
 
 -- so it is with each question, where `rest` are the turns that are not played yet
@@ -165,6 +166,6 @@ PlaysHold core told start turns rest questions plays = (q : ℕ) (question : Que
     → slice_get questions q ≡ Some question → slice_get plays q ≡ Some p → PlayHolds core told start turns rest q question p
 
 -- each reply holds, for the question at its place
-abbrev pub RepliesHold : Terms → Log → ℕ → List Turn → List Question → List Reply → Type 0
-RepliesHold terms log start turns questions replies = (q : ℕ) (question : Question) (reply : Reply)
-    → slice_get questions q ≡ Some question → slice_get replies q ≡ Some reply → ReplyHolds terms (run_timer start turns) log (begin_moment start turns q) question reply
+abbrev pub RepliesHold : Setting → Log → ℕ → List Turn → List Question → List Reply → Type 0
+RepliesHold setting log start turns questions replies = (q : ℕ) (question : Question) (reply : Reply)
+    → slice_get questions q ≡ Some question → slice_get replies q ≡ Some reply → ReplyHolds setting (run_timer start turns) log (begin_moment start turns q) question reply

@@ -1,21 +1,19 @@
 //! The machine: it gives orders and is fed their outcomes, and knows neither a provider nor a log.
-ghost use Rattle.std.specs.Prelude.{◌≡◌, ◌≢◌, ◌≤◌, ◌<◌, ◌+◌, ◌⊎◌, ◌↔◌, ℕ, [], true, false, max, length, None, Some, Ok, Err, IfOk, IfSome, IfNone, IfErr, IsSome, OnOk, OnErr, IsTrue, option_copied, if◌then◌else◌};
+ghost use Rattle.std.specs.Prelude.{◌≡◌, ◌≢◌, ◌≤◌, ◌<◌, ◌⊎◌, ◌↔◌, ℕ, [], true, false, max, length, None, Some, Ok, Err, IfOk, IfSome, IfNone, IfErr, IsSome, OnOk, IsTrue, option_copied, if◌then◌else◌};
 ghost use Rattle.dns_core.specs.Log.{Log};
 ghost use Rattle.server_core.specs.Order.{entry_of};
-ghost use Rattle.walk_tables.specs.Order.{IsNext, is_given_up, closing_of, last_entry, TellsOutcome, LogGoesOn};
+ghost use Rattle.walk_tables.specs.Order.{IsNext, is_given_up, closing_of, last_entry};
 ghost use Rattle.walk_tables.specs.Lookup.{LeavesLess};
-ghost use Rattle.walk_tables.specs.Taking.{Takes};
+ghost use Rattle.walk_tables.specs.Taking.{Takes, TablesHold, IfAwaits};
 ghost use Rattle.std.specs.BTreeSet.{contains};
 ghost use Rattle.std.specs.Ordering.{nat_cmp};
 ghost use Rattle.resolver_settings.specs.Ttl.{has_reversed};
 ghost use Rattle.recursor_setting.specs.Asking.{connect_of};
 ghost use Rattle.recursor_setting.specs.Setting.{with_patience};
 ghost use Rattle.walk_tables.specs.declared.lookup.Want.TheVariants as want;
-ghost use Rattle.walk_tables.specs.Pools.{PoolsHold, GivesNext, IsOutcomeOf};
-ghost use Rattle.walk_tables.specs.Remembered.{CacheHolds};
-ghost use Rattle.recursor_core.specs.Derived.{terms_of, Derived};
-ghost use Rattle.recursor_core.specs.Resolving.{IfAwaits};
-ghost use Rattle.recursor_core.specs.Machine.{need_at, begun_at, open_at, given_by, IsRequestAt, rank, IsNearer, GoesOn, Steps, Gives, StepGives, IsNewError, IsBeginError, IsNewCore, SameCore, LookupGives, IsBegunAt};
+ghost use Rattle.walk_tables.specs.Pools.{GivesNext, IsOutcomeOf};
+ghost use Rattle.recursor_core.specs.Derived.{seen_by, Derived};
+ghost use Rattle.recursor_core.specs.Machine.{TellsTo, need_at, begun_at, open_at, given_by, IsRequestAt, rank, IsNearer, GoesOn, Steps, Gives, StepGives, IsNewError, IsBeginError, IsNewCore, SameCore, LookupGives, IsBegunAt};
 
 use crate::resolving::{Need, Resolution, State};
 use dns_core::{ConnectOptions, DnsRequest, NoMemory, Question, TryClone};
@@ -172,8 +170,7 @@ impl RecursorCore {
     /// Leaves all questions, for a run of this patience.
     pub fn clear(&mut self, patience: u32)
         ensures derived { (log : Log) → self.old.greatest < log.next → 0 < length self.old.setting.roots
-            → CacheHolds (terms_of self.old) self.old.greatest log self.old.cache
-            → PoolsHold (terms_of self.old) self.old.greatest self.old.moment log self.old.pools → Derived self.new log }
+            → TablesHold (seen_by self.old log) self.old.cache self.old.pools → Derived self.new log }
         ensures setting { self.new.setting ≡ with_patience self.old.setting patience }
         ensures same { (self.new.greatest ≡ self.old.greatest) × (self.new.moment ≡ self.old.moment) × (self.new.cache ≡ self.old.cache) }
     {
@@ -447,8 +444,7 @@ impl RecursorCore {
     ) -> Result<After, NoMemory>
         ensures given { given_by self.new ≡ given_by self.old }
         ensures late { (result ≡ Ok After.Late) ↔ (IsNext self.old.greatest (entry_of outcome) → IsOutcomeOf self.old.pools number (option_copied waits.entry) outcome → ⊥) }
-        ensures derived { (log told longer : Log) → self.old.setting.patience ≤ tick.patience → Derived self.old log
-            → TellsOutcome self.old.moment log tick (option_copied waits.entry) outcome told → LogGoesOn tick.now (option_copied waits.entry) outcome result told longer → Derived self.new longer }
+        ensures derived { (log longer : Log) → Derived self.old log → TellsTo self.old log tick (option_copied waits.entry) outcome result longer → Derived self.new longer }
         ensures takes { IfOk result (Takes self.old.cache self.new.cache self.old.pools self.new.pools number outcome tick) }
         ensures setting { self.new.setting ≡ self.old.setting }
         ensures moment { self.old.moment ≡ tick.now → self.new.moment ≡ tick.now }

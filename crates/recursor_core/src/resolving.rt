@@ -1,18 +1,16 @@
 //! One question under way, answered, or ended.
-ghost use Rattle.std.specs.Prelude.{◌≡◌, ◌≤◌, ◌<◌, ◌+◌, ℕ, true, length, Some, None, Ok, IfOk, IfSome, IsSome, OnOk, OnErr, is_ok};
-ghost use Rattle.std.specs.declared.net.ip_addr.IpAddr.{IpAddr};
-ghost use Rattle.dns_core.specs.Log.{Log};
-ghost use Rattle.walk_tables.specs.Terms.{Terms, given_of};
-ghost use Rattle.recursor_walk.specs.Replies.{ReplyHolds};
-ghost use Rattle.walk_tables.specs.Tried.{machine_timer};
-ghost use Rattle.recursor_walk.specs.Counted.{IsRecalled, recalled};
+ghost use Rattle.std.specs.Prelude.{◌≡◌, ◌≤◌, ◌<◌, ℕ, true, Some, None, Ok, IfOk, IfSome, IsSome, OnOk, OnErr, is_ok};
+ghost use Rattle.walk_tables.specs.View.{View};
+ghost use Rattle.recursor_walk.specs.Replies.{Replied};
+ghost use Rattle.recursor_walk.specs.Counted.{IsRecalled, ReadsAt, recalled};
 ghost use Rattle.walk_tables.specs.Remembered.{CacheHolds};
-ghost use Rattle.recursor_core.specs.Resolving.{want_of, state_steps, steps, open_of, IfAwaits, IsSettled, SameBegun, asked_of, AsksFor, IsAnswered};
+ghost use Rattle.recursor_core.specs.Resolving.{want_of, state_steps, steps, open_of, IsSettled, SameBegun, asked_of, AsksFor, IsAnswered};
+ghost use Rattle.walk_tables.specs.Taking.{IfAwaits};
 ghost use Rattle.walk_tables.specs.Lookup.{want_of as wanted, LeavesLess};
-ghost use Rattle.walk_tables.specs.Pools.{PoolsHold, StepGoes, given_so_far, GivesNext};
+ghost use Rattle.walk_tables.specs.Pools.{PoolsHold, StepGoes, IsStepAt, given_so_far, GivesNext};
 ghost use Rattle.walk_tables.specs.declared.lookup.Want.TheVariants as want;
-ghost use Rattle.recursor_walk.specs.Way.{WalkHolds, WalkComes};
-ghost use Rattle.recursor_core.specs.Derived.{StateHolds, ResolutionHolds};
+ghost use Rattle.recursor_walk.specs.Way.{WalkHolds, Comes, HasRoots, FiltersBy};
+ghost use Rattle.recursor_core.specs.Derived.{StandsSo, ResolutionHolds};
 ghost use Rattle.recursor_walk.specs.Walk.{begin_steps, Goes};
 
 use dns_core::{DnsRequest, Ips, NoMemory, Query, Question, TryClone};
@@ -59,10 +57,10 @@ fn begun_with(
     counted: Option<Counted>,
 ) -> Result<State, NoMemory>
     ensures falls { IfOk result (λ state. state_steps question.now.query state < begin_steps question.now.query) }
-    ensures holds { (terms : Terms) (greatest moment t0 : ℕ) (log : Log) → question.now.query.name.fqdn ≡ true → terms.roots ≡ roots.now → 0 < length roots.now
-        → IfSome counted (IsRecalled terms greatest t0 log question.now.query)
-        → IfOk result (StateHolds terms greatest moment t0 log question.now) }
-    ensures answers { IfOk result (IsAnswered counted) }
+    ensures holds { (seen : View) (t0 : ℕ) → question.now.query.name.fqdn ≡ true → HasRoots seen roots.now
+        → IfSome counted (IsRecalled seen t0 question.now.query)
+        → StandsSo seen t0 question.now result }
+    ensures answers { IfOk result (IsAnswered question.now counted) }
 {
     if let Some(counted) = counted {
         if counted.may_answer() {
@@ -84,9 +82,9 @@ fn begun(
     now: u64,
 ) -> Result<State, NoMemory>
     ensures falls { IfOk result (λ state. state_steps question.now.query state < begin_steps question.now.query) }
-    ensures holds { (terms : Terms) (greatest t0 : ℕ) (log : Log) → question.now.query.name.fqdn ≡ true → terms.roots ≡ roots.now → 0 < length roots.now
-        → t0 ≤ now → CacheHolds terms greatest log cache.now → IfOk result (StateHolds terms greatest now t0 log question.now) }
-    ensures answers { IfOk result (IsAnswered (recalled cache.now question.now.query now)) }
+    ensures holds { (seen : View) (t0 : ℕ) → question.now.query.name.fqdn ≡ true → HasRoots seen roots.now
+        → ReadsAt seen t0 now cache.now → StandsSo seen t0 question.now result }
+    ensures answers { IfOk result (IsAnswered question.now (recalled cache.now question.now.query now)) }
 {
     if let Some(reply) = kept_answer(alloc, cache, question, now)? {
         return Ok(State::Done(reply));
@@ -106,8 +104,8 @@ fn recall(
 ) -> Result<Option<Box<Reply>>, NoMemory>
     requires { wanted walk.old.lookup.ask ≡ want.Recall }
     ensures falls { Goes walk.old walk.new result }
-    ensures holds { (terms : Terms) (greatest t0 : ℕ) (log : Log) → terms.server_filter ≡ filter.now → CacheHolds terms greatest log cache.now → t0 ≤ now
-        → WalkHolds terms greatest now t0 log question.now.query walk.old → IfOk result (WalkComes terms greatest now t0 log question.now walk.new) }
+    ensures holds { (seen : View) (t0 : ℕ) → FiltersBy seen filter.now → ReadsAt seen t0 now cache.now
+        → WalkHolds seen t0 question.now.query walk.old → Comes seen t0 question.now walk.new result }
 {
     let counted = recalled(alloc, cache, &walk.lookup.query, now)?;
     walk.recall(alloc, question, filter, counted)
@@ -136,7 +134,7 @@ impl Resolution {
     /// A question that begins. Its name is fully qualified.
     pub fn begin(question: Question, now: u64) -> Resolution
         requires { question.query.name.fqdn ≡ true }
-        ensures holds { (terms : Terms) (greatest : ℕ) (log : Log) → ResolutionHolds terms greatest now log result }
+        ensures holds { (seen : View) → now ≤ seen.moment → ResolutionHolds seen result }
         ensures begun { (result.question ≡ question) × (result.begun ≡ now) }
     {
         Resolution {
@@ -189,9 +187,9 @@ impl Resolution {
         requires { want_of self.old ≡ Need.SetOut }
         ensures falls { steps self.new < steps self.old }
         ensures begun { SameBegun self.old self.new }
-        ensures holds { (terms : Terms) (greatest : ℕ) (log : Log) → terms.roots ≡ roots.now → 0 < length roots.now → CacheHolds terms greatest log cache.now
-            → ResolutionHolds terms greatest now log self.old → ResolutionHolds terms greatest now log self.new }
-        ensures answers { IfOk result (λ x. IsAnswered (recalled cache.now self.old.question.query now) self.new.state) }
+        ensures holds { (seen : View) → now ≡ seen.moment → HasRoots seen roots.now → CacheHolds seen cache.now
+            → ResolutionHolds seen self.old → ResolutionHolds seen self.new }
+        ensures answers { IfOk result (λ x. IsAnswered self.old.question (recalled cache.now self.old.question.query now) self.new.state) }
     {
         self.state = State::Ended;
         let state = begun(alloc, &self.question, roots, cache, now)?;
@@ -210,8 +208,8 @@ impl Resolution {
         requires { want_of self.old ≡ Need.Send want.Recall }
         ensures falls { steps self.new < steps self.old }
         ensures begun { SameBegun self.old self.new }
-        ensures holds { (terms : Terms) (greatest : ℕ) (log : Log) → terms.server_filter ≡ filter.now → CacheHolds terms greatest log cache.now
-            → ResolutionHolds terms greatest now log self.old → ResolutionHolds terms greatest now log self.new }
+        ensures holds { (seen : View) → now ≡ seen.moment → FiltersBy seen filter.now → CacheHolds seen cache.now
+            → ResolutionHolds seen self.old → ResolutionHolds seen self.new }
     {
         let State::Under(walk) = &mut self.state else {
             return Ok(());
@@ -225,8 +223,8 @@ impl Resolution {
         requires { want_of self.old ≡ Need.Send want.Hear }
         ensures falls { steps self.new < steps self.old }
         ensures begun { SameBegun self.old self.new }
-        ensures holds { (terms : Terms) (greatest moment : ℕ) (log : Log) → terms.server_filter ≡ filter.now
-            → ResolutionHolds terms greatest moment log self.old → ResolutionHolds terms greatest moment log self.new }
+        ensures holds { (seen : View) → FiltersBy seen filter.now
+            → ResolutionHolds seen self.old → ResolutionHolds seen self.new }
     {
         let State::Under(walk) = &mut self.state else {
             return Ok(());
@@ -249,8 +247,8 @@ impl Resolution {
         ensures err { OnErr result (self.new ≡ self.old) }
         ensures given { given_so_far pools.new ≡ given_so_far pools.old }
         ensures begun { SameBegun self.old self.new }
-        ensures holds { (terms : Terms) (greatest : ℕ) (log : Log) → PoolsHold terms greatest tick.now log pools.old
-            → ResolutionHolds terms greatest tick.now log self.old → ResolutionHolds terms greatest tick.now log self.new × PoolsHold terms greatest tick.now log pools.new }
+        ensures holds { (seen : View) → tick.now ≡ seen.moment → PoolsHold seen pools.old
+            → ResolutionHolds seen self.old → ResolutionHolds seen self.new × PoolsHold seen pools.new }
     {
         match &mut self.state {
             State::Under(walk) => walk.send(alloc, pools, request, tick),
@@ -270,9 +268,9 @@ impl Resolution {
         ensures falls { IfOk result (LeavesLess (steps self.old) (steps self.new)) }
         ensures given { GivesNext (given_so_far pools.old) (given_so_far pools.new) result }
         ensures begun { SameBegun self.old self.new }
-        ensures holds { (terms : Terms) (log : Log) → PoolsHold terms since tick.now log pools.old
-            → ResolutionHolds terms since tick.now log self.old → ResolutionHolds terms since tick.now log self.new × PoolsHold terms since tick.now log pools.new }
-        ensures goes { (terms : Terms) (log : Log) → PoolsHold terms since tick.now log pools.old → IfOk result (StepGoes (given_of terms) log (since + 1)) }
+        ensures holds { (seen : View) → IsStepAt seen since tick → PoolsHold seen pools.old
+            → ResolutionHolds seen self.old → ResolutionHolds seen self.new × PoolsHold seen pools.new }
+        ensures goes { (seen : View) → IsStepAt seen since tick → PoolsHold seen pools.old → IfOk result (StepGoes seen) }
         ensures waits { IfOk result (IfAwaits (open_of pools.new self.new)) }
     {
         let begun = self.begun;
@@ -288,9 +286,9 @@ impl Resolution {
         ensures ended { want_of self.new ≡ Need.Nothing }
         ensures some { IsSome result }
         ensures begun { SameBegun self.old self.new }
-        ensures holds { (terms : Terms) (greatest moment : ℕ) (log : Log)
-            → ResolutionHolds terms greatest moment log self.old
-            → ResolutionHolds terms greatest moment log self.new × IfSome result (λ reply. ReplyHolds terms (machine_timer moment) log self.old.begun self.old.question reply.value) }
+        ensures holds { (seen : View)
+            → ResolutionHolds seen self.old
+            → ResolutionHolds seen self.new × IfSome result (λ reply. Replied seen self.old.begun self.old.question reply.value) }
     {
         match mem::replace(&mut self.state, State::Ended) {
             State::Done(reply) => Some(reply),
@@ -303,8 +301,8 @@ impl Resolution {
         ensures nothing { want_of self.new ≡ Need.Nothing }
         ensures given { given_so_far pools.new ≡ given_so_far pools.old }
         ensures begun { SameBegun self.old self.new }
-        ensures holds { (terms : Terms) (greatest moment : ℕ) (log : Log) → PoolsHold terms greatest moment log pools.old
-            → ResolutionHolds terms greatest moment log self.old → ResolutionHolds terms greatest moment log self.new × PoolsHold terms greatest moment log pools.new }
+        ensures holds { (seen : View) → PoolsHold seen pools.old
+            → ResolutionHolds seen self.old → ResolutionHolds seen self.new × PoolsHold seen pools.new }
     {
         match mem::replace(&mut self.state, State::Ended) {
             State::Under(mut walk) => walk.lookup.leave(pools),

@@ -1,10 +1,9 @@
 //! A run of questions as one value, and how its turns are played.
-ghost use Rattle.std.specs.Prelude.{Contains, ◌≡◌, ◌≤◌, ◌<◌, ◌∷◌, ℕ, List, [], Some, IfOk, MatchBool, length, vec_len};
+ghost use Rattle.std.specs.Prelude.{◌≡◌, ◌≤◌, ◌<◌, ◌∷◌, ℕ, List, [], Some, IfOk, MatchBool, length, vec_len};
 ghost use Rattle.dns_core.specs.declared.request.Question.{Question};
 ghost use Rattle.dns_core.specs.declared.request.Turn.{Turn};
 ghost use Rattle.order_carrier.specs.Growing.{TellsThat};
-ghost use Rattle.recursor_core.specs.Derived.{terms_of};
-ghost use Rattle.recursor_core.specs.Runs.{Runs, Leads, Plays, PlaysGoOn, IsDue, IsOver, told_by, work};
+ghost use Rattle.recursor_core.specs.Runs.{Runs, Leads, PlaysOn, PlaysGoOn, IsDue, ComesIn, IsOver, told_by, work};
 ghost use Rattle.recursor_core.specs.Standing.{RepliesHold, last_moment, run_moments};
 ghost use Rattle.recursor_core.specs.Turns.{IsUnderWay};
 
@@ -45,8 +44,7 @@ impl<P: ConnectionProvider> Run<P> {
         requires runs { Runs P.ConnectionProvider self.old }
         requires moment { self.old.core.moment ≤ now }
         ensures leads { Leads P.ConnectionProvider (self.old.core.moment ∷ now ∷ []) self.old self.new }
-        ensures plays { (start : ℕ) (turns rest left : List Turn) → IsDue start turns rest left q now
-            → Plays P.ConnectionProvider self.old start turns rest questions.now → Plays P.ConnectionProvider self.new start turns left questions.now }
+        ensures plays { (start : ℕ) (turns rest left : List Turn) → IsDue start turns rest left q now → PlaysOn P.ConnectionProvider start turns rest left questions.now self.old self.new }
         ensures count { vec_len self.new.plays ≡ vec_len self.old.plays }
     {
         begin_at(alloc, &mut self.core, &mut self.plays, questions, q, now);
@@ -132,8 +130,8 @@ impl<P: ConnectionProvider> Run<P> {
     ) -> usize
         requires { Runs P.ConnectionProvider self.old }
         ensures leads { Leads P.ConnectionProvider (self.old.core.moment ∷ turn.now.moment ∷ []) self.old self.new }
-        ensures plays { (start : ℕ) (turns rest : List Turn) → start ≤ self.old.core.moment → Contains (run_moments start turns) self.old.core.moment → Contains (run_moments start turns) turn.now.moment
-            → Plays P.ConnectionProvider self.old start turns (turn.now ∷ rest) questions.now → Plays P.ConnectionProvider self.new start turns rest questions.now }
+        ensures plays { (start : ℕ) (turns rest : List Turn) → ComesIn start turns self.old turn.now
+            → PlaysOn P.ConnectionProvider start turns (turn.now ∷ rest) rest questions.now self.old self.new }
         ensures count { vec_len self.new.plays ≡ vec_len self.old.plays }
     {
         if turn.question == 0 {
@@ -151,8 +149,7 @@ impl<P: ConnectionProvider> Run<P> {
     fn play_turns(&mut self, alloc: Global, questions: &[Question], turns: &[Turn]) -> usize
         requires { Runs P.ConnectionProvider self.old }
         ensures leads { Leads P.ConnectionProvider (run_moments self.old.core.moment turns.now) self.old self.new }
-        ensures plays { Plays P.ConnectionProvider self.old self.old.core.moment turns.now turns.now questions.now
-            → Plays P.ConnectionProvider self.new self.old.core.moment turns.now [] questions.now }
+        ensures plays { PlaysOn P.ConnectionProvider self.old.core.moment turns.now turns.now [] questions.now self.old self.new }
         ensures count { vec_len self.new.plays ≡ vec_len self.old.plays }
     {
         let mut current = 0;
@@ -167,8 +164,7 @@ impl<P: ConnectionProvider> Run<P> {
         requires runs { Runs P.ConnectionProvider self.old }
         requires moment { self.old.core.moment ≤ now }
         ensures leads { Leads P.ConnectionProvider (self.old.core.moment ∷ now ∷ []) self.old self.new }
-        ensures plays { (start : ℕ) (turns : List Turn) → IsOver start turns now
-            → Plays P.ConnectionProvider self.old start turns [] questions.now → Plays P.ConnectionProvider self.new start turns [] questions.now }
+        ensures plays { (start : ℕ) (turns : List Turn) → IsOver start turns now → PlaysOn P.ConnectionProvider start turns [] [] questions.now self.old self.new }
         ensures count { vec_len self.new.plays ≡ vec_len self.old.plays }
     {
         self.begin_one(alloc, questions, q, now);
@@ -180,8 +176,7 @@ impl<P: ConnectionProvider> Run<P> {
         requires runs { Runs P.ConnectionProvider self.old }
         requires moment { self.old.core.moment ≤ now }
         ensures leads { Leads P.ConnectionProvider (self.old.core.moment ∷ now ∷ []) self.old self.new }
-        ensures plays { (start : ℕ) (turns : List Turn) → IsOver start turns now
-            → Plays P.ConnectionProvider self.old start turns [] questions.now → Plays P.ConnectionProvider self.new start turns [] questions.now }
+        ensures plays { (start : ℕ) (turns : List Turn) → IsOver start turns now → PlaysOn P.ConnectionProvider start turns [] [] questions.now self.old self.new }
         ensures count { vec_len self.new.plays ≡ vec_len self.old.plays }
     {
         for q in 0..questions.len() {
@@ -193,8 +188,7 @@ impl<P: ConnectionProvider> Run<P> {
     fn play_all(&mut self, alloc: Global, questions: &[Question], turns: &[Turn])
         requires { Runs P.ConnectionProvider self.old }
         ensures leads { Leads P.ConnectionProvider (run_moments self.old.core.moment turns.now) self.old self.new }
-        ensures plays { Plays P.ConnectionProvider self.old self.old.core.moment turns.now turns.now questions.now
-            → Plays P.ConnectionProvider self.new self.old.core.moment turns.now [] questions.now }
+        ensures plays { PlaysOn P.ConnectionProvider self.old.core.moment turns.now turns.now [] questions.now self.old self.new }
         ensures count { vec_len self.new.plays ≡ vec_len self.old.plays }
     {
         let last = last_moment(self.core.moment(), turns);
@@ -214,8 +208,8 @@ impl<P: ConnectionProvider> Run<P> {
         requires { Runs P.ConnectionProvider self.old }
         ensures leads { Leads P.ConnectionProvider (run_moments self.old.core.moment turns.now) self.old self.new }
         ensures answered { IfOk result (λ replies. vec_len replies ≡ length questions.now) }
-        ensures replies { IfOk result (λ replies. TellsThat (told_by P.ConnectionProvider self.new) (λ log.
-            RepliesHold (terms_of self.old.core) log self.old.core.moment turns.now questions.now replies.items)) }
+        ensures replies { IfOk result (λ given. TellsThat (told_by P.ConnectionProvider self.new) (λ log.
+            RepliesHold self.old.core.setting log self.old.core.moment turns.now questions.now given.items)) }
     {
         self.plays = waiting(alloc, questions)?;
         self.play_all(alloc, questions, turns);

@@ -40,10 +40,10 @@ use Rattle.resolution.specs.declared.verdict.Cause.TheVariants.{Filter, Zone}
 use Rattle.resolution.proofs.SameDelegations.{Same-is_delegation, Same-glue, Same-strip}
 use Rattle.resolution.specs.Same.{Same}
 use Rattle.walk_base.specs.Response.{error_of}
-use Rattle.walk_tables.specs.Terms.{Terms, given_of}
-use Rattle.recursor_walk.specs.Replies.{IsToldAnswer, OutcomeHolds, ReplyHolds, IsReply}
+use Rattle.walk_tables.specs.View.{View, given_of}
+use Rattle.recursor_walk.specs.Replies.{IsToldAnswer, OutcomeHolds, Replied, HasCause, IsReply}
 use Rattle.walk_tables.specs.Tried.{Concluded, machine_timer}
-use Rattle.recursor_walk.specs.Causes.{ErrorHolds, HasFailed, HasNoAddress}
+use Rattle.recursor_walk.specs.Causes.{HasFailed, HasNoAddress}
 use Rattle.resolution.specs.Walking.{Walked}
 use Rattle.resolution.proofs.Sameness.{Same-refl}
 use Rattle.dns_core.specs.declared.log.ToldOutcome.{ToldOutcome}
@@ -68,9 +68,9 @@ use Rattle.recursor_walk.proofs.Lowered.{negative_same, data_same}
 -- ---- what counts
 
 -- it was told of the question, since it began
-abbrev pub base-of : (terms : Terms) (greatest t0 : ℕ) (log : Log) (zone : DomainName) (q : Query) (entry at : ℕ) (v : Verdict)
-    → (h : Counts terms greatest t0 log zone q entry at v) → Base (given_of terms) log t0 q entry zone h.whole
-base-of terms greatest t0 log zone q entry at v h =
+abbrev pub base-of : (seen : View) (t0 : ℕ) (zone : DomainName) (q : Query) (entry at : ℕ) (v : Verdict)
+    → (h : Counts seen t0 zone q entry at v) → Base (given_of seen.setting) seen.log t0 q entry zone h.whole
+base-of seen t0 zone q entry at v h =
     record { told = h.outcome; moment = at; heard = h.heard; counts = h.counts; fresh = inl h.late }
 
 -- what counts was told at or after t0
@@ -103,23 +103,23 @@ shown-asked log i q (Neg a) (Made Zone) asked h = absurd h
 shown-asked log i q (Made a) whole asked h = asked
 
 -- what counts, of a server of the zone to which a walk went down, stands
-abbrev pub stands-of : (terms : Terms) (greatest t0 : ℕ) (log : Log) (zone : DomainName) (q : Query) (entry at : ℕ) (v : Verdict)
-    → Counts terms greatest t0 log zone q entry at v → Walked (given_of terms) log q zone → Stands terms greatest t0 log q entry v
-stands-of terms greatest t0 log zone q entry at v h walked = record {
+abbrev pub stands-of : (seen : View) (t0 : ℕ) (zone : DomainName) (q : Query) (entry at : ℕ) (v : Verdict)
+    → Counts seen t0 zone q entry at v → Walked (given_of seen.setting) seen.log q zone → Stands seen t0 q entry v
+stands-of seen t0 zone q entry at v h walked = record {
   zone = zone;
   whole = h.whole;
   early = h.early;
-  base = base-of terms greatest t0 log zone q entry at v h;
+  base = base-of seen t0 zone q entry at v h;
   walked = walked;
   same = shown-same q v h.whole h.shown;
-  asked = shown-asked log entry q v h.whole h.asked h.shown;
+  asked = shown-asked seen.log entry q v h.whole h.asked h.shown;
 }
 
 -- and it may be answered
-pub answers-of : (terms : Terms) (greatest t0 : ℕ) (log : Log) (zone : DomainName) (q : Query) (entry at : ℕ) (v : Verdict)
-    → Counts terms greatest t0 log zone q entry at v → Walked (given_of terms) log q zone → Answers terms greatest t0 log q entry v
-answers-of terms greatest t0 log zone q entry at v h walked =
-    record { stands = stands-of terms greatest t0 log zone q entry at v h walked; current = current-of t0 at h.whole h.late }
+pub answers-of : (seen : View) (t0 : ℕ) (zone : DomainName) (q : Query) (entry at : ℕ) (v : Verdict)
+    → Counts seen t0 zone q entry at v → Walked (given_of seen.setting) seen.log q zone → Answers seen t0 q entry v
+answers-of seen t0 zone q entry at v h walked =
+    record { stands = stands-of seen t0 zone q entry at v h walked; current = current-of t0 at h.whole h.late }
 
 -- what is not found is not found where less is left
 not_found_in : {X : Type 0} (p f : X → Bool) (xs : List X) → find p xs ≡ None → find p (filter f xs) ≡ None
@@ -168,10 +168,10 @@ left-no-error denied outcome q (Foreign r) class e is left fails = cc
 -- ---- replies
 
 -- a response that stands is the answer, less what was not asked for
-told-by : (terms : Terms) (t0 : ℕ) (log : Log) (q : Query) (entry : ℕ) (zone : DomainName) (kept : Message) (dnssec : Bool) (whole : Verdict)
-    → (base : Base (given_of terms) log t0 q entry zone whole) → IsCurrentVerdict t0 base.moment whole → Walked (given_of terms) log q zone
-    → SameVerdict q (Pos kept) whole → IsToldAnswer (given_of terms) log t0 q dnssec (entry ∷ []) (strip_of kept dnssec)
-told-by terms t0 log q entry zone kept dnssec (Pos before) base current walked same =
+told-by : (seen : View) (t0 : ℕ) (q : Query) (entry : ℕ) (zone : DomainName) (kept : Message) (dnssec : Bool) (whole : Verdict)
+    → (base : Base (given_of seen.setting) seen.log t0 q entry zone whole) → IsCurrentVerdict t0 base.moment whole → Walked (given_of seen.setting) seen.log q zone
+    → SameVerdict q (Pos kept) whole → IsToldAnswer (given_of seen.setting) seen.log t0 q dnssec (entry ∷ []) (strip_of kept dnssec)
+told-by seen t0 q entry zone kept dnssec (Pos before) base current walked same =
     let stripped = Same-strip kept before dnssec same in
     record {
       entry = entry;
@@ -184,56 +184,56 @@ told-by terms t0 log q entry zone kept dnssec (Pos before) base current walked s
       same = stripped;
       answer = λ done. record { answers = direct base current done stripped; few = omega arith };
     }
-told-by terms t0 log q entry zone kept dnssec (Neg n) base current walked same = absurd same
-told-by terms t0 log q entry zone kept dnssec (Made Filter) base current walked same = absurd same
-told-by terms t0 log q entry zone kept dnssec (Made Zone) base current walked same = absurd same
+told-by seen t0 q entry zone kept dnssec (Neg n) base current walked same = absurd same
+told-by seen t0 q entry zone kept dnssec (Made Filter) base current walked same = absurd same
+told-by seen t0 q entry zone kept dnssec (Made Zone) base current walked same = absurd same
 
-pub told-answer : (terms : Terms) (greatest t0 : ℕ) (log : Log) (q : Query) (entry : ℕ) (kept : Message) (dnssec : Bool)
-    → Answers terms greatest t0 log q entry (Pos kept) → IsToldAnswer (given_of terms) log t0 q dnssec (entry ∷ []) (strip_of kept dnssec)
-told-answer terms greatest t0 log q entry kept dnssec h =
-    told-by terms t0 log q entry h.stands.zone kept dnssec h.stands.whole h.stands.base h.current h.stands.walked h.stands.same
+pub told-answer : (seen : View) (t0 : ℕ) (q : Query) (entry : ℕ) (kept : Message) (dnssec : Bool)
+    → Answers seen t0 q entry (Pos kept) → IsToldAnswer (given_of seen.setting) seen.log t0 q dnssec (entry ∷ []) (strip_of kept dnssec)
+told-answer seen t0 q entry kept dnssec h =
+    told-by seen t0 q entry h.stands.zone kept dnssec h.stands.whole h.stands.base h.current h.stands.walked h.stands.same
 
 -- a reply with what has its cause
-pub replies : (terms : Terms) (moment t0 : ℕ) (log : Log) (asked : Question) (r : Result (Box Reply) NoMemory) (outcome : Result Message RecursorError) (g : List ℕ)
+pub replies : (seen : View) (t0 : ℕ) (asked : Question) (r : Result (Box Reply) NoMemory) (outcome : Result Message RecursorError) (g : List ℕ)
     → IfOk r (λ reply. reply.value ≡ record { outcome = outcome; grounds = g })
-    → OutcomeHolds (given_of terms) (machine_timer moment log t0) log t0 asked g outcome
-    → IfOk r (λ reply. ReplyHolds terms (machine_timer moment) log t0 asked reply.value)
-replies terms moment t0 log asked r outcome g is holds =
-    IfOk-weaker r _ (λ reply. ReplyHolds terms (machine_timer moment) log t0 asked reply.value) (λ reply e. subst (ReplyHolds terms (machine_timer moment) log t0 asked) (sym e) holds) is
+    → OutcomeHolds (given_of seen.setting) (machine_timer seen.moment seen.log t0) seen.log t0 asked g outcome
+    → IfOk r (λ reply. Replied seen t0 asked reply.value)
+replies seen t0 asked r outcome g is holds =
+    IfOk-weaker r _ (λ reply. Replied seen t0 asked reply.value) (λ reply e. subst (Replied seen t0 asked) (sym e) holds) is
 
 -- one reply with an error that has its cause
-pub denied : (terms : Terms) (moment t0 : ℕ) (log : Log) (asked : Question) (reply : Reply) (error : RecursorError) (g : List ℕ)
-    → reply ≡ record { outcome = Err error; grounds = g } → ErrorHolds (given_of terms) (machine_timer moment log t0) log t0 asked.query g error
-    → ReplyHolds terms (machine_timer moment) log t0 asked reply
-denied terms moment t0 log asked reply error g is cause = subst (ReplyHolds terms (machine_timer moment) log t0 asked) (sym is) cause
+pub denied : (seen : View) (t0 : ℕ) (asked : Question) (reply : Reply) (error : RecursorError) (g : List ℕ)
+    → reply ≡ record { outcome = Err error; grounds = g } → HasCause seen t0 asked.query g error
+    → Replied seen t0 asked reply
+denied seen t0 asked reply error g is cause = subst (Replied seen t0 asked) (sym is) cause
 
 -- a reply with an error that has its cause
-pub denies : (terms : Terms) (moment t0 : ℕ) (log : Log) (asked : Question) (r : Result (Box Reply) NoMemory) (error : RecursorError) (g : List ℕ)
+pub denies : (seen : View) (t0 : ℕ) (asked : Question) (r : Result (Box Reply) NoMemory) (error : RecursorError) (g : List ℕ)
     → IfOk r (λ reply. reply.value ≡ record { outcome = Err error; grounds = g })
-    → ErrorHolds (given_of terms) (machine_timer moment log t0) log t0 asked.query g error
-    → IfOk r (λ reply. ReplyHolds terms (machine_timer moment) log t0 asked reply.value)
-denies terms moment t0 log asked r error g is cause =
-    IfOk-weaker r _ (λ reply. ReplyHolds terms (machine_timer moment) log t0 asked reply.value) (λ reply e. denied terms moment t0 log asked reply.value error g e cause) is
+    → HasCause seen t0 asked.query g error
+    → IfOk r (λ reply. Replied seen t0 asked reply.value)
+denies seen t0 asked r error g is cause =
+    IfOk-weaker r _ (λ reply. Replied seen t0 asked reply.value) (λ reply e. denied seen t0 asked reply.value error g e cause) is
 
 -- it is the reply of a walk
-stopped : (terms : Terms) (greatest moment t0 : ℕ) (log : Log) (asked : Question) (w : Walk) (reply : Reply) (given : Option (Box Reply))
-    → IsReply reply given → ReplyHolds terms (machine_timer moment) log t0 asked reply → WalkComes terms greatest moment t0 log asked w given
-stopped terms greatest moment t0 log asked w reply None is h = absurd is
-stopped terms greatest moment t0 log asked w reply (Some b) is h = subst (ReplyHolds terms (machine_timer moment) log t0 asked) (sym is) h
+stopped : (seen : View) (t0 : ℕ) (asked : Question) (w : Walk) (reply : Reply) (given : Option (Box Reply))
+    → IsReply reply given → Replied seen t0 asked reply → WalkComes seen t0 asked w given
+stopped seen t0 asked w reply None is h = absurd is
+stopped seen t0 asked w reply (Some b) is h = subst (Replied seen t0 asked) (sym is) h
 
 -- a walk that stops with a reply
-pub stops : (terms : Terms) (greatest moment t0 : ℕ) (log : Log) (asked : Question) (w : Walk) (r : Result (Option (Box Reply)) NoMemory) (reply : Reply)
-    → IfOk r (IsReply reply) → ReplyHolds terms (machine_timer moment) log t0 asked reply → IfOk r (WalkComes terms greatest moment t0 log asked w)
-stops terms greatest moment t0 log asked w r reply is h =
-    IfOk-weaker r _ (WalkComes terms greatest moment t0 log asked w) (λ given e. stopped terms greatest moment t0 log asked w reply given e h) is
+pub stops : (seen : View) (t0 : ℕ) (asked : Question) (w : Walk) (r : Result (Option (Box Reply)) NoMemory) (reply : Reply)
+    → IfOk r (IsReply reply) → Replied seen t0 asked reply → IfOk r (WalkComes seen t0 asked w)
+stops seen t0 asked w r reply is h =
+    IfOk-weaker r _ (WalkComes seen t0 asked w) (λ given e. stopped seen t0 asked w reply given e h) is
 
 -- a lookup for a question at the servers of the zone to which its walk went down failed
-pub has-failed : (terms : Terms) (moment t0 : ℕ) (log : Log) (zone : DomainName) (asked q : Query) (g : List ℕ) (e : NetError)
-    → asked ≡ q → Concluded terms moment t0 log zone asked g (Err e) → Walked (given_of terms) log q zone
-    → HasFailed (given_of terms) (machine_timer moment log t0) log t0 q g e
-has-failed terms moment t0 log zone asked q g e same ended walked = record {
+pub has-failed : (seen : View) (t0 : ℕ) (zone : DomainName) (asked q : Query) (g : List ℕ) (e : NetError)
+    → asked ≡ q → Concluded seen t0 zone asked g (Err e) → Walked (given_of seen.setting) seen.log q zone
+    → HasFailed (given_of seen.setting) (machine_timer seen.moment seen.log t0) seen.log t0 q g e
+has-failed seen t0 zone asked q g e same ended walked = record {
   zone = zone;
-  ended = subst (λ (p : Query). Finished (given_of terms) (machine_timer moment log t0) log t0 p zone g (Err e)) same ended;
+  ended = subst (λ (p : Query). Finished (given_of seen.setting) (machine_timer seen.moment seen.log t0) seen.log t0 p zone g (Err e)) same ended;
   walked = walked;
 }
 
@@ -244,27 +244,27 @@ first-asked : (log : Log) (i : ℕ) (n : NoRecords) (first : Query) → n ≡ no
 first-asked log i n first is a = subst (AskedAs log i) (ap (λ (m : NoRecords). m.query) is) a
 
 -- a negative that is answered at last: itself, or a referral
-negative-by : (terms : Terms) (moment t0 : ℕ) (log : Log) (q : Query) (entry : ℕ) (zone : DomainName) (n : NoRecords) (whole : Verdict)
-    → Base (given_of terms) log t0 q entry zone whole → Walked (given_of terms) log q zone → SameVerdict q (Neg n) whole → ShowsAsked log entry q (Neg n) whole
-    → ErrorHolds (given_of terms) (machine_timer moment log t0) log t0 q (entry ∷ []) (told_negative n)
-negative-by terms moment t0 log q entry zone n (Pos kept) base walked same asked = absurd same
-negative-by terms moment t0 log q entry zone n (Made Zone) base walked same asked = absurd same
-negative-by terms moment t0 log q entry zone n (Made Filter) base walked same asked =
-    subst (λ (m : NoRecords). ErrorHolds (given_of terms) (machine_timer moment log t0) log t0 q (entry ∷ []) (told_negative m)) (sym same.is)
-    (denial_made {p = same.first} base walked same.same (first-asked log entry n same.first same.is asked))
-negative-by terms moment t0 log q entry zone n (Neg before) base walked same asked = by n.ns before.ns refl same.ns
+negative-by : (seen : View) (t0 : ℕ) (q : Query) (entry : ℕ) (zone : DomainName) (n : NoRecords) (whole : Verdict)
+    → Base (given_of seen.setting) seen.log t0 q entry zone whole → Walked (given_of seen.setting) seen.log q zone → SameVerdict q (Neg n) whole → ShowsAsked seen.log entry q (Neg n) whole
+    → HasCause seen t0 q (entry ∷ []) (told_negative n)
+negative-by seen t0 q entry zone n (Pos kept) base walked same asked = absurd same
+negative-by seen t0 q entry zone n (Made Zone) base walked same asked = absurd same
+negative-by seen t0 q entry zone n (Made Filter) base walked same asked =
+    subst (λ (m : NoRecords). HasCause seen t0 q (entry ∷ []) (told_negative m)) (sym same.is)
+    (denial_made {p = same.first} base walked same.same (first-asked seen.log entry n same.first same.is asked))
+negative-by seen t0 q entry zone n (Neg before) base walked same asked = by n.ns before.ns refl same.ns
   where
     by : (o p : Option (List ForwardNsData)) → before.ns ≡ p → SameIfAny SameReferrals o p
-        → ErrorHolds (given_of terms) (machine_timer moment log t0) log t0 q (entry ∷ []) (elim o [ Some forward ↦ ForwardNS forward | None ↦ Negative (told_data n) ])
+        → HasCause seen t0 q (entry ∷ []) (elim o [ Some forward ↦ ForwardNS forward | None ↦ Negative (told_data n) ])
     by None None e alike = denial_told base walked e (data_same n before same)
     by (Some forward) (Some servers) e alike = referred base walked e alike
     by None (Some servers) e alike = absurd alike
     by (Some forward) None e alike = absurd alike
 
-answers-negative : (terms : Terms) (greatest moment t0 : ℕ) (log : Log) (q : Query) (entry : ℕ) (n : NoRecords)
-    → Stands terms greatest t0 log q entry (Neg n)
-    → ErrorHolds (given_of terms) (machine_timer moment log t0) log t0 q (entry ∷ []) (told_negative n)
-answers-negative terms greatest moment t0 log q entry n h = negative-by terms moment t0 log q entry h.zone n h.whole h.base h.walked h.same h.asked
+answers-negative : (seen : View) (t0 : ℕ) (q : Query) (entry : ℕ) (n : NoRecords)
+    → Stands seen t0 q entry (Neg n)
+    → HasCause seen t0 q (entry ∷ []) (told_negative n)
+answers-negative seen t0 q entry n h = negative-by seen t0 q entry h.zone n h.whole h.base h.walked h.same h.asked
 
 -- a question is the same as itself, in any case
 made-for : (cause : Cause) (q : Query) → IsMadeFor cause q q
@@ -272,26 +272,26 @@ made-for Filter q = same_query-refl q
 made-for Zone q = refl
 
 -- a negative that the recursor makes is answered at last
-made-by : (terms : Terms) (moment t0 : ℕ) (log : Log) (q : Query) (entry : ℕ) (zone : DomainName) (cause : Cause) (whole : Verdict)
-    → Base (given_of terms) log t0 q entry zone whole → Walked (given_of terms) log q zone → SameVerdict q (Made cause) whole → AskedAs log entry q
-    → ErrorHolds (given_of terms) (machine_timer moment log t0) log t0 q (entry ∷ []) (made_negative q cause)
-made-by terms moment t0 log q entry zone cause (Pos kept) base walked same asked = absurd same
-made-by terms moment t0 log q entry zone cause (Neg n) base walked same asked = absurd same
-made-by terms moment t0 log q entry zone cause (Made before) base walked same asked =
-    subst (λ (x : Cause). ErrorHolds (given_of terms) (machine_timer moment log t0) log t0 q (entry ∷ []) (made_negative q x)) (sym same) (denial_made base walked (made-for before q) asked)
+made-by : (seen : View) (t0 : ℕ) (q : Query) (entry : ℕ) (zone : DomainName) (cause : Cause) (whole : Verdict)
+    → Base (given_of seen.setting) seen.log t0 q entry zone whole → Walked (given_of seen.setting) seen.log q zone → SameVerdict q (Made cause) whole → AskedAs seen.log entry q
+    → HasCause seen t0 q (entry ∷ []) (made_negative q cause)
+made-by seen t0 q entry zone cause (Pos kept) base walked same asked = absurd same
+made-by seen t0 q entry zone cause (Neg n) base walked same asked = absurd same
+made-by seen t0 q entry zone cause (Made before) base walked same asked =
+    subst (λ (x : Cause). HasCause seen t0 q (entry ∷ []) (made_negative q x)) (sym same) (denial_made base walked (made-for before q) asked)
 
-answers-made : (terms : Terms) (greatest moment t0 : ℕ) (log : Log) (q : Query) (entry : ℕ) (cause : Cause)
-    → Stands terms greatest t0 log q entry (Made cause)
-    → ErrorHolds (given_of terms) (machine_timer moment log t0) log t0 q (entry ∷ []) (made_negative q cause)
-answers-made terms greatest moment t0 log q entry cause h = made-by terms moment t0 log q entry h.zone cause h.whole h.base h.walked h.same h.asked
+answers-made : (seen : View) (t0 : ℕ) (q : Query) (entry : ℕ) (cause : Cause)
+    → Stands seen t0 q entry (Made cause)
+    → HasCause seen t0 q (entry ∷ []) (made_negative q cause)
+answers-made seen t0 q entry cause h = made-by seen t0 q entry h.zone cause h.whole h.base h.walked h.same h.asked
 
 -- what counts for the question and may be answered is the cause of what is answered with it
-pub answered-by : (terms : Terms) (greatest moment t0 : ℕ) (log : Log) (asked : Question) (entry : ℕ) (v : Verdict)
-    → Answers terms greatest t0 log asked.query entry v
-    → OutcomeHolds (given_of terms) (machine_timer moment log t0) log t0 asked (entry ∷ []) (outcome_of asked v)
-answered-by terms greatest moment t0 log asked entry (Pos kept) h = told-answer terms greatest t0 log asked.query entry kept asked.dnssec_ok h
-answered-by terms greatest moment t0 log asked entry (Neg n) h = answers-negative terms greatest moment t0 log asked.query entry n h.stands
-answered-by terms greatest moment t0 log asked entry (Made cause) h = answers-made terms greatest moment t0 log asked.query entry cause h.stands
+pub answered-by : (seen : View) (t0 : ℕ) (asked : Question) (entry : ℕ) (v : Verdict)
+    → Answers seen t0 asked.query entry v
+    → OutcomeHolds (given_of seen.setting) (machine_timer seen.moment seen.log t0) seen.log t0 asked (entry ∷ []) (outcome_of asked v)
+answered-by seen t0 asked entry (Pos kept) h = told-answer seen t0 asked.query entry kept asked.dnssec_ok h
+answered-by seen t0 asked entry (Neg n) h = answers-negative seen t0 asked.query entry n h.stands
+answered-by seen t0 asked entry (Made cause) h = answers-made seen t0 asked.query entry cause h.stands
 
 -- a negative that ends a walk names no servers
 ends-none : (n : NoRecords) → ends_walk n ≡ true → n.ns ≡ None
@@ -314,44 +314,44 @@ ends-verdict n before same e =
     both-none (Some forward) None alike = absurd alike
 
 -- a negative that ends a walk at a candidate
-way-negative-by : (terms : Terms) (moment t0 : ℕ) (log : Log) (q : Query) (entry : ℕ) (zone c : DomainName) (n : NoRecords) (whole : Verdict)
-    → Contains (candidates (walk q)) c → Base (given_of terms) log t0 (question c 2) entry zone whole
-    → Walked (given_of terms) log (question c 2) zone → SameVerdict (question c 2) (Neg n) whole → ShowsAsked log entry (question c 2) (Neg n) whole → ends_walk n ≡ true
-    → ErrorHolds (given_of terms) (machine_timer moment log t0) log t0 q (entry ∷ []) (told_negative n)
-way-negative-by terms moment t0 log q entry zone c n (Pos kept) has base walked same asked ends = absurd same
-way-negative-by terms moment t0 log q entry zone c n (Made Zone) has base walked same asked ends = absurd same
-way-negative-by terms moment t0 log q entry zone c n (Made Filter) has base walked same asked ends =
-    subst (λ (m : NoRecords). ErrorHolds (given_of terms) (machine_timer moment log t0) log t0 q (entry ∷ []) (told_negative m)) (sym same.is)
-    (made_on_the_way {p = same.first} refl has base walked same.same (first-asked log entry n same.first same.is asked))
-way-negative-by terms moment t0 log q entry zone c n (Neg before) has base walked same asked ends =
+way-negative-by : (seen : View) (t0 : ℕ) (q : Query) (entry : ℕ) (zone c : DomainName) (n : NoRecords) (whole : Verdict)
+    → Contains (candidates (walk q)) c → Base (given_of seen.setting) seen.log t0 (question c 2) entry zone whole
+    → Walked (given_of seen.setting) seen.log (question c 2) zone → SameVerdict (question c 2) (Neg n) whole → ShowsAsked seen.log entry (question c 2) (Neg n) whole → ends_walk n ≡ true
+    → HasCause seen t0 q (entry ∷ []) (told_negative n)
+way-negative-by seen t0 q entry zone c n (Pos kept) has base walked same asked ends = absurd same
+way-negative-by seen t0 q entry zone c n (Made Zone) has base walked same asked ends = absurd same
+way-negative-by seen t0 q entry zone c n (Made Filter) has base walked same asked ends =
+    subst (λ (m : NoRecords). HasCause seen t0 q (entry ∷ []) (told_negative m)) (sym same.is)
+    (made_on_the_way {p = same.first} refl has base walked same.same (first-asked seen.log entry n same.first same.is asked))
+way-negative-by seen t0 q entry zone c n (Neg before) has base walked same asked ends =
     let none = ends-none n ends in
-    subst (ErrorHolds (given_of terms) (machine_timer moment log t0) log t0 q (entry ∷ [])) (sym (ap (λ (o : Option (List ForwardNsData)). negative-of n o) none))
+    subst (HasCause seen t0 q (entry ∷ [])) (sym (ap (λ (o : Option (List ForwardNsData)). negative-of n o) none))
     (told_on_the_way refl has base walked (ends-verdict n before same ends) (data_same n before same))
   where
     negative-of : NoRecords → Option (List ForwardNsData) → RecursorError
     negative-of m o = elim o [ Some forward ↦ ForwardNS forward | None ↦ Negative (told_data m) ]
 
-pub answers-on-the-way : (terms : Terms) (greatest moment t0 : ℕ) (log : Log) (q : Query) (entry : ℕ) (c : DomainName) (n : NoRecords)
-    → Contains (candidates (walk q)) c → Stands terms greatest t0 log (question c 2) entry (Neg n) → ends_walk n ≡ true
-    → ErrorHolds (given_of terms) (machine_timer moment log t0) log t0 q (entry ∷ []) (told_negative n)
-answers-on-the-way terms greatest moment t0 log q entry c n has h ends =
-    way-negative-by terms moment t0 log q entry h.zone c n h.whole has h.base h.walked h.same h.asked ends
+pub answers-on-the-way : (seen : View) (t0 : ℕ) (q : Query) (entry : ℕ) (c : DomainName) (n : NoRecords)
+    → Contains (candidates (walk q)) c → Stands seen t0 (question c 2) entry (Neg n) → ends_walk n ≡ true
+    → HasCause seen t0 q (entry ∷ []) (told_negative n)
+answers-on-the-way seen t0 q entry c n has h ends =
+    way-negative-by seen t0 q entry h.zone c n h.whole has h.base h.walked h.same h.asked ends
 
 -- a negative that the recursor makes at a candidate
-way-made-by : (terms : Terms) (moment t0 : ℕ) (log : Log) (q : Query) (entry : ℕ) (zone c : DomainName) (cause : Cause) (whole : Verdict)
-    → Contains (candidates (walk q)) c → Base (given_of terms) log t0 (question c 2) entry zone whole
-    → Walked (given_of terms) log (question c 2) zone → SameVerdict (question c 2) (Made cause) whole → AskedAs log entry (question c 2)
-    → ErrorHolds (given_of terms) (machine_timer moment log t0) log t0 q (entry ∷ []) (made_negative (question c 2) cause)
-way-made-by terms moment t0 log q entry zone c cause (Pos kept) has base walked same asked = absurd same
-way-made-by terms moment t0 log q entry zone c cause (Neg n) has base walked same asked = absurd same
-way-made-by terms moment t0 log q entry zone c cause (Made before) has base walked same asked =
-    subst (λ (x : Cause). ErrorHolds (given_of terms) (machine_timer moment log t0) log t0 q (entry ∷ []) (made_negative (question c 2) x)) (sym same)
+way-made-by : (seen : View) (t0 : ℕ) (q : Query) (entry : ℕ) (zone c : DomainName) (cause : Cause) (whole : Verdict)
+    → Contains (candidates (walk q)) c → Base (given_of seen.setting) seen.log t0 (question c 2) entry zone whole
+    → Walked (given_of seen.setting) seen.log (question c 2) zone → SameVerdict (question c 2) (Made cause) whole → AskedAs seen.log entry (question c 2)
+    → HasCause seen t0 q (entry ∷ []) (made_negative (question c 2) cause)
+way-made-by seen t0 q entry zone c cause (Pos kept) has base walked same asked = absurd same
+way-made-by seen t0 q entry zone c cause (Neg n) has base walked same asked = absurd same
+way-made-by seen t0 q entry zone c cause (Made before) has base walked same asked =
+    subst (λ (x : Cause). HasCause seen t0 q (entry ∷ []) (made_negative (question c 2) x)) (sym same)
     (made_on_the_way refl has base walked (made-for before (question c 2)) asked)
 
-pub made-on-the-way : (terms : Terms) (greatest moment t0 : ℕ) (log : Log) (q : Query) (entry : ℕ) (c : DomainName) (cause : Cause)
-    → Contains (candidates (walk q)) c → Stands terms greatest t0 log (question c 2) entry (Made cause)
-    → ErrorHolds (given_of terms) (machine_timer moment log t0) log t0 q (entry ∷ []) (made_negative (question c 2) cause)
-made-on-the-way terms greatest moment t0 log q entry c cause has h = way-made-by terms moment t0 log q entry h.zone c cause h.whole has h.base h.walked h.same h.asked
+pub made-on-the-way : (seen : View) (t0 : ℕ) (q : Query) (entry : ℕ) (c : DomainName) (cause : Cause)
+    → Contains (candidates (walk q)) c → Stands seen t0 (question c 2) entry (Made cause)
+    → HasCause seen t0 q (entry ∷ []) (made_negative (question c 2) cause)
+made-on-the-way seen t0 q entry c cause has h = way-made-by seen t0 q entry h.zone c cause h.whole has h.base h.walked h.same h.asked
 
 -- ---- delegations without addresses
 
@@ -361,13 +361,13 @@ none-in [] h = refl
 none-in (x ∷ xs) h = absurd (h x (0, omega arith, refl))
 
 -- a delegation that stands and gives no address that may be asked
-glueless-by : (terms : Terms) (t0 : ℕ) (log : Log) (q : Query) (zone c : DomainName) (entry : ℕ) (kept : Message) (whole : Verdict)
-    → Contains (candidates (walk q)) c → Base (given_of terms) log t0 (question c 2) entry zone whole → SameVerdict (question c 2) (Pos kept) whole
-    → is_delegation kept c ≡ true → allowed (access_denies terms.server_filter) (glue kept c) ≡ [] → HasNoAddress (given_of terms) log t0 q
-glueless-by terms t0 log q zone c entry kept (Neg n) has base same delegates none = absurd same
-glueless-by terms t0 log q zone c entry kept (Made Filter) has base same delegates none = absurd same
-glueless-by terms t0 log q zone c entry kept (Made Zone) has base same delegates none = absurd same
-glueless-by terms t0 log q zone c entry kept (Pos before) has base same delegates none = record {
+glueless-by : (seen : View) (t0 : ℕ) (q : Query) (zone c : DomainName) (entry : ℕ) (kept : Message) (whole : Verdict)
+    → Contains (candidates (walk q)) c → Base (given_of seen.setting) seen.log t0 (question c 2) entry zone whole → SameVerdict (question c 2) (Pos kept) whole
+    → is_delegation kept c ≡ true → allowed (access_denies seen.setting.server_filter) (glue kept c) ≡ [] → HasNoAddress (given_of seen.setting) seen.log t0 q
+glueless-by seen t0 q zone c entry kept (Neg n) has base same delegates none = absurd same
+glueless-by seen t0 q zone c entry kept (Made Filter) has base same delegates none = absurd same
+glueless-by seen t0 q zone c entry kept (Made Zone) has base same delegates none = absurd same
+glueless-by seen t0 q zone c entry kept (Pos before) has base same delegates none = record {
   candidate = c;
   told = before;
   on_the_way = has;
@@ -376,15 +376,15 @@ glueless-by terms t0 log q zone c entry kept (Pos before) has base same delegate
     z = zone;
     base = base;
     delegates = sym (Same-is_delegation kept before c same) ∙ delegates;
-    none = subst (λ (ips : List IpAddr). allowed (access_denies terms.server_filter) ips ≡ []) (Same-glue kept before c same) none;
+    none = subst (λ (ips : List IpAddr). allowed (access_denies seen.setting.server_filter) ips ≡ []) (Same-glue kept before c same) none;
   };
 }
 
-pub glueless-of : (terms : Terms) (greatest t0 : ℕ) (log : Log) (q : Query) (c : DomainName) (asked : Query) (entry : ℕ) (kept : Message)
-    → Contains (candidates (walk q)) c → Stands terms greatest t0 log asked entry (Pos kept) → asked ≡ question c 2 → is_delegation kept c ≡ true
-    → ((ip : IpAddr) → Contains (allowed (access_denies terms.server_filter) (glue kept c)) ip → ⊥)
-    → HasNoAddress (given_of terms) log t0 q
-glueless-of terms greatest t0 log q c asked entry kept has h is delegates none =
-    let now = subst (λ (p : Query). Stands terms greatest t0 log p entry (Pos kept)) is h in
-    glueless-by terms t0 log q now.zone c entry kept now.whole has now.base now.same delegates
-    (none-in (allowed (access_denies terms.server_filter) (glue kept c)) none)
+pub glueless-of : (seen : View) (t0 : ℕ) (q : Query) (c : DomainName) (asked : Query) (entry : ℕ) (kept : Message)
+    → Contains (candidates (walk q)) c → Stands seen t0 asked entry (Pos kept) → asked ≡ question c 2 → is_delegation kept c ≡ true
+    → ((ip : IpAddr) → Contains (allowed (access_denies seen.setting.server_filter) (glue kept c)) ip → ⊥)
+    → HasNoAddress (given_of seen.setting) seen.log t0 q
+glueless-of seen t0 q c asked entry kept has h is delegates none =
+    let now = subst (λ (p : Query). Stands seen t0 p entry (Pos kept)) is h in
+    glueless-by seen t0 q now.zone c entry kept now.whole has now.base now.same delegates
+    (none-in (allowed (access_denies seen.setting.server_filter) (glue kept c)) none)

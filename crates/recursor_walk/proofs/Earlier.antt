@@ -14,7 +14,7 @@ use Rattle.resolution.specs.Life.{Fresh, life_in_seconds}
 use Rattle.resolution.specs.Answering.{Base, IsCurrent, Answers, Answer}
 use Rattle.resolution.specs.Answering.Answers.{direct, by_alias}
 use Rattle.resolution.specs.Lookups.{End, Answered}
-use Rattle.walk_tables.proofs.KeptPools.{below-greater}
+use Rattle.walk_tables.proofs.Later.{below-greater}
 use Rattle.walk_tables.proofs.Answering.{run-later}
 use Rattle.resolution.specs.Ending.{Known, EndSends, Finished}
 use Rattle.resolution.specs.declared.verdict.Verdict.{Verdict}
@@ -26,8 +26,8 @@ use Rattle.recursor_types.specs.declared.error.WalkCause.{WalkCause}
 use Rattle.recursor_types.specs.declared.error.WalkCause.TheVariants as why
 use Rattle.recursor_types.specs.declared.error.RecursorError.{RecursorError}
 use Rattle.recursor_types.specs.declared.error.RecursorError.TheVariants as error
-use Rattle.walk_tables.specs.Terms.{Terms, given_of}
-use Rattle.recursor_walk.specs.Replies.{IsToldAnswer, OutcomeHolds, ReplyHolds}
+use Rattle.walk_tables.specs.View.{View, given_of}
+use Rattle.recursor_walk.specs.Replies.{IsToldAnswer, OutcomeHolds, Replied}
 use Rattle.walk_tables.specs.Tried.{machine_timer}
 use Rattle.recursor_types.specs.declared.reply.Reply.{Reply}
 
@@ -165,9 +165,8 @@ module _ (given : Given) (log : Log) (early late : ℕ) (le : early ≤ late) (k
   outcome-earlier question g (Err e) h = error-earlier question.query g e h
 
 -- a reply at the late moment is one at the early one
-pub ReplyHolds-earlier : (terms : Terms) (now : ℕ) (log : Log) (early late : ℕ) (question : Question) (reply : Reply) → early ≤ late
-    → ReplyHolds terms (machine_timer now) log late question reply → ReplyHolds terms (machine_timer now) log early question reply
-ReplyHolds-earlier terms now log early late question reply le h =
-    outcome-earlier (given_of terms) log early late le (machine_timer now log late) (machine_timer now log early)
+pub reply-earlier : (seen : View) (early late : ℕ) (question : Question) (reply : Reply) → early ≤ late → Replied seen late question reply → Replied seen early question reply
+reply-earlier seen early late question reply le h =
+    outcome-earlier (given_of seen.setting) seen.log early late le (machine_timer seen.moment seen.log late) (machine_timer seen.moment seen.log early)
     (λ q ips g moments ends start at sends asked t. (at, omega arith, record { some = t.some; began = t.began; since = let s = t.since in omega arith; answered = t.answered }))
     question reply.grounds reply.outcome h

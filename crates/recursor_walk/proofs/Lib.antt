@@ -3,6 +3,6 @@ pub mod Denials
 pub mod Recalling
 pub mod Candidates
 pub mod Walks
-pub mod Kept
+pub mod Later
 pub mod Earlier
 pub mod Ending

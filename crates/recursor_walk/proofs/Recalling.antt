@@ -32,7 +32,7 @@ use Rattle.resolution.proofs.WalksCaseless.{Walked-same}
 use Rattle.walk_base.specs.Kept.{kept_of, verdict_kept}
 use Rattle.recursor_walk.specs.Counted.{counted_for, recalled, may_answer, IsCurrentVerdict, Stands, Answers, IsRecalled}
 use Rattle.walk_tables.specs.Remembered.{EntryHolds, CacheHolds}
-use Rattle.walk_tables.specs.Terms.{Terms, given_of}
+use Rattle.walk_tables.specs.View.{View, given_of}
 use Rattle.walk_tables.specs.Asked.{AskedAs}
 use Rattle.walk_tables.specs.Remembered.{IsShown}
 use Rattle.recursor_walk.specs.SameTold.{SameVerdict, ShowsAsked}
@@ -103,71 +103,77 @@ respelled a b (Made cause) (Pos k) same h = absurd h
 respelled a b (Made cause) (Neg n) same h = absurd h
 respelled a b (Made cause) (Made other) same h = h
 
-module _ (terms : Terms) (greatest t0 now : ℕ) (log : Log) (cache : Cached) (q : Query) (begun : t0 ≤ now) (holds : CacheHolds terms greatest log cache) where
+module _ (seen : View) (t0 : ℕ) (cache : Cached) (q : Query) (begun : t0 ≤ seen.moment) (holds : CacheHolds seen cache) where
   -- an entry that is current was told within its life
-  fresh-of : (e : Entry) (moment : ℕ) (whole : Verdict) → now ≤ e.expiry
-      → IsSomeAnd (life_in_seconds (given_of terms) e.query.query_type whole) (λ life. e.expiry ≤ moment + 1000000 * life)
-      → Fresh (given_of terms) t0 moment e.query whole
-  fresh-of e moment whole current expires = inr (later (life_in_seconds (given_of terms) e.query.query_type whole) expires)
+  fresh-of : (e : Entry) (moment : ℕ) (whole : Verdict) → seen.moment ≤ e.expiry
+      → IsSomeAnd (life_in_seconds (given_of seen.setting) e.query.query_type whole) (λ life. e.expiry ≤ moment + 1000000 * life)
+      → Fresh (given_of seen.setting) t0 moment e.query whole
+  fresh-of e moment whole current expires = inr (later (life_in_seconds (given_of seen.setting) e.query.query_type whole) expires)
     where
       later : (o : Option ℕ) → IsSomeAnd o (λ life. e.expiry ≤ moment + 1000000 * life) → IsSomeAnd o (λ life. t0 ≤ moment + 1000000 * life)
       later (Some life) h = omega (arith, begun, current, h)
       later None h = absurd h
 
   -- what an entry for the question tells
-  by-entry : (f : CachedResponse) (v : Verdict) → IsFoundIn cache q now f → verdict_kept f.response ≡ Some v
-      → IsRecalled terms greatest t0 log q (record { entry = f.source; verdict = v })
+  by-entry : (f : CachedResponse) (v : Verdict) → IsFoundIn cache q seen.moment f → verdict_kept f.response ≡ Some v
+      → IsRecalled seen t0 q (record { entry = f.source; verdict = v })
   by-entry f v found h =
       let e = found.entry in
-      let held : EntryHolds terms greatest log e = All-contains (EntryHolds terms greatest log) cache.entries e holds.entries found.kept in
+      let held : EntryHolds seen e = All-contains (EntryHolds seen) cache.entries e holds.entries found.kept in
       let same : same_query e.query q ≡ true = same_question e.query q found.question in
-      let base : Base (given_of terms) log t0 e.query e.source held.zone held.whole = record {
+      let base : Base (given_of seen.setting) seen.log t0 e.query e.source held.zone held.whole = record {
         told = held.told;
         moment = held.moment;
         heard = held.heard;
         counts = held.counts;
         fresh = fresh-of e held.moment held.whole found.current held.expires;
       } in
-      let reads = reads_as e.query (seconds_between e.written now) held.whole held.shown v e.response held.as_shown held.kept
+      let reads = reads_as e.query (seconds_between e.written seen.moment) held.whole held.shown v e.response held.as_shown held.kept
       (subst (λ (r : Result Message NetError). verdict_kept r ≡ Some v) found.reads h) in
-      let stands : Stands terms greatest t0 log q e.source v = record {
+      let stands : Stands seen t0 q e.source v = record {
         zone = held.zone;
         whole = held.whole;
         early = held.early;
         base = Base-same e.query q same base;
-        walked = Walked-same (given_of terms) log e.query q held.zone same held.walked;
+        walked = Walked-same (given_of seen.setting) seen.log e.query q held.zone same held.walked;
         same = respelled e.query q v held.whole same reads.same;
-        asked = reads.asked log e.source q held.asked;
+        asked = reads.asked seen.log e.source q held.asked;
       } in
-      subst (λ (s : ℕ). IsRecalled terms greatest t0 log q (record { entry = s; verdict = v })) (sym found.source)
+      subst (λ (s : ℕ). IsRecalled seen t0 q (record { entry = s; verdict = v })) (sym found.source)
       (record { stands = stands; current = reads.current t0 stands.base.moment })
 
   -- what was found, if anything
-  by-found : (o : Option CachedResponse) → found_for cache q now ≡ o → (c : Counted) → option_and_then counted_for o ≡ Some c
-      → IsRecalled terms greatest t0 log q c
+  by-found : (o : Option CachedResponse) → found_for cache q seen.moment ≡ o → (c : Counted) → option_and_then counted_for o ≡ Some c
+      → IsRecalled seen t0 q c
   by-found None is c h = cc
   by-found (Some f) is c h = by-verdict (verdict_kept f.response) refl h
     where
       by-verdict : (v : Option Verdict) → verdict_kept f.response ≡ v
-          → option_map (λ (x : Verdict). let made : Counted = record { entry = f.source; verdict = x } in made) v ≡ Some c → IsRecalled terms greatest t0 log q c
+          → option_map (λ (x : Verdict). let made : Counted = record { entry = f.source; verdict = x } in made) v ≡ Some c → IsRecalled seen t0 q c
       by-verdict None e k = cc
-      by-verdict (Some x) e k = subst (IsRecalled terms greatest t0 log q) (same_Some _ _ k) (by-entry f x (found_there cache q now f is) e)
+      by-verdict (Some x) e k = subst (IsRecalled seen t0 q) (same_Some _ _ k) (by-entry f x (found_there cache q seen.moment f is) e)
 
   -- what the cache has for a question stands
-  pub recalled-stands : (c : Counted) → recalled cache q now ≡ Some c → IsRecalled terms greatest t0 log q c
-  recalled-stands c h = by-found (found_for cache q now) refl c h
+  pub recalled-stands : (c : Counted) → recalled cache q seen.moment ≡ Some c → IsRecalled seen t0 q c
+  recalled-stands c h = by-found (found_for cache q seen.moment) refl c h
+
+-- what a message reads as that the cache has for a question
+abbrev pub counted-kept : ℕ → Entry → Message → Counted
+counted-kept now e m = record { entry = e.source; verdict = Pos (lowered_message (seconds_between e.written now) m) }
+
+pub kept-recalled : (cache : Cached) (q : Query) (now : ℕ) (e : Entry) (m : Message) → current_for q now cache.entries ≡ Some e → e.response ≡ Ok m
+    → recalled cache q now ≡ Some (counted-kept now e m)
+kept-recalled cache q now e m here is =
+    let n = seconds_between e.written now in
+    let read : counted_for (record { response = lowered n e.response; source = e.source }) ≡ Some (counted-kept now e m) =
+    subst (λ (r : Result Message NetError). counted_for (record { response = lowered n r; source = e.source }) ≡ Some (counted-kept now e m)) (sym is) refl in
+    subst (λ (o : Option Entry). option_and_then counted_for (option_map
+    (λ (x : Entry). let f : CachedResponse = record { response = lowered (seconds_between x.written now) x.response; source = x.source } in f) o) ≡ Some (counted-kept now e m)) (sym here) read
 
 -- an authoritative message that the cache has for a question, as it reads, answers it
-pub kept-answers : (terms : Terms) (greatest t0 now : ℕ) (log : Log) (cache : Cached) (q : Query) → t0 ≤ now → CacheHolds terms greatest log cache
-    → (e : Entry) (m : Message) → current_for q now cache.entries ≡ Some e → e.response ≡ Ok m → m.authoritative ≡ true
-    → Answers terms greatest t0 log q e.source (Pos (lowered_message (seconds_between e.written now) m))
-kept-answers terms greatest t0 now log cache q begun holds e m here is may =
-    let n = seconds_between e.written now in
-    let c : Counted = record { entry = e.source; verdict = Pos (lowered_message n m) } in
-    let read : counted_for (record { response = lowered n e.response; source = e.source }) ≡ Some c =
-    subst (λ (r : Result Message NetError). counted_for (record { response = lowered n r; source = e.source }) ≡ Some c) (sym is) refl in
-    let found : recalled cache q now ≡ Some c =
-    subst (λ (o : Option Entry). option_and_then counted_for (option_map
-    (λ (x : Entry). let f : CachedResponse = record { response = lowered (seconds_between x.written now) x.response; source = x.source } in f) o) ≡ Some c) (sym here) read in
-    let stands = recalled-stands terms greatest t0 now log cache q begun holds c found in
+pub kept-answers : (seen : View) (t0 : ℕ) (cache : Cached) (q : Query) → t0 ≤ seen.moment → CacheHolds seen cache
+    → (e : Entry) (m : Message) → current_for q seen.moment cache.entries ≡ Some e → e.response ≡ Ok m → m.authoritative ≡ true
+    → Answers seen t0 q e.source (Pos (lowered_message (seconds_between e.written seen.moment) m))
+kept-answers seen t0 cache q begun holds e m here is may =
+    let stands = recalled-stands seen t0 cache q begun holds (counted-kept seen.moment e m) (kept-recalled cache q seen.moment e m here is) in
     record { stands = stands.stands; current = stands.current may }

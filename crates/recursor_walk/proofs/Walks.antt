@@ -9,7 +9,6 @@ use Rattle.std.specs.Cmp.{first_so, second_so}
 use Rattle.std.specs.List.{last_or}
 use Rattle.std.specs.declared.net.ip_addr.IpAddr.{IpAddr}
 use Rattle.dns_core.specs.Name.{DomainName}
-use Rattle.dns_core.specs.Log.{Log}
 use Rattle.dns_core.specs.declared.message.Query.{Query}
 use Rattle.dns_core.specs.declared.message.Message.{Message}
 use Rattle.dns_core.specs.declared.errors.NoMemory.{NoMemory}
@@ -30,7 +29,7 @@ use Rattle.resolution.specs.declared.verdict.Cause.TheVariants.{Filter, Zone}
 use Rattle.resolution.specs.declared.verdict.Verdict.{Verdict}
 use Rattle.resolution.proofs.SameDelegations.{Same-is_delegation, Same-glue}
 use Rattle.resolution.proofs.Members.{Has-from_Contains, Contains-from_Has, Has-filter, Has-passes}
-use Rattle.walk_tables.specs.Terms.{Terms, given_of}
+use Rattle.walk_tables.specs.View.{View, given_of}
 use Rattle.walk_tables.specs.Tried.{Concluded, machine_timer}
 use Rattle.recursor_walk.specs.Causes.{HasNoServer}
 use Rattle.recursor_walk.specs.Counted.{Stands, Answers, IsRecalled, may_answer}
@@ -59,21 +58,21 @@ among n k low high =
     (k - 1, omega (arith, count, low, high), get_or-map-range_with_len f 1 (length n.labels) (k - 1) k (last_name k n) (omega (arith, low, high)) (omega (arith, low)))
 
 -- A walk asks for a candidate, and the log shows no cut at those before it.
-record AtCandidate (terms : Terms) (log : Log) (w : Walk) : Type 0 where
+record AtCandidate (seen : View) (w : Walk) : Type 0 where
   labels : ℕ
   stage : w.stage ≡ Candidate labels
   low : 1 ≤ labels
   high : labels ≤ length w.name.labels
   beyond : length w.zone.labels ≤ labels
   asked : w.lookup.query ≡ question (last_name labels w.name) 2
-  passed : Passed terms log w.zone w.name labels
+  passed : Passed seen w.zone w.name labels
 
 -- so does a walk whose stage is a candidate
-at-candidate : (terms : Terms) (greatest : ℕ) (log : Log) (q : Query) (w : Walk) → IsCandidate w.stage → WayHolds terms greatest log q w
-    → AtCandidate terms log w
-at-candidate terms greatest log q w here way = by w.stage refl here
+at-candidate : (seen : View) (q : Query) (w : Walk) → IsCandidate w.stage → WayHolds seen q w
+    → AtCandidate seen w
+at-candidate seen q w here way = by w.stage refl here
   where
-    by : (s : Stage) → w.stage ≡ s → IsCandidate s → AtCandidate terms log w
+    by : (s : Stage) → w.stage ≡ s → IsCandidate s → AtCandidate seen w
     by (Candidate labels) is held-here =
         let held : StageHolds q w.zone w.name w.lookup.query (Candidate labels) = subst (StageHolds q w.zone w.name w.lookup.query) is way.stage in
         record {
@@ -83,7 +82,7 @@ at-candidate terms greatest log q w here way = by w.stage refl here
           high = held.1;
           beyond = held.2;
           asked = held.3;
-          passed = subst (λ (s : Stage). Passed terms log w.zone w.name (reached w.name s)) is way.passed;
+          passed = subst (λ (s : Stage). Passed seen w.zone w.name (reached w.name s)) is way.passed;
         }
     by Last is x = absurd x
 
@@ -101,10 +100,10 @@ cut-same q (Made cause) (Pos b) c same = absurd same
 cut-same q (Made cause) (Neg m) c same = absurd same
 cut-same q (Made cause) (Made other) c same = refl
 
-module _ (terms : Terms) (greatest : ℕ) (log : Log) (q : Query) (w : Walk) (here : IsCandidate w.stage) (way : WayHolds terms greatest log q w) where
+module _ (seen : View) (q : Query) (w : Walk) (here : IsCandidate w.stage) (way : WayHolds seen q w) where
   -- the candidate
-  at : AtCandidate terms log w
-  at = at-candidate terms greatest log q w here way
+  at : AtCandidate seen w
+  at = at-candidate seen q w here way
 
   -- it has the last labels of the name
   named : w.lookup.query.name ≡ last_name at.labels w.name
@@ -120,46 +119,46 @@ module _ (terms : Terms) (greatest : ℕ) (log : Log) (q : Query) (w : Walk) (he
       (subst (λ (d : DomainName). Contains (candidates d) (last_name at.labels w.name)) way.name (among w.name at.labels at.low at.high))
 
   -- the walk went down to its zone for the candidate
-  pub candidate-walked : Walked (given_of terms) log (question w.lookup.query.name 2) w.zone
-  candidate-walked = subst (λ (n : DomainName). Walked (given_of terms) log (question n 2) w.zone) (sym named)
-      (walked-at-candidate (given_of terms) log w.zone w.name at.labels way.above at.beyond at.high at.passed)
+  pub candidate-walked : Walked (given_of seen.setting) seen.log (question w.lookup.query.name 2) w.zone
+  candidate-walked = subst (λ (n : DomainName). Walked (given_of seen.setting) seen.log (question n 2) w.zone) (sym named)
+      (walked-at-candidate (given_of seen.setting) seen.log w.zone w.name at.labels way.above at.beyond at.high at.passed)
 
   -- it has that many labels
   long : length w.lookup.query.name.labels ≡ at.labels
   long = ap (λ (n : DomainName). length n.labels) named ∙ last-length w.name at.labels at.high
 
   -- where no cut is shown at the candidate, none is shown up to it
-  passed-by : LeavesBehind terms log w → Passed terms log w.zone w.name (at.labels + 1)
+  passed-by : LeavesBehind seen w → Passed seen w.zone w.name (at.labels + 1)
   passed-by leaves k low short = pick (nat_lt k at.labels) refl
     where
-      pick : (b : Bool) → nat_lt k at.labels ≡ b → NoCut (given_of terms) log (last_name k w.name)
+      pick : (b : Bool) → nat_lt k at.labels ≡ b → NoCut (given_of seen.setting) seen.log (last_name k w.name)
       pick true e = at.passed k low (grind (arith, nat_tests))
       pick false e =
           let more : at.labels ≤ k = grind (arith, nat_tests) in
           let same : at.labels ≡ k = omega (arith, more, short) in
           let far : length w.zone.labels < length w.lookup.query.name.labels = omega (arith, long, same, low) in
-          subst (NoCut (given_of terms) log) (named ∙ ap (λ (j : ℕ). last_name j w.name) same) (leaves far)
+          subst (NoCut (given_of seen.setting) seen.log) (named ∙ ap (λ (j : ℕ). last_name j w.name) same) (leaves far)
 
   -- no cut is shown at the candidate by a verdict that is none
-  pub leaves-told : (t0 entry : ℕ) (v : Verdict) → Stands terms greatest t0 log w.lookup.query entry v → is_cut v w.lookup.query.name ≡ false
-      → LeavesBehind terms log w
+  pub leaves-told : (t0 entry : ℕ) (v : Verdict) → Stands seen t0 w.lookup.query entry v → is_cut v w.lookup.query.name ≡ false
+      → LeavesBehind seen w
   leaves-told t0 entry v stands none far =
-      let now = subst (λ (p : Query). Stands terms greatest t0 log p entry v) candidate-asked stands in
+      let now = subst (λ (p : Query). Stands seen t0 p entry v) candidate-asked stands in
       told_otherwise now.base.heard now.base.counts (sym (cut-same (question w.lookup.query.name 2) v now.whole w.lookup.query.name now.same) ∙ none)
 
   -- no cut is shown at the candidate by a lookup that failed otherwise than by a timeout
-  pub leaves-failed : (moment t0 : ℕ) (e : NetError) → Concluded terms moment t0 log w.zone w.lookup.query w.lookup.ends (Err e) → is_timeout e ≡ false
-      → LeavesBehind terms log w
-  leaves-failed moment t0 e ended otherwise far =
-      let f = subst (λ (p : Query). Finished (given_of terms) (machine_timer moment log t0) log t0 p w.zone w.lookup.ends (Err e)) candidate-asked ended in
+  pub leaves-failed : (t0 : ℕ) (e : NetError) → Concluded seen t0 w.zone w.lookup.query w.lookup.ends (Err e) → is_timeout e ≡ false
+      → LeavesBehind seen w
+  leaves-failed t0 e ended otherwise far =
+      let f = subst (λ (p : Query). Finished (given_of seen.setting) (machine_timer seen.moment seen.log t0) seen.log t0 p w.zone w.lookup.ends (Err e)) candidate-asked ended in
       not_told (at-any-time f) otherwise
     where
       from-start : (o : Option ℕ) → IsSomeAnd o (λ m. t0 ≤ m) → IsSomeAnd o (λ m. 0 ≤ m)
       from-start (Some m) h = omega arith
       from-start None h = absurd h
 
-      at-any-time : Finished (given_of terms) (machine_timer moment log t0) log t0 (question w.lookup.query.name 2) w.zone w.lookup.ends (Err e)
-          → Finished (given_of terms) at_any_time log 0 (question w.lookup.query.name 2) w.zone w.lookup.ends (Err e)
+      at-any-time : Finished (given_of seen.setting) (machine_timer seen.moment seen.log t0) seen.log t0 (question w.lookup.query.name 2) w.zone w.lookup.ends (Err e)
+          → Finished (given_of seen.setting) at_any_time seen.log 0 (question w.lookup.query.name 2) w.zone w.lookup.ends (Err e)
       at-any-time f = record {
         ips = f.ips;
         ends = f.ends;
@@ -180,26 +179,26 @@ module _ (terms : Terms) (greatest : ℕ) (log : Log) (q : Query) (w : Walk) (he
       }
 
   -- the servers stayed silent for the candidate
-  pub timed-out : (moment t0 : ℕ) → Concluded terms moment t0 log w.zone w.lookup.query w.lookup.ends (Err net.Timeout)
-      → HasNoServer (given_of terms) (machine_timer moment log t0) log t0 q why.Timeout
-  timed-out moment t0 ended = record {
+  pub timed-out : (t0 : ℕ) → Concluded seen t0 w.zone w.lookup.query w.lookup.ends (Err net.Timeout)
+      → HasNoServer (given_of seen.setting) (machine_timer seen.moment seen.log t0) seen.log t0 q why.Timeout
+  timed-out t0 ended = record {
     candidate = w.lookup.query.name;
     on_the_way = candidate-on-the-way;
     g = w.lookup.ends;
-    failed = has-failed terms moment t0 log w.zone w.lookup.query (question w.lookup.query.name 2) w.lookup.ends net.Timeout
+    failed = has-failed seen t0 w.zone w.lookup.query (question w.lookup.query.name 2) w.lookup.ends net.Timeout
         candidate-asked ended candidate-walked;
   }
 
 -- at last the walk has gone down to its zone for the question
-pub walked-at-last : (terms : Terms) (greatest : ℕ) (log : Log) (q : Query) (w : Walk) → w.stage ≡ Last → WayHolds terms greatest log q w
-    → (w.lookup.query ≡ q) × Walked (given_of terms) log q w.zone
-walked-at-last terms greatest log q w is way = (subst (StageHolds q w.zone w.name w.lookup.query) is way.stage, walks)
+pub walked-at-last : (seen : View) (q : Query) (w : Walk) → w.stage ≡ Last → WayHolds seen q w
+    → (w.lookup.query ≡ q) × Walked (given_of seen.setting) seen.log q w.zone
+walked-at-last seen q w is way = (subst (StageHolds q w.zone w.name w.lookup.query) is way.stage, walks)
   where
-    passed : Passed terms log w.zone w.name (length w.name.labels + 1)
-    passed = subst (λ (s : Stage). Passed terms log w.zone w.name (reached w.name s)) is way.passed
+    passed : Passed seen w.zone w.name (length w.name.labels + 1)
+    passed = subst (λ (s : Stage). Passed seen w.zone w.name (reached w.name s)) is way.passed
 
-    walks : Walked (given_of terms) log q w.zone
-    walks = walked-from-passed (given_of terms) log q w.zone w.name way.name way.above (λ k low high. passed k low (omega (arith, high)))
+    walks : Walked (given_of seen.setting) seen.log q w.zone
+    walks = walked-from-passed (given_of seen.setting) seen.log q w.zone w.name way.name way.above (λ k low high. passed k low (omega (arith, high)))
 
 -- ---- the next stage
 
@@ -218,25 +217,25 @@ next-holds zone name q labels n above low = pick (nat_lt labels (length name.lab
     pick false e = (refl, subst (λ (d : DomainName). is_above zone d ≡ true) n above)
 
 -- no cut is shown at the candidates before the next stage
-next-passed : (terms : Terms) (log : Log) (zone name : DomainName) (labels : ℕ) → Passed terms log zone name (labels + 1)
-    → Passed terms log zone name (reached name (next_stage (length name.labels) labels))
-next-passed terms log zone name labels passed = pick (nat_lt labels (length name.labels)) refl
+next-passed : (seen : View) (zone name : DomainName) (labels : ℕ) → Passed seen zone name (labels + 1)
+    → Passed seen zone name (reached name (next_stage (length name.labels) labels))
+next-passed seen zone name labels passed = pick (nat_lt labels (length name.labels)) refl
   where
-    pick : (b : Bool) → nat_lt labels (length name.labels) ≡ b → Passed terms log zone name (reached name (cond b (Candidate (labels + 1)) Last))
+    pick : (b : Bool) → nat_lt labels (length name.labels) ≡ b → Passed seen zone name (reached name (cond b (Candidate (labels + 1)) Last))
     pick true e = passed
     pick false e = λ k low short.
         let all : length name.labels ≤ labels = grind (arith, nat_tests) in
         passed k low (omega (arith, all, short))
 
 -- the walk at its next stage, with the servers of its zone
-at-next : (terms : Terms) (greatest moment t0 : ℕ) (log : Log) (q : Query) (name zone : DomainName) (servers : List IpAddr)
+at-next : (seen : View) (t0 : ℕ) (q : Query) (name zone : DomainName) (servers : List IpAddr)
     (labels total : ℕ) (stage : Stage) (asked : Query) (l : Lookup)
-    → name ≡ walk q → is_above zone name ≡ true → length zone.labels ≤ labels → ArePool terms log (greatest + 1) zone servers
-    → Passed terms log zone name (labels + 1)
+    → name ≡ walk q → is_above zone name ≡ true → length zone.labels ≤ labels → ArePool seen zone servers
+    → Passed seen zone name (labels + 1)
     → total ≡ length name.labels → stage ≡ next_stage total labels → asked ≡ query_of name q stage → l.query ≡ asked
-    → ((z : DomainName) → IsTrue (is_above z (walk asked)) → LookupHolds terms greatest moment t0 log z l)
-    → WalkHolds terms greatest moment t0 log q (record { name = name; zone = zone; servers = servers; stage = stage; lookup = l })
-at-next terms greatest moment t0 log q name zone servers labels total stage asked l n above low pool passed count next ask query made =
+    → ((z : DomainName) → IsTrue (is_above z (walk asked)) → LookupHolds seen t0 z l)
+    → WalkHolds seen t0 q (record { name = name; zone = zone; servers = servers; stage = stage; lookup = l })
+at-next seen t0 q name zone servers labels total stage asked l n above low pool passed count next ask query made =
     let S = next_stage (length name.labels) labels in
     let nx = next-holds zone name q labels n above low in
     let is : stage ≡ S = next ∙ ap (λ (k : ℕ). next_stage k labels) count in
@@ -250,7 +249,7 @@ at-next terms greatest moment t0 log q name zone servers labels total stage aske
         above = above;
         pool = pool;
         stage = subst (λ (a : Query). StageHolds q zone name a stage) (sym (query ∙ ask)) staged;
-        passed = subst (λ (s : Stage). Passed terms log zone name (reached name s)) (sym is) (next-passed terms log zone name labels passed);
+        passed = subst (λ (s : Stage). Passed seen zone name (reached name s)) (sym is) (next-passed seen zone name labels passed);
       };
       lookup = made zone (subst (λ (a : Query). is_above zone (walk a) ≡ true) (sym ask) high);
     }
@@ -264,45 +263,45 @@ walk-qualified q f = by (q.query_type.code == 43)
     by false = f
 
 -- the roots are the servers of the root
-roots-pool : (terms : Terms) (n : ℕ) (log : Log) → 0 < length terms.roots → ArePool terms log n root terms.roots
-roots-pool terms n log some = record {
-  serve = All-weaker (Contains terms.roots) (λ (ip : IpAddr). Serves (given_of terms) log n ip root) (λ ip has. of_root has)
-      terms.roots (All-contains_itself terms.roots);
+roots-pool : (seen : View) → 0 < length seen.setting.roots → ArePool seen root seen.setting.roots
+roots-pool seen some = record {
+  serve = All-weaker (Contains seen.setting.roots) (λ (ip : IpAddr). Serves (given_of seen.setting) seen.log (seen.greatest + 1) ip root) (λ ip has. of_root has)
+      seen.setting.roots (All-contains_itself seen.setting.roots);
   listed = of_roots;
   some = some;
 }
 
 -- a walk that begins at the roots
-pub at-start : (terms : Terms) (greatest moment t0 : ℕ) (log : Log) (q : Query) (name zone : DomainName) (servers : List IpAddr)
+pub at-start : (seen : View) (t0 : ℕ) (q : Query) (name zone : DomainName) (servers : List IpAddr)
     (total : ℕ) (stage : Stage) (asked : Query) (l : Lookup)
-    → 0 < length terms.roots → q.name.fqdn ≡ true → name ≡ walk q → zone ≡ root → servers ≡ terms.roots
+    → 0 < length seen.setting.roots → q.name.fqdn ≡ true → name ≡ walk q → zone ≡ root → servers ≡ seen.setting.roots
     → total ≡ length name.labels → stage ≡ next_stage total 0 → asked ≡ query_of name q stage → l.query ≡ asked
-    → ((z : DomainName) → IsTrue (is_above z (walk asked)) → LookupHolds terms greatest moment t0 log z l)
-    → WalkHolds terms greatest moment t0 log q (record { name = name; zone = zone; servers = servers; stage = stage; lookup = l })
-at-start terms greatest moment t0 log q name zone servers total stage asked l some f n z s count next ask query made =
+    → ((z : DomainName) → IsTrue (is_above z (walk asked)) → LookupHolds seen t0 z l)
+    → WalkHolds seen t0 q (record { name = name; zone = zone; servers = servers; stage = stage; lookup = l })
+at-start seen t0 q name zone servers total stage asked l some f n z s count next ask query made =
     let qualified : name.fqdn ≡ true = subst (λ (d : DomainName). d.fqdn ≡ true) (sym n) (walk-qualified q f) in
     let above : is_above zone name ≡ true = subst (λ (d : DomainName). is_above d name ≡ true) (sym z) (root-above name qualified) in
     let low : length zone.labels ≤ 0 = subst (λ (d : DomainName). length d.labels ≤ 0) (sym z) (omega arith) in
-    let pool : ArePool terms log (greatest + 1) zone servers =
-    subst (λ (d : DomainName). ArePool terms log (greatest + 1) d servers) (sym z)
-    (subst (ArePool terms log (greatest + 1) root) (sym s) (roots-pool terms (greatest + 1) log some)) in
-    at-next terms greatest moment t0 log q name zone servers 0 total stage asked l n above low pool
+    let pool : ArePool seen zone servers =
+    subst (λ (d : DomainName). ArePool seen d servers) (sym z)
+    (subst (ArePool seen root) (sym s) (roots-pool seen some)) in
+    at-next seen t0 q name zone servers 0 total stage asked l n above low pool
     (λ k longer short. absurd (omega (arith, longer, short))) count next ask query made
 
 -- a walk that goes on from a candidate
-pub goes-on : (terms : Terms) (greatest moment t0 : ℕ) (log : Log) (q : Query) (w : Walk)
+pub goes-on : (seen : View) (t0 : ℕ) (q : Query) (w : Walk)
     (labels total : ℕ) (stage : Stage) (asked : Query) (l : Lookup)
-    → IsCandidate w.stage → WayHolds terms greatest log q w → LeavesBehind terms log w → w.stage ≡ Candidate labels
+    → IsCandidate w.stage → WayHolds seen q w → LeavesBehind seen w → w.stage ≡ Candidate labels
     → total ≡ length w.name.labels → stage ≡ next_stage total labels → asked ≡ query_of w.name q stage → l.query ≡ asked
-    → ((z : DomainName) → IsTrue (is_above z (walk asked)) → LookupHolds terms greatest moment t0 log z l)
-    → WalkHolds terms greatest moment t0 log q (record { name = w.name; zone = w.zone; servers = w.servers; stage = stage; lookup = l })
-goes-on terms greatest moment t0 log q w labels total stage asked l here way leaves is count next ask query made =
+    → ((z : DomainName) → IsTrue (is_above z (walk asked)) → LookupHolds seen t0 z l)
+    → WalkHolds seen t0 q (record { name = w.name; zone = w.zone; servers = w.servers; stage = stage; lookup = l })
+goes-on seen t0 q w labels total stage asked l here way leaves is count next ask query made =
     let held : StageHolds q w.zone w.name w.lookup.query (Candidate labels) = subst (StageHolds q w.zone w.name w.lookup.query) is way.stage in
-    let now = at terms greatest log q w here way in
+    let now = at seen q w here way in
     let labels-are : now.labels ≡ labels = same-labels now.labels labels (sym now.stage ∙ is) in
-    let passed : Passed terms log w.zone w.name (labels + 1) =
-    subst (λ (k : ℕ). Passed terms log w.zone w.name (k + 1)) labels-are (passed-by terms greatest log q w here way leaves) in
-    at-next terms greatest moment t0 log q w.name w.zone w.servers labels total stage asked l
+    let passed : Passed seen w.zone w.name (labels + 1) =
+    subst (λ (k : ℕ). Passed seen w.zone w.name (k + 1)) labels-are (passed-by seen q w here way leaves) in
+    at-next seen t0 q w.name w.zone w.servers labels total stage asked l
     way.name way.above held.2 way.pool passed count next ask query made
   where
     same-labels : (j k : ℕ) → Candidate j ≡ Candidate k → j ≡ k
@@ -319,30 +318,30 @@ not-root c h = by (c.fqdn) (length c.labels) h
     by false k h = refl
 
 -- A delegation was told that has the same addresses beside it.
-record Cut (terms : Terms) (greatest : ℕ) (log : Log) (c : DomainName) (kept : Message) : Type 0 where
+record Cut (seen : View) (c : DomainName) (kept : Message) : Type 0 where
   told : Message
-  delegates : Delegates (given_of terms) log (greatest + 1) c told
+  delegates : Delegates (given_of seen.setting) seen.log (seen.greatest + 1) c told
   beside : glue kept c ≡ glue told c
 
-cut-by : (terms : Terms) (greatest t0 : ℕ) (log : Log) (zone c : DomainName) (entry : ℕ) (kept : Message) (whole : Verdict)
-    → entry ≤ greatest → Base (given_of terms) log t0 (question c 2) entry zone whole → SameVerdict (question c 2) (Pos kept) whole
-    → is_delegation kept c ≡ true → 1 ≤ length c.labels → Cut terms greatest log c kept
-cut-by terms greatest t0 log zone c entry kept (Neg n) early base same d long = absurd same
-cut-by terms greatest t0 log zone c entry kept (Made Filter) early base same d long = absurd same
-cut-by terms greatest t0 log zone c entry kept (Made Zone) early base same d long = absurd same
-cut-by terms greatest t0 log zone c entry kept (Pos before) early base same d long = record {
+cut-by : (seen : View) (t0 : ℕ) (zone c : DomainName) (entry : ℕ) (kept : Message) (whole : Verdict)
+    → entry ≤ seen.greatest → Base (given_of seen.setting) seen.log t0 (question c 2) entry zone whole → SameVerdict (question c 2) (Pos kept) whole
+    → is_delegation kept c ≡ true → 1 ≤ length c.labels → Cut seen c kept
+cut-by seen t0 zone c entry kept (Neg n) early base same d long = absurd same
+cut-by seen t0 zone c entry kept (Made Filter) early base same d long = absurd same
+cut-by seen t0 zone c entry kept (Made Zone) early base same d long = absurd same
+cut-by seen t0 zone c entry kept (Pos before) early base same d long = record {
   told = before;
   delegates = delegates (omega (arith, early)) base.heard base.counts (sym (Same-is_delegation kept before c same) ∙ d) (not-root c long);
   beside = Same-glue kept before c same;
 }
 
 -- a delegation that stands delegates
-cut-delegates : (terms : Terms) (greatest t0 : ℕ) (log : Log) (c : DomainName) (asked : Query) (entry : ℕ) (kept : Message)
-    → Stands terms greatest t0 log asked entry (Pos kept) → asked ≡ question c 2 → is_delegation kept c ≡ true → 1 ≤ length c.labels
-    → Cut terms greatest log c kept
-cut-delegates terms greatest t0 log c asked entry kept stands is d long =
-    let now = subst (λ (q : Query). Stands terms greatest t0 log q entry (Pos kept)) is stands in
-    cut-by terms greatest t0 log now.zone c entry kept now.whole now.early now.base now.same d long
+cut-delegates : (seen : View) (t0 : ℕ) (c : DomainName) (asked : Query) (entry : ℕ) (kept : Message)
+    → Stands seen t0 asked entry (Pos kept) → asked ≡ question c 2 → is_delegation kept c ≡ true → 1 ≤ length c.labels
+    → Cut seen c kept
+cut-delegates seen t0 c asked entry kept stands is d long =
+    let now = subst (λ (q : Query). Stands seen t0 q entry (Pos kept)) is stands in
+    cut-by seen t0 now.zone c entry kept now.whole now.early now.base now.same d long
 
 -- an address that may be asked is beside the delegation, and is not denied
 may-ask : (denied : IpAddr → Bool) (ips : List IpAddr) (ip : IpAddr) → Contains (allowed denied ips) ip → (denied ip ≡ false) × Contains ips ip
@@ -356,18 +355,18 @@ may-ask denied ips ip h =
     not-so false e = refl
 
 -- the addresses beside a delegation that may be asked are the servers of the delegated zone
-cut-pool : (terms : Terms) (greatest : ℕ) (log : Log) (c : DomainName) (kept : Message) (ips : List IpAddr)
-    → Delegates (given_of terms) log (greatest + 1) c kept → 0 < length ips → ((ip : IpAddr) → Contains ips ip ↔ Contains (allowed (denies terms.server_filter) (glue kept c)) ip)
-    → ArePool terms log (greatest + 1) c ips
-cut-pool terms greatest log c kept ips told some glued =
-    let serve = All-weaker (Contains ips) (λ (ip : IpAddr). Serves (given_of terms) log (greatest + 1) ip c) (λ ip has. let may = may-ask (denies terms.server_filter) (glue kept c) ip ((glued ip).0 has) in
+cut-pool : (seen : View) (c : DomainName) (kept : Message) (ips : List IpAddr)
+    → Delegates (given_of seen.setting) seen.log (seen.greatest + 1) c kept → 0 < length ips → ((ip : IpAddr) → Contains ips ip ↔ Contains (allowed (denies seen.setting.server_filter) (glue kept c)) ip)
+    → ArePool seen c ips
+cut-pool seen c kept ips told some glued =
+    let serve = All-weaker (Contains ips) (λ (ip : IpAddr). Serves (given_of seen.setting) seen.log (seen.greatest + 1) ip c) (λ ip has. let may = may-ask (denies seen.setting.server_filter) (glue kept c) ip ((glued ip).0 has) in
     of_glue told may.0 may.1) ips (All-contains_itself ips) in
-    let asked = allowed (denies terms.server_filter) (glue kept c) in
+    let asked = allowed (denies seen.setting.server_filter) (glue kept c) in
     record {
       serve = serve;
       listed = of_told (record {
-        below = greatest + 1;
-        serve = recursion_from_All (λ (ip : IpAddr). Serves (given_of terms) log (greatest + 1) ip c) ips serve;
+        below = seen.greatest + 1;
+        serve = recursion_from_All (λ (ip : IpAddr). Serves (given_of seen.setting) seen.log (seen.greatest + 1) ip c) ips serve;
         some = some;
         k = kept;
         told = told;
@@ -378,36 +377,36 @@ cut-pool terms greatest log c kept ips told some glued =
     }
 
 -- the way from a zone cut on
-pub cut-way : (terms : Terms) (greatest t0 : ℕ) (log : Log) (q : Query) (w : Walk) (kept : Message) (entry : ℕ) (zone : DomainName) (ips : List IpAddr)
-    → IsCandidate w.stage → WayHolds terms greatest log q w → Stands terms greatest t0 log w.lookup.query entry (Pos kept)
+pub cut-way : (seen : View) (t0 : ℕ) (q : Query) (w : Walk) (kept : Message) (entry : ℕ) (zone : DomainName) (ips : List IpAddr)
+    → IsCandidate w.stage → WayHolds seen q w → Stands seen t0 w.lookup.query entry (Pos kept)
     → is_delegation kept w.lookup.query.name ≡ true → zone ≡ w.lookup.query.name → 0 < length ips
-    → ((ip : IpAddr) → Contains ips ip ↔ Contains (allowed (denies terms.server_filter) (glue kept w.lookup.query.name)) ip)
-    → WayHolds terms greatest log q (record w { zone = zone; servers = ips })
-cut-way terms greatest t0 log q w kept entry zone ips here way stands d z some glued =
-    let now = at terms greatest log q w here way in
+    → ((ip : IpAddr) → Contains ips ip ↔ Contains (allowed (denies seen.setting.server_filter) (glue kept w.lookup.query.name)) ip)
+    → WayHolds seen q (record w { zone = zone; servers = ips })
+cut-way seen t0 q w kept entry zone ips here way stands d z some glued =
+    let now = at seen q w here way in
     let c : w.lookup.query.name ≡ last_name now.labels w.name = ap (λ (p : Query). p.name) now.asked in
     let there : zone ≡ last_name now.labels w.name = z ∙ c in
     let qualified : w.name.fqdn ≡ true = second_so w.zone.fqdn w.name.fqdn (first_so (w.zone.fqdn && w.name.fqdn) _ way.above) in
     let count : length zone.labels ≡ now.labels = ap (λ (x : DomainName). length x.labels) there ∙ last-length w.name now.labels now.high in
     let low : 1 ≤ now.labels = now.low in
     let long : 1 ≤ length w.lookup.query.name.labels = subst (λ (x : DomainName). 1 ≤ length x.labels) z (omega (arith, count, low)) in
-    let cut = cut-delegates terms greatest t0 log w.lookup.query.name w.lookup.query entry kept stands
-    (candidate-asked terms greatest log q w here way) d long in
+    let cut = cut-delegates seen t0 w.lookup.query.name w.lookup.query entry kept stands
+    (candidate-asked seen q w here way) d long in
     record {
       name = way.name;
       above = subst (λ (x : DomainName). is_above x w.name ≡ true) (sym there) (last-above w.name now.labels qualified now.high);
-      pool = subst (λ (x : DomainName). ArePool terms log (greatest + 1) x ips) (sym z)
-          (cut-pool terms greatest log w.lookup.query.name cut.told ips cut.delegates some
-          (λ ip. subst (λ (xs : List IpAddr). Contains ips ip ↔ Contains (allowed (denies terms.server_filter) xs) ip) cut.beside (glued ip)));
+      pool = subst (λ (x : DomainName). ArePool seen x ips) (sym z)
+          (cut-pool seen w.lookup.query.name cut.told ips cut.delegates some
+          (λ ip. subst (λ (xs : List IpAddr). Contains ips ip ↔ Contains (allowed (denies seen.setting.server_filter) xs) ip) cut.beside (glued ip)));
       stage = subst (StageHolds q zone w.name w.lookup.query) (sym now.stage) (now.low, now.high, omega (arith, count), now.asked);
-      passed = subst (λ (s : Stage). Passed terms log zone w.name (reached w.name s)) (sym now.stage)
+      passed = subst (λ (s : Stage). Passed seen zone w.name (reached w.name s)) (sym now.stage)
           (λ k longer short. absurd (omega (arith, count, longer, short)));
     }
 
 -- a zone cut leaves nothing behind
-pub cut-leaves : (terms : Terms) (log : Log) (w : Walk) (zone : DomainName) (ips : List IpAddr) → zone ≡ w.lookup.query.name
-    → LeavesBehind terms log (record w { zone = zone; servers = ips })
-cut-leaves terms log w zone ips z far =
+pub cut-leaves : (seen : View) (w : Walk) (zone : DomainName) (ips : List IpAddr) → zone ≡ w.lookup.query.name
+    → LeavesBehind seen (record w { zone = zone; servers = ips })
+cut-leaves seen w zone ips z far =
     let same = ap (λ (x : DomainName). length x.labels) z in
     absurd (omega (arith, same, far))
 
@@ -419,19 +418,19 @@ looked-for q zone name asked (Candidate labels) other held = absurd (other tt)
 looked-for q zone name asked Last other held = held
 
 -- what may be answered is the answer of the question
-pub recalled-answers : (terms : Terms) (greatest t0 : ℕ) (log : Log) (q : Query) (w : Walk) (c : Counted)
-    → (IsCandidate w.stage → ⊥) → WayHolds terms greatest log q w → IsRecalled terms greatest t0 log w.lookup.query c → may_answer c.verdict ≡ true
-    → Answers terms greatest t0 log q c.entry c.verdict
-recalled-answers terms greatest t0 log q w c other way recalled may =
-    subst (λ (p : Query). Answers terms greatest t0 log p c.entry c.verdict) (looked-for q w.zone w.name w.lookup.query w.stage other way.stage)
+pub recalled-answers : (seen : View) (t0 : ℕ) (q : Query) (w : Walk) (c : Counted)
+    → (IsCandidate w.stage → ⊥) → WayHolds seen q w → IsRecalled seen t0 w.lookup.query c → may_answer c.verdict ≡ true
+    → Answers seen t0 q c.entry c.verdict
+recalled-answers seen t0 q w c other way recalled may =
+    subst (λ (p : Query). Answers seen t0 p c.entry c.verdict) (looked-for q w.zone w.name w.lookup.query w.stage other way.stage)
     (record { stands = recalled.stands; current = recalled.current may })
 
 -- ---- on the same way
 
 -- a walk whose lookup has gone on is on the same way
-pub way-looked : (terms : Terms) (greatest : ℕ) (log : Log) (q : Query) (w : Walk) (l : Lookup) → l.query ≡ w.lookup.query → WayHolds terms greatest log q w
-    → WayHolds terms greatest log q (record w { lookup = l })
-way-looked terms greatest log q w l same way = record {
+pub way-looked : (seen : View) (q : Query) (w : Walk) (l : Lookup) → l.query ≡ w.lookup.query → WayHolds seen q w
+    → WayHolds seen q (record w { lookup = l })
+way-looked seen q w l same way = record {
   name = way.name;
   above = way.above;
   pool = way.pool;
@@ -446,13 +445,13 @@ goes (Ok (Some reply)) P h = tt
 goes (Err e) P h = tt
 
 -- the walk went down to its zone for what it asks now
-pub walked-now : (terms : Terms) (greatest : ℕ) (log : Log) (q : Query) (w : Walk) → WayHolds terms greatest log q w → Walked (given_of terms) log w.lookup.query w.zone
-walked-now terms greatest log q w way = by_stage w.stage refl
+pub walked-now : (seen : View) (q : Query) (w : Walk) → WayHolds seen q w → Walked (given_of seen.setting) seen.log w.lookup.query w.zone
+walked-now seen q w way = by_stage w.stage refl
   where
-    by_stage : (s : Stage) → w.stage ≡ s → Walked (given_of terms) log w.lookup.query w.zone
+    by_stage : (s : Stage) → w.stage ≡ s → Walked (given_of seen.setting) seen.log w.lookup.query w.zone
     by_stage (Candidate labels) is =
         let here = subst IsCandidate (sym is) tt in
-        subst (λ (p : Query). Walked (given_of terms) log p w.zone) (sym (candidate-asked terms greatest log q w here way)) (candidate-walked terms greatest log q w here way)
+        subst (λ (p : Query). Walked (given_of seen.setting) seen.log p w.zone) (sym (candidate-asked seen q w here way)) (candidate-walked seen q w here way)
     by_stage Last is =
-        let last = walked-at-last terms greatest log q w is way in
-        subst (λ (p : Query). Walked (given_of terms) log p w.zone) (sym last.0) last.1
+        let last = walked-at-last seen q w is way in
+        subst (λ (p : Query). Walked (given_of seen.setting) seen.log p w.zone) (sym last.0) last.1

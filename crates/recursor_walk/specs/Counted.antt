@@ -1,8 +1,7 @@
 -- What counts for a question, whether it was told just now or is read from the cache (RFC 2308 section 5).
-use Rattle.std.specs.Prelude.{ℕ, ◌≤◌, Bool, true, IsTrue, Option, option_and_then}
+use Rattle.std.specs.Prelude.{◌≡◌, ℕ, ◌≤◌, Bool, true, IsTrue, Option, option_and_then}
 use Rattle.std.specs.Option.{option_map}
 use Rattle.dns_core.specs.Name.{DomainName}
-use Rattle.dns_core.specs.Log.{Log}
 use Rattle.dns_core.specs.declared.message.Query.{Query}
 use Rattle.resolver_cache.specs.Cached.{Cached}
 use Rattle.resolver_cache.specs.Cache.{found_for}
@@ -12,7 +11,8 @@ use Rattle.resolution.specs.declared.verdict.Verdict.{Verdict}
 use Rattle.resolution.specs.declared.verdict.Verdict.TheVariants.{Pos, Neg, Made}
 use Rattle.resolution.specs.Walking.{Walked}
 use Rattle.walk_base.specs.Kept.{verdict_kept}
-use Rattle.walk_tables.specs.Terms.{Terms, given_of}
+use Rattle.walk_tables.specs.Remembered.{CacheHolds}
+use Rattle.walk_tables.specs.View.{View, given_of}
 use Rattle.recursor_walk.specs.SameTold.{SameVerdict, ShowsAsked}
 use Rattle.recursor_walk.specs.declared.counted.Counted.{Counted}
 
@@ -35,14 +35,14 @@ may_answer (Made cause) = true
 
 -- Entry i, no later than the greatest, tells for the question what counts so, but for TTLs, and is fresh at t0; its server is one of
 -- a zone to which the walk went down.
-pub record Stands (terms : Terms) (greatest t0 : ℕ) (log : Log) (q : Query) (entry : ℕ) (v : Verdict) : Type 0 where
+pub record Stands (seen : View) (t0 : ℕ) (q : Query) (entry : ℕ) (v : Verdict) : Type 0 where
   pub zone : DomainName
   pub whole : Verdict
-  pub early : entry ≤ greatest
-  pub base : Base (given_of terms) log t0 q entry zone whole
-  pub walked : Walked (given_of terms) log q zone
+  pub early : entry ≤ seen.greatest
+  pub base : Base (given_of seen.setting) seen.log t0 q entry zone whole
+  pub walked : Walked (given_of seen.setting) seen.log q zone
   pub same : SameVerdict q v whole
-  pub asked : ShowsAsked log entry q v whole
+  pub asked : ShowsAsked seen.log entry q v whole
 
 -- an answer is authoritative, or was told at or after t0
 abbrev pub IsCurrentVerdict : ℕ → ℕ → Verdict → Type 0
@@ -51,11 +51,17 @@ IsCurrentVerdict t0 moment (Neg n) = Unit {0}
 IsCurrentVerdict t0 moment (Made cause) = Unit {0}
 
 -- So it is, and it may be answered.
-pub record Answers (terms : Terms) (greatest t0 : ℕ) (log : Log) (q : Query) (entry : ℕ) (v : Verdict) : Type 0 where
-  pub stands : Stands terms greatest t0 log q entry v
+pub record Answers (seen : View) (t0 : ℕ) (q : Query) (entry : ℕ) (v : Verdict) : Type 0 where
+  pub stands : Stands seen t0 q entry v
   pub current : IsCurrentVerdict t0 stands.base.moment stands.whole
 
 -- What is read from the cache is so; it may be answered where it is a negative, or authoritative.
-pub record IsRecalled (terms : Terms) (greatest t0 : ℕ) (log : Log) (q : Query) (c : Counted) : Type 0 where
-  pub stands : Stands terms greatest t0 log q c.entry c.verdict
+pub record IsRecalled (seen : View) (t0 : ℕ) (q : Query) (c : Counted) : Type 0 where
+  pub stands : Stands seen t0 q c.entry c.verdict
   pub current : IsTrue (may_answer c.verdict) → IsCurrentVerdict t0 stands.base.moment stands.whole
+
+-- A cache that holds is read at this moment, for a question that began no later.
+pub record ReadsAt (seen : View) (t0 now : ℕ) (cache : Cached) : Type 0 where
+  pub at : now ≡ seen.moment
+  pub since : t0 ≤ now
+  pub holds : CacheHolds seen cache

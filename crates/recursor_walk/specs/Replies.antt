@@ -1,5 +1,5 @@
 -- What the replies rest on.
-use Rattle.std.specs.Prelude.{◌≡◌, ℕ, Bool, List, [], ◌∷◌, Result, Ok, Err, Option, Some, None}
+use Rattle.std.specs.Prelude.{◌≡◌, ℕ, Bool, true, List, [], ◌∷◌, Result, Ok, Err, Option, Some, None, IfOk}
 use Rattle.std.specs.Global.{Box}
 use Rattle.dns_core.specs.Name.{DomainName}
 use Rattle.dns_core.specs.Log.{Log}
@@ -7,6 +7,7 @@ use Rattle.dns_core.specs.Stripping.{strip_of}
 use Rattle.dns_core.specs.declared.message.Query.{Query}
 use Rattle.dns_core.specs.declared.message.Message.{Message}
 use Rattle.dns_core.specs.declared.request.Question.{Question}
+use Rattle.dns_core.specs.declared.errors.NoMemory.{NoMemory}
 use Rattle.resolution.specs.Same.{Same}
 use Rattle.resolution.specs.Given.{Given}
 use Rattle.resolution.specs.Following.{follow}
@@ -17,9 +18,14 @@ use Rattle.resolution.specs.declared.following.Follow.TheVariants.{Done}
 use Rattle.recursor_types.specs.declared.error.RecursorError.{RecursorError}
 use Rattle.recursor_types.specs.declared.reply.Reply.{Reply}
 use Rattle.resolution.specs.Walking.{Walked}
-use Rattle.walk_tables.specs.Terms.{Terms, given_of}
-use Rattle.walk_tables.specs.Tried.{Timer}
+use Rattle.recursor_setting.specs.declared.setting.Setting.{Setting}
+use Rattle.walk_tables.specs.View.{View, given_of}
+use Rattle.walk_tables.specs.Tried.{Timer, machine_timer}
+use Rattle.resolver_cache.specs.Cached.{Cached}
+use Rattle.walk_base.specs.Answer.{outcome_of}
 use Rattle.recursor_walk.specs.Causes.{ErrorHolds}
+use Rattle.recursor_walk.specs.Counted.{recalled, may_answer}
+use Rattle.recursor_walk.specs.declared.counted.Counted.{Counted}
 
 -- The message is what counts of one entry, less the DNSSEC records that were not asked for, and the walk went down to the zone of its server.
 -- Where its aliases lead no further, it is the answer.
@@ -39,10 +45,33 @@ abbrev pub OutcomeHolds : Given → Known → Log → ℕ → Question → List 
 OutcomeHolds given known log t0 question g (Ok m) = IsToldAnswer given log t0 question.query question.dnssec_ok g m
 OutcomeHolds given known log t0 question g (Err e) = ErrorHolds given known log t0 question.query g e
 
-abbrev pub ReplyHolds : Terms → Timer → Log → ℕ → Question → Reply → Type 0
-ReplyHolds terms timer log t0 question reply = OutcomeHolds (given_of terms) (timer log t0) log t0 question reply.grounds reply.outcome
+abbrev pub ReplyHolds : Setting → Timer → Log → ℕ → Question → Reply → Type 0
+ReplyHolds setting timer log t0 question reply = OutcomeHolds (given_of setting) (timer log t0) log t0 question reply.grounds reply.outcome
+
+-- so it does by what a machine sees that gives it
+abbrev pub Replied : View → ℕ → Question → Reply → Type 0
+Replied seen t0 question reply = ReplyHolds seen.setting (machine_timer seen.moment) seen.log t0 question reply
 
 -- it is given in a box
 abbrev pub IsReply : Reply → Option (Box Reply) → Type 0
 IsReply reply None = ⊥
 IsReply reply (Some given) = given.value ≡ reply
+
+-- and so is what is given where memory was not wanting
+abbrev pub RepliesSo : View → ℕ → Question → Result (Box Reply) NoMemory → Type 0
+RepliesSo seen t0 question result = IfOk result (λ reply. Replied seen t0 question reply.value)
+
+-- and so has an error its cause
+abbrev pub HasCause : View → ℕ → Query → List ℕ → RecursorError → Type 0
+HasCause seen t0 q g e = ErrorHolds (given_of seen.setting) (machine_timer seen.moment seen.log t0) seen.log t0 q g e
+
+-- the reply to a question with what counts for it, by the entry that told it
+abbrev pub reply_with : Question → Counted → Reply
+reply_with question c = record { outcome = outcome_of question c.verdict; grounds = c.entry ∷ [] }
+
+-- The reply is the one with what the cache has for the question that is current at the moment, and it may be answered.
+pub record IsReplyKept (cache : Cached) (question : Question) (now : ℕ) (reply : Reply) : Type 0 where
+  pub counted : Counted
+  pub is : recalled cache question.query now ≡ Some counted
+  pub may : may_answer counted.verdict ≡ true
+  pub gives : reply ≡ reply_with question counted

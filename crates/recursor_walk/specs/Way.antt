@@ -1,16 +1,21 @@
 -- Where a walk stands, as derived from a log.
-use Rattle.std.specs.Prelude.{◌≡◌, ℕ, ◌+◌, ◌≤◌, ◌<◌, length, IsTrue, Option, Some, None}
+use Rattle.std.specs.Prelude.{◌≡◌, ℕ, ◌+◌, ◌≤◌, ◌<◌, List, length, IsTrue, Option, Some, None, Result, IfOk, IfSome}
+use Rattle.std.specs.declared.net.ip_addr.IpAddr.{IpAddr}
 use Rattle.std.specs.Global.{Box}
 use Rattle.dns_core.specs.Name.{DomainName, last_labels}
-use Rattle.dns_core.specs.Log.{Log}
 use Rattle.dns_core.specs.declared.message.Query.{Query}
 use Rattle.dns_core.specs.declared.request.Question.{Question}
 use Rattle.resolution.specs.Names.{is_above, walk, question as question_for}
 use Rattle.resolution.specs.Walking.{NoCut}
-use Rattle.walk_tables.specs.Lookup.{LookupHolds}
-use Rattle.walk_tables.specs.Terms.{Terms, given_of}
-use Rattle.recursor_walk.specs.Replies.{ReplyHolds}
-use Rattle.walk_tables.specs.Tried.{machine_timer}
+use Rattle.dns_core.specs.declared.errors.NoMemory.{NoMemory}
+use Rattle.resolver_settings.specs.Access.{Access}
+use Rattle.resolution.specs.declared.verdict.Verdict.{Verdict}
+use Rattle.walk_tables.specs.Lookup.{LookupHolds, FoundHolds}
+use Rattle.walk_tables.specs.declared.lookup.Found.{Found}
+use Rattle.recursor_walk.specs.Counted.{Stands, IsRecalled}
+use Rattle.recursor_walk.specs.declared.counted.Counted.{Counted}
+use Rattle.walk_tables.specs.View.{View, given_of}
+use Rattle.recursor_walk.specs.Replies.{Replied}
 use Rattle.walk_tables.specs.Pools.{ArePool}
 use Rattle.recursor_types.specs.declared.reply.Reply.{Reply}
 use Rattle.walk_base.specs.declared.stage.Stage.{Stage}
@@ -32,26 +37,53 @@ reached name (Candidate labels) = labels
 reached name Last = length name.labels + 1
 
 -- The log shows no cut below the zone at a candidate of fewer labels than n.
-abbrev pub Passed : Terms → Log → DomainName → DomainName → ℕ → Type 0
-Passed terms log zone name n = (k : ℕ) → length zone.labels < k → k < n → NoCut (given_of terms) log (last_name k name)
+abbrev pub Passed : View → DomainName → DomainName → ℕ → Type 0
+Passed seen zone name n = (k : ℕ) → length zone.labels < k → k < n → NoCut (given_of seen.setting) seen.log (last_name k name)
 
 -- A walk is to the name of the question, and has come to a zone at or above it with its servers.
-pub record WayHolds (terms : Terms) (greatest : ℕ) (log : Log) (q : Query) (w : Walk) : Type 0 where
+pub record WayHolds (seen : View) (q : Query) (w : Walk) : Type 0 where
   pub name : w.name ≡ walk q
   pub above : IsTrue (is_above w.zone w.name)
-  pub pool : ArePool terms log (greatest + 1) w.zone w.servers
+  pub pool : ArePool seen w.zone w.servers
   pub stage : StageHolds q w.zone w.name w.lookup.query w.stage
-  pub passed : Passed terms log w.zone w.name (reached w.name w.stage)
+  pub passed : Passed seen w.zone w.name (reached w.name w.stage)
 
 -- The log shows no cut at the present candidate, or it is the zone.
-abbrev pub LeavesBehind : Terms → Log → Walk → Type 0
-LeavesBehind terms log w = length w.zone.labels < length w.lookup.query.name.labels → NoCut (given_of terms) log w.lookup.query.name
+abbrev pub LeavesBehind : View → Walk → Type 0
+LeavesBehind seen w = length w.zone.labels < length w.lookup.query.name.labels → NoCut (given_of seen.setting) seen.log w.lookup.query.name
 
-pub record WalkHolds (terms : Terms) (greatest moment t0 : ℕ) (log : Log) (q : Query) (w : Walk) : Type 0 where
-  pub way : WayHolds terms greatest log q w
-  pub lookup : LookupHolds terms greatest moment t0 log w.zone w.lookup
+pub record WalkHolds (seen : View) (t0 : ℕ) (q : Query) (w : Walk) : Type 0 where
+  pub way : WayHolds seen q w
+  pub lookup : LookupHolds seen t0 w.zone w.lookup
 
 -- it goes on, or has its reply
-abbrev pub WalkComes : Terms → ℕ → ℕ → ℕ → Log → Question → Walk → Option (Box Reply) → Type 0
-WalkComes terms greatest moment t0 log question w None = WalkHolds terms greatest moment t0 log question.query w
-WalkComes terms greatest moment t0 log question w (Some reply) = ReplyHolds terms (machine_timer moment) log t0 question reply.value
+abbrev pub WalkComes : View → ℕ → Question → Walk → Option (Box Reply) → Type 0
+WalkComes seen t0 question w None = WalkHolds seen t0 question.query w
+WalkComes seen t0 question w (Some reply) = Replied seen t0 question reply.value
+
+-- So it does, where memory was not wanting.
+abbrev pub Comes : View → ℕ → Question → Walk → Result (Option (Box Reply)) NoMemory → Type 0
+Comes seen t0 question w result = IfOk result (WalkComes seen t0 question w)
+
+-- A walk is on its way, and its lookup came to this.
+pub record HasFound (seen : View) (t0 : ℕ) (q : Query) (w : Walk) (found : Found) : Type 0 where
+  pub way : WayHolds seen q w
+  pub came : FoundHolds seen t0 w.zone w.lookup.query w.lookup.ends found
+
+-- A walk is on its way, and the entry tells so for what it asks.
+pub record HasHeard (seen : View) (t0 : ℕ) (q : Query) (w : Walk) (entry : ℕ) (v : Verdict) : Type 0 where
+  pub way : WayHolds seen q w
+  pub stands : Stands seen t0 w.lookup.query entry v
+
+-- what the cache has for what it asks, if anything
+abbrev pub HasRecalled : View → ℕ → Walk → Option Counted → Type 0
+HasRecalled seen t0 w counted = IfSome counted (IsRecalled seen t0 w.lookup.query)
+
+-- The machine is set to these roots, at least one.
+pub record HasRoots (seen : View) (roots : List IpAddr) : Type 0 where
+  pub are : seen.setting.roots ≡ roots
+  pub some : 0 < length roots
+
+-- it is set to this filter of servers
+abbrev pub FiltersBy : View → Access → Type 0
+FiltersBy seen filter = seen.setting.server_filter ≡ filter

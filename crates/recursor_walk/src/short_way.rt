@@ -1,11 +1,9 @@
 //! The short way of a question for which the cache has an authoritative message: this is copied once,
 //! into the reply.
-ghost use Rattle.std.specs.Prelude.{◌≤◌, ℕ, IfOk, IfSome};
-ghost use Rattle.dns_core.specs.Log.{Log};
-ghost use Rattle.walk_tables.specs.Terms.{Terms};
-ghost use Rattle.recursor_walk.specs.Replies.{ReplyHolds};
-ghost use Rattle.walk_tables.specs.Tried.{machine_timer};
-ghost use Rattle.walk_tables.specs.Remembered.{CacheHolds};
+ghost use Rattle.std.specs.Prelude.{ℕ, IfOk, IfSome};
+ghost use Rattle.walk_tables.specs.View.{View};
+ghost use Rattle.recursor_walk.specs.Replies.{Replied, IsReplyKept};
+ghost use Rattle.recursor_walk.specs.Counted.{ReadsAt};
 
 use dns_core::{NoMemory, Question};
 use recursor_types::Reply;
@@ -21,8 +19,9 @@ pub fn kept_answer(
     question: &Question,
     now: u64,
 ) -> Result<Option<Box<Reply>>, NoMemory>
-    ensures { (terms : Terms) (greatest t0 : ℕ) (log : Log) → t0 ≤ now → CacheHolds terms greatest log cache.now
-        → IfOk result (λ reply. IfSome reply (λ given. ReplyHolds terms (machine_timer now) log t0 question.now given.value)) }
+    ensures kept { IfOk result (λ reply. IfSome reply (λ given. IsReplyKept cache.now question.now now given.value)) }
+    ensures holds { (seen : View) (t0 : ℕ) → ReadsAt seen t0 now cache.now
+        → IfOk result (λ reply. IfSome reply (λ given. Replied seen t0 question.now given.value)) }
 {
     let Some(entry) = cache.current(&question.query, now) else {
         return Ok(None);

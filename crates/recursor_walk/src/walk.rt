@@ -1,19 +1,17 @@
 //! The way of one question: from the roots down the zone cuts to the servers of its name, and the
 //! question itself at them; at each step what the cache has comes first (RFC 1034 section 5.3.3).
-ghost use Rattle.std.specs.Prelude.{◌≡◌, ◌<◌, ◌+◌, [], ℕ, true, length, Ok, Err, Some, None, IfOk, IfSome, IsSome, OnOk, OnErr};
-ghost use Rattle.dns_core.specs.Log.{Log};
+ghost use Rattle.std.specs.Prelude.{◌≡◌, ◌<◌, [], ℕ, true, Ok, Err, Some, None, IfOk, IsSome, OnOk, OnErr};
 ghost use Rattle.dns_core.specs.declared.message.Query.{Query};
-ghost use Rattle.walk_tables.specs.Terms.{Terms, given_of};
-ghost use Rattle.recursor_walk.specs.Replies.{ReplyHolds, IsReply};
-ghost use Rattle.walk_tables.specs.Tried.{machine_timer};
-ghost use Rattle.walk_tables.specs.Lookup.{want_of, LeavesLess, FoundHolds};
-ghost use Rattle.walk_tables.specs.Taking.{IfWaits};
-ghost use Rattle.walk_tables.specs.Pools.{PoolsHold, StepGoes, given_so_far, GivesNext};
+ghost use Rattle.walk_tables.specs.View.{View};
+ghost use Rattle.recursor_walk.specs.Replies.{RepliesSo, IsReply, reply_with};
+ghost use Rattle.walk_tables.specs.Lookup.{want_of, LeavesLess};
+ghost use Rattle.walk_tables.specs.Taking.{awaited_by, IfAwaits};
+ghost use Rattle.walk_tables.specs.Pools.{PoolsHold, StepGoes, IsStepAt, given_so_far, GivesNext};
 ghost use Rattle.walk_base.specs.Stage.{IsCandidate};
 ghost use Rattle.recursor_walk.specs.Walk.{steps, begin_steps, Goes, Ends, EndsIf, verdict_told, verdict_found, verdict_heard, Recalls};
-ghost use Rattle.recursor_walk.specs.Counted.{Stands, Answers, IsRecalled, may_answer};
+ghost use Rattle.recursor_walk.specs.Counted.{Answers, IsRecalled, may_answer};
 ghost use Rattle.walk_tables.specs.declared.lookup.Want.TheVariants as want;
-ghost use Rattle.recursor_walk.specs.Way.{WayHolds, WalkHolds, WalkComes, LeavesBehind};
+ghost use Rattle.recursor_walk.specs.Way.{WayHolds, WalkHolds, LeavesBehind, Comes, HasFound, HasHeard, HasRecalled, HasRoots, FiltersBy};
 
 use crate::counted::Counted;
 use dns_core::{
@@ -49,8 +47,9 @@ pub fn answer_with(
     question: &Question,
     counted: Counted,
 ) -> Result<Box<Reply>, NoMemory>
-    ensures { (terms : Terms) (greatest moment t0 : ℕ) (log : Log) → Answers terms greatest t0 log question.now.query counted.entry counted.verdict
-        → IfOk result (λ reply. ReplyHolds terms (machine_timer moment) log t0 question.now reply.value) }
+    ensures gives { IfOk result (λ reply. reply.value ≡ reply_with question.now counted) }
+    ensures holds { (seen : View) (t0 : ℕ) → Answers seen t0 question.now.query counted.entry counted.verdict
+        → RepliesSo seen t0 question.now result }
 {
     let Counted { entry, verdict } = counted;
     let outcome = outcome_of(alloc, question, verdict)?;
@@ -60,8 +59,8 @@ pub fn answer_with(
 impl Walk {
     /// A walk from the roots, which no filter denies, to the name of a question.
     pub fn new(alloc: Global, question: &Question, roots: &Ips) -> Result<Walk, NoMemory>
-        ensures holds { (terms : Terms) (greatest moment t0 : ℕ) (log : Log) → question.now.query.name.fqdn ≡ true → terms.roots ≡ roots.now → 0 < length roots.now
-            → IfOk result (WalkHolds terms greatest moment t0 log question.now.query) }
+        ensures holds { (seen : View) (t0 : ℕ) → question.now.query.name.fqdn ≡ true → HasRoots seen roots.now
+            → IfOk result (WalkHolds seen t0 question.now.query) }
         ensures steps { IfOk result (λ w. steps w < begin_steps question.now.query) }
     {
         let name = walked_name(alloc, &question.query)?;
@@ -89,10 +88,10 @@ impl Walk {
     ) -> Result<Option<Box<Reply>>, NoMemory>
         requires { want_of self.old.lookup.ask ≡ want.Recall }
         ensures falls { Goes self.old self.new result }
-        ensures holds { (terms : Terms) (greatest moment t0 : ℕ) (log : Log) → terms.server_filter ≡ filter.now
-            → IfSome counted (IsRecalled terms greatest t0 log self.old.lookup.query)
-            → WalkHolds terms greatest moment t0 log question.now.query self.old
-            → IfOk result (WalkComes terms greatest moment t0 log question.now self.new) }
+        ensures holds { (seen : View) (t0 : ℕ) → FiltersBy seen filter.now
+            → HasRecalled seen t0 self.old counted
+            → WalkHolds seen t0 question.now.query self.old
+            → Comes seen t0 question.now self.new result }
         ensures answers { Recalls self.old counted result }
     {
         let Some(counted) = counted else {
@@ -115,10 +114,10 @@ impl Walk {
         requires want { want_of self.old.lookup.ask ≡ want.Recall }
         requires stage { IsCandidate self.old.stage → ⊥ }
         ensures falls { Goes self.old self.new result }
-        ensures holds { (terms : Terms) (greatest moment t0 : ℕ) (log : Log)
-            → IsRecalled terms greatest t0 log self.old.lookup.query counted
-            → WalkHolds terms greatest moment t0 log question.now.query self.old
-            → IfOk result (WalkComes terms greatest moment t0 log question.now self.new) }
+        ensures holds { (seen : View) (t0 : ℕ)
+            → IsRecalled seen t0 self.old.lookup.query counted
+            → WalkHolds seen t0 question.now.query self.old
+            → Comes seen t0 question.now self.new result }
         ensures answers { may_answer counted.verdict ≡ true → IfOk result IsSome }
     {
         if !counted.may_answer() {
@@ -141,8 +140,8 @@ impl Walk {
         ensures falls { OnOk result (steps self.new < steps self.old) }
         ensures err { OnErr result (self.new ≡ self.old) }
         ensures given { given_so_far pools.new ≡ given_so_far pools.old }
-        ensures holds { (terms : Terms) (greatest t0 : ℕ) (log : Log) (q : Query) → PoolsHold terms greatest tick.now log pools.old
-            → WalkHolds terms greatest tick.now t0 log q self.old → WalkHolds terms greatest tick.now t0 log q self.new × PoolsHold terms greatest tick.now log pools.new }
+        ensures holds { (seen : View) (t0 : ℕ) (q : Query) → tick.now ≡ seen.moment → PoolsHold seen pools.old
+            → WalkHolds seen t0 q self.old → WalkHolds seen t0 q self.new × PoolsHold seen pools.new }
     {
         let ips = self.servers.items();
         self.lookup
@@ -161,10 +160,10 @@ impl Walk {
         requires want { want_of self.old.lookup.ask ≡ want.Step }
         ensures falls { IfOk result (LeavesLess (steps self.old) (steps self.new)) }
         ensures given { GivesNext (given_so_far pools.old) (given_so_far pools.new) result }
-        ensures holds { (terms : Terms) (log : Log) (q : Query) → PoolsHold terms since tick.now log pools.old
-            → WalkHolds terms since tick.now begun log q self.old → WalkHolds terms since tick.now begun log q self.new × PoolsHold terms since tick.now log pools.new }
-        ensures goes { (terms : Terms) (log : Log) → PoolsHold terms since tick.now log pools.old → IfOk result (StepGoes (given_of terms) log (since + 1)) }
-        ensures waits { IfOk result (IfWaits pools.new self.new.lookup) }
+        ensures holds { (seen : View) (q : Query) → IsStepAt seen since tick → PoolsHold seen pools.old
+            → WalkHolds seen begun q self.old → WalkHolds seen begun q self.new × PoolsHold seen pools.new }
+        ensures goes { (seen : View) → IsStepAt seen since tick → PoolsHold seen pools.old → IfOk result (StepGoes seen) }
+        ensures waits { IfOk result (IfAwaits (awaited_by pools.new self.new.lookup)) }
     {
         self.lookup
             .step(alloc, pools, &self.zone, begun, since, tick)
@@ -180,9 +179,9 @@ impl Walk {
         requires { want_of self.old.lookup.ask ≡ want.Hear }
         ensures falls { Goes self.old self.new result }
         ensures ends { EndsIf self.old.stage (verdict_heard self.old) result }
-        ensures holds { (terms : Terms) (greatest moment t0 : ℕ) (log : Log) → terms.server_filter ≡ filter.now
-            → WalkHolds terms greatest moment t0 log question.now.query self.old
-            → IfOk result (WalkComes terms greatest moment t0 log question.now self.new) }
+        ensures holds { (seen : View) (t0 : ℕ) → FiltersBy seen filter.now
+            → WalkHolds seen t0 question.now.query self.old
+            → Comes seen t0 question.now self.new result }
     {
         match self.lookup.hear() {
             None => Ok(None),
@@ -200,10 +199,9 @@ impl Walk {
     ) -> Result<Option<Box<Reply>>, NoMemory>
         ensures falls { Goes self.old self.new result }
         ensures ends { EndsIf self.old.stage (verdict_found self.old.zone self.old.lookup.query found) result }
-        ensures holds { (terms : Terms) (greatest moment t0 : ℕ) (log : Log) → terms.server_filter ≡ filter.now
-            → WayHolds terms greatest log question.now.query self.old
-            → FoundHolds terms greatest moment t0 log self.old.zone self.old.lookup.query self.old.lookup.ends found
-            → IfOk result (WalkComes terms greatest moment t0 log question.now self.new) }
+        ensures holds { (seen : View) (t0 : ℕ) → FiltersBy seen filter.now
+            → HasFound seen t0 question.now.query self.old found
+            → Comes seen t0 question.now self.new result }
     {
         match self.stage {
             Stage::Candidate { .. } => self.conclude_candidate(alloc, question, filter, found),
@@ -224,10 +222,9 @@ impl Walk {
         requires { IsCandidate self.old.stage }
         ensures falls { Goes self.old self.new result }
         ensures ends { EndsIf self.old.stage (verdict_found self.old.zone self.old.lookup.query found) result }
-        ensures holds { (terms : Terms) (greatest moment t0 : ℕ) (log : Log) → terms.server_filter ≡ filter.now
-            → WayHolds terms greatest log question.now.query self.old
-            → FoundHolds terms greatest moment t0 log self.old.zone self.old.lookup.query self.old.lookup.ends found
-            → IfOk result (WalkComes terms greatest moment t0 log question.now self.new) }
+        ensures holds { (seen : View) (t0 : ℕ) → FiltersBy seen filter.now
+            → HasFound seen t0 question.now.query self.old found
+            → Comes seen t0 question.now self.new result }
     {
         match found {
             Found::Told { entry, at, class } => {
@@ -252,10 +249,9 @@ impl Walk {
         requires { IsCandidate self.old.stage }
         ensures falls { Goes self.old self.new result }
         ensures ends { EndsIf self.old.stage (verdict_told self.old.zone self.old.lookup.query class) result }
-        ensures holds { (terms : Terms) (greatest moment t0 : ℕ) (log : Log) → terms.server_filter ≡ filter.now
-            → WayHolds terms greatest log question.now.query self.old
-            → FoundHolds terms greatest moment t0 log self.old.zone self.old.lookup.query self.old.lookup.ends (Found.Told entry _at class)
-            → IfOk result (WalkComes terms greatest moment t0 log question.now self.new) }
+        ensures holds { (seen : View) (t0 : ℕ) → FiltersBy seen filter.now
+            → HasFound seen t0 question.now.query self.old (Found.Told entry _at class)
+            → Comes seen t0 question.now self.new result }
     {
         match verdict_of_class(class, &self.lookup.query, &self.zone) {
             Ok(verdict) => {
@@ -277,10 +273,9 @@ impl Walk {
         requires { IsCandidate self.old.stage }
         ensures falls { Goes self.old self.new result }
         ensures ends { Ends self.old.stage counted.verdict result }
-        ensures holds { (terms : Terms) (greatest moment t0 : ℕ) (log : Log) → terms.server_filter ≡ filter.now
-            → WayHolds terms greatest log question.now.query self.old
-            → Stands terms greatest t0 log self.old.lookup.query counted.entry counted.verdict
-            → IfOk result (WalkComes terms greatest moment t0 log question.now self.new) }
+        ensures holds { (seen : View) (t0 : ℕ) → FiltersBy seen filter.now
+            → HasHeard seen t0 question.now.query self.old counted.entry counted.verdict
+            → Comes seen t0 question.now self.new result }
     {
         let Counted { entry, verdict } = counted;
         match verdict {
@@ -304,9 +299,8 @@ impl Walk {
         requires { IsCandidate self.old.stage }
         ensures falls { Goes self.old self.new result }
         ensures ends { Ends self.old.stage (Verdict.Neg found) result }
-        ensures holds { (terms : Terms) (greatest moment t0 : ℕ) (log : Log) → WayHolds terms greatest log question.now.query self.old
-            → Stands terms greatest t0 log self.old.lookup.query entry (Verdict.Neg found)
-            → IfOk result (WalkComes terms greatest moment t0 log question.now self.new) }
+        ensures holds { (seen : View) (t0 : ℕ) → HasHeard seen t0 question.now.query self.old entry (Verdict.Neg found)
+            → Comes seen t0 question.now self.new result }
     {
         if ends_walk(&found) {
             return Ok(Some(reply_by(alloc, entry, Err(told_negative(found)))?));
@@ -324,10 +318,9 @@ impl Walk {
     ) -> Result<Option<Box<Reply>>, NoMemory>
         requires { IsCandidate self.old.stage }
         ensures falls { Goes self.old self.new result }
-        ensures holds { (terms : Terms) (greatest moment t0 entry : ℕ) (log : Log) → terms.server_filter ≡ filter.now
-            → WayHolds terms greatest log question.now.query self.old
-            → Stands terms greatest t0 log self.old.lookup.query entry (Verdict.Pos kept.now)
-            → IfOk result (WalkComes terms greatest moment t0 log question.now self.new) }
+        ensures holds { (seen : View) (t0 entry : ℕ) → FiltersBy seen filter.now
+            → HasHeard seen t0 question.now.query self.old entry (Verdict.Pos kept.now)
+            → Comes seen t0 question.now self.new result }
     {
         if !is_delegation(kept, &self.lookup.query.name) {
             return self.advance(alloc, question);
@@ -350,8 +343,8 @@ impl Walk {
         requires { IsCandidate self.old.stage }
         ensures falls { OnOk result (steps self.new < steps self.old) }
         ensures none { IfOk result (λ reply. reply ≡ None) }
-        ensures holds { (terms : Terms) (greatest moment t0 : ℕ) (log : Log) → WayHolds terms greatest log question.now.query self.old → LeavesBehind terms log self.old
-            → IfOk result (WalkComes terms greatest moment t0 log question.now self.new) }
+        ensures holds { (seen : View) (t0 : ℕ) → WayHolds seen question.now.query self.old → LeavesBehind seen self.old
+            → Comes seen t0 question.now self.new result }
     {
         let Stage::Candidate { labels } = self.stage else {
             unreachable!()
@@ -381,9 +374,8 @@ impl Walk {
         question: &Question,
         found: Found,
     ) -> Result<Box<Reply>, NoMemory>
-        ensures { (terms : Terms) (greatest moment t0 : ℕ) (log : Log) → self.old.stage ≡ Stage.Last → WayHolds terms greatest log question.now.query self.old
-            → FoundHolds terms greatest moment t0 log self.old.zone self.old.lookup.query self.old.lookup.ends found
-            → IfOk result (λ reply. ReplyHolds terms (machine_timer moment) log t0 question.now reply.value) }
+        ensures { (seen : View) (t0 : ℕ) → self.old.stage ≡ Stage.Last → HasFound seen t0 question.now.query self.old found
+            → RepliesSo seen t0 question.now result }
     {
         match found {
             Found::Told { entry, at, class } => self.hear_last(alloc, question, entry, at, class),
@@ -399,9 +391,8 @@ impl Walk {
         _at: u64,
         class: Result<Message, DnsError>,
     ) -> Result<Box<Reply>, NoMemory>
-        ensures { (terms : Terms) (greatest moment t0 : ℕ) (log : Log) → self.old.stage ≡ Stage.Last → WayHolds terms greatest log question.now.query self.old
-            → FoundHolds terms greatest moment t0 log self.old.zone self.old.lookup.query self.old.lookup.ends (Found.Told entry _at class)
-            → IfOk result (λ reply. ReplyHolds terms (machine_timer moment) log t0 question.now reply.value) }
+        ensures { (seen : View) (t0 : ℕ) → self.old.stage ≡ Stage.Last → HasFound seen t0 question.now.query self.old (Found.Told entry _at class)
+            → RepliesSo seen t0 question.now result }
     {
         match verdict_of_class(class, &self.lookup.query, &self.zone) {
             Ok(verdict) => answer_with(alloc, question, Counted { entry, verdict }),

@@ -52,7 +52,7 @@ use Rattle.retry_rules.proofs.Turning.{but_none}
 use Rattle.server_pool.specs.ByAddress.{at_address}
 use Rattle.server_pool.proofs.ByAddress.{IsTrustedBeyondUdp, run_by_address}
 use Rattle.walk_tables.specs.Lookup.{is_lookup_error, last_of, failed_by, answered_by, nothing_left_for, left_of_class, IsTold, AskHolds}
-use Rattle.walk_tables.specs.Terms.{Terms, given_of}
+use Rattle.walk_tables.specs.View.{View, given_of}
 use Rattle.walk_tables.specs.Tried.{Began, is_response, told_of, AreHeard, Concluded}
 use Rattle.walk_tables.specs.Pools.{IsAt, SoughtHolds, PoolsHold, Seeks}
 use Rattle.walk_tables.specs.Asked.{AskedAs}
@@ -243,30 +243,30 @@ last-later [] k n h = cc
 last-later (x ∷ xs) k n h = h
 
 -- the last end: its entry, its moment, and what was heard by it
-pub record LastEnd (terms : Terms) (log : Log) (zone : DomainName) (q : Query) (g moments : List ℕ) (e : End IpAddr) : Type 0 where
+pub record LastEnd (seen : View) (zone : DomainName) (q : Query) (g moments : List ℕ) (e : End IpAddr) : Type 0 where
   pub entry : ℕ
   pub moment : ℕ
   pub at_entry : last_or None g ≡ Some entry
   pub at_moment : last_or None moments ≡ Some moment
-  pub heard : IsTrue (is_response (class_of_answer q e.outcome)) → Heard (given_of terms) log entry q (told_of e.outcome) moment zone × AskedAs log entry q
+  pub heard : IsTrue (is_response (class_of_answer q e.outcome)) → Heard (given_of seen.setting) seen.log entry q (told_of e.outcome) moment zone × AskedAs seen.log entry q
 
-last-end : (terms : Terms) (log : Log) (zone : DomainName) (q : Query) {ips : List IpAddr} {g moments : List ℕ} {ends : List (End IpAddr)} (earlier : List (End IpAddr)) (e : End IpAddr)
-    → EndSends (given_of terms) log q ips g ends moments → AreHeard terms log zone q g ends moments → ends ≡ earlier ++ e ∷ [] → LastEnd terms log zone q g moments e
-last-end terms log zone q [] e no_send heard is = cc
-last-end terms log zone q (x ∷ earlier) e no_send heard is = cc
-last-end terms log zone q [] e (and_send {n = n} {moment = m} {e = f} s c no_send) heard is =
+last-end : (seen : View) (zone : DomainName) (q : Query) {ips : List IpAddr} {g moments : List ℕ} {ends : List (End IpAddr)} (earlier : List (End IpAddr)) (e : End IpAddr)
+    → EndSends (given_of seen.setting) seen.log q ips g ends moments → AreHeard seen zone q g ends moments → ends ≡ earlier ++ e ∷ [] → LastEnd seen zone q g moments e
+last-end seen zone q [] e no_send heard is = cc
+last-end seen zone q (x ∷ earlier) e no_send heard is = cc
+last-end seen zone q [] e (and_send {n = n} {moment = m} {e = f} s c no_send) heard is =
     let same : f ≡ e = cc in
     record {
       entry = n;
       moment = m;
       at_entry = refl;
       at_moment = refl;
-      heard = subst (λ (x : End IpAddr). IsTrue (is_response (class_of_answer q x.outcome)) → Heard (given_of terms) log n q (told_of x.outcome) m zone × AskedAs log n q) same heard.0;
+      heard = subst (λ (x : End IpAddr). IsTrue (is_response (class_of_answer q x.outcome)) → Heard (given_of seen.setting) seen.log n q (told_of x.outcome) m zone × AskedAs seen.log n q) same heard.0;
     }
-last-end terms log zone q [] e (and_send s c (and_send t d rest)) heard is = cc
-last-end terms log zone q (x ∷ earlier) e (and_send {n = n} {moment = m} {g = g} {moments = moments} {ends = ends} s c rest) heard is =
+last-end seen zone q [] e (and_send s c (and_send t d rest)) heard is = cc
+last-end seen zone q (x ∷ earlier) e (and_send {n = n} {moment = m} {g = g} {moments = moments} {ends = ends} s c rest) heard is =
     let tail : ends ≡ earlier ++ e ∷ [] = cc in
-    let last = last-end terms log zone q earlier e rest heard.1 tail in
+    let last = last-end seen zone q earlier e rest heard.1 tail in
     record {
       entry = last.entry;
       moment = last.moment;
@@ -319,8 +319,8 @@ ends-from servers [] a = tt
 ends-from servers (h ∷ heard) a = (a.0, ends-from servers heard a.1)
 
 -- each address has few ends, as each candidate has
-bounded-of : (terms : Terms) (greatest moment : ℕ) (log : Log) (pools : Pools) (n : ℕ) (s : Sought) (h : SoughtHolds terms greatest moment log pools n s) → IsBounded (by_address 5000000) (class_of_answer s.query) h.ips h.ends
-bounded-of terms greatest moment log pools n s h =
+bounded-of : (seen : View) (pools : Pools) (n : ℕ) (s : Sought) (h : SoughtHolds seen pools n s) → IsBounded (by_address 5000000) (class_of_answer s.query) h.ips h.ends
+bounded-of seen pools n s h =
     let l = h.shared_by.lookup in
     let at_time = subst (λ (t : ℕ). IsBounded (rules_of t) (class_of_sent (question_of l)) l.servers (ends_of h.heard)) h.time h.stands.keeps.each in
     let asked = subst (λ (q : Query). IsBounded (rules_of 5000000) (class_of_sent q) l.servers (ends_of h.heard)) h.asks at_time in
@@ -329,10 +329,10 @@ bounded-of terms greatest moment log pools n s h =
     bounded-permuted (by_address 5000000) (class_of_answer s.query) h.ends (map (at_address h.ip_of) l.servers) h.ips (IsPermutation-sym h.ips (map (at_address h.ip_of) l.servers) h.whole) by_ip
 
 -- by addresses, in the order of the list, no later than the moment
-run-of : (terms : Terms) (greatest moment : ℕ) (log : Log) (pools : Pools) (n : ℕ) (s : Sought) (h : SoughtHolds terms greatest moment log pools n s) (answer : Answered) (at : ℕ) → at ≤ moment
+run-of : (seen : View) (pools : Pools) (n : ℕ) (s : Sought) (h : SoughtHolds seen pools n s) (answer : Answered) (at : ℕ) → at ≤ seen.moment
     → PoolRun (rules_of h.shared_by.lookup.timeout) (class_of_sent (question_of h.shared_by.lookup)) h.shared_by.lookup.servers (ends_of h.heard) answer h.shared_by.lookup.start at
-    → PoolRun (by_address 5000000) (class_of_answer s.query) h.ips h.ends answer s.start moment
-run-of terms greatest moment log pools n s h answer at early ran =
+    → PoolRun (by_address 5000000) (class_of_answer s.query) h.ips h.ends answer s.start seen.moment
+run-of seen pools n s h answer at early ran =
     let l = h.shared_by.lookup in
     let at_time = subst (λ (t : ℕ). PoolRun (rules_of t) (class_of_sent (question_of l)) l.servers (ends_of h.heard) answer l.start at) h.time ran in
     let asked = subst (λ (q : Query). PoolRun (rules_of 5000000) (class_of_sent q) l.servers (ends_of h.heard) answer l.start at) h.asks at_time in
@@ -341,18 +341,18 @@ run-of terms greatest moment log pools n s h answer at early ran =
     (All-weaker (λ c. IsAt pools.shared.table (h.ip_of c.server) c) IsTrustedBeyondUdp (λ c at. record { beyond_udp = at.beyond_udp; trusted = at.trusted }) l.servers h.known) in
     let from = ends-from l.servers h.heard h.stands.keeps.from_pool in
     let by_ip = run_by_address 5000000 h.ip_of l.servers (class_of_sent s.query) (class_of_answer s.query) plain from h.beside run in
-    run-later at moment early (PoolRun-permuted (map (at_address h.ip_of) l.servers) h.ips (IsPermutation-sym h.ips (map (at_address h.ip_of) l.servers) h.whole) by_ip)
+    run-later at seen.moment early (PoolRun-permuted (map (at_address h.ip_of) l.servers) h.ips (IsPermutation-sym h.ips (map (at_address h.ip_of) l.servers) h.whole) by_ip)
 
-module _ (terms : Terms) (greatest moment : ℕ) (log : Log) (pools : Pools) (n : ℕ) (s : Sought) (h : SoughtHolds terms greatest moment log pools n s) (begun : ℕ) (since : begun ≤ s.start) where
+module _ (seen : View) (pools : Pools) (n : ℕ) (s : Sought) (h : SoughtHolds seen pools n s) (begun : ℕ) (since : begun ≤ s.start) where
   abbrev g : List ℕ
   g = entries_of h.heard
 
   abbrev denied : IpAddr → Bool
-  denied = denies terms.answer_filter
+  denied = denies seen.setting.answer_filter
 
   -- it came to this by its entries
-  concluded : (answer : Answered) → 0 < length h.ends → PoolRun (by_address 5000000) (class_of_answer s.query) h.ips h.ends answer s.start moment
-      → Concluded terms moment begun log s.zone s.query g answer
+  concluded : (answer : Answered) → 0 < length h.ends → PoolRun (by_address 5000000) (class_of_answer s.query) h.ips h.ends answer s.start seen.moment
+      → Concluded seen begun s.zone s.query g answer
   concluded answer some run =
       let t = h.tried in
       let lengths = sends-length t.logged in
@@ -364,23 +364,23 @@ module _ (terms : Terms) (greatest moment : ℕ) (log : Log) (pools : Pools) (n 
         ends = h.ends;
         moments = t.moments;
         start = s.start;
-        now = moment;
-        above = h.above;
-        listed = h.listed;
+        now = seen.moment;
+        above = h.served.above;
+        listed = h.served.pool.listed;
         rises = t.rises;
         logged = t.logged;
         run = run;
-        bounded = bounded-of terms greatest moment log pools n s h;
+        bounded = bounded-of seen pools n s h;
         since = t.since;
         till = t.till;
         asked = omega (arith, since, past);
-        timed = record { some = entries; began = began-ended log s.query greatest s.first g h.ends s.start entries t.began; since = since; answered = omega arith };
+        timed = record { some = entries; began = began-ended seen.log s.query seen.greatest s.first g h.ends s.start entries t.began; since = since; answered = omega arith };
         fresh = inl (last-since t.moments begun s.start since moments t.since);
       }
 
   -- it failed
-  failed : (error : NetError) → IsTrue (is_lookup_error error) → Concluded terms moment begun log s.zone s.query g (Err error)
-      → AskHolds terms greatest moment begun log s.zone s.query g (failed_by (last_of g) s.at error)
+  failed : (error : NetError) → IsTrue (is_lookup_error error) → Concluded seen begun s.zone s.query g (Err error)
+      → AskHolds seen begun s.zone s.query g (failed_by (last_of g) s.at error)
   failed (net.Dns (dns.NoRecordsFound found)) is c = cc
   failed (net.Dns (dns.ResponseCode code)) is c = record { is = is; concluded = c }
   failed net.Busy is c = cc
@@ -395,22 +395,22 @@ module _ (terms : Terms) (greatest moment : ℕ) (log : Log) (pools : Pools) (n 
 
   -- the last end told a response
   told : (earlier : List (End IpAddr)) (last : End IpAddr) (response : Class) (class : Result Message DnsError) → h.ends ≡ earlier ++ last ∷ [] → class_of_answer s.query last.outcome ≡ response
-      → IsTrue (is_response response) → left_of_class denied s.query response ≡ Some class → IsTold terms greatest begun log s.zone s.query (last_of g) s.at class
+      → IsTrue (is_response response) → left_of_class denied s.query response ≡ Some class → IsTold seen begun s.zone s.query (last_of g) s.at class
   told earlier last response class whole is counts left =
       let t = h.tried in
-      let end = last-end terms log s.zone s.query earlier last t.logged t.heard whole in
+      let end = last-end seen s.zone s.query earlier last t.logged t.heard whole in
       let entry : last_of g ≡ end.entry = ap (λ (o : Option ℕ). elim o [ Some entry ↦ entry | None ↦ 0 ]) end.at_entry in
       let at : end.moment ≡ s.at = t.last end.moment end.at_moment in
       let heard = end.heard (subst (λ (c : Class). IsTrue (is_response c)) (sym is) counts) in
-      let early : end.entry ≤ greatest = leb-true end.entry greatest (last-holds (λ k. nat_le k greatest) g None end.entry tt t.early end.at_entry) in
+      let early : end.entry ≤ seen.greatest = leb-true end.entry seen.greatest (last-holds (λ k. nat_le k seen.greatest) g None end.entry tt t.early end.at_entry) in
       let late : s.start ≤ end.moment = leb-true s.start end.moment (last-holds (nat_le s.start) t.moments None end.moment tt t.since end.at_moment) in
       record {
         outcome = told_of last.outcome;
         response = response;
         early = omega (arith, early, entry);
-        heard = subst (λ (k : ℕ). Heard (given_of terms) log k s.query (told_of last.outcome) s.at s.zone) (sym entry)
-            (subst (λ (m : ℕ). Heard (given_of terms) log end.entry s.query (told_of last.outcome) m s.zone) at heard.0);
-        asked = subst (λ (k : ℕ). AskedAs log k s.query) (sym entry) heard.1;
+        heard = subst (λ (k : ℕ). Heard (given_of seen.setting) seen.log k s.query (told_of last.outcome) s.at s.zone) (sym entry)
+            (subst (λ (m : ℕ). Heard (given_of seen.setting) seen.log end.entry s.query (told_of last.outcome) m s.zone) at heard.0);
+        asked = subst (λ (k : ℕ). AskedAs seen.log k s.query) (sym entry) heard.1;
         late = omega (arith, since, late, at);
         is = class-told s.query last.outcome ∙ ap Some is;
         left = left;
@@ -418,10 +418,10 @@ module _ (terms : Terms) (greatest moment : ℕ) (log : Log) (pools : Pools) (n 
 
   -- where a lookup stands that was answered so
   abbrev Comes : Answered → Type 0
-  Comes a = AskHolds terms greatest moment begun log s.zone s.query g (answered_by (last_of g) s.at (left_of s.query denied a))
+  Comes a = AskHolds seen begun s.zone s.query g (answered_by (last_of g) s.at (left_of s.query denied a))
 
   abbrev Run : Answered → Type 0
-  Run a = PoolRun (by_address 5000000) (class_of_answer s.query) h.ips h.ends a s.start moment
+  Run a = PoolRun (by_address 5000000) (class_of_answer s.query) h.ips h.ends a s.start seen.moment
 
   -- it was answered with an error that is no denial
   ended : (answer : Answered) (error : NetError) → answer ≡ Err error → IsTrue (is_lookup_error error) → 0 < length h.ends → Run answer → Comes answer
@@ -430,7 +430,7 @@ module _ (terms : Terms) (greatest moment : ℕ) (log : Log) (pools : Pools) (n 
   -- an answer, where the filter leaves something of it or nothing
   positive : (earlier : List (End IpAddr)) (last : End IpAddr) (m : Message) → h.ends ≡ earlier ++ last ∷ [] → class_of_answer s.query last.outcome ≡ Positive m
       → (all : Bool) → is_all_denied denied m ≡ all
-      → AskHolds terms greatest moment begun log s.zone s.query g (answered_by (last_of g) s.at (if all then Err (nothing_left s.query) else Ok (without_denied denied m)))
+      → AskHolds seen begun s.zone s.query g (answered_by (last_of g) s.at (if all then Err (nothing_left s.query) else Ok (without_denied denied m)))
   positive earlier last m whole is true left =
       told earlier last (Positive m) (Err (dns.NoRecordsFound (nothing_left_for s.query))) whole is refl
       (ap (λ (b : Bool). Some (if b then Err (dns.NoRecordsFound (nothing_left_for s.query)) else Ok (without_denied denied m))) left)
@@ -444,7 +444,7 @@ module _ (terms : Terms) (greatest moment : ℕ) (log : Log) (pools : Pools) (n 
       let whole = answer-whole (told_of d.last.outcome) s.query m (class-told s.query d.last.outcome ∙ ap Some is) in
       let left = positive d.earlier d.last m d.whole is (is_all_denied denied m) refl in
       subst Comes (sym (d.answers ∙ ap answer_of is))
-      (subst (λ (o : Option Record). AskHolds terms greatest moment begun log s.zone s.query g (answered_by (last_of g) s.at (elim o [
+      (subst (λ (o : Option Record). AskHolds seen begun s.zone s.query g (answered_by (last_of g) s.at (elim o [
         | Some r ↦ Err (foreign_class r)
         | None ↦ if is_all_denied denied m then Err (nothing_left s.query) else Ok (without_denied denied m)
       ]))) (sym whole.1) left)
@@ -464,7 +464,7 @@ module _ (terms : Terms) (greatest moment : ℕ) (log : Log) (pools : Pools) (n 
       decided-by answer d c refl (not_false (is_retryable true c) (and_parts (not (is_retryable true c)) _ d.final).0)
   answered-by answer (spent e) =
       ended answer (what_is_left (by_address 5000000) (class_of_answer s.query) h.ends) e.answers (left-lookup 5000000 s.query h.ends e.none)
-      (spent-some 5000000 s.query h.ips h.ends h.some e.tried) (spent e)
+      (spent-some 5000000 s.query h.ips h.ends h.served.pool.some e.tried) (spent e)
   answered-by answer (late l) = ended answer net.Timeout l.answers refl (late-some h.ends l.some) (late l)
 
   -- What a lookup came to that was answered.
@@ -493,20 +493,20 @@ was-answered denied heard moment told l is kept at decided_at = by l.state refl 
     by (Decided answer at) was e k = run-so answer at was (same_Some _ _ e) k
 
 -- What a lookup came to, as it is read for a question at the servers of a zone.
-pub answer-holds : (terms : Terms) (greatest moment : ℕ) (log : Log) (pools : Pools) (n : ℕ) (q : Query) (zone : DomainName) (begun at : ℕ) (told : Answered) (ends : List ℕ)
-    → PoolsHold terms greatest moment log pools → Seeks pools n q zone begun at → Some told ≡ option_and_then (λ (l : OpenLookup). answer_of_state l.lookup) (lookup_at pools.shared n) → out_of_memory told ≡ false
-    → ends ≡ closed_by (lookup_at pools.shared n) → AskHolds terms greatest moment begun log zone q ends (answered_by (last_of ends) at told)
-answer-holds terms greatest moment log pools n q zone begun at told ends holds k answers kept entries =
+pub answer-holds : (seen : View) (pools : Pools) (n : ℕ) (q : Query) (zone : DomainName) (begun at : ℕ) (told : Answered) (ends : List ℕ)
+    → PoolsHold seen pools → Seeks pools n q zone begun at → Some told ≡ option_and_then (λ (l : OpenLookup). answer_of_state l.lookup) (lookup_at pools.shared n) → out_of_memory told ≡ false
+    → ends ≡ closed_by (lookup_at pools.shared n) → AskHolds seen begun zone q ends (answered_by (last_of ends) at told)
+answer-holds seen pools n q zone begun at told ends holds k answers kept entries =
     let s = k.sought in
     let h = holds.lookups n s k.is in
     let l = h.shared_by.lookup in
     let is : answer_in l.state ≡ Some told = sym (answers ∙ ap (option_and_then (λ (l : OpenLookup). answer_of_state l.lookup)) h.there) in
-    let a = was-answered (denies terms.answer_filter) h.heard moment told l is kept h.stands.at h.decided in
-    let came = answered terms greatest moment log pools n s h begun k.since a.run.whole (run-of terms greatest moment log pools n s h a.run.whole a.at a.early a.run.run) in
-    let read : left_of s.query (denies terms.answer_filter) a.run.whole ≡ told = ap (λ (p : Query). left_of p (denies terms.answer_filter) a.run.whole) (sym h.asks) ∙ sym a.run.left in
+    let a = was-answered (denies seen.setting.answer_filter) h.heard seen.moment told l is kept h.stands.at h.decided in
+    let came = answered seen pools n s h begun k.since a.run.whole (run-of seen pools n s h a.run.whole a.at a.early a.run.run) in
+    let read : left_of s.query (denies seen.setting.answer_filter) a.run.whole ≡ told = ap (λ (p : Query). left_of p (denies seen.setting.answer_filter) a.run.whole) (sym h.asks) ∙ sym a.run.left in
     let by : entries_of h.heard ≡ ends = sym (entries ∙ ap closed_by h.there ∙ h.stands.keeps.entries) in
-    let as_told = subst (λ (t : Answered). AskHolds terms greatest moment begun log s.zone s.query (entries_of h.heard) (answered_by (last_of (entries_of h.heard)) s.at t)) read came in
-    let as_read = subst (λ (g : List ℕ). AskHolds terms greatest moment begun log s.zone s.query g (answered_by (last_of g) s.at told)) by as_told in
-    let at_last = subst (λ (m : ℕ). AskHolds terms greatest moment begun log s.zone s.query ends (answered_by (last_of ends) m told)) k.last as_read in
-    let for_query = subst (λ (p : Query). AskHolds terms greatest moment begun log s.zone p ends (answered_by (last_of ends) at told)) k.query at_last in
-    subst (λ (z : DomainName). AskHolds terms greatest moment begun log z q ends (answered_by (last_of ends) at told)) k.zone_is for_query
+    let as_told = subst (λ (t : Answered). AskHolds seen begun s.zone s.query (entries_of h.heard) (answered_by (last_of (entries_of h.heard)) s.at t)) read came in
+    let as_read = subst (λ (g : List ℕ). AskHolds seen begun s.zone s.query g (answered_by (last_of g) s.at told)) by as_told in
+    let at_last = subst (λ (m : ℕ). AskHolds seen begun s.zone s.query ends (answered_by (last_of ends) m told)) k.last as_read in
+    let for_query = subst (λ (p : Query). AskHolds seen begun s.zone p ends (answered_by (last_of ends) at told)) k.query at_last in
+    subst (λ (z : DomainName). AskHolds seen begun z q ends (answered_by (last_of ends) at told)) k.zone_is for_query

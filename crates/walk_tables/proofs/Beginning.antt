@@ -1,6 +1,6 @@
 -- What holds of a lookup that begins at the servers of a zone.
-use Rattle.std.proofs.Common.{◌≡◌, ℕ, ◌+◌, ◌<◌, ◌≤◌, ◌⊎◌, inl, inr, Bool, true, false, cond, List, [], ◌∷◌, map, filter, take, drop, length, All, Option, Some, None, refl, sym, ap, subst, ◌∙◌, arith}
-use Rattle.std.specs.Prelude.{IsTrue, option_map}
+use Rattle.std.proofs.Common.{◌≡◌, ℕ, ◌<◌, ◌≤◌, ◌⊎◌, inl, inr, Bool, true, false, cond, List, [], ◌∷◌, map, filter, take, drop, length, All, Option, Some, None, refl, sym, ap, subst, ◌∙◌, arith}
+use Rattle.std.specs.Prelude.{option_map}
 use Rattle.std.specs.List.{AllZip, list_any, AllByRecursion}
 use Rattle.std.specs.List.Sorted.{IsPermutation}
 use Rattle.std.proofs.lemmas.Option.{same_Some, none-some}
@@ -9,10 +9,8 @@ use Rattle.std.proofs.lemmas.List.{take-append-drop}
 use Rattle.std.proofs.lemmas.List.Sorted.{IsPermutation-append_comm, IsPermutation-refl, IsPermutation-map, All-permutation}
 use Rattle.std.specs.declared.net.ip_addr.IpAddr.{IpAddr}
 use Rattle.dns_core.specs.Name.{DomainName}
-use Rattle.dns_core.specs.Log.{Log}
 use Rattle.dns_core.specs.declared.request.DnsRequest.{DnsRequest}
 use Rattle.resolver_settings.specs.NameServer.{NameServer, over_udp, over_tcp}
-use Rattle.resolution.specs.Names.{is_above, walk}
 use Rattle.resolution.specs.Ending.EndSends.{no_send}
 use Rattle.server_core.specs.Servers.{Server, server_of}
 use Rattle.server_core.specs.Policy.{allows_config}
@@ -37,9 +35,8 @@ use Rattle.server_pool.specs.declared.open_lookup.OpenLookup.{OpenLookup}
 use Rattle.retry_rules.specs.declared.candidate.Candidate.{Candidate}
 use Rattle.server_pool.specs.ByAddress.Beside.{no_more}
 use Rattle.server_pool.specs.ByAddress.{at_address}
-use Rattle.resolution.specs.Walking.{Walked}
-use Rattle.walk_tables.specs.Terms.{Terms, given_of}
-use Rattle.walk_tables.specs.Pools.{config_at, server_at, IsAt, IsMet, ServersHold, SoughtHolds, ArePool}
+use Rattle.walk_tables.specs.View.{View}
+use Rattle.walk_tables.specs.Pools.{config_at, server_at, IsAt, IsMet, ServersHold, SoughtHolds, AreFor}
 use Rattle.walk_tables.specs.declared.pools.Pools.{Pools}
 use Rattle.walk_tables.proofs.Pooling.{config-same}
 
@@ -142,26 +139,26 @@ first-of [] some = absurd (omega (arith, some))
 first-of (ip ∷ ips) some = ip
 
 -- What a lookup seeks that has just begun.
-pub begun-holds : (terms : Terms) (greatest now : ℕ) (log : Log) (zone : DomainName) (ips : List IpAddr) (numbers : List ℕ) (request : DnsRequest) (old new : Pools) (pool n : ℕ)
-    → IsTrue (is_above zone (walk request.query)) → Walked (given_of terms) log request.query zone → ArePool terms log (greatest + 1) zone ips → ServersHold terms old → AllZip (IsMet old) ips numbers
-    → (b : HasBegun pool numbers request now old.shared new.shared n) → (l : OpenLookup) → lookup_at new.shared n ≡ Some l → l.lookup ≡ b.lookup
+pub begun-holds : (seen : View) (zone : DomainName) (ips : List IpAddr) (numbers : List ℕ) (request : DnsRequest) (old new : Pools) (pool n : ℕ)
+    → AreFor seen request.query zone ips → ServersHold seen.setting old → AllZip (IsMet old) ips numbers
+    → (b : HasBegun pool numbers request seen.moment old.shared new.shared n) → (l : OpenLookup) → lookup_at new.shared n ≡ Some l → l.lookup ≡ b.lookup
     → configs new.shared.table ≡ configs old.shared.table
-    → SoughtHolds terms greatest now log new n (record { query = request.query; zone = zone; start = now; given = None; first = None; at = now })
-begun-holds terms greatest now log zone ips numbers request old new pool n above walked servers holds met b l there is same =
+    → SoughtHolds seen new n (record { query = request.query; zone = zone; start = seen.moment; given = None; first = None; at = seen.moment })
+begun-holds seen zone ips numbers request old new pool n served holds met b l there is same =
     let table = old.shared.table in
     let options = old.shared.context.options in
     let ordered = b.begins.ordered in
-    let permutation = ordered-same options table now (turn_at old.shared pool) numbers ordered b.begins.in_order in
-    let other = first-of ips servers.some in
+    let permutation = ordered-same options table seen.moment (turn_at old.shared pool) numbers ordered b.begins.in_order in
+    let other = first-of ips served.pool.some in
     let ip_of = address-of table other in
     let all = all-met table other ips numbers met in
     let met_each = recursion_from_All (IsThere table other) ordered (All-permutation (IsThere table other) numbers ordered permutation (All-from_recursion (IsThere table other) numbers all.1)) in
     let cs = map (candidate_of table) ordered in
     let whole : candidates table ordered ≡ cs = ap (map (candidate_of table)) (all-reached table other ordered met_each) in
-    let state : l.lookup ≡ begun request cs (side_by_side options) options.timeout now =
-    is ∙ b.begins.is ∙ ap (λ (xs : List Candidate). begun request xs (side_by_side options) options.timeout now) whole in
-    let with_all : begun_with l.lookup ≡ begun_with (fresh request cs (side_by_side options) options.timeout now) =
-    ap begun_with state ∙ round_same now (fresh request cs (side_by_side options) options.timeout now) in
+    let state : l.lookup ≡ begun request cs (side_by_side options) options.timeout seen.moment =
+    is ∙ b.begins.is ∙ ap (λ (xs : List Candidate). begun request xs (side_by_side options) options.timeout seen.moment) whole in
+    let with_all : begun_with l.lookup ≡ begun_with (fresh request cs (side_by_side options) options.timeout seen.moment) =
+    ap begun_with state ∙ round_same seen.moment (fresh request cs (side_by_side options) options.timeout seen.moment) in
     let config : (c : Candidate) → IsAt table (ip_of c.server) c → IsAt new.shared.table (ip_of c.server) c =
     λ c at. record { config = config-same table new.shared.table c.server (server_at (ip_of c.server)) same at.config; beyond_udp = at.beyond_udp; trusted = at.trusted } in
     let at_all : l.lookup.servers ≡ cs = ap (λ (x : BegunWith). x.servers) with_all in
@@ -172,12 +169,8 @@ begun-holds terms greatest now log zone ips numbers request old new pool n above
       starts = ap (λ (x : BegunWith). x.start) with_all;
       time = ap (λ (x : BegunWith). x.timeout) with_all ∙ holds.timeout;
       past = omega arith;
-      above = above;
-      walked = walked;
       ips = ips;
-      listed = servers.listed;
-      some = servers.some;
-      serve = servers.serve;
+      served = served;
       ip_of = ip_of;
       known = subst (λ (xs : List Candidate). All (λ c. IsAt new.shared.table (ip_of c.server) c) xs) (sym at_all)
           (All-weaker (λ c. IsAt table (ip_of c.server) c) (λ c. IsAt new.shared.table (ip_of c.server) c) config cs
@@ -186,14 +179,14 @@ begun-holds terms greatest now log zone ips numbers request old new pool n above
           (subst (λ (xs : List IpAddr). IsPermutation xs (map (at_address ip_of) cs)) all.0
           (subst (λ (xs : List IpAddr). IsPermutation (map ip_of numbers) xs) (sym (addresses-of table other ordered)) (IsPermutation-map ip_of numbers ordered permutation)));
       heard = [];
-      stands = subst (HoldsBy (denies terms.answer_filter) []) (sym state) (begun_by (denies terms.answer_filter) request cs (side_by_side options) options.timeout now (omega arith));
-      decided = λ answer at was. decided-now answer at (started_moment now (fresh request cs (side_by_side options) options.timeout now) answer at (sym (ap (λ (x : LookupState). x.state) state) ∙ was));
+      stands = subst (HoldsBy (denies seen.setting.answer_filter) []) (sym state) (begun_by (denies seen.setting.answer_filter) request cs (side_by_side options) options.timeout seen.moment (omega arith));
+      decided = λ answer at was. decided-now answer at (started_moment seen.moment (fresh request cs (side_by_side options) options.timeout seen.moment) answer at (sym (ap (λ (x : LookupState). x.state) state) ∙ was));
       ends = [];
       beside = no_more;
       tried = record { moments = []; logged = no_send; heard = tt; rises = tt; early = refl; began = tt; since = refl; till = refl; last = λ m is. absurd (none-some m is) };
       given = tt;
     }
   where
-    decided-now : (answer : Answered) (at : ℕ) → (at ≡ now) ⊎ (Asking ≡ Decided answer at) → at ≤ now
+    decided-now : (answer : Answered) (at : ℕ) → (at ≡ seen.moment) ⊎ (Asking ≡ Decided answer at) → at ≤ seen.moment
     decided-now answer at (inl is) = omega (arith, is)
     decided-now answer at (inr is) = cc

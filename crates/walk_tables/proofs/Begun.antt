@@ -3,7 +3,6 @@ use Rattle.std.proofs.Common.{◌≡◌, ℕ, ◌<◌, ◌≤◌, ◌==◌, ◌&
 use Rattle.std.specs.List.{AllZip}
 use Rattle.std.proofs.lemmas.Option.{same_Some, none-some}
 use Rattle.std.specs.declared.net.ip_addr.IpAddr.{IpAddr}
-use Rattle.dns_core.specs.Log.{Log}
 use Rattle.dns_core.specs.declared.errors.NoMemory.{NoMemory}
 use Rattle.dns_core.specs.declared.request.DnsRequest.{DnsRequest}
 use Rattle.server_core.specs.Servers.{Server}
@@ -14,7 +13,7 @@ use Rattle.server_pool.specs.Sending.{HasBegun, SentTo, HasSent}
 use Rattle.server_pool.specs.Shared.{Shared, lookup_at, lookup_of, SameBut}
 use Rattle.server_pool.specs.declared.open_lookup.OpenLookup.{OpenLookup}
 use Rattle.server_pool.specs.declared.pool_lookup.PoolLookup.{PoolLookup}
-use Rattle.walk_tables.specs.Terms.{Terms}
+use Rattle.walk_tables.specs.View.{View}
 use Rattle.walk_tables.specs.Pools.{AreNumbered, PoolsHold, SoughtHolds, IsMet, HasKept, HasLeft, sought_at, config_at, server_at}
 use Rattle.walk_tables.specs.declared.pools.Pools.{Pools}
 use Rattle.walk_tables.specs.declared.pools.Sought.{Sought}
@@ -25,16 +24,16 @@ use Rattle.walk_tables.proofs.Giving.{pools-given}
 -- ---- one more pool
 
 -- the pools hold after one more pool was numbered
-pub pools-numbered : (terms : Terms) (greatest moment : ℕ) (log : Log) (old new : Pools) (k : ℕ) → old.shared.pools ≤ k → new.shared ≡ record old.shared { pools = k } → new.numbers ≡ old.numbers
-    → new.sought ≡ old.sought → PoolsHold terms greatest moment log old → PoolsHold terms greatest moment log new
-pools-numbered terms greatest moment log old new k more is numbers sought h =
+pub pools-numbered : (seen : View) (old new : Pools) (k : ℕ) → old.shared.pools ≤ k → new.shared ≡ record old.shared { pools = k } → new.numbers ≡ old.numbers
+    → new.sought ≡ old.sought → PoolsHold seen old → PoolsHold seen new
+pools-numbered seen old new k more is numbers sought h =
     let table = ap (λ (shared : Shared). shared.table) is in
     let count : new.shared.pools ≡ k = ap (λ (shared : Shared). shared.pools) is in
     record {
-      servers = servers-with terms old new numbers (ap (λ (shared : Shared). shared.context) is) (λ n config at. subst (λ (t : List Server). config_at t n ≡ Some config) (sym table) at) h.servers;
+      servers = servers-with seen.setting old new numbers (ap (λ (shared : Shared). shared.context) is) (λ n config at. subst (λ (t : List Server). config_at t n ≡ Some config) (sym table) at) h.servers;
       numbered = numbered-same old.shared new.shared (ap (λ (shared : Shared). shared.lookups) is) (ap (λ (shared : Shared). shared.sent) is) (omega (arith, more, count)) h.numbered;
       lookups = λ m s at.
-          sought-carried terms greatest log moment m old new s (carried m) (h.lookups m s (sym (ap (λ sought. sought_at (record old { sought = sought }) m) sought) ∙ at));
+          sought-carried seen m old new s (carried m) (h.lookups m s (sym (ap (λ sought. sought_at (record old { sought = sought }) m) sought) ∙ at));
     }
   where
     carried : (m : ℕ) → IsCarried m old new
@@ -59,22 +58,22 @@ same_but-trans n a b c x y = record {
   orders = λ number m other is. y.orders number m other (x.orders number m other is);
 }
 
-module _ (terms : Terms) (greatest moment : ℕ) (log : Log) (n : ℕ) (s : Sought) (old mid new : Pools) (rest : SameBut n old.shared mid.shared) (numbered : AreNumbered mid.shared)
-    (numbers : mid.numbers ≡ old.numbers) (sought : mid.sought ≡ old.sought) (h : PoolsHold terms greatest moment log old) where
+module _ (seen : View) (n : ℕ) (s : Sought) (old mid new : Pools) (rest : SameBut n old.shared mid.shared) (numbered : AreNumbered mid.shared)
+    (numbers : mid.numbers ≡ old.numbers) (sought : mid.sought ≡ old.sought) (h : PoolsHold seen old) where
   was : (m : ℕ) → sought_at mid m ≡ sought_at old m
   was m = ap (λ t. sought_at (record old { sought = t }) m) sought
 
   -- it is kept
-  kept-begun : SoughtHolds terms greatest moment log mid n s → HasKept n s mid new → PoolsHold terms greatest moment log new
+  kept-begun : SoughtHolds seen mid n s → HasKept n s mid new → PoolsHold seen new
   kept-begun holds kept =
-      pools-given terms greatest moment log n old new (subst (λ (shared : Shared). SameBut n old.shared shared) (sym kept.same.shared) rest) (subst AreNumbered (sym kept.same.shared) numbered)
+      pools-given seen n old new (subst (λ (shared : Shared). SameBut n old.shared shared) (sym kept.same.shared) rest) (subst AreNumbered (sym kept.same.shared) numbered)
       (kept.same.numbers ∙ numbers) (λ m other. kept.others m other ∙ was m)
-      (λ t there. subst (SoughtHolds terms greatest moment log new n) (same_Some _ _ (sym kept.is ∙ there)) (sought-carried terms greatest log moment n mid new s (carried-same n mid new kept.same) holds)) h
+      (λ t there. subst (SoughtHolds seen new n) (same_Some _ _ (sym kept.is ∙ there)) (sought-carried seen n mid new s (carried-same n mid new kept.same) holds)) h
 
   -- it is left again, where memory is wanting: nothing was sought by it before
-  left-begun : lookup_at old.shared n ≡ None → HasLeft n mid new → PoolsHold terms greatest moment log new
+  left-begun : lookup_at old.shared n ≡ None → HasLeft n mid new → PoolsHold seen new
   left-begun fresh left =
-      pools-given terms greatest moment log n old new (same_but-trans n old.shared mid.shared new.shared rest (left-rest n mid.shared new.shared left.left))
+      pools-given seen n old new (same_but-trans n old.shared mid.shared new.shared rest (left-rest n mid.shared new.shared left.left))
       (left-numbered n mid.shared new.shared left.left left.last numbered) (left.numbers ∙ numbers)
       (λ m other. left.sought m ∙ was m)
       (λ t there.
@@ -82,8 +81,8 @@ module _ (terms : Terms) (greatest moment : ℕ) (log : Log) (n : ℕ) (s : Soug
       absurd (none-some before.shared_by (sym fresh ∙ before.there))) h
 
   -- The lookup has begun, or was left.
-  pub pools-begun : (result : Result PoolLookup NoMemory) (l : PoolLookup) → lookup_at old.shared n ≡ None → SoughtHolds terms greatest moment log mid n s
-      → IfOk result (λ kept. HasKept n s mid new × (kept ≡ l)) → OnErr result (HasLeft n mid new) → PoolsHold terms greatest moment log new
+  pub pools-begun : (result : Result PoolLookup NoMemory) (l : PoolLookup) → lookup_at old.shared n ≡ None → SoughtHolds seen mid n s
+      → IfOk result (λ kept. HasKept n s mid new × (kept ≡ l)) → OnErr result (HasLeft n mid new) → PoolsHold seen new
   pools-begun (Ok k) l fresh holds ok err = kept-begun holds ok.0
   pools-begun (Err e) l fresh holds ok err = left-begun fresh err
 

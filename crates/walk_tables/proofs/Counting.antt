@@ -4,7 +4,6 @@ use Rattle.std.proofs.lemmas.Option.{same_Some, none-some}
 use Rattle.std.specs.Prelude.{find, if◌then◌else◌}
 use Rattle.std.specs.declared.net.ip_addr.IpAddr.{IpAddr}
 use Rattle.dns_core.specs.Name.{DomainName}
-use Rattle.dns_core.specs.Log.{Log}
 use Rattle.dns_core.specs.declared.message.Query.{Query}
 use Rattle.dns_core.specs.declared.message.Message.{Message}
 use Rattle.dns_core.specs.declared.record.Record.{Record}
@@ -26,19 +25,19 @@ use Rattle.walk_base.proofs.Allowing.{verdict_allowed}
 use Rattle.walk_tables.specs.Asked.{AskedAs}
 use Rattle.walk_tables.specs.Lookup.{nothing_left_for, left_of_class, IsTold}
 use Rattle.walk_tables.specs.Remembered.{IsShown}
-use Rattle.walk_tables.specs.Terms.{Terms, given_of}
+use Rattle.walk_tables.specs.View.{View, given_of}
 
 -- ---- what counts
 
 -- A response was told that counts so, and is shown so.
-pub record Counts (terms : Terms) (greatest t0 : ℕ) (log : Log) (zone : DomainName) (q : Query) (entry at : ℕ) (v : Verdict) : Type 0 where
+pub record Counts (seen : View) (t0 : ℕ) (zone : DomainName) (q : Query) (entry at : ℕ) (v : Verdict) : Type 0 where
   pub outcome : ToldOutcome
   pub whole : Verdict
-  pub early : entry ≤ greatest
-  pub heard : Heard (given_of terms) log entry q outcome at zone
-  pub asked : AskedAs log entry q
+  pub early : entry ≤ seen.greatest
+  pub heard : Heard (given_of seen.setting) seen.log entry q outcome at zone
+  pub asked : AskedAs seen.log entry q
   pub late : t0 ≤ at
-  pub counts : verdict (given_of terms) outcome q zone ≡ Some whole
+  pub counts : verdict (given_of seen.setting) outcome q zone ≡ Some whole
   pub shown : IsShown q v whole
 
 -- What is left of a message counts without a filter as the message counts with it, where anything is left.
@@ -91,11 +90,11 @@ left-shown denied q Truncated class zone v left counts = cc
 left-shown denied q (Foreign r) class zone v left counts = cc
 
 -- the verdict of a class is that of what was told
-pub counts-of : (terms : Terms) (greatest t0 : ℕ) (log : Log) (zone : DomainName) (q : Query) (entry at : ℕ) (class : Result Message DnsError)
-    (v : Verdict) → IsTold terms greatest t0 log zone q entry at class
-    → verdict_of_told allows_all (Some (class_of_classified q class)) zone ≡ Some v → Counts terms greatest t0 log zone q entry at v
-counts-of terms greatest t0 log zone q entry at class v h is =
-    let shown = left-shown (access_denies terms.answer_filter) q h.response class zone v h.left is in
+pub counts-of : (seen : View) (t0 : ℕ) (zone : DomainName) (q : Query) (entry at : ℕ) (class : Result Message DnsError)
+    (v : Verdict) → IsTold seen t0 zone q entry at class
+    → verdict_of_told allows_all (Some (class_of_classified q class)) zone ≡ Some v → Counts seen t0 zone q entry at v
+counts-of seen t0 zone q entry at class v h is =
+    let shown = left-shown (access_denies seen.setting.answer_filter) q h.response class zone v h.left is in
     record {
       outcome = h.outcome;
       whole = shown.0;
@@ -103,6 +102,6 @@ counts-of terms greatest t0 log zone q entry at class v h is =
       heard = h.heard;
       asked = h.asked;
       late = h.late;
-      counts = ap (λ (c : Option Class). verdict_of_told (access_denies terms.answer_filter) c zone) h.is ∙ shown.1;
+      counts = ap (λ (c : Option Class). verdict_of_told (access_denies seen.setting.answer_filter) c zone) h.is ∙ shown.1;
       shown = shown.2;
     }

@@ -7,7 +7,6 @@ use Rattle.std.proofs.lemmas.Option.{same_Some}
 use Rattle.std.proofs.lemmas.List.Elements.{All-weaker, All-contains}
 use Rattle.std.proofs.lemmas.List.Sorted.{Contains-permutation, IsPermutation-sym}
 use Rattle.std.specs.declared.net.ip_addr.IpAddr.{IpAddr}
-use Rattle.dns_core.specs.Log.{Log}
 use Rattle.dns_core.specs.declared.message.Query.{Query}
 use Rattle.dns_core.specs.declared.request.DnsRequest.{DnsRequest}
 use Rattle.resolver_settings.specs.Access.{denies}
@@ -43,7 +42,7 @@ use Rattle.server_pool.specs.declared.pool_shared.PoolStep.TheVariants as gives
 use Rattle.server_pool.proofs.ByAddress.{address_from_pool}
 use Rattle.server_pool.proofs.Running.{next_runs, next_rest, order_goes}
 use Rattle.server_pool.proofs.UnderNumbers.{found_with}
-use Rattle.walk_tables.specs.Terms.{Terms, given_of}
+use Rattle.walk_tables.specs.View.{View, given_of}
 use Rattle.walk_tables.specs.Pools.{AreNumbered, PoolsHold, HasNoted, noted, either, sought_at, server_at, IsAt, IsSentTo, GivenHolds, SoughtHolds, aim_of}
 use Rattle.walk_tables.specs.declared.pools.Aim.{Aim}
 use Rattle.walk_tables.specs.declared.pools.Aim.TheVariants as aim
@@ -60,8 +59,8 @@ address-config : (o : Option Server) (config : NameServer) (ip : IpAddr) → opt
 address-config None config ip is at = cc
 address-config (Some server) config ip is at = ap (λ (c : NameServer). c.ip) (sym (same_Some _ _ is)) ∙ same_Some _ _ at
 
-module _ (terms : Terms) (greatest moment : ℕ) (log : Log) (old new : Pools) (n : ℕ) (s : Sought) (rest : SameBut n old.shared new.shared)
-    (h : SoughtHolds terms greatest moment log old n s) where
+module _ (seen : View) (old new : Pools) (n : ℕ) (s : Sought) (rest : SameBut n old.shared new.shared)
+    (h : SoughtHolds seen old n s) where
   -- how each candidate is reached stays
   pub known-still : (servers : List Candidate) → servers ≡ h.shared_by.lookup.servers → All (λ c. IsAt new.shared.table (h.ip_of c.server) c) servers
   known-still servers same =
@@ -75,21 +74,21 @@ module _ (terms : Terms) (greatest moment : ℕ) (log : Log) (old new : Pools) (
 
 -- ---- a step
 
-module _ (terms : Terms) (greatest now : ℕ) (log : Log) (old new : Pools) (n : ℕ) (s : Sought) (told : PoolStep) (h : SoughtHolds terms greatest now log old n s)
-    (t : HasStepped n now h.shared_by old.shared told new.shared) where
+module _ (seen : View) (old new : Pools) (n : ℕ) (s : Sought) (told : PoolStep) (h : SoughtHolds seen old n s)
+    (t : HasStepped n seen.moment h.shared_by old.shared told new.shared) where
   abbrev l : LookupState
   l = h.shared_by.lookup
 
   abbrev denied : IpAddr → Bool
-  denied = denies terms.answer_filter
+  denied = denies seen.setting.answer_filter
 
   -- the others are as they were
   pub step-rest : SameBut n old.shared new.shared
-  step-rest = next_rest n now h.shared_by old.shared new.shared told t
+  step-rest = next_rest n seen.moment h.shared_by old.shared new.shared told t
 
   -- it is there, and runs on
-  step-runs : RunsOn denied h.heard now n h.shared_by new.shared
-  step-runs = next_runs denied h.heard n now h.shared_by old.shared new.shared told h.there t h.stands
+  step-runs : RunsOn denied h.heard seen.moment n h.shared_by new.shared
+  step-runs = next_runs denied h.heard n seen.moment h.shared_by old.shared new.shared told h.there t h.stands
 
   abbrev next : LookupState
   next = step-runs.next.lookup
@@ -98,7 +97,7 @@ module _ (terms : Terms) (greatest now : ℕ) (log : Log) (old new : Pools) (n :
   same-servers = ap (λ (b : BegunWith). b.servers) step-runs.same
 
   -- What is sought by it, with this order.
-  step-holds : (given : Option Given) → IfSome given (λ g. GivenHolds terms greatest log new n s.zone next.servers next g g.aim) → SoughtHolds terms greatest now log new n (record s { given = given })
+  step-holds : (given : Option Given) → IfSome given (λ g. GivenHolds seen new n s.zone next.servers next g g.aim) → SoughtHolds seen new n (record s { given = given })
   step-holds given gave = record {
     shared_by = step-runs.next;
     there = step-runs.there;
@@ -106,14 +105,10 @@ module _ (terms : Terms) (greatest now : ℕ) (log : Log) (old new : Pools) (n :
     starts = ap (λ (b : BegunWith). b.start) step-runs.same ∙ h.starts;
     time = ap (λ (b : BegunWith). b.timeout) step-runs.same ∙ h.time;
     past = h.past;
-    above = h.above;
-    walked = h.walked;
     ips = h.ips;
-    listed = h.listed;
-    some = h.some;
-    serve = h.serve;
+    served = h.served;
     ip_of = h.ip_of;
-    known = known-still terms greatest now log old new n s step-rest h next.servers same-servers;
+    known = known-still seen old new n s step-rest h next.servers same-servers;
     whole = subst (λ (cs : List Candidate). IsPermutation h.ips (map (at_address h.ip_of) cs)) (sym same-servers) h.whole;
     heard = h.heard;
     stands = step-runs.stands;
@@ -129,7 +124,7 @@ module _ (terms : Terms) (greatest now : ℕ) (log : Log) (old new : Pools) (n :
   module _ (number : ℕ) (o : Order) (is : told ≡ gives.Order number o) where
     step-goes : (x : OpenLookup) × IsOpenOrder number n x new.shared × IsGivenFor old.shared.table number o x.lookup
     step-goes =
-        order_goes denied h.heard n now number h.shared_by old.shared new.shared o h.there (subst (λ (x : PoolStep). HasStepped n now h.shared_by old.shared x new.shared) is t) h.stands
+        order_goes denied h.heard n seen.moment number h.shared_by old.shared new.shared o h.there (subst (λ (x : PoolStep). HasStepped n seen.moment h.shared_by old.shared x new.shared) is t) h.stands
 
     of-number : lookup_of new.shared number ≡ Some n
     of-number = step-goes.1.order
@@ -148,19 +143,19 @@ module _ (terms : Terms) (greatest now : ℕ) (log : Log) (old new : Pools) (n :
     never-polled : (a : Attempt) → t.step.next.state ≡ Asking → find (is_open_at number) t.step.next.attempts ≡ Some a → pendings a.send.stage ≡ 0
     never-polled a asking found = by t.made (sym is ∙ t.is) t.step.gives
       where
-        idle : opens (old.shared.given + 1) (started now l) ≡ 0
-        idle = let less = opens_started (old.shared.given + 1) now l in let none = t.idle in omega (arith, less, none)
+        idle : opens (old.shared.given + 1) (started seen.moment l) ≡ 0
+        idle = let less = opens_started (old.shared.given + 1) seen.moment l in let none = t.idle in omega (arith, less, none)
 
-        by : (made : LookupStep) → gives.Order number o ≡ told_as (old.shared.given + 1) made → Gives (old.shared.given + 1) now old.shared.table (started now l) made t.step.next → pendings a.send.stage ≡ 0
+        by : (made : LookupStep) → gives.Order number o ≡ told_as (old.shared.given + 1) made → Gives (old.shared.given + 1) seen.moment old.shared.table (started seen.moment l) made t.step.next → pendings a.send.stage ≡ 0
         by (step.Order given) e g =
             let same : number ≡ old.shared.given + 1 = cc in
-            no-polls (old.shared.given + 1) now old.shared.table (started now l) given t.step.next idle g asking a
+            no-polls (old.shared.given + 1) seen.moment old.shared.table (started seen.moment l) given t.step.next idle g asking a
             (subst (λ (k : ℕ). find (is_open_at k) t.step.next.attempts ≡ Some a) same found)
         by step.Waiting e g = cc
         by (step.Done answer) e g = cc
 
     abbrev ordered-given : Aim → Given
-    ordered-given a = record { number = number; aim = a; since = greatest; polled = None }
+    ordered-given a = record { number = number; aim = a; since = seen.greatest; polled = None }
 
     module _ (asks : Bool) (ip : IpAddr) (to : IsSentOut old.shared.table number asks ip next) where
       from-pool : Contains l.servers to.candidate
@@ -176,18 +171,18 @@ module _ (terms : Terms) (greatest now : ℕ) (log : Log) (old new : Pools) (n :
       at-still : IsAt new.shared.table ip to.candidate
       at-still =
           subst (λ (x : IpAddr). IsAt new.shared.table x to.candidate) at-ip
-          (All-contains (λ c. IsAt new.shared.table (h.ip_of c.server) c) l.servers to.candidate (known-still terms greatest now log old new n s step-rest h l.servers refl) from-pool)
+          (All-contains (λ c. IsAt new.shared.table (h.ip_of c.server) c) l.servers to.candidate (known-still seen old new n s step-rest h l.servers refl) from-pool)
 
       -- it goes to one of the addresses of the zone, which serves it
-      serves-ip : Serves (given_of terms) log (greatest + 1) ip s.zone
+      serves-ip : Serves (given_of seen.setting) seen.log (seen.greatest + 1) ip s.zone
       serves-ip =
           let from : Contains h.ips ip =
           subst (Contains h.ips) at-ip
           (Contains-permutation (map (at_address h.ip_of) l.servers) h.ips (h.ip_of to.candidate.server) (IsPermutation-sym h.ips (map (at_address h.ip_of) l.servers) h.whole)
           (address_from_pool h.ip_of l.servers to.candidate from-pool)) in
-          All-contains (λ x. Serves (given_of terms) log (greatest + 1) x s.zone) h.ips ip h.serve from
+          All-contains (λ x. Serves (given_of seen.setting) seen.log (seen.greatest + 1) x s.zone) h.ips ip h.served.pool.serve from
 
-      sent-out : (a : Aim) → IsSentTo terms greatest log new n s.zone next.servers next (ordered-given a) asks ip
+      sent-out : (a : Aim) → IsSentTo seen new n s.zone next.servers next (ordered-given a) asks ip
       sent-out a = record {
         of = of-number;
         candidate = to.candidate;
@@ -200,47 +195,47 @@ module _ (terms : Terms) (greatest now : ℕ) (log : Log) (old new : Pools) (n :
       }
 
     -- the order, as it is kept, by what it does
-    kept-as : (x : Order) → IsGivenFor old.shared.table number x next → GivenHolds terms greatest log new n s.zone next.servers next (ordered-given (aim_of x)) (aim_of x)
+    kept-as : (x : Order) → IsGivenFor old.shared.table number x next → GivenHolds seen new n s.zone next.servers next (ordered-given (aim_of x)) (aim_of x)
     kept-as (order.Open ip config) to = sent-out false ip to (aim.Open ip)
     kept-as (order.Ask conn ip protocol request) to = sent-out true ip to.1 (aim.Ask ip)
     kept-as (order.Sleep until) under = (of-number, under)
 
     -- it goes to a server; a question to one of a zone at or above its name
-    goes-as : (x : Order) → IsGivenFor old.shared.table number x next → GoesToServer (given_of terms) log (greatest + 1) x
+    goes-as : (x : Order) → IsGivenFor old.shared.table number x next → GoesToServer (given_of seen.setting) seen.log (seen.greatest + 1) x
     goes-as (order.Open ip config) to = record { zone = s.zone; serves = serves-ip false ip to }
     goes-as (order.Ask conn ip protocol request) to =
         let query : request.query ≡ s.query = ap (λ (r : DnsRequest). r.query) (to.0 ∙ ap (λ (b : BegunWith). b.request) step-runs.same) ∙ h.asks in
         record {
           zone = s.zone;
           serves = serves-ip true ip to.1;
-          above = subst (λ (q : Query). IsTrue (is_above s.zone (walk q))) (sym query) h.above;
+          above = subst (λ (q : Query). IsTrue (is_above s.zone (walk q))) (sym query) h.served.above;
         }
     goes-as (order.Sleep until) under = tt
 
     -- What is sought by a lookup that gave it.
-    pub ordered-holds : SoughtHolds terms greatest now log new n (record s { given = Some (ordered-given (aim_of o)) })
+    pub ordered-holds : SoughtHolds seen new n (record s { given = Some (ordered-given (aim_of o)) })
     ordered-holds = step-holds (Some (ordered-given (aim_of o))) (kept-as o goes-to)
 
     -- And where it goes.
-    pub order-goes : GoesToServer (given_of terms) log (greatest + 1) o
+    pub order-goes : GoesToServer (given_of seen.setting) seen.log (seen.greatest + 1) o
     order-goes = goes-as o goes-to
 
   -- What is sought by one that has its answer, or waits.
-  pub done-holds : SoughtHolds terms greatest now log new n (record s { given = None })
+  pub done-holds : SoughtHolds seen new n (record s { given = None })
   done-holds = step-holds None tt
 
 -- ---- all of them
 
 -- One lookup has come on, or is forgotten.
-pub pools-given : (terms : Terms) (greatest moment : ℕ) (log : Log) (n : ℕ) (old new : Pools) → SameBut n old.shared new.shared → AreNumbered new.shared → new.numbers ≡ old.numbers
-    → ((m : ℕ) → m ≢ n → sought_at new m ≡ sought_at old m) → ((t : Sought) → sought_at new n ≡ Some t → SoughtHolds terms greatest moment log new n t)
-    → PoolsHold terms greatest moment log old → PoolsHold terms greatest moment log new
-pools-given terms greatest moment log n old new rest numbered numbers others holds h = record {
-  servers = servers-with terms old new numbers rest.servers.context (λ k config at. config-same old.shared.table new.shared.table k config rest.servers.configs at) h.servers;
+pub pools-given : (seen : View) (n : ℕ) (old new : Pools) → SameBut n old.shared new.shared → AreNumbered new.shared → new.numbers ≡ old.numbers
+    → ((m : ℕ) → m ≢ n → sought_at new m ≡ sought_at old m) → ((t : Sought) → sought_at new n ≡ Some t → SoughtHolds seen new n t)
+    → PoolsHold seen old → PoolsHold seen new
+pools-given seen n old new rest numbered numbers others holds h = record {
+  servers = servers-with seen.setting old new numbers rest.servers.context (λ k config at. config-same old.shared.table new.shared.table k config rest.servers.configs at) h.servers;
   numbered = numbered;
   lookups = λ m t there. ⊎_elim
-      (λ at. subst (λ (k : ℕ). SoughtHolds terms greatest moment log new k t) (sym at) (holds t (subst (λ (k : ℕ). sought_at new k ≡ Some t) at there)))
-      (λ other. sought-carried terms greatest log moment m old new t (carried-beside m n old new other rest) (h.lookups m t (sym (others m other) ∙ there)))
+      (λ at. subst (λ (k : ℕ). SoughtHolds seen new k t) (sym at) (holds t (subst (λ (k : ℕ). sought_at new k ≡ Some t) at there)))
+      (λ other. sought-carried seen m old new t (carried-beside m n old new other rest) (h.lookups m t (sym (others m other) ∙ there)))
       (cases_eq m n);
 }
 
@@ -265,43 +260,43 @@ ordered-noted given s = ap (λ (first : Option IpAddr). let t : Sought = record 
     either-none None = refl
     either-none (Some ip) = refl
 
-module _ (terms : Terms) (greatest now : ℕ) (log : Log) (n : ℕ) (told : PoolStep) (old mid new : Pools) (numbers : mid.numbers ≡ old.numbers) (sought : mid.sought ≡ old.sought)
-    (h : PoolsHold terms greatest now log old) (there : is_some (sought_at old n) ≡ true)
-    (steps : (l : OpenLookup) → lookup_at old.shared n ≡ Some l → HasStepped n now l old.shared told mid.shared) where
+module _ (seen : View) (n : ℕ) (told : PoolStep) (old mid new : Pools) (numbers : mid.numbers ≡ old.numbers) (sought : mid.sought ≡ old.sought)
+    (h : PoolsHold seen old) (there : is_some (sought_at old n) ≡ true)
+    (steps : (l : OpenLookup) → lookup_at old.shared n ≡ Some l → HasStepped n seen.moment l old.shared told mid.shared) where
   -- what is sought by it
   abbrev its : Sought
   its = (sought-there (sought_at old n) there).0
 
-  its-holds : SoughtHolds terms greatest now log old n its
+  its-holds : SoughtHolds seen old n its
   its-holds = h.lookups n its (sought-there (sought_at old n) there).1
 
-  its-step : HasStepped n now its-holds.shared_by old.shared told mid.shared
+  its-step : HasStepped n seen.moment its-holds.shared_by old.shared told mid.shared
   its-step = steps its-holds.shared_by its-holds.there
 
   -- One lookup was noted, and what is sought by it holds so.
-  pools-noted : (given : Option Given) → HasNoted n (noted given None None) mid new → SoughtHolds terms greatest now log mid n (ordered given its) → PoolsHold terms greatest now log new
+  pools-noted : (given : Option Given) → HasNoted n (noted given None None) mid new → SoughtHolds seen mid n (ordered given its) → PoolsHold seen new
   pools-noted given note holds =
       let was : (m : ℕ) → sought_at mid m ≡ sought_at old m = λ m. ap (λ t. sought_at (record old { sought = t }) m) sought in
-      pools-given terms greatest now log n old new
-      (subst (λ (shared : Shared). SameBut n old.shared shared) (sym note.same.shared) (step-rest terms greatest now log old mid n its told its-holds its-step))
-      (subst AreNumbered (sym note.same.shared) (stepped-numbered n now its-holds.shared_by old.shared mid.shared told its-step h.numbered))
+      pools-given seen n old new
+      (subst (λ (shared : Shared). SameBut n old.shared shared) (sym note.same.shared) (step-rest seen old mid n its told its-holds its-step))
+      (subst AreNumbered (sym note.same.shared) (stepped-numbered n seen.moment its-holds.shared_by old.shared mid.shared told its-step h.numbered))
       (note.same.numbers ∙ numbers) (λ m other. note.others m other ∙ was m)
       (λ t at.
       let s = noted-of (noted given None None) (sought_at mid n) t (sym note.is ∙ at) in
       let same : its ≡ s.0 = same_Some _ _ (sym (sought-there (sought_at old n) there).1 ∙ sym (was n) ∙ s.1) in
-      subst (SoughtHolds terms greatest now log new n) (ap (ordered given) same ∙ ordered-noted given s.0 ∙ s.2)
-      (sought-carried terms greatest log now n mid new (ordered given its) (carried-same n mid new note.same) holds)) h
+      subst (SoughtHolds seen new n) (ap (ordered given) same ∙ ordered-noted given s.0 ∙ s.2)
+      (sought-carried seen n mid new (ordered given its) (carried-same n mid new note.same) holds)) h
 
   -- The lookup gave the order.
-  pub pools-ordered : (number : ℕ) (o : Order) → told ≡ gives.Order number o → HasNoted n (noted (Some (record { number = number; aim = aim_of o; since = greatest; polled = None })) None None) mid new
-      → PoolsHold terms greatest now log new
+  pub pools-ordered : (number : ℕ) (o : Order) → told ≡ gives.Order number o → HasNoted n (noted (Some (record { number = number; aim = aim_of o; since = seen.greatest; polled = None })) None None) mid new
+      → PoolsHold seen new
   pools-ordered number o is note =
-      pools-noted (Some (record { number = number; aim = aim_of o; since = greatest; polled = None })) note (ordered-holds terms greatest now log old mid n its told its-holds its-step number o is)
+      pools-noted (Some (record { number = number; aim = aim_of o; since = seen.greatest; polled = None })) note (ordered-holds seen old mid n its told its-holds its-step number o is)
 
   -- It has its answer.
-  pub pools-done : HasNoted n (noted None None None) mid new → PoolsHold terms greatest now log new
-  pools-done note = pools-noted None note (done-holds terms greatest now log old mid n its told its-holds its-step)
+  pub pools-done : HasNoted n (noted None None None) mid new → PoolsHold seen new
+  pools-done note = pools-noted None note (done-holds seen old mid n its told its-holds its-step)
 
   -- The order goes to a server of what is sought.
-  pub pools-go : (number : ℕ) (o : Order) → told ≡ gives.Order number o → GoesToServer (given_of terms) log (greatest + 1) o
-  pools-go number o is = order-goes terms greatest now log old mid n its told its-holds its-step number o is
+  pub pools-go : (number : ℕ) (o : Order) → told ≡ gives.Order number o → GoesToServer (given_of seen.setting) seen.log (seen.greatest + 1) o
+  pools-go number o is = order-goes seen old mid n its told its-holds its-step number o is

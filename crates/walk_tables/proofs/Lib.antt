@@ -1,9 +1,8 @@
+pub mod Later
 pub mod Heard
 pub mod Sends
-pub mod Asked
 pub mod Sharing
 pub mod Waited
-pub mod KeptPools
 pub mod Pooling
 pub mod Meeting
 pub mod Beginning

@@ -15,7 +15,7 @@ use Rattle.std.proofs.lemmas.Option.{same_Some}
 use Rattle.server_core.specs.Context.{Context}
 use Rattle.server_core.specs.Servers.{Server, server_of}
 use Rattle.server_core.proofs.Places.{place-next}
-use Rattle.walk_tables.specs.Terms.{Terms}
+use Rattle.recursor_setting.specs.declared.setting.Setting.{Setting}
 use Rattle.walk_tables.specs.Pools.{config_at, first_delay_at, number_of, server_at, IsMet, IsGrown, ServersHold}
 use Rattle.walk_tables.specs.declared.pools.Pools.{Pools}
 use Rattle.walk_tables.proofs.Pooling.{config-before}
@@ -70,9 +70,9 @@ pub record IsAdded (ip : IpAddr) (server : Server) (n : ℕ) (old new : Pools) :
   pub config : server.config ≡ server_at ip
   pub numbers : (q : IpAddr) → number_of new q ≡ cond (tree.is_at (address.ghosts.cmp ip) q) (Some n) (number_of old q)
 
-module _ (terms : Terms) (ip : IpAddr) (server : Server) (n : ℕ) (old new : Pools) (a : IsAdded ip server n old new) where
+module _ (setting : Setting) (ip : IpAddr) (server : Server) (n : ℕ) (old new : Pools) (a : IsAdded ip server n old new) where
   -- the servers hold
-  pub servers-added : ServersHold terms old → ServersHold terms new
+  pub servers-added : ServersHold setting old → ServersHold setting new
   servers-added h = record {
     numbers = λ q k is. by q k (tree.is_at (address.ghosts.cmp ip) q) refl (sym (a.numbers q) ∙ is);
     timeout = ap (λ (c : Context). c.options.timeout) a.context ∙ h.timeout;

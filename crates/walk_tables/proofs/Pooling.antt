@@ -6,7 +6,6 @@ use Rattle.std.proofs.lemmas.Option.{slice_get-map, none-some}
 use Rattle.std.proofs.lemmas.List.Elements.{All-weaker}
 use Rattle.std.specs.declared.net.ip_addr.IpAddr.{IpAddr}
 use Rattle.dns_core.specs.Name.{DomainName}
-use Rattle.dns_core.specs.Log.{Log}
 use Rattle.resolver_settings.specs.NameServer.{NameServer}
 use Rattle.server_core.specs.Context.{Context}
 use Rattle.server_core.specs.Servers.{Server, place_of}
@@ -14,7 +13,8 @@ use Rattle.retry_lookup.specs.Lookup.{LookupState}
 use Rattle.server_pool.specs.Shared.{Shared, lookup_at, lookup_of, configs, SameBut}
 use Rattle.retry_rules.specs.declared.candidate.Candidate.{Candidate}
 use Rattle.server_pool.specs.declared.open_lookup.OpenLookup.{OpenLookup}
-use Rattle.walk_tables.specs.Terms.{Terms}
+use Rattle.recursor_setting.specs.declared.setting.Setting.{Setting}
+use Rattle.walk_tables.specs.View.{View}
 use Rattle.walk_tables.specs.Pools.{config_at, number_of, sought_at, server_at, IsAt, IsSentTo, GivenHolds, ServersHold, SoughtHolds, AreNumbered, PoolsHold, IsGrown, SamePools, HasForgotten, HasKept, HasLeft}
 use Rattle.walk_tables.specs.declared.pools.Aim.{Aim}
 use Rattle.walk_tables.specs.declared.pools.Aim.TheVariants as aim
@@ -72,12 +72,12 @@ carried-beside m n old new other b = record {
   orders = λ number is. b.orders number m other is;
 }
 
-module _ (terms : Terms) (greatest : ℕ) (log : Log) where
+module _ (seen : View) where
   at-carried : (n : ℕ) (old new : Pools) (x : IsCarried n old new) (ip : IpAddr) (c : Candidate) → IsAt old.shared.table ip c → IsAt new.shared.table ip c
   at-carried n old new x ip c at = record { config = x.reached c.server (server_at ip) at.config; beyond_udp = at.beyond_udp; trusted = at.trusted }
 
   sent-carried : (n : ℕ) (old new : Pools) → IsCarried n old new → (zone : DomainName) (pool : List Candidate) (l : LookupState) (g : Given) (asks : Bool) (ip : IpAddr)
-      → IsSentTo terms greatest log old n zone pool l g asks ip → IsSentTo terms greatest log new n zone pool l g asks ip
+      → IsSentTo seen old n zone pool l g asks ip → IsSentTo seen new n zone pool l g asks ip
   sent-carried n old new x zone pool l g asks ip h = record {
     of = x.orders g.number h.of;
     candidate = h.candidate;
@@ -90,31 +90,27 @@ module _ (terms : Terms) (greatest : ℕ) (log : Log) where
   }
 
   given-carried : (n : ℕ) (old new : Pools) → IsCarried n old new → (zone : DomainName) (pool : List Candidate) (l : LookupState) (g : Given) (a : Aim)
-      → GivenHolds terms greatest log old n zone pool l g a → GivenHolds terms greatest log new n zone pool l g a
+      → GivenHolds seen old n zone pool l g a → GivenHolds seen new n zone pool l g a
   given-carried n old new x zone pool l g (aim.Open ip) h = sent-carried n old new x zone pool l g false ip h
   given-carried n old new x zone pool l g (aim.Ask ip) h = sent-carried n old new x zone pool l g true ip h
   given-carried n old new x zone pool l g aim.Sleep h = (x.orders g.number h.0, h.1)
 
   given-some : (n : ℕ) (old new : Pools) → IsCarried n old new → (zone : DomainName) (pool : List Candidate) (l : LookupState) (o : Option Given)
-      → IfSome o (λ g. GivenHolds terms greatest log old n zone pool l g g.aim) → IfSome o (λ g. GivenHolds terms greatest log new n zone pool l g g.aim)
+      → IfSome o (λ g. GivenHolds seen old n zone pool l g g.aim) → IfSome o (λ g. GivenHolds seen new n zone pool l g g.aim)
   given-some n old new x zone pool l None h = tt
   given-some n old new x zone pool l (Some g) h = given-carried n old new x zone pool l g g.aim h
 
   -- what is sought by a lookup that is as it was
-  pub sought-carried : (moment n : ℕ) (old new : Pools) (s : Sought) → IsCarried n old new → SoughtHolds terms greatest moment log old n s → SoughtHolds terms greatest moment log new n s
-  sought-carried moment n old new s x h = record {
+  pub sought-carried : (n : ℕ) (old new : Pools) (s : Sought) → IsCarried n old new → SoughtHolds seen old n s → SoughtHolds seen new n s
+  sought-carried n old new s x h = record {
     shared_by = h.shared_by;
     there = x.there h.shared_by h.there;
     asks = h.asks;
     starts = h.starts;
     time = h.time;
     past = h.past;
-    above = h.above;
-    walked = h.walked;
     ips = h.ips;
-    listed = h.listed;
-    some = h.some;
-    serve = h.serve;
+    served = h.served;
     ip_of = h.ip_of;
     known = All-weaker (λ c. IsAt old.shared.table (h.ip_of c.server) c) (λ c. IsAt new.shared.table (h.ip_of c.server) c) (λ c at. at-carried n old new x (h.ip_of c.server) c at) h.shared_by.lookup.servers h.known;
     whole = h.whole;
@@ -130,67 +126,67 @@ module _ (terms : Terms) (greatest : ℕ) (log : Log) where
 -- ---- the servers
 
 -- with the same numbers, where each server is reached as it was, by the same settings
-pub servers-by : (terms : Terms) (old new : Pools) → ((ip : IpAddr) → number_of new ip ≡ number_of old ip) → new.shared.context ≡ old.shared.context
-    → ((k : ℕ) (config : NameServer) → config_at old.shared.table k ≡ Some config → config_at new.shared.table k ≡ Some config) → ServersHold terms old → ServersHold terms new
-servers-by terms old new numbers context reached h = record {
+pub servers-by : (setting : Setting) (old new : Pools) → ((ip : IpAddr) → number_of new ip ≡ number_of old ip) → new.shared.context ≡ old.shared.context
+    → ((k : ℕ) (config : NameServer) → config_at old.shared.table k ≡ Some config → config_at new.shared.table k ≡ Some config) → ServersHold setting old → ServersHold setting new
+servers-by setting old new numbers context reached h = record {
   numbers = λ ip k is. reached k (server_at ip) (h.numbers ip k (sym (numbers ip) ∙ is));
   timeout = ap (λ (c : Context). c.options.timeout) context ∙ h.timeout;
   filter = ap (λ (c : Context). c.answer_address_filter) context ∙ h.filter;
 }
 
-pub servers-with : (terms : Terms) (old new : Pools) → new.numbers ≡ old.numbers → new.shared.context ≡ old.shared.context
-    → ((k : ℕ) (config : NameServer) → config_at old.shared.table k ≡ Some config → config_at new.shared.table k ≡ Some config) → ServersHold terms old → ServersHold terms new
-servers-with terms old new numbers = servers-by terms old new (λ ip. ap (λ ns. number_of (record old { numbers = ns }) ip) numbers)
+pub servers-with : (setting : Setting) (old new : Pools) → new.numbers ≡ old.numbers → new.shared.context ≡ old.shared.context
+    → ((k : ℕ) (config : NameServer) → config_at old.shared.table k ≡ Some config → config_at new.shared.table k ≡ Some config) → ServersHold setting old → ServersHold setting new
+servers-with setting old new numbers = servers-by setting old new (λ ip. ap (λ ns. number_of (record old { numbers = ns }) ip) numbers)
 
-pub servers-same : (terms : Terms) (old new : Pools) → SamePools old new → ServersHold terms old → ServersHold terms new
-servers-same terms old new s = servers-with terms old new s.numbers (ap (λ (shared : Shared). shared.context) s.shared) (λ k config is. (carried-same k old new s).reached k config is)
+pub servers-same : (setting : Setting) (old new : Pools) → SamePools old new → ServersHold setting old → ServersHold setting new
+servers-same setting old new s = servers-with setting old new s.numbers (ap (λ (shared : Shared). shared.context) s.shared) (λ k config is. (carried-same k old new s).reached k config is)
 
-servers-left : (terms : Terms) (n : ℕ) (old new : Pools) → HasLeft n old new → ServersHold terms old → ServersHold terms new
-servers-left terms n old new left =
+servers-left : (setting : Setting) (n : ℕ) (old new : Pools) → HasLeft n old new → ServersHold setting old → ServersHold setting new
+servers-left setting n old new left =
     let rest = left-rest n old.shared new.shared left.left in
-    servers-with terms old new left.numbers rest.servers.context (λ k config is. config-same old.shared.table new.shared.table k config rest.servers.configs is)
+    servers-with setting old new left.numbers rest.servers.context (λ k config is. config-same old.shared.table new.shared.table k config rest.servers.configs is)
 
 -- ---- all of them
 
-module _ (terms : Terms) (greatest moment : ℕ) (log : Log) where
+module _ (seen : View) where
   -- where only what is sought by one lookup has changed, and that holds
   pools-one : (n : ℕ) (old new : Pools) → SamePools old new → ((m : ℕ) → m ≢ n → sought_at new m ≡ sought_at old m)
-      → ((s : Sought) → sought_at new n ≡ Some s → SoughtHolds terms greatest moment log new n s) → PoolsHold terms greatest moment log old → PoolsHold terms greatest moment log new
+      → ((s : Sought) → sought_at new n ≡ Some s → SoughtHolds seen new n s) → PoolsHold seen old → PoolsHold seen new
   pools-one n old new same others one h = record {
-    servers = servers-same terms old new same h.servers;
+    servers = servers-same seen.setting old new same h.servers;
     numbered = subst AreNumbered (sym same.shared) h.numbered;
     lookups = λ m s is. ⊎_elim
-        (λ at. subst (λ (k : ℕ). SoughtHolds terms greatest moment log new k s) (sym at) (one s (subst (λ (k : ℕ). sought_at new k ≡ Some s) at is)))
-        (λ other. sought-carried terms greatest log moment m old new s (carried-same m old new same) (h.lookups m s (sym (others m other) ∙ is)))
+        (λ at. subst (λ (k : ℕ). SoughtHolds seen new k s) (sym at) (one s (subst (λ (k : ℕ). sought_at new k ≡ Some s) at is)))
+        (λ other. sought-carried seen m old new s (carried-same m old new same) (h.lookups m s (sym (others m other) ∙ is)))
         (cases_eq m n);
   }
 
   -- one is forgotten
-  pub pools-forgotten : (n : ℕ) (old new : Pools) → HasForgotten n old new → PoolsHold terms greatest moment log old → PoolsHold terms greatest moment log new
+  pub pools-forgotten : (n : ℕ) (old new : Pools) → HasForgotten n old new → PoolsHold seen old → PoolsHold seen new
   pools-forgotten n old new f = pools-one n old new f.same f.others (λ s is. absurd (none-some s (sym f.none ∙ is)))
 
   -- one is kept that holds
-  pub pools-kept_with : (n : ℕ) (s : Sought) (old new : Pools) → HasKept n s old new → SoughtHolds terms greatest moment log new n s
-      → PoolsHold terms greatest moment log old → PoolsHold terms greatest moment log new
+  pub pools-kept_with : (n : ℕ) (s : Sought) (old new : Pools) → HasKept n s old new → SoughtHolds seen new n s
+      → PoolsHold seen old → PoolsHold seen new
   pools-kept_with n s old new k holds = pools-one n old new k.same k.others
-      (λ t is. subst (λ (o : Option Sought). IfSome o (SoughtHolds terms greatest moment log new n)) (sym k.is ∙ is) holds)
+      (λ t is. subst (λ (o : Option Sought). IfSome o (SoughtHolds seen new n)) (sym k.is ∙ is) holds)
 
   -- nothing is sought by the lookup that is left
-  pub pools-left : (n : ℕ) (old new : Pools) → HasLeft n old new → sought_at old n ≡ None → PoolsHold terms greatest moment log old → PoolsHold terms greatest moment log new
+  pub pools-left : (n : ℕ) (old new : Pools) → HasLeft n old new → sought_at old n ≡ None → PoolsHold seen old → PoolsHold seen new
   pools-left n old new left none h = record {
-    servers = servers-left terms n old new left h.servers;
+    servers = servers-left seen.setting n old new left h.servers;
     numbered = left-numbered n old.shared new.shared left.left left.last h.numbered;
     lookups = λ m s is.
         let before : sought_at old m ≡ Some s = sym (left.sought m) ∙ is in
         let other : m ≢ n = λ at. none-some s (sym none ∙ subst (λ (k : ℕ). sought_at old k ≡ Some s) at before) in
-        sought-carried terms greatest log moment m old new s (carried-beside m n old new other (left-rest n old.shared new.shared left.left)) (h.lookups m s before);
+        sought-carried seen m old new s (carried-beside m n old new other (left-rest n old.shared new.shared left.left)) (h.lookups m s before);
   }
 
   -- servers came behind the others
-  pub pools-grown : (old new : Pools) → IsGrown old new → ServersHold terms new → PoolsHold terms greatest moment log old → PoolsHold terms greatest moment log new
+  pub pools-grown : (old new : Pools) → IsGrown old new → ServersHold seen.setting new → PoolsHold seen old → PoolsHold seen new
   pools-grown old new g servers h = record {
     servers = servers;
     numbered = numbered-same old.shared new.shared g.lookups g.sent (let same = g.pools in omega (arith, same)) h.numbered;
     lookups = λ m s is.
-        sought-carried terms greatest log moment m old new s (carried-grown m old new g) (h.lookups m s (sym (ap (λ sought. sought_at (record old { sought = sought }) m) g.sought) ∙ is));
+        sought-carried seen m old new s (carried-grown m old new g) (h.lookups m s (sym (ap (λ sought. sought_at (record old { sought = sought }) m) g.sought) ∙ is));
   }

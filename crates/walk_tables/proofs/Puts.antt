@@ -1,5 +1,5 @@
 -- What a log has once an outcome was put.
-use Rattle.std.proofs.Common.{◌≡◌, ℕ, ◌≤◌, ◌<◌, Bool, true, false, max, Option, Some, None, Result, Ok, Err, IsErr, refl, sym, ap, subst, ◌∙◌, arith}
+use Rattle.std.proofs.Common.{◌≡◌, ℕ, ◌≤◌, ◌<◌, Bool, true, false, Option, Some, None, Result, Ok, Err, IsErr, refl, sym, ap, subst, ◌∙◌, arith}
 use Rattle.std.specs.Prelude.{if◌then◌else◌}
 use Rattle.dns_core.specs.Log.{Log, Extends}
 use Rattle.dns_core.specs.declared.errors.NoMemory.{NoMemory}
@@ -10,7 +10,8 @@ use Rattle.server_core.specs.declared.order.Outcome.TheVariants.{Pending, Connec
 use Rattle.server_core.specs.declared.order.Sent.{Sent}
 use Rattle.server_core.specs.declared.order.Tick.{Tick}
 use Rattle.order_carrier.proofs.Growing.{Extends-refl, Extends-trans}
-use Rattle.walk_tables.specs.Order.{TellsOutcome, is_given_up, LogGoesOnIf, LogGoesOn, closing_of, last_if, last_entry, IsPut}
+use Rattle.walk_tables.specs.Order.{TellsOutcome, is_given_up, LogGoesOnIf, LogGoesOn, closing_of, last_if, last_entry, IsPut, seen_with}
+use Rattle.walk_tables.specs.View.{View, Later}
 
 -- a log that stays goes on from itself
 same-extends : (told longer : Log) → longer ≡ told → Extends told longer
@@ -36,9 +37,11 @@ pub kept-extends : {E : Type 0} (moment : ℕ) (log : Log) (tick : Tick) (waits 
 kept-extends moment log tick waits o result {told} {longer} tells on =
     Extends-trans log told longer tells.extends (goes-extends (is_given_up result) tick.now waits o told longer on)
 
-pub longer-put : (greatest moment : ℕ) (log : Log) (tick : Tick) (waits : Option Sent) (o : Outcome) (result : Result After NoMemory) (longer : Log)
-    → IsPut greatest moment log tick waits o result longer → Extends log longer
-longer-put greatest moment log tick waits o result longer put = kept-extends moment log tick waits o result put.tells put.goes_on
+-- so far a machine has come with it
+pub later-put : (seen : View) (tick : Tick) (waits : Option Sent) (o : Outcome) (result : Result After NoMemory) (longer : Log) → IsPut seen tick waits o result longer
+    → Later seen (seen_with seen tick waits o result longer)
+later-put seen tick waits o result longer put =
+    record { setting = refl; patience = omega arith; greatest = omega arith; moment = put.on.tells.later; extends = kept-extends seen.moment seen.log tick waits o result put.on.tells put.on.goes_on }
 
 -- the last entry that is put is in the log
 last-in : (b : Bool) (now : ℕ) (waits : Option Sent) (o : Outcome) (told longer : Log) → entry_of o < told.next → LogGoesOnIf b now waits o told longer → last_if b waits o < longer.next
@@ -50,11 +53,11 @@ last-in true now (Some s) Slept told longer within on = subst (λ (l : Log). 0 <
 last-in true now None o told longer within on = subst (λ (l : Log). entry_of o < l.next) (sym on) within
 last-in false now waits o told longer within on = subst (λ (l : Log). entry_of o < l.next) (sym on) within
 
-pub last-within : (greatest moment : ℕ) (log : Log) (tick : Tick) (waits : Option Sent) (o : Outcome) (result : Result After NoMemory) (longer : Log)
-    → IsPut greatest moment log tick waits o result longer → max greatest (last_entry result waits o) < longer.next
-last-within greatest moment log tick waits o result longer put =
-    let x = longer-put greatest moment log tick waits o result longer put in
-    let last = last-in (is_given_up result) tick.now waits o put.told longer put.tells.fits.within put.goes_on in
+pub last-within : (seen : View) (tick : Tick) (waits : Option Sent) (o : Outcome) (result : Result After NoMemory) (longer : Log)
+    → IsPut seen tick waits o result longer → (seen_with seen tick waits o result longer).greatest < longer.next
+last-within seen tick waits o result longer put =
+    let x = (later-put seen tick waits o result longer put).extends in
+    let last = last-in (is_given_up result) tick.now waits o put.on.told longer put.on.tells.fits.within put.on.goes_on in
     let bound = put.bound in
     let later = x.later in
     omega (arith, bound, later, last)
@@ -69,9 +72,9 @@ last-later true now (Some s) Slept told longer on = omega arith
 last-later true now None o told longer on = omega arith
 last-later false now waits o told longer on = omega arith
 
-pub put-later : (greatest moment : ℕ) (log : Log) (tick : Tick) (waits : Option Sent) (o : Outcome) (result : Result After NoMemory) (longer : Log)
-    → IsPut greatest moment log tick waits o result longer → entry_of o ≤ last_entry result waits o
-put-later greatest moment log tick waits o result longer put = last-later (is_given_up result) tick.now waits o put.told longer put.goes_on
+pub put-later : (seen : View) (tick : Tick) (waits : Option Sent) (o : Outcome) (result : Result After NoMemory) (longer : Log)
+    → IsPut seen tick waits o result longer → entry_of o ≤ last_entry result waits o
+put-later seen tick waits o result longer put = last-later (is_given_up result) tick.now waits o put.on.told longer put.on.goes_on
 
 -- which it is, by whether the order is given up
 pub last-chosen : {E : Type 0} (result : Result After E) (waits : Option Sent) (o : Outcome) (last entry closing : ℕ) → last ≡ (if is_given_up result then closing else entry)
@@ -95,52 +98,49 @@ err-goes now waits o result told longer is on = subst (λ (b : Bool). LogGoesOnI
 pub err-last : {E : Type 0} (waits : Option Sent) (o : Outcome) (result : Result After E) → IsErr result → last_entry result waits o ≡ closing_of waits o
 err-last waits o result is = ap (λ (b : Bool). last_if b waits o) (err-given_up result is)
 
-pub err-is : (greatest moment : ℕ) (log : Log) (tick : Tick) (waits : Option Sent) (o : Outcome) (result : Result After NoMemory) (e : NoMemory) (longer : Log) → IsErr result
-    → IsPut greatest moment log tick waits o result longer → IsPut greatest moment log tick waits o (Err e) longer
-err-is greatest moment log tick waits o result e longer is put = record {
+pub err-is : (seen : View) (tick : Tick) (waits : Option Sent) (o : Outcome) (result : Result After NoMemory) (e : NoMemory) (longer : Log) → IsErr result
+    → IsPut seen tick waits o result longer → IsPut seen tick waits o (Err e) longer
+err-is seen tick waits o result e longer is put = record {
+  patient = put.patient;
   bound = put.bound;
   next = put.next;
-  told = put.told;
-  tells = put.tells;
-  goes_on = err-goes tick.now waits o result put.told longer is put.goes_on;
+  on = record { told = put.on.told; tells = put.on.tells; goes_on = err-goes tick.now waits o result put.on.told longer is put.on.goes_on };
 }
 
 -- An outcome that did something before memory was wanting was put by a log from which the other one goes on, and by no later entry.
-pub record WasPut (greatest moment : ℕ) (log : Log) (tick : Tick) (waits : Option Sent) (o : Outcome) (result : Result After NoMemory) (longer : Log) : Type 0 where
+pub record WasPut (seen : View) (tick : Tick) (waits : Option Sent) (o : Outcome) (result : Result After NoMemory) (longer : Log) : Type 0 where
   pub by : Log
-  pub put : IsPut greatest moment log tick waits o result by
+  pub put : IsPut seen tick waits o result by
   pub extends : Extends by longer
   pub last : last_entry result waits o ≤ closing_of waits o
 
-pub was-put : (greatest moment : ℕ) (log : Log) (tick : Tick) (waits : Option Sent) (o : Outcome) (result fault : Result After NoMemory) (longer : Log) → IsErr fault
-    → IsPut greatest moment log tick waits o fault longer → WasPut greatest moment log tick waits o result longer
-was-put greatest moment log tick waits o result fault longer is put = by_result (is_given_up result) refl
+pub was-put : (seen : View) (tick : Tick) (waits : Option Sent) (o : Outcome) (result fault : Result After NoMemory) (longer : Log) → IsErr fault
+    → IsPut seen tick waits o fault longer → WasPut seen tick waits o result longer
+was-put seen tick waits o result fault longer is put = by_result (is_given_up result) refl
   where
-    on : LogGoesOnIf true tick.now waits o put.told longer
-    on = err-goes tick.now waits o fault put.told longer is put.goes_on
+    on : LogGoesOnIf true tick.now waits o put.on.told longer
+    on = err-goes tick.now waits o fault put.on.told longer is put.on.goes_on
 
-    by_result : (b : Bool) → is_given_up result ≡ b → WasPut greatest moment log tick waits o result longer
+    by_result : (b : Bool) → is_given_up result ≡ b → WasPut seen tick waits o result longer
     by_result true at = record {
       by = longer;
       put = record {
+        patient = put.patient;
         bound = put.bound;
         next = put.next;
-        told = put.told;
-        tells = put.tells;
-        goes_on = subst (λ (b : Bool). LogGoesOnIf b tick.now waits o put.told longer) (sym at) on;
+        on = record { told = put.on.told; tells = put.on.tells; goes_on = subst (λ (b : Bool). LogGoesOnIf b tick.now waits o put.on.told longer) (sym at) on };
       };
       extends = Extends-refl longer;
       last = let same = ap (λ (b : Bool). last_if b waits o) at in omega (arith, same);
     }
     by_result false at = record {
-      by = put.told;
+      by = put.on.told;
       put = record {
+        patient = put.patient;
         bound = put.bound;
         next = put.next;
-        told = put.told;
-        tells = put.tells;
-        goes_on = subst (λ (b : Bool). LogGoesOnIf b tick.now waits o put.told put.told) (sym at) refl;
+        on = record { told = put.on.told; tells = put.on.tells; goes_on = subst (λ (b : Bool). LogGoesOnIf b tick.now waits o put.on.told put.on.told) (sym at) refl };
       };
-      extends = goes-extends true tick.now waits o put.told longer on;
-      last = let same = ap (λ (b : Bool). last_if b waits o) at in let later = last-later true tick.now waits o put.told longer on in omega (arith, same, later);
+      extends = goes-extends true tick.now waits o put.on.told longer on;
+      last = let same = ap (λ (b : Bool). last_if b waits o) at in let later = last-later true tick.now waits o put.on.told longer on in omega (arith, same, later);
     }

@@ -2,7 +2,6 @@
 use Rattle.std.proofs.Common.{◌≡◌, ◌≢◌, ℕ, ◌+◌, ◌≤◌, ◌<◌, Bool, true, false, not, List, [], ◌∷◌, ◌++◌, map, length, Contains, Option, Some, None, IfSome, ⊎_elim, refl, sym, ap, subst, ◌∙◌, arith}
 use Rattle.std.specs.Prelude.{◌==◌}
 use Rattle.std.specs.List.Sorted.{IsPermutation}
-use Rattle.std.proofs.lemmas.Bool.{cases_eq}
 use Rattle.std.proofs.lemmas.Option.{same_Some}
 use Rattle.std.proofs.lemmas.List.{map-append}
 use Rattle.std.proofs.lemmas.List.Elements.{All-contains}
@@ -14,7 +13,7 @@ use Rattle.resolver_settings.specs.Access.{denies}
 use Rattle.resolver_settings.specs.NameServer.{NameServer}
 use Rattle.resolution.specs.Ending.{waits}
 use Rattle.resolution.specs.Lookups.{Answered, End, class_of_answer}
-use Rattle.resolution.proofs.FailuresKept.{waits-extend, Walked-extend}
+use Rattle.resolution.proofs.FailuresKept.{waits-extend}
 use Rattle.server_core.specs.Order.{entry_of}
 use Rattle.server_core.specs.Sending.{pendings, after_put}
 use Rattle.server_core.specs.declared.order.After.{After}
@@ -40,7 +39,7 @@ use Rattle.server_pool.proofs.Beside.{beside_push}
 use Rattle.server_pool.proofs.ByAddress.{address_from_pool}
 use Rattle.order_carrier.specs.Fits.{WaitsBy, OutcomeIs}
 use Rattle.walk_tables.specs.Order.{TellsOutcome, LogGoesOn, last_entry}
-use Rattle.walk_tables.specs.Terms.{Terms, given_of}
+use Rattle.walk_tables.specs.View.{View, Later, seen_at}
 use Rattle.walk_tables.specs.Tried.{Tried, Began, BeganBy}
 use Rattle.walk_tables.specs.Pools.{AreNumbered, PoolsHold, sought_at, server_at, IsAt, IsWaitedFor, IsSentTo, GivenHolds, SoughtHolds, MayTake, either, sent_to, polled_by, given_after}
 use Rattle.walk_tables.specs.declared.pools.Aim.{Aim}
@@ -48,9 +47,9 @@ use Rattle.walk_tables.specs.declared.pools.Aim.TheVariants as aim
 use Rattle.walk_tables.specs.declared.pools.Given.{Given}
 use Rattle.walk_tables.specs.declared.pools.Pools.{Pools}
 use Rattle.walk_tables.specs.declared.pools.Sought.{Sought}
-use Rattle.walk_tables.proofs.KeptPools.{serves-kept, servers-kept, listed-kept, began-kept, sought-kept}
-use Rattle.walk_tables.proofs.Pooling.{config-same, servers-with, carried-beside, sought-carried}
-use Rattle.walk_tables.proofs.Giving.{known-still}
+use Rattle.walk_tables.proofs.Later.{serves-on, for-on, began-kept, pools-later}
+use Rattle.walk_tables.proofs.Pooling.{config-same}
+use Rattle.walk_tables.proofs.Giving.{known-still, pools-given}
 use Rattle.walk_tables.proofs.Sends.{outcome-extend, waits-extend_by}
 use Rattle.walk_tables.proofs.Ends.{IsEndedBy, done-so, ended-by, ended-last}
 use Rattle.walk_tables.proofs.Taken.{open-did, heard-none, heard-some, keeps, kept-open, kept-has, heard-sleep, rests-under, rests-has}
@@ -77,9 +76,16 @@ began-none log q greatest first (n ∷ ns) ends start none b = cc
 
 -- ---- an outcome
 
-module _ (terms : Terms) (greatest moment last : ℕ) (log told longer : Log) (x : Extends log told) (y : Extends told longer) (whole : Extends log longer) (old new : Pools) (n : ℕ) (s : Sought) (tick : Tick) (w : Option Sent)
-    (o : Outcome) (patient : terms.patience ≤ tick.patience) (later : moment ≤ tick.now) (le : greatest ≤ last) (rest : SameBut n old.shared new.shared) (h : SoughtHolds terms greatest moment log old n s) (g : Given)
-    (there : lookup_at new.shared n ≡ Some (moved_to (after_outcome (denies terms.answer_filter) tick g.number o h.shared_by.lookup) h.shared_by)) where
+module _ (seen : View) (last : ℕ) (told longer : Log) (x : Extends seen.log told) (y : Extends told longer) (whole : Extends seen.log longer) (old new : Pools) (n : ℕ) (s : Sought) (tick : Tick) (w : Option Sent)
+    (o : Outcome) (patient : seen.setting.patience ≤ tick.patience) (later : seen.moment ≤ tick.now) (le : seen.greatest ≤ last) (rest : SameBut n old.shared new.shared) (h : SoughtHolds seen old n s) (g : Given)
+    (there : lookup_at new.shared n ≡ Some (moved_to (after_outcome (denies seen.setting.answer_filter) tick g.number o h.shared_by.lookup) h.shared_by)) where
+  -- so far the machine has come then
+  abbrev next : View
+  next = seen_at seen.setting last tick.now longer
+
+  ahead : Later seen next
+  ahead = record { setting = refl; patience = omega arith; greatest = le; moment = later; extends = whole }
+
   abbrev number : ℕ
   number = g.number
 
@@ -87,7 +93,7 @@ module _ (terms : Terms) (greatest moment last : ℕ) (log told longer : Log) (x
   l = h.shared_by.lookup
 
   abbrev denied : IpAddr → Bool
-  denied = denies terms.answer_filter
+  denied = denies seen.setting.answer_filter
 
   -- what the lookup has come to
   abbrev come : LookupState
@@ -105,9 +111,9 @@ module _ (terms : Terms) (greatest moment last : ℕ) (log told longer : Log) (x
   -- What is sought by it, where these ends were heard.
   come-holds : (heard : List HeardEnd) → heard_after tick.patience number o h.heard l ≡ heard → (ends : List (End IpAddr)) → (given : Option Given) → (first : Option IpAddr) → (at : ℕ)
       → SameEnds (at_address h.ip_of) (class_of_sent s.query) (class_of_answer s.query) (ends_of heard) ends
-      → Tried terms last tick.now longer s.zone s.query h.ips s.start first (entries_of heard) ends at
-      → IfSome given (λ g. GivenHolds terms last longer new n s.zone come.servers come g g.aim)
-      → SoughtHolds terms last tick.now longer new n (record s { given = given; first = first; at = at })
+      → Tried next s.zone s.query h.ips s.start first (entries_of heard) ends at
+      → IfSome given (λ g. GivenHolds next new n s.zone come.servers come g g.aim)
+      → SoughtHolds next new n (record s { given = given; first = first; at = at })
   come-holds heard is ends given first at beside tried gave =
       let past = h.past in
       record {
@@ -117,14 +123,10 @@ module _ (terms : Terms) (greatest moment last : ℕ) (log told longer : Log) (x
         starts = ap (λ (b : BegunWith). b.start) come-same ∙ h.starts;
         time = ap (λ (b : BegunWith). b.timeout) come-same ∙ h.time;
         past = omega (arith, past, later);
-        above = h.above;
-        walked = Walked-extend (given_of terms) terms.patience (omega arith) log longer whole s.query s.zone h.walked;
         ips = h.ips;
-        listed = listed-kept terms log longer whole s.zone h.ips h.listed;
-        some = h.some;
-        serve = servers-kept terms log longer whole (greatest + 1) (last + 1) s.zone h.ips (omega (arith, le)) h.serve;
+        served = for-on seen next ahead s.query s.zone h.ips h.served;
         ip_of = h.ip_of;
-        known = known-still terms greatest moment log old new n s rest h come.servers come-servers;
+        known = known-still seen old new n s rest h come.servers come-servers;
         whole = subst (λ (cs : List Candidate). IsPermutation h.ips (map (at_address h.ip_of) cs)) (sym come-servers) h.whole;
         heard = heard;
         stands = subst (λ (hs : List HeardEnd). HoldsBy denied hs come) is come-stands;
@@ -138,8 +140,8 @@ module _ (terms : Terms) (greatest moment last : ℕ) (log told longer : Log) (x
 
   -- ---- of a send
 
-  module _ (asks : Bool) (ip : IpAddr) (sent : IsSentTo terms greatest log old n s.zone l.servers l g asks ip) (under : greatest < entry_of o) (ended : Bool)
-      (ended-is : ended ≡ not (length l.closed_by == 0)) (may : MayTake s.start s.query s.first ended g.since g.polled asks ip w o) (tells : TellsOutcome moment log tick w o told) (did : After)
+  module _ (asks : Bool) (ip : IpAddr) (sent : IsSentTo seen old n s.zone l.servers l g asks ip) (under : seen.greatest < entry_of o) (ended : Bool)
+      (ended-is : ended ≡ not (length l.closed_by == 0)) (may : MayTake s.start s.query s.first ended g.since g.polled asks ip w o) (tells : TellsOutcome seen.moment seen.log tick w o told) (did : After)
       (goes : LogGoesOn tick.now w o (done-so did) told longer) (last-is : last ≡ last_entry (done-so did) w o) (past-entry : entry_of o ≤ last) (did-is : did ≡ done_by tick.patience number o l)
       (order : has_order number come ≡ true → lookup_of new.shared number ≡ Some n) where
     abbrev c : Candidate
@@ -176,13 +178,13 @@ module _ (terms : Terms) (greatest moment last : ℕ) (log told longer : Log) (x
         (address_from_pool h.ip_of l.servers c sent.from_pool))
 
     -- with this poll it was waited for as often as it was polled
-    enough-by : (p : Outcome) → greatest < entry_of p → MayTake s.start s.query s.first ended g.since g.polled asks ip w p → WaitsBy told w p → entry_of p < told.next → (entry of : ℕ) → p ≡ Pending entry of
+    enough-by : (p : Outcome) → seen.greatest < entry_of p → MayTake s.start s.query s.first ended g.since g.polled asks ip w p → WaitsBy told w p → entry_of p < told.next → (entry of : ℕ) → p ≡ Pending entry of
         → pendings sent.open_to.attempt.send.stage + 1 ≤ waits longer of (entry + 1)
     enough-by p up may by within entry of is =
         at_sent w (subst (λ (q : Outcome). MayTake s.start s.query s.first ended g.since g.polled asks ip w q) is may) (subst (λ (q : Outcome). WaitsBy told w q) is by)
       where
-        low : greatest < entry
-        low = subst (λ (q : Outcome). greatest < entry_of q) is up
+        low : seen.greatest < entry
+        low = subst (λ (q : Outcome). seen.greatest < entry_of q) is up
 
         inside : entry < told.next
         inside = subst (λ (q : Outcome). entry_of q < told.next) is within
@@ -191,7 +193,7 @@ module _ (terms : Terms) (greatest moment last : ℕ) (log told longer : Log) (x
             → pendings sent.open_to.attempt.send.stage + 1 ≤ waits longer of (entry + 1)
         at_sent None may by = absurd may
         at_sent (Some v) may by =
-            let many = polled-more greatest entry log told x g.polled of (pendings sent.open_to.attempt.send.stage) sent.polled may.1 low (by may.0).logged in
+            let many = polled-more seen entry told x g.polled of (pendings sent.open_to.attempt.send.stage) sent.polled may.1 low (by may.0).logged in
             let kept = waits-extend told longer y of (entry + 1) (omega (arith, inside)) in
             omega (arith, many, kept)
 
@@ -214,19 +216,17 @@ module _ (terms : Terms) (greatest moment last : ℕ) (log told longer : Log) (x
       entry-last : (p : Outcome) → (entry of : ℕ) → p ≡ Pending entry of → last ≡ last_entry (done-so after.Kept) w p → last ≡ entry
       entry-last p entry of is at = at ∙ ap entry_of is
 
-      polled-once : (still : IsOpenTo number c asks come) → pendings still.attempt.send.stage ≡ pendings sent.open_to.attempt.send.stage + 1 → IsWaitedFor last longer (polled_by o) (pendings still.attempt.send.stage)
+      polled-once : (still : IsOpenTo number c asks come) → pendings still.attempt.send.stage ≡ pendings sent.open_to.attempt.send.stage + 1 → IsWaitedFor next (polled_by o) (pendings still.attempt.send.stage)
       polled-once still polls =
           let k = keeps denied tick number o h.heard l c asks sent.open_to did did-is kept in
           let at : last ≡ k.entry = entry-last o k.entry k.of k.is (last-is ∙ ap (λ (d : After). last_entry (done-so d) w o) kept) in
           let within : k.entry < told.next = subst (λ (q : Outcome). entry_of q < told.next) k.is tells.fits.within in
           let longer_than = y.later in
-          let waits_so : IsWaitedFor k.entry longer (Some k.of) (pendings sent.open_to.attempt.send.stage + 1) =
-          polled-waited k.entry longer k.of (pendings sent.open_to.attempt.send.stage) (omega (arith, within, longer_than)) (enough k.entry k.of k.is) in
-          subst (λ (m : ℕ). IsWaitedFor m longer (polled_by o) (pendings still.attempt.send.stage)) (sym at)
-          (subst (λ (q : Option ℕ). IsWaitedFor k.entry longer q (pendings still.attempt.send.stage)) (sym (ap polled_by k.is))
-          (subst (λ (m : ℕ). IsWaitedFor k.entry longer (Some k.of) m) (sym polls) waits_so))
+          let waits_so = polled-waited next k.entry k.of (pendings sent.open_to.attempt.send.stage) (omega (arith, at)) (omega (arith, within, longer_than)) (enough k.entry k.of k.is) in
+          subst (λ (q : Option ℕ). IsWaitedFor next q (pendings still.attempt.send.stage)) (sym (ap polled_by k.is))
+          (subst (λ (m : ℕ). IsWaitedFor next (Some k.of) m) (sym polls) waits_so)
 
-      sent-still : IsSentTo terms last longer new n s.zone come.servers come again asks ip
+      sent-still : IsSentTo next new n s.zone come.servers come again asks ip
       sent-still =
           let past = sent.past in
           let still = kept-open denied tick number o h.heard l c asks sent.open_to did did-is kept in
@@ -241,12 +241,12 @@ module _ (terms : Terms) (greatest moment last : ℕ) (log told longer : Log) (x
             };
             open_to = still.0;
             past = omega (arith, past, le);
-            serves = serves-kept terms log longer whole (g.since + 1) (g.since + 1) ip s.zone (omega arith) sent.serves;
+            serves = serves-on seen next ahead (g.since + 1) (g.since + 1) ip s.zone (omega arith) sent.serves;
             polled = polled-once still.0 still.1;
           }
 
-    module _ (as-given : IsSentTo terms last longer new n s.zone come.servers come again asks ip → GivenHolds terms last longer new n s.zone come.servers come again again.aim) where
-      given-still : (d : After) → did ≡ d → IfSome (given_after again d) (λ k. GivenHolds terms last longer new n s.zone come.servers come k k.aim)
+    module _ (as-given : IsSentTo next new n s.zone come.servers come again asks ip → GivenHolds next new n s.zone come.servers come again again.aim) where
+      given-still : (d : After) → did ≡ d → IfSome (given_after again d) (λ k. GivenHolds next new n s.zone come.servers come k k.aim)
       given-still after.Kept is = as-given (sent-still is)
       given-still after.GiveUp is = tt
       given-still after.Ended is = tt
@@ -254,36 +254,36 @@ module _ (terms : Terms) (greatest moment last : ℕ) (log told longer : Log) (x
 
       -- by whether the send ended
       taken-by : (result : Option Answered) → end_by tick.patience o sent.open_to.attempt ≡ result
-          → SoughtHolds terms last tick.now longer new n (record s { given = given_after again did; first = either s.first (sent_to w o); at = elim result [ None ↦ s.at | Some r ↦ tick.now ] })
+          → SoughtHolds next new n (record s { given = given_after again did; first = either s.first (sent_to w o); at = elim result [ None ↦ s.at | Some r ↦ tick.now ] })
       taken-by None is =
           come-holds h.heard (heard-none denied tick number o h.heard l c asks sent.open_to is) h.ends (given_after again did) (either s.first (sent_to w o)) s.at h.beside
-          (tried-on terms greatest moment tick.now log longer whole s.zone s.query h.ips s.start s.first (sent_to w o) ns h.ends s.at last h.tried le later first-began) (given-still did refl)
+          (tried-on seen next ahead s.zone s.query h.ips s.start s.first (sent_to w o) ns h.ends s.at h.tried first-began) (given-still did refl)
       taken-by (Some r) is =
           let past = h.past in
           let start : s.start ≤ tick.now = omega (arith, past, later) in
-          let came = ended-by terms longer tick.now g.since s.zone s.query ip (serves-kept terms log longer whole (g.since + 1) (g.since + 1) ip s.zone (omega arith) sent.serves) h.above
+          let came = ended-by next tick.now g.since s.zone s.query ip (serves-on seen next ahead (g.since + 1) (g.since + 1) ip s.zone (omega arith) sent.serves) h.served.above
           tick.patience s.start s.first ended asks g.polled sent.open_to.attempt.send told did r patient sent.open_to.form w o may fits tells.waits_by goes did-put enough is in
           let closing : last ≡ closing_entry o =
-          last-is ∙ ended-last terms longer tick.now g.since s.zone s.query ip (serves-kept terms log longer whole (g.since + 1) (g.since + 1) ip s.zone (omega arith) sent.serves) h.above
+          last-is ∙ ended-last next tick.now g.since s.zone s.query ip (serves-on seen next ahead (g.since + 1) (g.since + 1) ip s.zone (omega arith) sent.serves) h.served.above
           tick.patience s.start s.first ended asks g.polled sent.open_to.attempt.send told did r patient sent.open_to.form w o may did-put is in
-          let by = subst (λ (k : ℕ). IsEndedBy terms longer tick.now k s.zone s.query ip r) (sym closing) came.0 in
-          let kept = began-kept longer longer (record { later = omega arith; kept = λ n h. refl }) s.query last last s.first ns h.ends s.start (omega arith) (began-kept log longer whole s.query greatest last s.first ns h.ends s.start le h.tried.began) in
+          let by = subst (λ (k : ℕ). IsEndedBy next tick.now k s.zone s.query ip r) (sym closing) came.0 in
+          let kept = began-kept longer longer (record { later = omega arith; kept = λ n h. refl }) s.query last last s.first ns h.ends s.start (omega arith) (began-kept seen.log longer whole s.query seen.greatest last s.first ns h.ends s.start le h.tried.began) in
           let here : ns ≡ [] → BeganBy longer s.query ip last s.start = λ none.
           -- the first end is at the address to which the first send went
           subst (λ (to : Option IpAddr). IfSome to (λ to. BeganBy longer s.query to last s.start)) came.1 (first-began none (began-none longer s.query last s.first ns h.ends s.start none kept)) in
           let end : End IpAddr = record { server = ip; outcome = by.outcome } in
-          let below : greatest < last = omega (arith, under, past-entry) in
-          let more = tried-more terms greatest moment tick.now log longer whole s.zone s.query h.ips s.start s.first (either s.first (sent_to w o)) ns h.ends s.at last ip r by h.tried below later start from-ips here in
+          let below : seen.greatest < last = omega (arith, under, past-entry) in
+          let more = tried-more seen next ahead s.zone s.query h.ips s.start s.first (either s.first (sent_to w o)) ns h.ends s.at ip r by h.tried below start from-ips here in
           let heard-is : heard_after tick.patience number o h.heard l ≡ with_end h.heard c r last =
           heard-some denied tick number o h.heard l c asks sent.open_to r is ∙ ap (λ (k : ℕ). with_end h.heard c r k) (sym closing) in
           come-holds (with_end h.heard c r last) heard-is (h.ends ++ end ∷ []) (given_after again did) (either s.first (sent_to w o)) tick.now
           (subst (λ es. SameEnds (at_address h.ip_of) (class_of_sent s.query) (class_of_answer s.query) es (h.ends ++ end ∷ [])) (sym (ends-more h.heard c r last))
           (beside_push (IsSameEnd (at_address h.ip_of) (class_of_sent s.query) (class_of_answer s.query)) h.beside (record { server = sym at-ip; outcome = by.class })))
-          (subst (λ (ks : List ℕ). Tried terms last tick.now longer s.zone s.query h.ips s.start (either s.first (sent_to w o)) ks (h.ends ++ end ∷ []) tick.now) (sym (entries-more h.heard c r last)) more)
+          (subst (λ (ks : List ℕ). Tried next s.zone s.query h.ips s.start (either s.first (sent_to w o)) ks (h.ends ++ end ∷ []) tick.now) (sym (entries-more h.heard c r last)) more)
           (given-still did refl)
 
       -- What is sought after the outcome.
-      pub taken-holds : SoughtHolds terms last tick.now longer new n
+      pub taken-holds : SoughtHolds next new n
           (record s { given = given_after again did; first = either s.first (sent_to w o); at = elim (end_by tick.patience o sent.open_to.attempt) [ None ↦ s.at | Some r ↦ tick.now ] })
       taken-holds = taken-by (end_by tick.patience o sent.open_to.attempt) refl
 
@@ -296,37 +296,27 @@ module _ (terms : Terms) (greatest moment last : ℕ) (log told longer : Log) (x
     abbrev rested : Given
     rested = record g { polled = polled_by o }
 
-    resting : did ≡ after.Kept → GivenHolds terms last longer new n s.zone come.servers come rested g.aim
+    resting : did ≡ after.Kept → GivenHolds next new n s.zone come.servers come rested g.aim
     resting kept =
-        subst (λ (a : Aim). GivenHolds terms last longer new n s.zone come.servers come rested a) (sym asleep)
+        subst (λ (a : Aim). GivenHolds next new n s.zone come.servers come rested a) (sym asleep)
         (order (rests-has denied tick g.number o h.heard l under did did-is kept), rests-under denied tick g.number o h.heard l under did did-is kept)
 
-    rested-by : (d : After) → did ≡ d → IfSome (given_after rested d) (λ k. GivenHolds terms last longer new n s.zone come.servers come k k.aim)
+    rested-by : (d : After) → did ≡ d → IfSome (given_after rested d) (λ k. GivenHolds next new n s.zone come.servers come k k.aim)
     rested-by after.Kept is = resting is
     rested-by after.GiveUp is = tt
     rested-by after.Ended is = tt
     rested-by after.Late is = tt
 
-    pub slept-holds : SoughtHolds terms last tick.now longer new n (record s { given = given_after rested did; first = either s.first None; at = s.at })
+    pub slept-holds : SoughtHolds next new n (record s { given = given_after rested did; first = either s.first None; at = s.at })
     slept-holds =
         come-holds h.heard (heard-sleep denied tick g.number o h.heard l under) h.ends (given_after rested did) (either s.first None) s.at h.beside
-        (tried-on terms greatest moment tick.now log longer whole s.zone s.query h.ips s.start s.first None (entries_of h.heard) h.ends s.at last h.tried le later (λ none known. tt)) (rested-by did refl)
+        (tried-on seen next ahead s.zone s.query h.ips s.start s.first None (entries_of h.heard) h.ends s.at h.tried (λ none known. tt)) (rested-by did refl)
 
 -- ---- all of them
 
 -- One lookup has come on, and what is sought by it holds.
-pub pools-after : (terms : Terms) (greatest last moment now : ℕ) (log longer : Log) (x : Extends log longer) (n : ℕ) (old new : Pools) (s : Sought) → greatest ≤ last → moment ≤ now
+pub pools-after : (seen next : View) (later : Later seen next) (n : ℕ) (old new : Pools) (s : Sought)
     → SameBut n old.shared new.shared → AreNumbered new.shared → new.numbers ≡ old.numbers → ((m : ℕ) → m ≢ n → sought_at new m ≡ sought_at old m) → sought_at new n ≡ Some s
-    → SoughtHolds terms last now longer new n s → PoolsHold terms greatest moment log old → PoolsHold terms last now longer new
-pools-after terms greatest last moment now log longer x n old new s le later rest numbered numbers others is holds h = record {
-  servers = servers-with terms old new numbers rest.servers.context (λ k config at. config-same old.shared.table new.shared.table k config rest.servers.configs at) h.servers;
-  numbered = numbered;
-  lookups = λ m t there. ⊎_elim
-      (λ at.
-      let same : s ≡ t = same_Some _ _ (sym is ∙ subst (λ (k : ℕ). sought_at new k ≡ Some t) at there) in
-      subst (λ (k : ℕ). SoughtHolds terms last now longer new k t) (sym at) (subst (SoughtHolds terms last now longer new n) same holds))
-      (λ other.
-      let before = h.lookups m t (sym (others m other) ∙ there) in
-      sought-carried terms last longer now m old new t (carried-beside m n old new other rest) (sought-kept terms log longer x greatest last moment now old m t le later before))
-      (cases_eq m n);
-}
+    → SoughtHolds next new n s → PoolsHold seen old → PoolsHold next new
+pools-after seen next later n old new s rest numbered numbers others is holds h =
+    pools-given next n old new rest numbered numbers others (λ t there. subst (SoughtHolds next new n) (same_Some _ _ (sym is ∙ there)) holds) (pools-later seen next later old h)

@@ -3,8 +3,6 @@ use Rattle.std.proofs.Common.{◌≡◌, ℕ, ◌+◌, ◌*◌, ◌≤◌, ⊎_e
 use Rattle.std.specs.Prelude.{◌==◌, option_and_then}
 use Rattle.std.proofs.lemmas.Option.{same_Some}
 use Rattle.std.proofs.lemmas.List.Elements.{All-contains, All-weaker, All-contains_itself}
-use Rattle.dns_core.specs.Name.{DomainName}
-use Rattle.dns_core.specs.Log.{Log, Extends}
 use Rattle.dns_core.specs.declared.message.Query.{Query}
 use Rattle.dns_core.specs.declared.message.Message.{Message}
 use Rattle.dns_core.specs.declared.net_error.NetError.{NetError}
@@ -24,91 +22,49 @@ use Rattle.resolution.specs.declared.verdict.Cause.TheVariants.{Filter, Zone}
 use Rattle.dns_core.specs.declared.net_error.NoRecords.{NoRecords}
 use Rattle.dns_core.specs.declared.net_error.NetError.TheVariants as net
 use Rattle.dns_core.specs.declared.net_error.DnsError.TheVariants as dns
-use Rattle.resolution.proofs.Keeping.{Heard-extend}
-use Rattle.resolution.proofs.FailuresKept.{Walked-extend}
 use Rattle.resolution.specs.Walking.{Walked}
 use Rattle.walk_base.specs.Kept.{kept_of, response_in}
 use Rattle.walk_tables.specs.Lookup.{IsTold}
 use Rattle.walk_tables.specs.Remembered.{IsShown, EntryHolds, CacheHolds, Telling, written, remembered}
-use Rattle.walk_tables.specs.Terms.{Terms, given_of}
-use Rattle.walk_tables.proofs.Asked.{asked-kept}
+use Rattle.recursor_setting.specs.declared.setting.Setting.{Setting}
+use Rattle.walk_tables.specs.View.{View, given_of}
 use Rattle.walk_tables.proofs.Counting.{counts-of}
-
--- ---- longer logs, and less patience
-
--- the terms with less patience
-abbrev pub less_patient : ℕ → Terms → Terms
-less_patient less terms = record terms { patience = less }
-
-module _ (terms : Terms) (less : ℕ) (fewer : less ≤ terms.patience) (log longer : Log) (x : Extends log longer) where
-  -- a walk went down to a zone by the longer log, too
-  walks-on : (q : Query) (zone : DomainName) → Walked (given_of terms) log q zone → Walked (given_of (less_patient less terms)) longer q zone
-  walks-on q zone w = Walked-extend (given_of terms) less fewer log longer x q zone w
-
-  entry-on : (g g' : ℕ) (e : Entry) → g ≤ g' → EntryHolds terms g log e → EntryHolds (less_patient less terms) g' longer e
-  entry-on g g' e le h = record {
-    zone = h.zone;
-    told = h.told;
-    moment = h.moment;
-    whole = h.whole;
-    early = let early = h.early in omega arith;
-    heard = Heard-extend (given_of terms) less log longer x h.heard;
-    asked = asked-kept log longer x e.source e.query h.asked;
-    counts = h.counts;
-    walked = walks-on e.query h.zone h.walked;
-    shown = h.shown;
-    as_shown = h.as_shown;
-    kept = h.kept;
-    expires = h.expires;
-  }
-
-  -- what is kept is derived from a longer log, after later entries, and where less patience is given
-  pub cache-on : (g g' : ℕ) (cache : Cached) → g ≤ g' → CacheHolds terms g log cache → CacheHolds (less_patient less terms) g' longer cache
-  cache-on g g' cache le h = record {
-    lives = h.lives;
-    entries = All-weaker (EntryHolds terms g log) (EntryHolds (less_patient less terms) g' longer) (λ e. entry-on g g' e le) cache.entries h.entries;
-  }
-
--- so it is with the same patience
-pub cache-kept : (terms : Terms) (log longer : Log) (x : Extends log longer) (g g' : ℕ) (cache : Cached) → g ≤ g' → CacheHolds terms g log cache
-    → CacheHolds terms g' longer cache
-cache-kept terms log longer x g g' cache le h = cache-on terms terms.patience (omega arith) log longer x g g' cache le h
 
 -- ---- a response that is written
 
 -- The class was told by a server of the zone to which a walk went down for the question.
-pub record TellingHolds (terms : Terms) (greatest : ℕ) (log : Log) (t : Telling) : Type 0 where
+pub record TellingHolds (seen : View) (t : Telling) : Type 0 where
   pub t0 : ℕ
-  pub told : IsTold terms greatest t0 log t.zone t.query t.entry t.at t.class
-  pub walked : Walked (given_of terms) log t.query t.zone
+  pub told : IsTold seen t0 t.zone t.query t.entry t.at t.class
+  pub walked : Walked (given_of seen.setting) seen.log t.query t.zone
 
 -- the lives of a verdict and of what it is kept as are one
-same-life : (terms : Terms) (q : Query) (v whole : Verdict) (response : Result Message NetError) → IsShown q v whole → kept_of v ≡ Some response
-    → life_of terms.lives q.query_type response ≡ life_in_seconds (given_of terms) q.query_type whole
-same-life terms q (Pos k) (Pos l) response shown h = sym (ap (λ (m : Message). life_in_seconds (given_of terms) q.query_type (Pos m)) (sym shown) ∙ ap (life_of terms.lives q.query_type) (same_Some _ _ h))
-same-life terms q (Pos k) (Neg n) response shown h = absurd shown
-same-life terms q (Pos k) (Made Filter) response shown h = absurd shown
-same-life terms q (Pos k) (Made Zone) response shown h = absurd shown
-same-life terms q (Neg n) (Pos k) response shown h = absurd shown
-same-life terms q (Neg n) (Neg m) response shown h = sym (ap (λ (d : NoRecords). life_in_seconds (given_of terms) q.query_type (Neg d)) (sym shown) ∙ ap (life_of terms.lives q.query_type) (same_Some _ _ h))
-same-life terms q (Neg n) (Made Filter) response shown h =
-    sym (ap (life_of terms.lives q.query_type) (same_Some _ _ h))
-    ∙ ap (λ (d : NoRecords). life_of terms.lives q.query_type (Err (net.Dns (dns.NoRecordsFound d)))) shown
-same-life terms q (Neg n) (Made Zone) response shown h = absurd shown
-same-life terms q (Made cause) whole response shown h = cc
+same-life : (setting : Setting) (q : Query) (v whole : Verdict) (response : Result Message NetError) → IsShown q v whole → kept_of v ≡ Some response
+    → life_of setting.lives q.query_type response ≡ life_in_seconds (given_of setting) q.query_type whole
+same-life setting q (Pos k) (Pos l) response shown h = sym (ap (λ (m : Message). life_in_seconds (given_of setting) q.query_type (Pos m)) (sym shown) ∙ ap (life_of setting.lives q.query_type) (same_Some _ _ h))
+same-life setting q (Pos k) (Neg n) response shown h = absurd shown
+same-life setting q (Pos k) (Made Filter) response shown h = absurd shown
+same-life setting q (Pos k) (Made Zone) response shown h = absurd shown
+same-life setting q (Neg n) (Pos k) response shown h = absurd shown
+same-life setting q (Neg n) (Neg m) response shown h = sym (ap (λ (d : NoRecords). life_in_seconds (given_of setting) q.query_type (Neg d)) (sym shown) ∙ ap (life_of setting.lives q.query_type) (same_Some _ _ h))
+same-life setting q (Neg n) (Made Filter) response shown h =
+    sym (ap (life_of setting.lives q.query_type) (same_Some _ _ h))
+    ∙ ap (λ (d : NoRecords). life_of setting.lives q.query_type (Err (net.Dns (dns.NoRecordsFound d)))) shown
+same-life setting q (Neg n) (Made Zone) response shown h = absurd shown
+same-life setting q (Made cause) whole response shown h = cc
 
-module _ (terms : Terms) (greatest : ℕ) (log : Log) (cache : Cached) (t : Telling) (holds : CacheHolds terms greatest log cache)
-    (told : TellingHolds terms greatest log t) where
+module _ (seen : View) (cache : Cached) (t : Telling) (holds : CacheHolds seen cache)
+    (told : TellingHolds seen t) where
   -- the entry that is written shows the verdict of the telling
   just-written : (v : Verdict) (response : Result Message NetError) (e : Entry)
       → verdict_of_told allows_all (Some (class_of_classified t.query t.class)) t.zone ≡ Some v → kept_of v ≡ Some response
-      → IsJustWritten cache t.query response t.entry t.at e → EntryHolds terms greatest log e
+      → IsJustWritten cache t.query response t.entry t.at e → EntryHolds seen e
   just-written v response e is kept w =
-      let counts = counts-of terms greatest told.t0 log t.zone t.query t.entry t.at t.class v told.told is in
+      let counts = counts-of seen told.t0 t.zone t.query t.entry t.at t.class v told.told is in
       let query : e.query ≡ t.query = w.question in
       let source : e.source ≡ t.entry = w.source in
-      let lives : life_in_seconds (given_of terms) t.query.query_type counts.whole ≡ Some w.life =
-      sym (same-life terms t.query v counts.whole response counts.shown kept) ∙ ap (λ config. life_of config t.query.query_type response) (sym holds.lives) ∙ w.lives in
+      let lives : life_in_seconds (given_of seen.setting) t.query.query_type counts.whole ≡ Some w.life =
+      sym (same-life seen.setting t.query v counts.whole response counts.shown kept) ∙ ap (λ config. life_of config t.query.query_type response) (sym holds.lives) ∙ w.lives in
       let expires : e.expiry ≤ t.at + 1000000 * w.life = omega (arith, w.no_longer) in
       rw (query, source) (record {
         zone = t.zone;
@@ -127,20 +83,20 @@ module _ (terms : Terms) (greatest : ℕ) (log : Log) (cache : Cached) (t : Tell
       })
 
   written-holds : (v : Option Verdict) → verdict_of_told allows_all (Some (class_of_classified t.query t.class)) t.zone ≡ v
-      → (response : Option (Result Message NetError)) → option_and_then kept_of v ≡ response → CacheHolds terms greatest log (written cache t response)
+      → (response : Option (Result Message NetError)) → option_and_then kept_of v ≡ response → CacheHolds seen (written cache t response)
   written-holds v counts None h = holds
   written-holds None counts (Some response) h = cc
   written-holds (Some v) counts (Some response) kept = record {
     lives = upserted-config cache t.query response t.entry t.at (t.query.query_type.code == 2) ∙ holds.lives;
     entries =
         let new = upserted cache t.query response t.entry t.at (t.query.query_type.code == 2) in
-        All-weaker (Contains new.entries) (EntryHolds terms greatest log)
-        (λ e has. ⊎_elim (λ old. All-contains (EntryHolds terms greatest log) cache.entries e holds.entries old)
+        All-weaker (Contains new.entries) (EntryHolds seen)
+        (λ e has. ⊎_elim (λ old. All-contains (EntryHolds seen) cache.entries e holds.entries old)
         (λ w. just-written v response e counts kept w)
         (one_written cache t.query response t.entry t.at (t.query.query_type.code == 2) e has))
         new.entries (All-contains_itself new.entries);
   }
 
   -- the cache with what was told
-  pub remembered-holds : CacheHolds terms greatest log (remembered cache (Some t))
+  pub remembered-holds : CacheHolds seen (remembered cache (Some t))
   remembered-holds = written-holds _ refl (response_in t.zone t.query t.class) refl

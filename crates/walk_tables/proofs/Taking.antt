@@ -1,11 +1,10 @@
 -- What an outcome leaves of the pools and of the cache.
-use Rattle.std.proofs.Common.{◌≡◌, ◌≤◌, ℕ, Bool, true, false, List, Option, Some, None, Result, Ok, Err, OnOk, OnErr, refl, sym, ap, subst, ◌∙◌, arith}
+use Rattle.std.proofs.Common.{◌≡◌, ℕ, Bool, true, false, List, Option, Some, None, Result, Ok, Err, OnOk, OnErr, refl, sym, ap, subst, ◌∙◌, arith}
 use Rattle.std.specs.Prelude.{length, nat_lt, unwrap_or, if◌then◌else◌, option_and_then}
 use Rattle.std.specs.Option.{option_map}
 use Rattle.std.proofs.lemmas.Option.{same_Some}
 use Rattle.std.specs.declared.net.ip_addr.IpAddr.{IpAddr}
 use Rattle.dns_core.specs.Name.{DomainName}
-use Rattle.dns_core.specs.Log.{Log, Extends}
 use Rattle.dns_core.specs.declared.errors.NoMemory.{NoMemory}
 use Rattle.dns_core.specs.declared.message.Query.{Query}
 use Rattle.dns_core.specs.declared.net_error.NetError.TheVariants as net
@@ -26,16 +25,15 @@ use Rattle.server_pool.proofs.Listed.{opened}
 use Rattle.walk_tables.specs.Lookup.{last_of, answered_by, AskHolds}
 use Rattle.walk_tables.specs.Pools.{IsGivenFor, NotesOutcome, PoolsHold, Seeks, sought_at, noted, given_after}
 use Rattle.walk_tables.specs.Remembered.{CacheHolds, Telling, telling, remembered}
-use Rattle.walk_tables.specs.Taking.{answer_at, telling_by, telling_at, has_more_ends, Took, TablesHold}
-use Rattle.walk_tables.specs.Terms.{Terms, given_of}
+use Rattle.walk_tables.specs.Taking.{answer_at, telling_by, telling_at, has_more_ends, Took}
+use Rattle.walk_tables.specs.View.{View, given_of}
 use Rattle.walk_tables.specs.declared.lookup.Ask.{Ask}
 use Rattle.walk_tables.specs.declared.lookup.Ask.TheVariants as ask
 use Rattle.walk_tables.specs.declared.pools.Given.{Given}
 use Rattle.walk_tables.specs.declared.pools.Pools.{Pools}
 use Rattle.walk_tables.specs.declared.pools.Sought.{Sought}
 use Rattle.walk_tables.proofs.Answering.{answer-holds}
-use Rattle.walk_tables.proofs.KeptPools.{pools-kept}
-use Rattle.walk_tables.proofs.Remembering.{TellingHolds, cache-kept, remembered-holds}
+use Rattle.walk_tables.proofs.Remembering.{TellingHolds, remembered-holds}
 
 -- ---- what was taken
 
@@ -71,15 +69,15 @@ took-by old mid new n g w o tick again first before did given open_there sought 
 -- ---- what is written
 
 -- what a lookup was told
-ask-tells : (terms : Terms) (greatest moment t0 : ℕ) (log : Log) (zone : DomainName) (q : Query) (g : List ℕ) (a : Ask) (t : Telling)
-    → Walked (given_of terms) log q zone → telling zone q a ≡ Some t → AskHolds terms greatest moment t0 log zone q g a → TellingHolds terms greatest log t
-ask-tells terms greatest moment t0 log zone q g ask.Fresh t walked is h = cc
-ask-tells terms greatest moment t0 log zone q g ask.Ready t walked is h = cc
-ask-tells terms greatest moment t0 log zone q g (ask.Under u) t walked is h = cc
-ask-tells terms greatest moment t0 log zone q g (ask.Failed error) t walked is h = cc
-ask-tells terms greatest moment t0 log zone q g ask.Heard t walked is h = cc
-ask-tells terms greatest moment t0 log zone q g (ask.Told entry at class) t walked is h =
-    subst (TellingHolds terms greatest log) (same_Some _ _ is) (record { t0 = t0; told = h; walked = walked })
+ask-tells : (seen : View) (t0 : ℕ) (zone : DomainName) (q : Query) (g : List ℕ) (a : Ask) (t : Telling)
+    → Walked (given_of seen.setting) seen.log q zone → telling zone q a ≡ Some t → AskHolds seen t0 zone q g a → TellingHolds seen t
+ask-tells seen t0 zone q g ask.Fresh t walked is h = cc
+ask-tells seen t0 zone q g ask.Ready t walked is h = cc
+ask-tells seen t0 zone q g (ask.Under u) t walked is h = cc
+ask-tells seen t0 zone q g (ask.Failed error) t walked is h = cc
+ask-tells seen t0 zone q g ask.Heard t walked is h = cc
+ask-tells seen t0 zone q g (ask.Told entry at class) t walked is h =
+    subst (TellingHolds seen) (same_Some _ _ is) (record { t0 = t0; told = h; walked = walked })
 
 -- want of memory is no response
 memory-tells : (zone : DomainName) (q : Query) (entry at : ℕ) (told : Answered) (t : Telling) → telling zone q (answered_by entry at told) ≡ Some t → out_of_memory told ≡ false
@@ -95,42 +93,32 @@ memory-tells zone q entry at (Err (net.ForeignClassRecord name dns_class record_
 memory-tells zone q entry at (Err (net.Dns e)) t is = refl
 memory-tells zone q entry at (Err (net.Msg text)) t is = refl
 
-module _ (terms : Terms) (greatest moment : ℕ) (log : Log) (pools : Pools) (n : ℕ) (h : PoolsHold terms greatest moment log pools) where
+module _ (seen : View) (pools : Pools) (n : ℕ) (h : PoolsHold seen pools) where
   sought-tells : (s : Sought) → sought_at pools n ≡ Some s → (told : Option Answered) → answer_at pools.shared n ≡ told → (t : Telling)
-      → option_and_then (λ told. telling s.zone s.query (answered_by (last_of (closed_by (lookup_at pools.shared n))) s.at told)) told ≡ Some t → TellingHolds terms greatest log t
+      → option_and_then (λ told. telling s.zone s.query (answered_by (last_of (closed_by (lookup_at pools.shared n))) s.at told)) told ≡ Some t → TellingHolds seen t
   sought-tells s there None answers t is = cc
   sought-tells s there (Some told) answers t is =
       let ends = closed_by (lookup_at pools.shared n) in
       let kept = memory-tells s.zone s.query (last_of ends) s.at told t is in
       let seeks : Seeks pools n s.query s.zone s.start s.at = record { sought = s; is = there; query = refl; zone_is = refl; since = omega arith; last = refl } in
-      ask-tells terms greatest moment s.start log s.zone s.query ends (answered_by (last_of ends) s.at told) t (h.lookups n s there).walked is
-      (answer-holds terms greatest moment log pools n s.query s.zone s.start s.at told ends h seeks (sym answers) kept refl)
+      ask-tells seen s.start s.zone s.query ends (answered_by (last_of ends) s.at told) t (h.lookups n s there).served.walked is
+      (answer-holds seen pools n s.query s.zone s.start s.at told ends h seeks (sym answers) kept refl)
 
-  by-sought : (o : Option Sought) → sought_at pools n ≡ o → (t : Telling) → option_and_then (telling_by pools.shared n) o ≡ Some t → TellingHolds terms greatest log t
+  by-sought : (o : Option Sought) → sought_at pools n ≡ o → (t : Telling) → option_and_then (telling_by pools.shared n) o ≡ Some t → TellingHolds seen t
   by-sought None there t is = cc
   by-sought (Some s) there t is = sought-tells s there (answer_at pools.shared n) refl t is
 
   -- What a lookup came to was told by a server of the zone to which a walk went down for its question.
-  pub tells-holds : (t : Telling) → telling_at pools n ≡ Some t → TellingHolds terms greatest log t
+  pub tells-holds : (t : Telling) → telling_at pools n ≡ Some t → TellingHolds seen t
   tells-holds t is = by-sought (sought_at pools n) refl t is
 
   -- the cache with what a lookup came to
-  told-kept : (cache : Cached) (o : Option Telling) → telling_at pools n ≡ o → CacheHolds terms greatest log cache → CacheHolds terms greatest log (remembered cache o)
+  told-kept : (cache : Cached) (o : Option Telling) → telling_at pools n ≡ o → CacheHolds seen cache → CacheHolds seen (remembered cache o)
   told-kept cache None is holds = holds
-  told-kept cache (Some t) is holds = remembered-holds terms greatest log cache t holds (tells-holds t is)
+  told-kept cache (Some t) is holds = remembered-holds seen cache t holds (tells-holds t is)
 
   -- the same where memory may want
   pub remembered-kept : (old new : Cached) (result : Result (Unit {0}) NoMemory) → OnOk result (new ≡ remembered old (telling_at pools n)) → OnErr result (new ≡ old)
-      → CacheHolds terms greatest log old → CacheHolds terms greatest log new
-  remembered-kept old new (Ok x) ok err holds = subst (CacheHolds terms greatest log) (sym ok) (told-kept old (telling_at pools n) refl holds)
-  remembered-kept old new (Err e) ok err holds = subst (CacheHolds terms greatest log) (sym err) holds
-
--- ---- longer logs
-
--- what holds of the cache and of the pools holds by a longer log, after later entries and moments
-pub tables-kept : (terms : Terms) (log longer : Log) → Extends log longer → (g g' moment moment' : ℕ) (cache : Cached) (pools : Pools) → g ≤ g' → moment ≤ moment'
-    → TablesHold terms g moment log cache pools → TablesHold terms g' moment' longer cache pools
-tables-kept terms log longer x g g' moment moment' cache pools le later h = record {
-  cache = cache-kept terms log longer x g g' cache le h.cache;
-  pools = pools-kept terms log longer x g g' moment moment' pools le later h.pools;
-}
+      → CacheHolds seen old → CacheHolds seen new
+  remembered-kept old new (Ok x) ok err holds = subst (CacheHolds seen) (sym ok) (told-kept old (telling_at pools n) refl holds)
+  remembered-kept old new (Err e) ok err holds = subst (CacheHolds seen) (sym err) holds

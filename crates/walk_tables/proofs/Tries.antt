@@ -6,7 +6,7 @@ use Rattle.std.proofs.lemmas.Bool.{and_parts, leb-true, le-leb}
 use Rattle.std.proofs.lemmas.Option.{same_Some}
 use Rattle.std.specs.declared.net.ip_addr.IpAddr.{IpAddr}
 use Rattle.dns_core.specs.Name.{DomainName}
-use Rattle.dns_core.specs.Log.{Log, Extends}
+use Rattle.dns_core.specs.Log.{Log}
 use Rattle.dns_core.specs.declared.message.Query.{Query}
 use Rattle.resolution.specs.Given.{Given}
 use Rattle.resolution.specs.Lookups.{Answered, End}
@@ -19,10 +19,10 @@ use Rattle.server_core.specs.declared.order.Sent.{Sent}
 use Rattle.server_core.specs.Order.{entry_of}
 use Rattle.order_carrier.specs.Fits.{IsSent, WaitsBy, OutcomeIs}
 use Rattle.dns_core.specs.declared.net_error.NetError.{NetError}
-use Rattle.walk_tables.specs.Terms.{Terms, given_of}
+use Rattle.walk_tables.specs.View.{View, Later, given_of}
 use Rattle.walk_tables.specs.Tried.{BeganBy, Began, AreHeard, Tried}
 use Rattle.walk_tables.specs.Pools.{IsOf, MayTake, sent_to, either}
-use Rattle.walk_tables.proofs.KeptPools.{below-greater, tried-kept, began_by-kept}
+use Rattle.walk_tables.proofs.Later.{tried-later, began_by-kept}
 use Rattle.walk_tables.proofs.Sends.{began-sent}
 use Rattle.walk_tables.proofs.Ends.{IsEndedBy, sent-for}
 
@@ -34,11 +34,11 @@ sends-more : {given : Given} {log : Log} {q : Query} {ips : List IpAddr} {g mome
 sends-more no_send s c = and_send s c no_send
 sends-more (and_send t d rest) s c = and_send t d (sends-more rest s c)
 
-heard-more : (terms : Terms) (log : Log) (zone : DomainName) (q : Query) {ips : List IpAddr} {g moments : List ℕ} {ends : List (End IpAddr)} (n m : ℕ) (e : End IpAddr)
-    → EndSends (given_of terms) log q ips g ends moments → AreHeard terms log zone q g ends moments → AreHeard terms log zone q (n ∷ []) (e ∷ []) (m ∷ [])
-    → AreHeard terms log zone q (g ++ n ∷ []) (ends ++ e ∷ []) (moments ++ m ∷ [])
-heard-more terms log zone q n m e no_send h last = last
-heard-more terms log zone q n m e (and_send t d rest) h last = (h.0, heard-more terms log zone q n m e rest h.1 last)
+heard-more : (seen : View) (zone : DomainName) (q : Query) {ips : List IpAddr} {g moments : List ℕ} {ends : List (End IpAddr)} (n m : ℕ) (e : End IpAddr)
+    → EndSends (given_of seen.setting) seen.log q ips g ends moments → AreHeard seen zone q g ends moments → AreHeard seen zone q (n ∷ []) (e ∷ []) (m ∷ [])
+    → AreHeard seen zone q (g ++ n ∷ []) (ends ++ e ∷ []) (moments ++ m ∷ [])
+heard-more seen zone q n m e no_send h last = last
+heard-more seen zone q n m e (and_send t d rest) h last = (h.0, heard-more seen zone q n m e rest h.1 last)
 
 rise-more : (g : List ℕ) (greatest n : ℕ) → Rise g → list_all (λ k. nat_le k greatest) g ≡ true → greatest < n → Rise (g ++ n ∷ [])
 rise-more [] greatest n r all under = tt
@@ -62,20 +62,22 @@ began-more log q greatest entry first other start n e no_send here b = here refl
 began-more log q greatest entry first other start n e (and_send t d rest) here b = b
 
 -- The send to one of the addresses ended later than all before it.
-pub tried-more : (terms : Terms) (greatest moment now : ℕ) (log longer : Log) (x : Extends log longer) (zone : DomainName) (q : Query) (ips : List IpAddr) (start : ℕ) (first other : Option IpAddr)
-    (g : List ℕ) (ends : List (End IpAddr)) (at entry : ℕ) (ip : IpAddr) (result : Answered) (e : IsEndedBy terms longer now entry zone q ip result)
-    → Tried terms greatest moment log zone q ips start first g ends at → greatest < entry → moment ≤ now → start ≤ now → Contains ips ip → (g ≡ [] → BeganBy longer q ip entry start)
-    → Tried terms entry now longer zone q ips start other (g ++ entry ∷ []) (ends ++ (record { server = ip; outcome = e.outcome }) ∷ []) now
-tried-more terms greatest moment now log longer x zone q ips start first other g ends at entry ip result e tried under later past from here =
-    let t = tried-kept terms log longer x greatest greatest moment now zone q ips start first g ends at (omega arith) later tried in
+pub tried-more : (seen next : View) (later : Later seen next) (zone : DomainName) (q : Query) (ips : List IpAddr) (start : ℕ) (first other : Option IpAddr)
+    (g : List ℕ) (ends : List (End IpAddr)) (at : ℕ) (ip : IpAddr) (result : Answered) (e : IsEndedBy next next.moment next.greatest zone q ip result)
+    → Tried seen zone q ips start first g ends at → seen.greatest < next.greatest → start ≤ next.moment → Contains ips ip → (g ≡ [] → BeganBy next.log q ip next.greatest start)
+    → Tried next zone q ips start other (g ++ next.greatest ∷ []) (ends ++ (record { server = ip; outcome = e.outcome }) ∷ []) next.moment
+tried-more seen next later zone q ips start first other g ends at ip result e tried under past from here =
+    let t = tried-later seen next later zone q ips start first g ends at tried in
+    let entry = next.greatest in
+    let now = next.moment in
     let end : End IpAddr = record { server = ip; outcome = e.outcome } in
     record {
       moments = t.moments ++ now ∷ [];
       logged = sends-more t.logged e.ends from;
-      heard = heard-more terms longer zone q entry now end t.logged t.heard (e.heard, tt);
-      rises = rise-more g greatest entry t.rises t.early under;
-      early = all-more (λ n. nat_le n entry) g entry (below-greater greatest entry (omega (arith, under)) g t.early) (le-leb entry entry (omega arith));
-      began = began-more longer q greatest entry first other start entry end t.logged here t.began;
+      heard = heard-more next zone q entry now end t.logged t.heard (e.heard, tt);
+      rises = rise-more g seen.greatest entry t.rises tried.early under;
+      early = all-more (λ n. nat_le n entry) g entry t.early (le-leb entry entry (omega arith));
+      began = began-more next.log q next.greatest entry first other start entry end t.logged here t.began;
       since = all-more (nat_le start) t.moments now t.since (le-leb start now past);
       till = all-more (λ m. nat_le m now) t.moments now t.till (le-leb now now (omega arith));
       last = λ m is. same_Some _ _ (sym is ∙ last-more t.moments None now);
@@ -117,17 +119,16 @@ first-known log q start greatest last None other le known more = more
 first-known log q start greatest last (Some to) other le known more = began_by-kept log log (record { later = omega arith; kept = λ n h. refl }) q to greatest last start le known
 
 -- what a lookup has behind it that goes on, with the first address as it is known now
-pub tried-on : (terms : Terms) (greatest moment now : ℕ) (log longer : Log) (x : Extends log longer) (zone : DomainName) (q : Query) (ips : List IpAddr) (start : ℕ) (first other : Option IpAddr)
-    (g : List ℕ) (ends : List (End IpAddr)) (at entry : ℕ)
-    → Tried terms greatest moment log zone q ips start first g ends at → greatest ≤ entry → moment ≤ now
-    → (g ≡ [] → IfSome first (λ to. BeganBy longer q to entry start) → IfSome other (λ to. BeganBy longer q to entry start))
-    → Tried terms entry now longer zone q ips start (either first other) g ends at
-tried-on terms greatest moment now log longer x zone q ips start first other g ends at entry tried le later here =
-    let t = tried-kept terms log longer x greatest entry moment now zone q ips start first g ends at le later tried in
+pub tried-on : (seen next : View) (later : Later seen next) (zone : DomainName) (q : Query) (ips : List IpAddr) (start : ℕ) (first other : Option IpAddr) (g : List ℕ) (ends : List (End IpAddr)) (at : ℕ)
+    → Tried seen zone q ips start first g ends at
+    → (g ≡ [] → IfSome first (λ to. BeganBy next.log q to next.greatest start) → IfSome other (λ to. BeganBy next.log q to next.greatest start))
+    → Tried next zone q ips start (either first other) g ends at
+tried-on seen next later zone q ips start first other g ends at tried here =
+    let t = tried-later seen next later zone q ips start first g ends at tried in
     record { moments = t.moments; logged = t.logged; heard = t.heard; rises = t.rises; early = t.early; began = by g ends here t.began; since = t.since; till = t.till; last = t.last }
   where
-    by : (g : List ℕ) (ends : List (End IpAddr)) → (g ≡ [] → IfSome first (λ to. BeganBy longer q to entry start) → IfSome other (λ to. BeganBy longer q to entry start))
-        → Began longer q entry first g ends start → Began longer q entry (either first other) g ends start
-    by [] ends more b = first-known longer q start entry entry first other (omega arith) b (more refl b)
+    by : (g : List ℕ) (ends : List (End IpAddr)) → (g ≡ [] → IfSome first (λ to. BeganBy next.log q to next.greatest start) → IfSome other (λ to. BeganBy next.log q to next.greatest start))
+        → Began next.log q next.greatest first g ends start → Began next.log q next.greatest (either first other) g ends start
+    by [] ends more b = first-known next.log q start next.greatest next.greatest first other (omega arith) b (more refl b)
     by (n ∷ g) [] more b = b
     by (n ∷ g) (e ∷ ends) more b = b

@@ -6,6 +6,7 @@ use Rattle.dns_core.specs.declared.log.LogEntry.TheVariants as line
 use Rattle.resolution.specs.Ending.{waits, is_wait_for}
 use Rattle.resolution.specs.Telling.{Logged}
 use Rattle.resolution.proofs.FailuresKept.{waits-extend}
+use Rattle.walk_tables.specs.View.{View}
 use Rattle.walk_tables.specs.Pools.{IsStill, IsWaitedFor, WasWaitedFor}
 
 -- a number is the next one, or no greater than the last
@@ -31,18 +32,18 @@ waits-one log of entry logged =
     ap (waits log of) next ∙ ap (λ (k : ℕ). waits log of entry + k) one
 
 -- With one more poll that found nothing it was waited for as often as it was polled.
-pub polled-more : (greatest entry : ℕ) (log told : Log) (x : Extends log told) (polled : Option ℕ) (of polls : ℕ) → IsWaitedFor greatest log polled polls → IsStill polled of → greatest < entry
+pub polled-more : (seen : View) (entry : ℕ) (told : Log) (x : Extends seen.log told) (polled : Option ℕ) (of polls : ℕ) → IsWaitedFor seen polled polls → IsStill polled of → seen.greatest < entry
     → Logged told entry (line.Waited of) → polls + 1 ≤ waits told of (entry + 1)
-polled-more greatest entry log told x None of polls h still under logged = let one = waits-one told of entry logged in omega (arith, h, one)
-polled-more greatest entry log told x (Some before) of polls h still under logged =
+polled-more seen entry told x None of polls h still under logged = let one = waits-one told of entry logged in omega (arith, h, one)
+polled-more seen entry told x (Some before) of polls h still under logged =
     let one = waits-one told of entry logged in
-    let was : WasWaitedFor greatest log of polls = subst (λ (k : ℕ). WasWaitedFor greatest log k polls) still h in
+    let was : WasWaitedFor seen of polls = subst (λ (k : ℕ). WasWaitedFor seen k polls) still h in
     let early = was.early in
     let enough = was.enough in
-    let same = waits-extend log told x of was.below was.within in
+    let same = waits-extend seen.log told x of was.below was.within in
     let rise = waits-rise told of was.below entry (omega (arith, early, under)) in
     omega (arith, one, enough, same, rise)
 
 -- so it stands once that entry is put
-pub polled-waited : (entry : ℕ) (told : Log) (of polls : ℕ) → entry < told.next → polls + 1 ≤ waits told of (entry + 1) → IsWaitedFor entry told (Some of) (polls + 1)
-polled-waited entry told of polls within enough = record { below = entry + 1; early = omega arith; within = omega (arith, within); enough = enough }
+pub polled-waited : (seen : View) (entry of polls : ℕ) → entry ≤ seen.greatest → entry < seen.log.next → polls + 1 ≤ waits seen.log of (entry + 1) → IsWaitedFor seen (Some of) (polls + 1)
+polled-waited seen entry of polls low within enough = record { below = entry + 1; early = omega (arith, low); within = omega (arith, within); enough = enough }

@@ -1,4 +1,4 @@
-pub mod Terms
+pub mod View
 pub mod Asked
 pub mod Order
 pub mod Tried

@@ -3,7 +3,6 @@ use Rattle.std.specs.Prelude.{◌≡◌, ℕ, ◌≤◌, ◌<◌, Bool, true, fa
 use Rattle.std.specs.List.{last_or}
 use Rattle.std.specs.declared.net.ip_addr.IpAddr.{IpAddr}
 use Rattle.dns_core.specs.Name.{DomainName}
-use Rattle.dns_core.specs.Log.{Log}
 use Rattle.dns_core.specs.declared.message.Query.{Query}
 use Rattle.dns_core.specs.declared.message.Message.{Message as Response}
 use Rattle.dns_core.specs.declared.net_error.NoRecords.{NoRecords}
@@ -21,7 +20,7 @@ use Rattle.dns_core.specs.declared.net_error.NetError.TheVariants as net
 use Rattle.dns_core.specs.declared.net_error.DnsError.TheVariants as dns
 use Rattle.resolution.specs.Lookups.{Answered}
 use Rattle.walk_tables.specs.Asked.{AskedAs}
-use Rattle.walk_tables.specs.Terms.{Terms, given_of}
+use Rattle.walk_tables.specs.View.{View, given_of}
 use Rattle.walk_tables.specs.Tried.{Concluded}
 use Rattle.walk_tables.specs.declared.pools.Answer.{Answer}
 use Rattle.walk_tables.specs.declared.pools.Stepped.{Stepped}
@@ -111,40 +110,40 @@ left_of_class denied q (Foreign r) = None
 
 -- Entry i, no later than the greatest, tells an answer or a denial for the question as it was asked, by a server of the zone, at this moment, at or after t0;
 -- the class is what the filter of answers leaves of it.
-pub record IsTold (terms : Terms) (greatest t0 : ℕ) (log : Log) (zone : DomainName) (q : Query) (entry at : ℕ) (class : Result Response DnsError) : Type 0 where
+pub record IsTold (seen : View) (t0 : ℕ) (zone : DomainName) (q : Query) (entry at : ℕ) (class : Result Response DnsError) : Type 0 where
   pub outcome : ToldOutcome
   pub response : Class
-  pub early : entry ≤ greatest
-  pub heard : Heard (given_of terms) log entry q outcome at zone
-  pub asked : AskedAs log entry q
+  pub early : entry ≤ seen.greatest
+  pub heard : Heard (given_of seen.setting) seen.log entry q outcome at zone
+  pub asked : AskedAs seen.log entry q
   pub late : t0 ≤ at
   pub is : class_of outcome q ≡ Some response
-  pub left : left_of_class (denies terms.answer_filter) q response ≡ Some class
+  pub left : left_of_class (denies seen.setting.answer_filter) q response ≡ Some class
 
 -- A lookup failed with the error, which is none of a server that is busy or not reached, and no denial.
-pub record HasFailedBy (terms : Terms) (moment t0 : ℕ) (log : Log) (zone : DomainName) (q : Query) (g : List ℕ) (error : NetError) : Type 0 where
+pub record HasFailedBy (seen : View) (t0 : ℕ) (zone : DomainName) (q : Query) (g : List ℕ) (error : NetError) : Type 0 where
   pub is : IsTrue (is_lookup_error error)
-  pub concluded : Concluded terms moment t0 log zone q g (Err error)
+  pub concluded : Concluded seen t0 zone q g (Err error)
 
 -- Nothing is known here of a lookup before it was answered: what its pool does for it is known of the pool.
-abbrev pub AskHolds : Terms → ℕ → ℕ → ℕ → Log → DomainName → Query → List ℕ → Ask → Type 0
-AskHolds terms greatest moment t0 log zone q g ask.Fresh = Unit {0}
-AskHolds terms greatest moment t0 log zone q g ask.Ready = Unit {0}
-AskHolds terms greatest moment t0 log zone q g (ask.Under under) = Unit {0}
-AskHolds terms greatest moment t0 log zone q g (ask.Told entry at class) = IsTold terms greatest t0 log zone q entry at class
-AskHolds terms greatest moment t0 log zone q g (ask.Failed error) = HasFailedBy terms moment t0 log zone q g error
-AskHolds terms greatest moment t0 log zone q g ask.Heard = Unit {0}
+abbrev pub AskHolds : View → ℕ → DomainName → Query → List ℕ → Ask → Type 0
+AskHolds seen t0 zone q g ask.Fresh = Unit {0}
+AskHolds seen t0 zone q g ask.Ready = Unit {0}
+AskHolds seen t0 zone q g (ask.Under under) = Unit {0}
+AskHolds seen t0 zone q g (ask.Told entry at class) = IsTold seen t0 zone q entry at class
+AskHolds seen t0 zone q g (ask.Failed error) = HasFailedBy seen t0 zone q g error
+AskHolds seen t0 zone q g ask.Heard = Unit {0}
 
 -- what a lookup came to at its pool
-abbrev pub AnswerHolds : Terms → ℕ → ℕ → ℕ → Log → DomainName → Query → Answer → Type 0
-AnswerHolds terms greatest moment t0 log zone q a = AskHolds terms greatest moment t0 log zone q a.ends (answered_by (last_of a.ends) a.at a.told)
+abbrev pub AnswerHolds : View → ℕ → DomainName → Query → Answer → Type 0
+AnswerHolds seen t0 zone q a = AskHolds seen t0 zone q a.ends (answered_by (last_of a.ends) a.at a.told)
 
 -- The zone is at or above the name of the question.
-pub record LookupHolds (terms : Terms) (greatest moment t0 : ℕ) (log : Log) (zone : DomainName) (l : Lookup) : Type 0 where
+pub record LookupHolds (seen : View) (t0 : ℕ) (zone : DomainName) (l : Lookup) : Type 0 where
   pub above : IsTrue (is_above zone (walk l.query))
-  pub ask : AskHolds terms greatest moment t0 log zone l.query l.ends l.ask
+  pub ask : AskHolds seen t0 zone l.query l.ends l.ask
 
 -- A response was told by a server of the zone; or the lookup failed by these entries.
-abbrev pub FoundHolds : Terms → ℕ → ℕ → ℕ → Log → DomainName → Query → List ℕ → Found → Type 0
-FoundHolds terms greatest moment t0 log zone q g (found.Told entry at class) = IsTold terms greatest t0 log zone q entry at class
-FoundHolds terms greatest moment t0 log zone q g (found.Error error) = HasFailedBy terms moment t0 log zone q g error
+abbrev pub FoundHolds : View → ℕ → DomainName → Query → List ℕ → Found → Type 0
+FoundHolds seen t0 zone q g (found.Told entry at class) = IsTold seen t0 zone q entry at class
+FoundHolds seen t0 zone q g (found.Error error) = HasFailedBy seen t0 zone q g error

@@ -1,5 +1,5 @@
 -- What came of an order, as it is put, and how what was sent for it was lost, by a log.
-use Rattle.std.specs.Prelude.{◌≡◌, ℕ, ◌+◌, ◌-◌, ◌^◌, ◌<◌, ◌≤◌, ◌⊎◌, Bool, true, false, min, if◌then◌else◌, Option, Some, None, Result, Ok, Err}
+use Rattle.std.specs.Prelude.{◌≡◌, ℕ, ◌+◌, ◌-◌, ◌^◌, ◌<◌, ◌≤◌, ◌⊎◌, Bool, true, false, min, max, if◌then◌else◌, Option, Some, None, Result, Ok, Err}
 use Rattle.dns_core.specs.Log.{Log, Extends}
 use Rattle.dns_core.specs.declared.errors.NoMemory.{NoMemory}
 use Rattle.dns_core.specs.declared.log.LogEntry.TheVariants as line
@@ -16,6 +16,7 @@ use Rattle.server_core.specs.declared.order.Outcome.TheVariants.{Pending, Connec
 use Rattle.server_core.specs.declared.order.Sent.{Sent}
 use Rattle.server_core.specs.declared.order.Tick.{Tick}
 use Rattle.order_carrier.specs.Fits.{Fits, WaitsBy, IsSent}
+use Rattle.walk_tables.specs.View.{View}
 
 -- ---- what was lost
 
@@ -87,10 +88,23 @@ last_if given_up waits o = if given_up then closing_of waits o else entry_of o
 abbrev pub last_entry : {E : Type 0} → Result After E → Option Sent → Outcome → ℕ
 last_entry result waits o = last_if (is_given_up result) waits o
 
--- A log goes on to tell the outcome that is put, by an entry later than all before, and the give-up where there is one.
-pub record IsPut (greatest moment : ℕ) (log : Log) (tick : Tick) (waits : Option Sent) (o : Outcome) (result : Result After NoMemory) (longer : Log) : Type 0 where
-  pub bound : greatest < log.next
-  pub next : IsNext greatest (entry_of o)
+-- A log goes on to tell the outcome that is put, and the give-up where there is one.
+pub record TellsOn (moment : ℕ) (log : Log) (tick : Tick) (waits : Option Sent) (o : Outcome) (result : Result After NoMemory) (longer : Log) : Type 0 where
   pub told : Log
   pub tells : TellsOutcome moment log tick waits o told
   pub goes_on : LogGoesOn tick.now waits o result told longer
+
+-- So it goes on, by an entry later than all before; patience is no less than what is set.
+pub record IsPut (seen : View) (tick : Tick) (waits : Option Sent) (o : Outcome) (result : Result After NoMemory) (longer : Log) : Type 0 where
+  pub patient : seen.setting.patience ≤ tick.patience
+  pub bound : seen.greatest < seen.log.next
+  pub next : IsNext seen.greatest (entry_of o)
+  pub on : TellsOn seen.moment seen.log tick waits o result longer
+
+-- so far a machine has come with it
+abbrev pub seen_with : View → Tick → Option Sent → Outcome → Result After NoMemory → Log → View
+seen_with seen tick waits o result longer = record { setting = seen.setting; greatest = max seen.greatest (last_entry result waits o); moment = tick.now; log = longer }
+
+-- What holds by what a machine sees goes on holding, the one and then the other, by what it sees with the outcome, however the log tells that.
+abbrev pub HoldsOn : Tick → Option Sent → Outcome → Result After NoMemory → (View → Type 0) → (View → Type 0) → Type 0
+HoldsOn tick waits o result Old New = (seen : View) (longer : Log) → IsPut seen tick waits o result longer → Old seen → New (seen_with seen tick waits o result longer)

@@ -6,7 +6,6 @@ use Rattle.std.specs.List.Sorted.{IsPermutation}
 use Rattle.std.specs.declared.net.ip_addr.IpAddr.{IpAddr}
 use Rattle.std.specs.contracts.net.ip_addr.IpAddrOrd.TheImpl as address
 use Rattle.dns_core.specs.Name.{DomainName}
-use Rattle.dns_core.specs.Log.{Log}
 use Rattle.dns_core.specs.declared.errors.NoMemory.{NoMemory}
 use Rattle.dns_core.specs.declared.message.Query.{Query}
 use Rattle.dns_core.specs.declared.net_error.NetError.{NetError}
@@ -18,7 +17,6 @@ use Rattle.resolution.specs.Names.{is_above, walk}
 use Rattle.resolution.specs.Serving.{Serves}
 use Rattle.resolution.specs.Lookups.{Answered, End, class_of_answer}
 use Rattle.resolution.specs.Ending.{Listed, waits}
-use Rattle.resolution.specs.Given.{Given as Resolver}
 use Rattle.resolution.specs.Walking.{Walked}
 use Rattle.server_core.specs.Sending.{pendings}
 use Rattle.server_core.specs.Servers.{Server, server_of}
@@ -26,6 +24,7 @@ use Rattle.server_core.specs.Order.{entry_of}
 use Rattle.server_core.specs.declared.order.After.{After}
 use Rattle.server_core.specs.declared.order.After.TheVariants as after
 use Rattle.server_core.specs.declared.order.Sent.{Sent}
+use Rattle.server_core.specs.declared.order.Tick.{Tick}
 use Rattle.server_core.specs.declared.order.Order.{Order}
 use Rattle.server_core.specs.declared.order.Order.TheVariants as order
 use Rattle.server_core.specs.declared.order.Outcome.{Outcome}
@@ -42,7 +41,8 @@ use Rattle.server_pool.specs.Orders.{open_at}
 use Rattle.server_pool.specs.Shared.{Shared, lookup_at, lookup_of}
 use Rattle.retry_rules.specs.declared.candidate.Candidate.{Candidate}
 use Rattle.server_pool.specs.declared.open_lookup.OpenLookup.{OpenLookup}
-use Rattle.walk_tables.specs.Terms.{Terms, given_of}
+use Rattle.recursor_setting.specs.declared.setting.Setting.{Setting}
+use Rattle.walk_tables.specs.View.{View, given_of}
 use Rattle.walk_tables.specs.Tried.{Tried}
 use Rattle.walk_tables.specs.declared.pools.Aim.{Aim}
 use Rattle.walk_tables.specs.declared.pools.Aim.TheVariants as aim
@@ -71,10 +71,10 @@ abbrev pub server_at : IpAddr → NameServer
 server_at ip = believed ip (over_udp ∷ over_tcp ∷ [])
 
 -- Each address that has a number is that of its server, and a lookup has five seconds.
-pub record ServersHold (terms : Terms) (pools : Pools) : Type 0 where
+pub record ServersHold (setting : Setting) (pools : Pools) : Type 0 where
   pub numbers : (ip : IpAddr) (n : ℕ) → number_of pools ip ≡ Some n → config_at pools.shared.table n ≡ Some (server_at ip)
   pub timeout : pools.shared.context.options.timeout ≡ 5000000
-  pub filter : pools.shared.context.answer_address_filter ≡ Some terms.answer_filter
+  pub filter : pools.shared.context.answer_address_filter ≡ Some setting.answer_filter
 
 -- ---- lookups
 
@@ -82,15 +82,21 @@ pub record ServersHold (terms : Terms) (pools : Pools) : Type 0 where
 abbrev pub sought_at : Pools → ℕ → Option Sought
 sought_at pools n = tree.get nat_cmp pools.sought n
 
--- each of these serves the zone, by what was told below n
-abbrev pub AreServers : Terms → Log → ℕ → DomainName → List IpAddr → Type 0
-AreServers terms log n zone ips = All (λ ip. Serves (given_of terms) log n ip zone) ips
+-- each of these serves the zone, by what was put
+abbrev pub AreServers : View → DomainName → List IpAddr → Type 0
+AreServers seen zone ips = All (λ ip. Serves (given_of seen.setting) seen.log (seen.greatest + 1) ip zone) ips
 
--- These are the servers of a zone by the roots or by a delegation, all of them; each serves it by what was told below n.
-pub record ArePool (terms : Terms) (log : Log) (n : ℕ) (zone : DomainName) (ips : List IpAddr) : Type 0 where
-  pub serve : AreServers terms log n zone ips
-  pub listed : Listed (given_of terms) log zone ips
+-- These are the servers of a zone by the roots or by a delegation, all of them; each serves it by what was put.
+pub record ArePool (seen : View) (zone : DomainName) (ips : List IpAddr) : Type 0 where
+  pub serve : AreServers seen zone ips
+  pub listed : Listed (given_of seen.setting) seen.log zone ips
   pub some : 0 < length ips
+
+-- They are the servers of a zone at or above the name of the question, to which a walk went down for it.
+pub record AreFor (seen : View) (q : Query) (zone : DomainName) (ips : List IpAddr) : Type 0 where
+  pub above : IsTrue (is_above zone (walk q))
+  pub walked : Walked (given_of seen.setting) seen.log q zone
+  pub pool : ArePool seen zone ips
 
 -- The candidate is at the address, reached beyond UDP, and believed what it denies.
 pub record IsAt (table : List Server) (ip : IpAddr) (c : Candidate) : Type 0 where
@@ -99,60 +105,56 @@ pub record IsAt (table : List Server) (ip : IpAddr) (c : Candidate) : Type 0 whe
   pub trusted : c.trusted ≡ true
 
 -- The entry was waited for so often, below a number that is no later than what was put.
-pub record WasWaitedFor (greatest : ℕ) (log : Log) (of polls : ℕ) : Type 0 where
+pub record WasWaitedFor (seen : View) (of polls : ℕ) : Type 0 where
   pub below : ℕ
-  pub early : below ≤ greatest + 1
-  pub within : below ≤ log.next
-  pub enough : polls ≤ waits log of below
+  pub early : below ≤ seen.greatest + 1
+  pub within : below ≤ seen.log.next
+  pub enough : polls ≤ waits seen.log of below
 
 -- So often the entry was waited for, where one is known; before that no poll was put.
-abbrev pub IsWaitedFor : ℕ → Log → Option ℕ → ℕ → Type 0
-IsWaitedFor greatest log None polls = polls ≡ 0
-IsWaitedFor greatest log (Some of) polls = WasWaitedFor greatest log of polls
+abbrev pub IsWaitedFor : View → Option ℕ → ℕ → Type 0
+IsWaitedFor seen None polls = polls ≡ 0
+IsWaitedFor seen (Some of) polls = WasWaitedFor seen of polls
 
 -- An order of a send to a server of the pool is open, which serves the zone by what was put before it was given, and the log has its polls.
-pub record IsSentTo (terms : Terms) (greatest : ℕ) (log : Log) (pools : Pools) (n : ℕ) (zone : DomainName) (pool : List Candidate) (l : LookupState)
+pub record IsSentTo (seen : View) (pools : Pools) (n : ℕ) (zone : DomainName) (pool : List Candidate) (l : LookupState)
     (g : Given) (asks : Bool) (ip : IpAddr) : Type 0 where
   pub of : lookup_of pools.shared g.number ≡ Some n
   pub candidate : Candidate
   pub from_pool : Contains pool candidate
   pub at : IsAt pools.shared.table ip candidate
   pub open_to : IsOpenTo g.number candidate asks l
-  pub past : g.since ≤ greatest
-  pub serves : Serves (given_of terms) log (g.since + 1) ip zone
-  pub polled : IsWaitedFor greatest log g.polled (pendings open_to.attempt.send.stage)
+  pub past : g.since ≤ seen.greatest
+  pub serves : Serves (given_of seen.setting) seen.log (g.since + 1) ip zone
+  pub polled : IsWaitedFor seen g.polled (pendings open_to.attempt.send.stage)
 
 -- the order that it gave last is open
-abbrev pub GivenHolds : Terms → ℕ → Log → Pools → ℕ → DomainName → List Candidate → LookupState → Given → Aim → Type 0
-GivenHolds terms greatest log pools n zone pool l g (aim.Open ip) = IsSentTo terms greatest log pools n zone pool l g false ip
-GivenHolds terms greatest log pools n zone pool l g (aim.Ask ip) = IsSentTo terms greatest log pools n zone pool l g true ip
-GivenHolds terms greatest log pools n zone pool l g aim.Sleep = (lookup_of pools.shared g.number ≡ Some n) × IsBackingOffUnder g.number l
+abbrev pub GivenHolds : View → Pools → ℕ → DomainName → List Candidate → LookupState → Given → Aim → Type 0
+GivenHolds seen pools n zone pool l g (aim.Open ip) = IsSentTo seen pools n zone pool l g false ip
+GivenHolds seen pools n zone pool l g (aim.Ask ip) = IsSentTo seen pools n zone pool l g true ip
+GivenHolds seen pools n zone pool l g aim.Sleep = (lookup_of pools.shared g.number ≡ Some n) × IsBackingOffUnder g.number l
 
 -- The lookup of the number asks what is sought, at all servers of its zone, to which a walk went down, by what was told; its sends ended as the log shows.
-pub record SoughtHolds (terms : Terms) (greatest moment : ℕ) (log : Log) (pools : Pools) (n : ℕ) (s : Sought) : Type 0 where
+pub record SoughtHolds (seen : View) (pools : Pools) (n : ℕ) (s : Sought) : Type 0 where
   pub shared_by : OpenLookup
   pub there : lookup_at pools.shared n ≡ Some shared_by
   pub asks : question_of shared_by.lookup ≡ s.query
   pub starts : shared_by.lookup.start ≡ s.start
   pub time : shared_by.lookup.timeout ≡ 5000000
-  pub past : s.start ≤ moment
-  pub above : IsTrue (is_above s.zone (walk s.query))
-  pub walked : Walked (given_of terms) log s.query s.zone
+  pub past : s.start ≤ seen.moment
   pub ips : List IpAddr
-  pub listed : Listed (given_of terms) log s.zone ips
-  pub some : 0 < length ips
-  pub serve : AreServers terms log (greatest + 1) s.zone ips
+  pub served : AreFor seen s.query s.zone ips
   pub ip_of : ℕ → IpAddr
   pub known : All (λ c. IsAt pools.shared.table (ip_of c.server) c) shared_by.lookup.servers
   pub whole : IsPermutation ips (map (at_address ip_of) shared_by.lookup.servers)
   pub heard : List HeardEnd
-  pub stands : HoldsBy (denies terms.answer_filter) heard shared_by.lookup
+  pub stands : HoldsBy (denies seen.setting.answer_filter) heard shared_by.lookup
   -- a step no later than the moment decided it, if one did
-  pub decided : (answer : Answered) (at : ℕ) → shared_by.lookup.state ≡ Decided answer at → at ≤ moment
+  pub decided : (answer : Answered) (at : ℕ) → shared_by.lookup.state ≡ Decided answer at → at ≤ seen.moment
   pub ends : List (End IpAddr)
   pub beside : SameEnds (at_address ip_of) (class_of_sent s.query) (class_of_answer s.query) (ends_of heard) ends
-  pub tried : Tried terms greatest moment log s.zone s.query ips s.start s.first (entries_of heard) ends s.at
-  pub given : IfSome s.given (λ g. GivenHolds terms greatest log pools n s.zone shared_by.lookup.servers shared_by.lookup g g.aim)
+  pub tried : Tried seen s.zone s.query ips s.start s.first (entries_of heard) ends s.at
+  pub given : IfSome s.given (λ g. GivenHolds seen pools n s.zone shared_by.lookup.servers shared_by.lookup g g.aim)
 
 -- It has one of so many numbers, and is at a pool of one of so many.
 pub record IsNumbered (sent pools n : ℕ) (l : OpenLookup) : Type 0 where
@@ -164,10 +166,10 @@ pub record AreNumbered (shared : Shared) : Type 0 where
   pub each : (n : ℕ) (l : OpenLookup) → lookup_at shared n ≡ Some l → IsNumbered shared.sent shared.pools n l
 
 -- The servers and the lookups hold.
-pub record PoolsHold (terms : Terms) (greatest moment : ℕ) (log : Log) (pools : Pools) : Type 0 where
-  pub servers : ServersHold terms pools
+pub record PoolsHold (seen : View) (pools : Pools) : Type 0 where
+  pub servers : ServersHold seen.setting pools
   pub numbered : AreNumbered pools.shared
-  pub lookups : (n : ℕ) (s : Sought) → sought_at pools n ≡ Some s → SoughtHolds terms greatest moment log pools n s
+  pub lookups : (n : ℕ) (s : Sought) → sought_at pools n ≡ Some s → SoughtHolds seen pools n s
 
 -- ---- outcomes
 
@@ -301,11 +303,11 @@ polled_by (Told entry sent message) = None
 polled_by (Failed entry sent refused error) = None
 polled_by Slept = None
 
--- an order goes to a server by what was told below n
-abbrev pub StepGoes : Resolver → Log → ℕ → Stepped → Type 0
-StepGoes given log n (stepped.Order number order) = GoesToServer given log n order
-StepGoes given log n (stepped.Waiting number) = Unit {0}
-StepGoes given log n stepped.Done = Unit {0}
+-- an order goes to a server by what was put
+abbrev pub StepGoes : View → Stepped → Type 0
+StepGoes seen (stepped.Order number order) = GoesToServer (given_of seen.setting) seen.log (seen.greatest + 1) order
+StepGoes seen (stepped.Waiting number) = Unit {0}
+StepGoes seen stepped.Done = Unit {0}
 
 -- The outcome is one of the open order of the lookup.
 pub record IsGivenFor (pools : Pools) (n : ℕ) (waits : Option Sent) (o : Outcome) (g : Given) : Type 0 where
@@ -358,3 +360,8 @@ pub record Seeks (pools : Pools) (n : ℕ) (q : Query) (zone : DomainName) (begu
   pub zone_is : sought.zone ≡ zone
   pub since : begun ≤ sought.start
   pub last : sought.at ≡ at
+
+-- A step at the moment that has come, no entry after the one that was put last.
+pub record IsStepAt (seen : View) (since : ℕ) (tick : Tick) : Type 0 where
+  pub since_is : since ≡ seen.greatest
+  pub now_is : tick.now ≡ seen.moment

@@ -1,7 +1,6 @@
 -- What is kept of finished lookups in the cache of responses (RFC 1034 section 5.3.3, step 4).
 use Rattle.std.specs.Prelude.{◌≡◌, ℕ, ◌+◌, ◌*◌, ◌≤◌, ◌==◌, Option, Some, None, Result, All, IsSomeAnd}
 use Rattle.dns_core.specs.Name.{DomainName}
-use Rattle.dns_core.specs.Log.{Log}
 use Rattle.dns_core.specs.declared.message.Query.{Query}
 use Rattle.dns_core.specs.declared.message.Message.{Message}
 use Rattle.dns_core.specs.declared.net_error.NetError.{NetError}
@@ -19,7 +18,7 @@ use Rattle.resolution.specs.declared.verdict.Cause.TheVariants.{Filter}
 use Rattle.resolution.specs.Walking.{Walked}
 use Rattle.walk_base.specs.Kept.{kept_of, response_in}
 use Rattle.walk_tables.specs.Asked.{AskedAs}
-use Rattle.walk_tables.specs.Terms.{Terms, given_of}
+use Rattle.walk_tables.specs.View.{View, given_of}
 use Rattle.walk_tables.specs.Lookup.{nothing_left_for}
 use Rattle.walk_tables.specs.declared.lookup.Ask.{Ask}
 use Rattle.walk_tables.specs.declared.lookup.Ask.TheVariants as ask
@@ -36,25 +35,25 @@ IsShown q _ _ = ⊥
 
 -- The response under a question, as it was asked, shows the verdict of the entry that it names, told by a server of a zone to which a walk went down, and it
 -- expires no later than its life after the moment of the telling.
-pub record EntryHolds (terms : Terms) (greatest : ℕ) (log : Log) (e : Entry) : Type 0 where
+pub record EntryHolds (seen : View) (e : Entry) : Type 0 where
   pub zone : DomainName
   pub told : ToldOutcome
   pub moment : ℕ
   pub whole : Verdict
-  pub early : e.source ≤ greatest
-  pub heard : Heard (given_of terms) log e.source e.query told moment zone
-  pub asked : AskedAs log e.source e.query
-  pub counts : verdict (given_of terms) told e.query zone ≡ Some whole
-  pub walked : Walked (given_of terms) log e.query zone
+  pub early : e.source ≤ seen.greatest
+  pub heard : Heard (given_of seen.setting) seen.log e.source e.query told moment zone
+  pub asked : AskedAs seen.log e.source e.query
+  pub counts : verdict (given_of seen.setting) told e.query zone ≡ Some whole
+  pub walked : Walked (given_of seen.setting) seen.log e.query zone
   pub shown : Verdict
   pub as_shown : IsShown e.query shown whole
   pub kept : kept_of shown ≡ Some e.response
-  pub expires : IsSomeAnd (life_in_seconds (given_of terms) e.query.query_type whole) (λ life. e.expiry ≤ moment + 1000000 * life)
+  pub expires : IsSomeAnd (life_in_seconds (given_of seen.setting) e.query.query_type whole) (λ life. e.expiry ≤ moment + 1000000 * life)
 
--- Each response is so, and lives by the bounds of the terms.
-pub record CacheHolds (terms : Terms) (greatest : ℕ) (log : Log) (cache : Cached) : Type 0 where
-  pub lives : cache.config ≡ terms.lives
-  pub entries : All (EntryHolds terms greatest log) cache.entries
+-- Each response is so, and lives by the bounds that are set.
+pub record CacheHolds (seen : View) (cache : Cached) : Type 0 where
+  pub lives : cache.config ≡ seen.setting.lives
+  pub entries : All (EntryHolds seen) cache.entries
 
 -- ---- what is written
 

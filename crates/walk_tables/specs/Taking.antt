@@ -1,6 +1,5 @@
 -- What the outcome of an order leaves of the pools, and what it writes into the cache.
 use Rattle.std.specs.Prelude.{◌≡◌, ◌⊎◌, ◌==◌, ℕ, Bool, false, nat_lt, length, if◌then◌else◌, Option, Some, None, Ok, option_and_then}
-use Rattle.dns_core.specs.Log.{Log}
 use Rattle.server_core.specs.declared.order.After.{After}
 use Rattle.server_core.specs.declared.order.After.TheVariants as after
 use Rattle.server_core.specs.declared.order.Outcome.{Outcome}
@@ -16,7 +15,7 @@ use Rattle.server_pool.specs.declared.open_lookup.OpenLookup.{OpenLookup}
 use Rattle.walk_tables.specs.Lookup.{last_of, answered_by}
 use Rattle.walk_tables.specs.Pools.{sought_at, PoolsHold}
 use Rattle.walk_tables.specs.Remembered.{CacheHolds, Telling, telling, remembered}
-use Rattle.walk_tables.specs.Terms.{Terms}
+use Rattle.walk_tables.specs.View.{View}
 use Rattle.walk_tables.specs.declared.lookup.Ask.{Ask}
 use Rattle.walk_tables.specs.declared.lookup.Ask.TheVariants as ask
 use Rattle.walk_tables.specs.declared.lookup.Lookup.{Lookup}
@@ -69,9 +68,9 @@ abbrev pub Takes : Cached → Cached → Pools → Pools → ℕ → Outcome →
 Takes cache new_cache old new number o tick did = ((did ≡ after.Late) × (new_cache ≡ cache) × (new ≡ old)) ⊎ HasTaken cache new_cache old new number o tick did
 
 -- What is kept of responses, and the pools, hold.
-pub record TablesHold (terms : Terms) (greatest moment : ℕ) (log : Log) (kept : Cached) (under_way : Pools) : Type 0 where
-  pub cache : CacheHolds terms greatest log kept
-  pub pools : PoolsHold terms greatest moment log under_way
+pub record TablesHold (seen : View) (kept : Cached) (under_way : Pools) : Type 0 where
+  pub cache : CacheHolds seen kept
+  pub pools : PoolsHold seen under_way
 
 -- the order is open at the lookup of the number
 abbrev pub is_open_at : Pools → ℕ → ℕ → Bool
@@ -97,14 +96,8 @@ awaited_when pools ask.Heard = None
 abbrev pub awaited_by : Pools → Lookup → Option ℕ
 awaited_by pools l = awaited_when pools l.ask
 
--- The lookup of the number waits for this order, also where it was given just now.
-abbrev pub IfAwaited : Pools → ℕ → Stepped → Type 0
-IfAwaited pools n (stepped.Order number order) = awaited_in pools n ≡ Some number
-IfAwaited pools n (stepped.Waiting number) = awaited_in pools n ≡ Some number
-IfAwaited pools n stepped.Done = Unit {0}
-
--- So it does.
-abbrev pub IfWaits : Pools → Lookup → Stepped → Type 0
-IfWaits pools l (stepped.Order number order) = awaited_by pools l ≡ Some number
-IfWaits pools l (stepped.Waiting number) = awaited_by pools l ≡ Some number
-IfWaits pools l stepped.Done = Unit {0}
+-- The order that a step gives, or that it waits for, is the one that is waited for.
+abbrev pub IfAwaits : Option ℕ → Stepped → Type 0
+IfAwaits awaited (stepped.Order number order) = awaited ≡ Some number
+IfAwaits awaited (stepped.Waiting number) = awaited ≡ Some number
+IfAwaits awaited stepped.Done = Unit {0}

@@ -16,7 +16,7 @@ use Rattle.resolution.specs.Timing.{is_send}
 use Rattle.resolution.specs.declared.class.Class.{Class}
 use Rattle.resolution.specs.declared.class.Class.TheVariants.{Error, Code, Truncated, Negative, Foreign, Positive}
 use Rattle.walk_tables.specs.Asked.{AskedAs}
-use Rattle.walk_tables.specs.Terms.{Terms, given_of}
+use Rattle.walk_tables.specs.View.{View, given_of}
 
 -- A send of the question to the server began at the moment, by an entry that is no later than this one.
 pub record BeganBy (log : Log) (q : Query) (server : IpAddr) (last start : ℕ) : Type 0 where
@@ -48,22 +48,22 @@ told_of (Ok m) = told.Message m
 told_of (Err e) = told.Error e
 
 -- Each end that is an answer or a denial was heard for the question as it was asked, from a server of the zone.
-abbrev pub AreHeard : Terms → Log → DomainName → Query → List ℕ → List (End IpAddr) → List ℕ → Type 0
-AreHeard terms log zone q (n ∷ g) (e ∷ ends) (m ∷ moments) =
-    (IsTrue (is_response (class_of_answer q e.outcome)) → Heard (given_of terms) log n q (told_of e.outcome) m zone × AskedAs log n q) × AreHeard terms log zone q g ends moments
-AreHeard terms log zone q _ _ _ = Unit {0}
+abbrev pub AreHeard : View → DomainName → Query → List ℕ → List (End IpAddr) → List ℕ → Type 0
+AreHeard seen zone q (n ∷ g) (e ∷ ends) (m ∷ moments) =
+    (IsTrue (is_response (class_of_answer q e.outcome)) → Heard (given_of seen.setting) seen.log n q (told_of e.outcome) m zone × AskedAs seen.log n q) × AreHeard seen zone q g ends moments
+AreHeard seen zone q _ _ _ = Unit {0}
 
 -- These entries ended sends of the question to some of the addresses, one after the other, since the start; the last of them came at this moment.
-pub record Tried (terms : Terms) (greatest moment : ℕ) (log : Log) (zone : DomainName) (q : Query) (ips : List IpAddr) (start : ℕ) (first : Option IpAddr)
+pub record Tried (seen : View) (zone : DomainName) (q : Query) (ips : List IpAddr) (start : ℕ) (first : Option IpAddr)
     (g : List ℕ) (ends : List (End IpAddr)) (at : ℕ) : Type 0 where
   pub moments : List ℕ
-  pub logged : EndSends (given_of terms) log q ips g ends moments
-  pub heard : AreHeard terms log zone q g ends moments
+  pub logged : EndSends (given_of seen.setting) seen.log q ips g ends moments
+  pub heard : AreHeard seen zone q g ends moments
   pub rises : Rise g
-  pub early : IsTrue (list_all (λ n. nat_le n greatest) g)
-  pub began : Began log q greatest first g ends start
+  pub early : IsTrue (list_all (λ n. nat_le n seen.greatest) g)
+  pub began : Began seen.log q seen.greatest first g ends start
   pub since : IsTrue (list_all (nat_le start) moments)
-  pub till : IsTrue (list_all (λ m. nat_le m moment) moments)
+  pub till : IsTrue (list_all (λ m. nat_le m seen.moment) moments)
   pub last : (m : ℕ) → last_or None moments ≡ Some m → m ≡ at
 
 -- The lookup began with a send no earlier than the question, and was answered no later than the moment.
@@ -82,5 +82,5 @@ abbrev pub machine_timer : ℕ → Timer
 machine_timer moment log t0 = record { Timed = λ q ips g ends moments start now. IsTimed moment log t0 q g ends start now; exhausted = false }
 
 -- A lookup for the question at servers of the zone came to this by the entries, no later than the moment.
-abbrev pub Concluded : Terms → ℕ → ℕ → Log → DomainName → Query → List ℕ → Answered → Type 0
-Concluded terms moment t0 log zone q g result = Finished (given_of terms) (machine_timer moment log t0) log t0 q zone g result
+abbrev pub Concluded : View → ℕ → DomainName → Query → List ℕ → Answered → Type 0
+Concluded seen t0 zone q g result = Finished (given_of seen.setting) (machine_timer seen.moment seen.log t0) seen.log t0 q zone g result

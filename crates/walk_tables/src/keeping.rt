@@ -1,7 +1,7 @@
 //! What a finished lookup leaves in the cache of responses.
-ghost use Rattle.std.specs.Prelude.{◌≡◌, OnOk, OnErr, IfOk};
+ghost use Rattle.std.specs.Prelude.{◌≡◌, OnOk, OnErr};
 ghost use Rattle.walk_base.specs.Kept.{response_in};
-ghost use Rattle.walk_tables.specs.Remembered.{Telling, remembered};
+ghost use Rattle.walk_tables.specs.Remembered.{remembered};
 
 use dns_core::{DnsError, Message, Name, NetError, NoMemory, Query, RecordType, TryClone};
 use resolver_cache::ResponseCache;

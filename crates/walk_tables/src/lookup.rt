@@ -1,12 +1,10 @@
 //! One question put to the servers of a zone.
-ghost use Rattle.std.specs.Prelude.{◌≡◌, ◌<◌, ◌+◌, ℕ, IfOk, IfSome, IsSome, OnErr, IsTrue, MatchBool, MatchResult};
+ghost use Rattle.std.specs.Prelude.{◌≡◌, ◌<◌, ℕ, IfOk, IfSome, IsSome, OnErr, IsTrue, MatchBool, MatchResult};
 ghost use Rattle.dns_core.specs.Name.{DomainName};
-ghost use Rattle.dns_core.specs.Log.{Log};
 ghost use Rattle.resolution.specs.Names.{is_above, walk};
-ghost use Rattle.resolution.specs.Walking.{Walked};
-ghost use Rattle.walk_tables.specs.Taking.{awaited_by, IfWaits};
-ghost use Rattle.walk_tables.specs.Terms.{Terms, given_of};
-ghost use Rattle.walk_tables.specs.Pools.{PoolsHold, StepGoes, ArePool, given_so_far, GivesNext};
+ghost use Rattle.walk_tables.specs.Taking.{awaited_by, IfAwaits};
+ghost use Rattle.walk_tables.specs.View.{View};
+ghost use Rattle.walk_tables.specs.Pools.{PoolsHold, StepGoes, AreFor, IsStepAt, given_so_far, GivesNext};
 ghost use Rattle.walk_tables.specs.Lookup.{want_of, answered_by, failed_by, last_of, steps, LeavesLess, found_in, LookupHolds, FoundHolds};
 
 use crate::pools::{Answer, Pools, Stepped};
@@ -104,8 +102,8 @@ impl Lookup {
     /// A lookup of a question, in the cache first.
     pub fn new(alloc: Global, query: Query) -> Lookup
         ensures steps { steps result ≡ 4 }
-        ensures holds { (terms : Terms) (greatest moment t0 : ℕ) (log : Log) (zone : DomainName)
-            → IsTrue (is_above zone (walk query)) → LookupHolds terms greatest moment t0 log zone result }
+        ensures holds { (seen : View) (t0 : ℕ) (zone : DomainName)
+            → IsTrue (is_above zone (walk query)) → LookupHolds seen t0 zone result }
         ensures query { result.query ≡ query }
     {
         Lookup {
@@ -131,8 +129,8 @@ impl Lookup {
     pub fn begin(&mut self)
         requires { want_of self.old.ask ≡ Want.Recall }
         ensures falls { steps self.new < steps self.old }
-        ensures holds { (terms : Terms) (greatest moment t0 : ℕ) (log : Log) (zone : DomainName)
-            → LookupHolds terms greatest moment t0 log zone self.old → LookupHolds terms greatest moment t0 log zone self.new }
+        ensures holds { (seen : View) (t0 : ℕ) (zone : DomainName)
+            → LookupHolds seen t0 zone self.old → LookupHolds seen t0 zone self.new }
         ensures query { self.new.query ≡ self.old.query }
     {
         self.ask = Ask::Ready;
@@ -152,10 +150,9 @@ impl Lookup {
         requires asks { request.query ≡ self.old.query }
         ensures falls { MatchResult result (λ sent. steps self.new < steps self.old) (λ error. self.new ≡ self.old) }
         ensures given { given_so_far pools.new ≡ given_so_far pools.old }
-        ensures holds { (terms : Terms) (greatest moment t0 : ℕ) (log : Log)
-            → LookupHolds terms greatest moment t0 log zone.now self.old → LookupHolds terms greatest moment t0 log zone.now self.new }
-        ensures pools { (terms : Terms) (greatest : ℕ) (log : Log) → IsTrue (is_above zone.now (walk self.old.query)) → Walked (given_of terms) log self.old.query zone.now
-            → ArePool terms log (greatest + 1) zone.now ips.now → PoolsHold terms greatest tick.now log pools.old → PoolsHold terms greatest tick.now log pools.new }
+        ensures holds { (seen : View) (t0 : ℕ)
+            → LookupHolds seen t0 zone.now self.old → LookupHolds seen t0 zone.now self.new }
+        ensures pools { (seen : View) → tick.now ≡ seen.moment → AreFor seen self.old.query zone.now ips.now → PoolsHold seen pools.old → PoolsHold seen pools.new }
         ensures query { self.new.query ≡ self.old.query }
     {
         let lookup = pools.begin(alloc, zone, ips, request, tick)?;
@@ -174,8 +171,8 @@ impl Lookup {
         ensures falls { IfOk result (λ settled. MatchBool settled (steps self.new < steps self.old) ((self.new ≡ self.old) × (pools.new ≡ pools.old))) }
         ensures err { OnErr result (self.new ≡ self.old) }
         ensures given { given_so_far pools.new ≡ given_so_far pools.old }
-        ensures holds { (terms : Terms) (greatest moment : ℕ) (log : Log) → PoolsHold terms greatest moment log pools.old
-            → LookupHolds terms greatest moment begun log zone.now self.old → LookupHolds terms greatest moment begun log zone.now self.new × PoolsHold terms greatest moment log pools.new }
+        ensures holds { (seen : View) → PoolsHold seen pools.old
+            → LookupHolds seen begun zone.now self.old → LookupHolds seen begun zone.now self.new × PoolsHold seen pools.new }
         ensures query { self.new.query ≡ self.old.query }
     {
         let Ask::Under(lookup) = &self.ask else {
@@ -204,7 +201,7 @@ impl Lookup {
 
     /// Ends the interest in the lookup at its pool, if there is one.
     pub fn leave(&mut self, pools: &mut Pools)
-        ensures pools { (terms : Terms) (greatest moment : ℕ) (log : Log) → PoolsHold terms greatest moment log pools.old → PoolsHold terms greatest moment log pools.new }
+        ensures pools { (seen : View) → PoolsHold seen pools.old → PoolsHold seen pools.new }
         ensures given { given_so_far pools.new ≡ given_so_far pools.old }
         ensures same { (self.new.query ≡ self.old.query) × (self.new.ends ≡ self.old.ends) }
     {
@@ -228,10 +225,10 @@ impl Lookup {
         requires { want_of self.old.ask ≡ Want.Step }
         ensures falls { IfOk result (LeavesLess (steps self.old) (steps self.new)) }
         ensures given { GivesNext (given_so_far pools.old) (given_so_far pools.new) result }
-        ensures holds { (terms : Terms) (log : Log) → PoolsHold terms since tick.now log pools.old
-            → LookupHolds terms since tick.now begun log zone.now self.old → LookupHolds terms since tick.now begun log zone.now self.new × PoolsHold terms since tick.now log pools.new }
-        ensures goes { (terms : Terms) (log : Log) → PoolsHold terms since tick.now log pools.old → IfOk result (StepGoes (given_of terms) log (since + 1)) }
-        ensures waits { IfOk result (IfWaits pools.new self.new) }
+        ensures holds { (seen : View) → IsStepAt seen since tick → PoolsHold seen pools.old
+            → LookupHolds seen begun zone.now self.old → LookupHolds seen begun zone.now self.new × PoolsHold seen pools.new }
+        ensures goes { (seen : View) → IsStepAt seen since tick → PoolsHold seen pools.old → IfOk result (StepGoes seen) }
+        ensures waits { IfOk result (IfAwaits (awaited_by pools.new self.new)) }
         ensures query { self.new.query ≡ self.old.query }
     {
         if self.settle(alloc, pools, zone, begun)? {
@@ -258,8 +255,8 @@ impl Lookup {
         ensures falls { IfOk result (λ stepped. (stepped ≡ Stepped.Done) × (steps self.new < steps self.old)) }
         ensures err { OnErr result (self.new ≡ self.old) }
         ensures given { given_so_far pools.new ≡ given_so_far pools.old }
-        ensures holds { (terms : Terms) (greatest moment : ℕ) (log : Log) → PoolsHold terms greatest moment log pools.old
-            → LookupHolds terms greatest moment begun log zone.now self.old → LookupHolds terms greatest moment begun log zone.now self.new × PoolsHold terms greatest moment log pools.new }
+        ensures holds { (seen : View) → PoolsHold seen pools.old
+            → LookupHolds seen begun zone.now self.old → LookupHolds seen begun zone.now self.new × PoolsHold seen pools.new }
         ensures query { self.new.query ≡ self.old.query }
     {
         if self.settle(alloc, pools, zone, begun)? {
@@ -275,8 +272,8 @@ impl Lookup {
         ensures falls { steps self.new < steps self.old }
         ensures found { IsSome result }
         ensures hears { result ≡ found_in self.old.ask }
-        ensures holds { (terms : Terms) (greatest moment t0 : ℕ) (log : Log) (zone : DomainName)
-            → LookupHolds terms greatest moment t0 log zone self.old → IfSome result (FoundHolds terms greatest moment t0 log zone self.new.query self.new.ends) }
+        ensures holds { (seen : View) (t0 : ℕ) (zone : DomainName)
+            → LookupHolds seen t0 zone self.old → IfSome result (FoundHolds seen t0 zone self.new.query self.new.ends) }
         ensures query { self.new.query ≡ self.old.query }
     {
         match mem::replace(&mut self.ask, Ask::Heard) {

@@ -1,25 +1,21 @@
 //! The servers that were met, each under its address, the pools of them, and the lookups that are under
 //! way at these.
-ghost use Rattle.std.specs.Prelude.{◌≡◌, ◌≢◌, ◌↔◌, ◌≤◌, ◌<◌, ◌+◌, ◌==◌, ℕ, [], max, true, false, length, Some, None, Ok, Err, IfOk, IfSome, OnOk, OnErr, IsTrue, All, if◌then◌else◌, option_copied};
+ghost use Rattle.std.specs.Prelude.{◌≡◌, ◌↔◌, ◌≤◌, ◌<◌, ◌+◌, ◌==◌, ℕ, true, false, length, Some, None, Ok, Err, IfOk, IfSome, OnOk, OnErr, IsTrue, option_copied};
 ghost use Rattle.std.specs.List.{AllZip};
 ghost use Rattle.std.specs.declared.net.ip_addr.IpAddr.{IpAddr};
-ghost use Rattle.dns_core.specs.Name.{DomainName};
-ghost use Rattle.dns_core.specs.Log.{Log, Extends};
 ghost use Rattle.dns_core.specs.declared.message.Query.{Query};
 ghost use Rattle.server_core.specs.Servers.{IsFirstDelay};
-ghost use Rattle.order_carrier.specs.Fits.{GoesToServer};
 ghost use Rattle.retry_lookup.specs.Holds.{out_of_memory};
-ghost use Rattle.walk_tables.specs.Order.{last_entry, IsPut};
-ghost use Rattle.walk_tables.specs.Terms.{Terms, given_of};
+ghost use Rattle.walk_tables.specs.Order.{HoldsOn};
+ghost use Rattle.walk_tables.specs.View.{View, Later};
 ghost use Rattle.recursor_types.specs.Options.{answer_filter_of};
 ghost use Rattle.recursor_setting.specs.Setting.{context_of};
+ghost use Rattle.recursor_setting.specs.declared.setting.Setting.{Setting};
 ghost use Rattle.recursor_setting.specs.Delays.{turn_at, delay_at};
-ghost use Rattle.walk_tables.specs.Pools.{number_of, config_at, first_delay_at, server_at, sought_at, ServersHold, SoughtHolds, PoolsHold, IsSentOver, IsFirst, IsOf, IsStill, MayWait, MayTake, MayTakeBy, IsOutcomeOf, is_denial, IsMet, IsGrown, HasForgotten, HasNoted, HasKept, HasLeft, noted, aim_of, sent_to, first_of, polled_by, StepGoes, IsGivenFor, NotesOutcome, Seeks, ArePool, given_so_far, GivesNext};
+ghost use Rattle.walk_tables.specs.Pools.{number_of, first_delay_at, sought_at, ServersHold, PoolsHold, IsSentOver, IsFirst, IsOf, IsStill, MayWait, MayTake, MayTakeBy, IsOutcomeOf, is_denial, IsMet, IsGrown, HasForgotten, HasNoted, HasKept, HasLeft, noted, aim_of, sent_to, first_of, polled_by, StepGoes, IsGivenFor, NotesOutcome, Seeks, AreFor, IsStepAt, given_so_far, GivesNext};
 ghost use Rattle.walk_tables.specs.Lookup.{AnswerHolds};
 ghost use Rattle.walk_tables.specs.Remembered.{remembered};
-ghost use Rattle.walk_tables.specs.Taking.{telling_at, Took, Takes, TablesHold, is_open_at, awaited_in, IfAwaited};
-ghost use Rattle.resolution.specs.Names.{is_above, walk};
-ghost use Rattle.resolution.specs.Walking.{Walked};
+ghost use Rattle.walk_tables.specs.Taking.{telling_at, Took, Takes, TablesHold, is_open_at, awaited_in, IfAwaits};
 ghost use Rattle.server_pool.specs.Orders.{open_at};
 ghost use Rattle.walk_tables.specs.declared.pools.Given.{Given};
 
@@ -302,7 +298,7 @@ impl Sought {
 impl Pools {
     /// Without servers. The first of them begins with the first of the delays.
     pub fn new(alloc: Global, options: &RecursorOptions) -> Result<Pools, NoMemory>
-        ensures holds { (terms : Terms) (greatest moment : ℕ) (log : Log) → terms.answer_filter ≡ answer_filter_of options.now → IfOk result (PoolsHold terms greatest moment log) }
+        ensures holds { (seen : View) → seen.setting.answer_filter ≡ answer_filter_of options.now → IfOk result (PoolsHold seen) }
         ensures context { IfOk result (λ pools. pools.shared.context ≡ context_of options.now) }
         ensures delays { IfOk result (λ pools. (pools.first_delays ≡ options.now.first_delays) × (pools.turn ≡ 0)) }
     {
@@ -333,7 +329,7 @@ impl Pools {
     fn add(&mut self, alloc: Global, ip: IpAddr) -> Result<u32, NoMemory>
         requires { number_of self.old ip ≡ None }
         ensures grown { IsGrown self.old self.new }
-        ensures servers { (terms : Terms) → ServersHold terms self.old → ServersHold terms self.new }
+        ensures servers { (setting : Setting) → ServersHold setting self.old → ServersHold setting self.new }
         ensures met { IfOk result (λ number. IsMet self.new ip number) }
         ensures delay { IfOk result (λ number. first_delay_at self.new.shared.table number ≡ Some (delay_at self.old.first_delays (turn_at (length self.old.first_delays) self.old.turn))) }
     {
@@ -349,8 +345,8 @@ impl Pools {
     /// The number of the server of an address, which is a new one where it was not met.
     fn meet(&mut self, alloc: Global, ip: IpAddr) -> Result<u32, NoMemory>
         ensures grown { IsGrown self.old self.new }
-        ensures servers { (terms : Terms) → ServersHold terms self.old → ServersHold terms self.new }
-        ensures met { (terms : Terms) → ServersHold terms self.old → IfOk result (λ number. IsMet self.new ip number) }
+        ensures servers { (setting : Setting) → ServersHold setting self.old → ServersHold setting self.new }
+        ensures met { (setting : Setting) → ServersHold setting self.old → IfOk result (λ number. IsMet self.new ip number) }
     {
         match self.numbers.get(&ip) {
             Some(number) => Ok(*number),
@@ -361,8 +357,8 @@ impl Pools {
     /// The numbers of the servers of these addresses, in their order.
     fn meet_all(&mut self, alloc: Global, ips: &[IpAddr]) -> Result<Vec<u32>, NoMemory>
         ensures grown { IsGrown self.old self.new }
-        ensures servers { (terms : Terms) → ServersHold terms self.old → ServersHold terms self.new }
-        ensures met { (terms : Terms) → ServersHold terms self.old → IfOk result (λ numbers. AllZip (IsMet self.new) ips.now numbers.items) }
+        ensures servers { (setting : Setting) → ServersHold setting self.old → ServersHold setting self.new }
+        ensures met { (setting : Setting) → ServersHold setting self.old → IfOk result (λ numbers. AllZip (IsMet self.new) ips.now numbers.items) }
     {
         let mut servers = Vec::with_capacity(alloc, ips.len())?;
         for ip in ips {
@@ -397,8 +393,7 @@ impl Pools {
         request: DnsRequest,
         tick: Tick,
     ) -> Result<PoolLookup, NoMemory>
-        ensures holds { (terms : Terms) (greatest : ℕ) (log : Log) → IsTrue (is_above zone.now (walk request.query)) → Walked (given_of terms) log request.query zone.now
-            → ArePool terms log (greatest + 1) zone.now ips.now → PoolsHold terms greatest tick.now log self.old → PoolsHold terms greatest tick.now log self.new }
+        ensures holds { (seen : View) → tick.now ≡ seen.moment → AreFor seen request.query zone.now ips.now → PoolsHold seen self.old → PoolsHold seen self.new }
         ensures given { given_so_far self.new ≡ given_so_far self.old }
     {
         let sought = Sought {
@@ -469,9 +464,9 @@ impl Pools {
         since: u64,
         tick: Tick,
     ) -> Result<Stepped, NoMemory>
-        ensures holds { (terms : Terms) (log : Log) → PoolsHold terms since tick.now log self.old → PoolsHold terms since tick.now log self.new }
-        ensures goes { (terms : Terms) (log : Log) → PoolsHold terms since tick.now log self.old → IfOk result (StepGoes (given_of terms) log (since + 1)) }
-        ensures waits { IfOk result (IfAwaited self.new lookup.old.number) }
+        ensures holds { (seen : View) → IsStepAt seen since tick → PoolsHold seen self.old → PoolsHold seen self.new }
+        ensures goes { (seen : View) → IsStepAt seen since tick → PoolsHold seen self.old → IfOk result (StepGoes seen) }
+        ensures waits { IfOk result (IfAwaits (awaited_in self.new lookup.old.number)) }
         ensures given { GivesNext (given_so_far self.old) (given_so_far self.new) result }
         ensures same { lookup.new ≡ lookup.old }
     {
@@ -489,9 +484,9 @@ impl Pools {
         since: u64,
         tick: Tick,
     ) -> Result<Stepped, NoMemory>
-        ensures holds { (terms : Terms) (log : Log) → PoolsHold terms since tick.now log self.old → PoolsHold terms since tick.now log self.new }
-        ensures goes { (terms : Terms) (log : Log) → PoolsHold terms since tick.now log self.old → IfOk result (StepGoes (given_of terms) log (since + 1)) }
-        ensures waits { IfOk result (IfAwaited self.new lookup.old.number) }
+        ensures holds { (seen : View) → IsStepAt seen since tick → PoolsHold seen self.old → PoolsHold seen self.new }
+        ensures goes { (seen : View) → IsStepAt seen since tick → PoolsHold seen self.old → IfOk result (StepGoes seen) }
+        ensures waits { IfOk result (IfAwaits (awaited_in self.new lookup.old.number)) }
         ensures given { GivesNext (given_so_far self.old) (given_so_far self.new) result }
         ensures same { lookup.new ≡ lookup.old }
     {
@@ -582,10 +577,7 @@ impl Pools {
         requires given { IsGivenFor self.old lookup (option_copied waits) outcome given }
         ensures took { IfOk result (Took self.old self.new lookup given.number outcome tick) }
         ensures given { given_so_far self.new ≡ given_so_far self.old }
-        ensures holds { (terms : Terms) (greatest moment : ℕ) (log longer : Log) → terms.patience ≤ tick.patience
-            → IsPut greatest moment log tick (option_copied waits.entry) outcome result longer
-            → PoolsHold terms greatest moment log self.old
-            → PoolsHold terms (max greatest (last_entry result (option_copied waits.entry) outcome)) tick.now longer self.new }
+        ensures holds { HoldsOn tick (option_copied waits.entry) outcome result (λ seen. PoolsHold seen self.old) (λ seen. PoolsHold seen self.new) }
     {
         let first = first_of(&given, &outcome, waits);
         let given = Given {
@@ -648,10 +640,7 @@ impl Pools {
         ensures late { (result ≡ Ok After.Late) ↔ (IsOutcomeOf self.old number (option_copied waits.entry) outcome → ⊥) }
         ensures err { OnErr result (cache.new ≡ cache.old) }
         ensures given { given_so_far self.new ≡ given_so_far self.old }
-        ensures holds { (terms : Terms) (greatest moment : ℕ) (log longer : Log) → terms.patience ≤ tick.patience
-            → IsPut greatest moment log tick (option_copied waits.entry) outcome result longer
-            → TablesHold terms greatest moment log cache.old self.old
-            → TablesHold terms (max greatest (last_entry result (option_copied waits.entry) outcome)) tick.now longer cache.new self.new }
+        ensures holds { HoldsOn tick (option_copied waits.entry) outcome result (λ seen. TablesHold seen cache.old self.old) (λ seen. TablesHold seen cache.new self.new) }
     {
         let Some(lookup) = self.shared.open_at(number) else {
             return Ok(After::Late);
@@ -687,8 +676,8 @@ impl Pools {
         zone: &Name,
         begun: u64,
     ) -> Result<Option<Answer>, NoMemory>
-        ensures { (terms : Terms) (greatest moment : ℕ) (log : Log) → PoolsHold terms greatest moment log self.now
-            → IfOk result (λ answer. IfSome answer (AnswerHolds terms greatest moment begun log zone.now query.now)) }
+        ensures { (seen : View) → PoolsHold seen self.now
+            → IfOk result (λ answer. IfSome answer (AnswerHolds seen begun zone.now query.now)) }
     {
         let Some(at) = self.seeks(lookup.number(), query, zone, begun) else {
             return Err(NoMemory);
@@ -705,7 +694,7 @@ impl Pools {
 
     /// Ends the interest in a lookup.
     pub fn leave(&mut self, lookup: PoolLookup)
-        ensures holds { (terms : Terms) (greatest moment : ℕ) (log : Log) → PoolsHold terms greatest moment log self.old → PoolsHold terms greatest moment log self.new }
+        ensures holds { (seen : View) → PoolsHold seen self.old → PoolsHold seen self.new }
         ensures gone { sought_at self.new lookup.number ≡ None }
         ensures given { given_so_far self.new ≡ given_so_far self.old }
     {
@@ -715,7 +704,7 @@ impl Pools {
 
     /// Ends the interest in all lookups.
     pub fn clear(&mut self)
-        ensures holds { (terms : Terms) (less greatest moment : ℕ) (log : Log) → PoolsHold terms greatest moment log self.old → PoolsHold (record terms { patience = less }) greatest moment log self.new }
+        ensures holds { (seen later : View) → Later seen later → PoolsHold seen self.old → PoolsHold later self.new }
         ensures gone { (n : ℕ) → sought_at self.new n ≡ None }
         ensures given { given_so_far self.new ≡ given_so_far self.old }
     {

@@ -1,5 +1,6 @@
 use Rattle.std.proofs.Common.{◌≡◌, ◌∙◌, sym, ap, subst, min, arith}
 use Rattle.recursor_types.specs.Options.{server_filter_of, answer_filter_of}
+use Rattle.recursor_setting.specs.Setting.{context_of}
 use Rattle.recursor_core.specs.Standing.{run_terms}
 use Rattle.recursor_command.specs.Command.{IsUntold, terms_by}
 use Rattle.recursor_command.proofs.Runs.{terms-are, asks-of, replies-of, moments-of, patient-of}
@@ -17,7 +18,7 @@ returns-clause-resolves g c = λ log is.
     let none : IsUntold (g.P.ConnectionProvider.log r.provider) = subst (λ x. IsUntold (g.P.ConnectionProvider.log x)) (sym new.0) c.requires.new in
     let first : min r.patience p ≡ c.args.patience = rw (new.5, c.first_patience.ensures.same) c.first_patience.ensures.first in
     let terms = terms_by c.args.roots.now options c.args.patience in
-    let same : run_terms p r ≡ terms = terms-are p c.args.patience r c.args.roots.now (server_filter_of options) (answer_filter_of options) options.cache_policy new.1 new.2 new.6 new.4 first in
+    let same : run_terms p r ≡ terms = terms-are p c.args.patience r c.args.roots.now (server_filter_of options) (answer_filter_of options) options.cache_policy (context_of options) new.1 new.2 new.6 new.4 new.7 first in
     record {
       answered = omega (arith, c.in_ok-replies.ensures.answered);
       asks = asks-of terms (run_terms p r) log same (c.drive.ensures.asks log told);

@@ -2,7 +2,7 @@ use Rattle.std.proofs.Common.{◌<◌, ◌∙◌, ℕ, length, IfOk, sym, subst}
 use Rattle.order_carrier.specs.Growing.{TellsThat}
 use Rattle.recursor_core.specs.Standing.{Standing, run_terms, run_moments, RepliesHold, IsPast}
 use Rattle.recursor_core.proofs.Moments.{rises_over}
-use Rattle.walk_tables.specs.Terms.{terms_with}
+use Rattle.walk_tables.specs.View.{}
 use Rattle.recursor_setting.specs.Setting.{with_patience}
 use Rattle.recursor_setting.specs.declared.setting.Setting.{Setting}
 use Rattle.recursor_core.proofs.Standing.{rests_holds, holds_rests}
@@ -33,10 +33,10 @@ returns-clause-replies g c =
     let was = c.recursor.inside.run.core in
     let new = c.clear.new.self in
     let by_setting = subst (λ (held : Setting). IfOk c.answer.result (λ replies. TellsThat told (λ log.
-    RepliesHold (terms_with held) log new.moment c.args.turns.now c.args.questions.now replies.items))) c.clear.ensures.setting
+    RepliesHold held log new.moment c.args.turns.now c.args.questions.now replies.items))) c.clear.ensures.setting
     c.answer.ensures.replies in
     let by_moment = subst (λ (m : ℕ). IfOk c.answer.result (λ replies. TellsThat told (λ log.
-    RepliesHold (terms_with (with_patience was.setting patience)) log m c.args.turns.now c.args.questions.now replies.items))) c.clear.ensures.same.1
+    RepliesHold (with_patience was.setting patience) log m c.args.turns.now c.args.questions.now replies.items))) c.clear.ensures.same.1
     by_setting in
     subst (λ (s : Standing _). IfOk c.answer.result (λ replies. TellsThat told (λ log.
     RepliesHold (run_terms patience s) log s.moment c.args.turns.now c.args.questions.now replies.items))) c.recursor.view_is

@@ -1,5 +1,4 @@
 use Rattle.std.proofs.Common.{max, ℕ, inl, subst, arith}
-use Rattle.recursor_core.specs.Derived.{terms_of}
 use Rattle.recursor_core.specs.Machine.{begun_at, given_by}
 use Rattle.recursor_core.specs.Standing.{ReplyTold}
 use Rattle.recursor_core.specs.declared.turns.Turned.TheVariants as turned
@@ -93,5 +92,5 @@ returns-in-Done-clause-told g c =
     let i = c.orders.invariant.goes in
     let told = p.log c.orders.runner.carrier.provider in
     told_before p c.args.tick c.args.core.now c.orders.core c.args.runner.now c.orders.runner told c.args.r (turned.Done c.in-Done.reply) i
-    (subst (λ (now : ℕ). ReplyTold (terms_of c.orders.core) now told (begun_at c.orders.core c.args.r) c.in-Done.reply.value) i.ready.moment
+    (subst (λ (now : ℕ). ReplyTold c.orders.core.setting now told (begun_at c.orders.core c.args.r) c.in-Done.reply.value) i.ready.moment
     (step_replies c.orders.core c.next.new.self told c.args.r c.in_ok-number.field-0 c.in-Done.reply c.in-Done.is i.ready.holds.derived c.in_ok-number.ensures.gives))

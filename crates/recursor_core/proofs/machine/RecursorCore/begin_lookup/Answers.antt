@@ -1,9 +1,8 @@
 use Rattle.std.proofs.Common.{◌<◌, length, refl}
-use Rattle.std.proofs.lemmas.List.Elements.{All-set}
 use Rattle.std.proofs.lemmas.Result.{on_ok_weaker}
-use Rattle.recursor_core.specs.Derived.{terms_of, ResolutionHolds}
+use Rattle.recursor_core.specs.Derived.{seen_by}
 use Rattle.recursor_core.proofs.Ranks.{sum_falls, need_within}
-use Rattle.recursor_core.proofs.Cores.{held-at, begun-set}
+use Rattle.recursor_core.proofs.Cores.{same-at, derived-at}
 use Rattle.recursor_core.proofs.machine.RecursorCore.begin_lookup.Goals as goal
 
 pub returns-clause-falls : goal.returns-clause-falls
@@ -16,22 +15,9 @@ returns-clause-falls c =
 
 pub returns-clause-derived : goal.returns-clause-derived
 returns-clause-derived c log d =
-    let core = c.args.self.now in
-    let terms = terms_of core in
-    let xs = c.args.self.now.resolutions.items in
-    let f = c.index_mut-resolution.result.now in
-    let at = c.index_mut-resolution.ensures.value in
-    let within : c.args.r < length xs = need_within xs c.args.r (λ e. cc) in
-    let P = ResolutionHolds terms core.greatest core.moment log in
-    let held = held-at P xs c.args.r f within at d.resolutions in
-    let sent = rw c.tick-tick.ensures at c.send.ensures.holds terms core.greatest log in
-    let new = sent d.pools held in
-    record { bound = d.bound; some = d.some; cache = d.cache; pools = new.1; resolutions = All-set P xs c.args.r c.send.new.self new.0 d.resolutions }
+    derived-at c.args.self.now _ log c.args.r c.index_mut-resolution.result.now c.send.new.self (need_within c.args.self.now.resolutions.items c.args.r (λ e. cc)) c.index_mut-resolution.ensures.value refl refl d
+    (c.send.ensures.holds (seen_by c.args.self.now log) c.tick-tick.ensures d.pools)
 
 pub returns-clause-same : goal.returns-clause-same
 returns-clause-same c =
-    let xs = c.args.self.now.resolutions.items in
-    let f = c.index_mut-resolution.result.now in
-    let at = c.index_mut-resolution.ensures.value in
-    let within : c.args.r < length xs = need_within xs c.args.r (λ e. cc) in
-    record { setting = refl; cache = refl; greatest = refl; moment = refl; begun = begun-set xs c.args.r f c.send.new.self within at c.send.ensures.begun }
+    same-at c.args.self.now _ c.args.r c.index_mut-resolution.result.now c.send.new.self (need_within c.args.self.now.resolutions.items c.args.r (λ e. cc)) c.index_mut-resolution.ensures.value c.send.ensures.begun refl refl

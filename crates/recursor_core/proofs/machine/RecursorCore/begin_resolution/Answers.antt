@@ -1,28 +1,32 @@
-use Rattle.std.proofs.Common.{◌≡◌, ◌++◌, ◌∷◌, [], arith, refl, ℕ, List, Option, Some, length, ap, ◌∙◌, slice_get}
+use Rattle.std.proofs.Common.{◌≡◌, arith, ℕ, List, Option, Some, length, ap, ◌∙◌, slice_get}
 use Rattle.std.specs.Option.{option_map}
 use Rattle.dns_core.specs.declared.request.Question.{Question}
 use Rattle.recursor_core.specs.Machine.{Begun, begun_of}
 use Rattle.recursor_core.specs.declared.resolving.Resolution.{Resolution}
 use Rattle.std.proofs.lemmas.List.Elements.{All-push}
-use Rattle.recursor_core.specs.Derived.{terms_of, ResolutionHolds}
-use Rattle.recursor_walk.proofs.Kept.{same-log}
-use Rattle.recursor_core.proofs.Kept.{resolutions-kept}
-use Rattle.walk_tables.proofs.KeptPools.{pools-kept}
-use Rattle.recursor_core.proofs.Cores.{derived-is, begun-push, begun-last}
+use Rattle.recursor_core.specs.Derived.{seen_by, ResolutionHolds}
+use Rattle.walk_tables.specs.View.{seen_at}
+use Rattle.walk_tables.proofs.Later.{cache-later, pools-later, later-by}
+use Rattle.order_carrier.proofs.Growing.{Extends-refl}
+use Rattle.recursor_core.proofs.Later.{resolutions-later}
+use Rattle.recursor_core.proofs.Cores.{begun-push, begun-last}
 use Rattle.recursor_core.proofs.machine.RecursorCore.begin_resolution.Goals as goal
 
 pub returns-clause-derived : goal.returns-clause-derived
 returns-clause-derived c log later d =
     let core = c.args.self.now in
     let r = c.begin.result in
-    let terms = terms_of core in
-    let P = ResolutionHolds terms core.greatest c.args.now log in
-    let g = core.greatest in
     let rs = core.resolutions.items in
-    let before = resolutions-kept terms log log (same-log log) core.moment c.args.now later g g rs (omega arith) d.resolutions in
-    let pools = pools-kept terms log log (same-log log) g g core.moment c.args.now core.pools (omega arith) later d.pools in
-    derived-is _ log core.setting g c.args.now core.cache core.pools (rs ++ r ∷ []) refl refl refl refl refl c.in_ok-push.ensures.items d.bound d.some d.cache pools
-    (All-push P rs r before (c.begin.ensures.holds terms g log))
+    let before = seen_by core log in
+    let after = seen_at core.setting core.greatest c.args.now log in
+    let on = later-by core.setting core.greatest core.greatest core.moment c.args.now log log (omega arith) later (Extends-refl log) in
+    record {
+      bound = d.bound;
+      some = d.some;
+      cache = cache-later before after on core.cache d.cache;
+      pools = pools-later before after on core.pools d.pools;
+      resolutions = rw c.in_ok-push.ensures.items (All-push (ResolutionHolds after) rs r (resolutions-later before after on rs d.resolutions) (c.begin.ensures.holds after (omega arith)));
+    }
 
 pub returns-clause-others : goal.returns-clause-others
 returns-clause-others c k within =

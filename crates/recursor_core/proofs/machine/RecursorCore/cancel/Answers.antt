@@ -1,28 +1,16 @@
 use Rattle.std.proofs.Common.{◌<◌, ◌≤◌, length, refl, arith}
-use Rattle.std.proofs.lemmas.List.Elements.{All-set}
-use Rattle.recursor_core.specs.Derived.{terms_of, ResolutionHolds}
-use Rattle.recursor_core.proofs.Cores.{held-at, begun-set, need-set, need-past}
+use Rattle.recursor_core.specs.Derived.{seen_by}
+use Rattle.recursor_core.proofs.Cores.{same-at, need-set, need-past, derived-at}
 use Rattle.recursor_core.proofs.machine.RecursorCore.cancel.Goals as goal
 
 pub returns-then-r-len-clause-derived : goal.returns-then-r-len-clause-derived
 returns-then-r-len-clause-derived c log d =
-    let core = c.args.self.now in
-    let xs = core.resolutions.items in
-    let f = c.index_mut-resolution.result.now in
-    let at = c.index_mut-resolution.ensures.value in
-    let within : c.args.r < length xs = omega (arith, c.if-r-len.true) in
-    let terms = terms_of core in
-    let P = ResolutionHolds terms core.greatest core.moment log in
-    let ended = c.end.ensures.holds terms core.greatest core.moment log d.pools (held-at P xs c.args.r f within at d.resolutions) in
-    record { bound = d.bound; some = d.some; cache = d.cache; pools = ended.1; resolutions = All-set P xs c.args.r c.end.new.self ended.0 d.resolutions }
+    derived-at c.args.self.now _ log c.args.r c.index_mut-resolution.result.now c.end.new.self (omega (arith, c.if-r-len.true)) c.index_mut-resolution.ensures.value refl refl d
+    (c.end.ensures.holds (seen_by c.args.self.now log) d.pools)
 
 pub returns-then-r-len-clause-same : goal.returns-then-r-len-clause-same
 returns-then-r-len-clause-same c =
-    let xs = c.args.self.now.resolutions.items in
-    let f = c.index_mut-resolution.result.now in
-    let at = c.index_mut-resolution.ensures.value in
-    let within : c.args.r < length xs = omega (arith, c.if-r-len.true) in
-    record { setting = refl; cache = refl; greatest = refl; moment = refl; begun = begun-set xs c.args.r f c.end.new.self within at c.end.ensures.begun }
+    same-at c.args.self.now _ c.args.r c.index_mut-resolution.result.now c.end.new.self (omega (arith, c.if-r-len.true)) c.index_mut-resolution.ensures.value c.end.ensures.begun refl refl
 
 pub returns-then-r-len-clause-ended : goal.returns-then-r-len-clause-ended
 returns-then-r-len-clause-ended c =

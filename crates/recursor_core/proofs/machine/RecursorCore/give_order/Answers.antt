@@ -2,8 +2,7 @@ use Rattle.std.proofs.Common.{◌+◌, sym, subst, arith}
 use Rattle.std.proofs.lemmas.Result.{IfOk-from_err}
 use Rattle.server_core.specs.declared.order.Order.{Order}
 use Rattle.order_carrier.specs.Fits.{GoesToServer}
-use Rattle.recursor_core.specs.Derived.{terms_of}
-use Rattle.walk_tables.specs.Terms.{given_of}
+use Rattle.walk_tables.specs.View.{given_of}
 use Rattle.recursor_core.proofs.Cores.{goes-err}
 use Rattle.recursor_core.proofs.machine.RecursorCore.give_order.Goals as goal
 
@@ -31,7 +30,7 @@ returns-in_ok-order-in-Order-clause-gives c log d =
     let core = c.args.self.now in
     let given = c.in_ok-number.ensures.derived log d in
     let goes = rw c.in-Order.is at given.1 in
-    (given.0, subst (λ (o : Order). GoesToServer (given_of (terms_of core)) log (core.greatest + 1) o) (sym c.in_ok-order-in-Order.ensures.ok) goes)
+    (given.0, subst (λ (o : Order). GoesToServer (given_of core.setting) log (core.greatest + 1) o) (sym c.in_ok-order-in-Order.ensures.ok) goes)
 
 pub returns-in-Waiting-clause-gives : goal.returns-in-Waiting-clause-gives
 returns-in-Waiting-clause-gives c log d = ((c.in_ok-number.ensures.derived log d).0, tt)

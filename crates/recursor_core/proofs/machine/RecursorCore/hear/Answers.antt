@@ -1,33 +1,19 @@
-use Rattle.std.proofs.Common.{◌<◌, length, refl}
-use Rattle.recursor_core.specs.Derived.{terms_of, ResolutionHolds}
+use Rattle.std.proofs.Common.{refl}
+use Rattle.recursor_core.specs.Derived.{seen_by}
 use Rattle.recursor_core.proofs.Ranks.{sum_falls, need_within}
-use Rattle.recursor_core.proofs.Cores.{all-after, begun-set}
+use Rattle.recursor_core.proofs.Cores.{same-at, derived-at}
 use Rattle.recursor_core.proofs.machine.RecursorCore.hear.Goals as goal
 
 pub returns-clause-nearer : goal.returns-clause-nearer
 returns-clause-nearer c =
     let xs = c.args.self.now.resolutions.items in
-    let f = c.index_mut-resolution.result.now in
-    let at = c.index_mut-resolution.ensures.value in
-    let within : c.args.r < length xs = need_within xs c.args.r (λ e. cc) in
-    (sum_falls xs c.args.r f c.hear.new.self within at c.hear.ensures.falls, refl)
+    (sum_falls xs c.args.r c.index_mut-resolution.result.now c.hear.new.self (need_within xs c.args.r (λ e. cc)) c.index_mut-resolution.ensures.value c.hear.ensures.falls, refl)
 
 pub returns-clause-derived : goal.returns-clause-derived
 returns-clause-derived c log d =
-    let core = c.args.self.now in
-    let terms = terms_of core in
-    let xs = c.args.self.now.resolutions.items in
-    let f = c.index_mut-resolution.result.now in
-    let at = c.index_mut-resolution.ensures.value in
-    let within : c.args.r < length xs = need_within xs c.args.r (λ e. cc) in
-    let P = ResolutionHolds terms core.greatest core.moment log in
-    let kept = all-after P xs c.args.r f c.hear.new.self within at (c.hear.ensures.holds terms core.greatest core.moment log refl) d.resolutions in
-    record { bound = d.bound; some = d.some; cache = d.cache; pools = d.pools; resolutions = kept }
+    derived-at c.args.self.now _ log c.args.r c.index_mut-resolution.result.now c.hear.new.self (need_within c.args.self.now.resolutions.items c.args.r (λ e. cc)) c.index_mut-resolution.ensures.value refl refl d
+    (λ h. (c.hear.ensures.holds (seen_by c.args.self.now log) refl h, d.pools))
 
 pub returns-clause-same : goal.returns-clause-same
 returns-clause-same c =
-    let xs = c.args.self.now.resolutions.items in
-    let f = c.index_mut-resolution.result.now in
-    let at = c.index_mut-resolution.ensures.value in
-    let within : c.args.r < length xs = need_within xs c.args.r (λ e. cc) in
-    record { setting = refl; cache = refl; greatest = refl; moment = refl; begun = begun-set xs c.args.r f c.hear.new.self within at c.hear.ensures.begun }
+    same-at c.args.self.now _ c.args.r c.index_mut-resolution.result.now c.hear.new.self (need_within c.args.self.now.resolutions.items c.args.r (λ e. cc)) c.index_mut-resolution.ensures.value c.hear.ensures.begun refl refl

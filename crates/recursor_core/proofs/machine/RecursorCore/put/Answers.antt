@@ -4,11 +4,10 @@ use Rattle.dns_core.specs.declared.errors.NoMemory.{NoMemory}
 use Rattle.server_core.specs.declared.order.After.{After}
 use Rattle.server_core.specs.declared.order.After.TheVariants as after
 use Rattle.server_core.specs.Order.{entry_of}
-use Rattle.walk_tables.specs.Order.{IsNext, IsPut, last_entry}
-use Rattle.walk_tables.proofs.Puts.{kept-extends, last-chosen, last-within, longer-put}
-use Rattle.recursor_core.specs.Derived.{terms_of}
-use Rattle.recursor_core.proofs.Cores.{derived-is}
-use Rattle.recursor_core.proofs.Kept.{Derived-extends, resolutions-kept}
+use Rattle.walk_tables.specs.Order.{IsNext, IsPut, last_entry, seen_with}
+use Rattle.walk_tables.proofs.Puts.{kept-extends, last-chosen, last-within, later-put}
+use Rattle.recursor_core.specs.Derived.{seen_by}
+use Rattle.recursor_core.proofs.Later.{Derived-extends, resolutions-later}
 use Rattle.recursor_core.proofs.machine.RecursorCore.put.Goals as goal
 
 -- what is not so is not so
@@ -30,22 +29,28 @@ returns-clause-late c =
     (λ is was of. c.put-after.ensures.late.0 is of, λ none. c.put-after.ensures.late.1 (none next))
 
 pub returns-then-not-is_next-clause-derived : goal.returns-then-not-is_next-clause-derived
-returns-then-not-is_next-clause-derived c log told longer patient d tells on =
-    Derived-extends c.args.self.now log longer (kept-extends c.args.self.now.moment log c.args.tick (option_copied c.args.waits) c.args.outcome was_late tells on) d
+returns-then-not-is_next-clause-derived c log longer d tells =
+    let on = tells.on in
+    Derived-extends c.args.self.now log longer (kept-extends c.args.self.now.moment log c.args.tick (option_copied c.args.waits) c.args.outcome was_late on.tells on.goes_on) d
 
 pub returns-clause-derived : goal.returns-clause-derived
-returns-clause-derived c log told longer patient d tells on =
+returns-clause-derived c log longer d tells =
     let core = c.args.self.now in
-    let terms = terms_of core in
+    let seen = seen_by core log in
     let waits = option_copied c.args.waits in
-    let now = c.args.tick.now in
-    let next : IsNext core.greatest (entry_of c.args.outcome) = rw c.entry-entry.ensures at c.is_next.ensures.0 c.if-not-is_next.false in
-    let put : IsPut core.greatest core.moment log c.args.tick waits c.args.outcome c.put-after.result longer = record { bound = d.bound; next = next; told = told; tells = tells; goes_on = on } in
-    let tables = c.put-after.ensures.holds terms core.greatest core.moment log longer patient put (record { cache = d.cache; pools = d.pools }) in
-    let last = last-chosen c.put-after.result waits c.args.outcome c.last_entry-last.result c.entry-entry.result c.closing_of-closing.result c.last_entry-last.ensures c.entry-entry.ensures c.closing_of-closing.ensures in
-    let greatest : c.max-self.result ≡ max core.greatest (last_entry c.put-after.result waits c.args.outcome) = omega (arith, c.max-self.ensures, last) in
-    let moment : c.max-self-2.result ≡ now = omega (arith, c.max-self-2.ensures, tells.later) in
-    let x = longer-put core.greatest core.moment log c.args.tick waits c.args.outcome c.put-after.result longer put in
-    let others = resolutions-kept terms log longer x core.moment now tells.later core.greatest _ core.resolutions.items (omega arith) d.resolutions in
-    derived-is _ longer core.setting _ now _ _ core.resolutions.items refl greatest moment refl refl refl
-    (last-within core.greatest core.moment log c.args.tick waits c.args.outcome c.put-after.result longer put) d.some tables.cache tables.pools others
+    let o = c.args.outcome in
+    let result = c.put-after.result in
+    let next : IsNext core.greatest (entry_of o) = rw c.entry-entry.ensures at c.is_next.ensures.0 c.if-not-is_next.false in
+    let put : IsPut seen c.args.tick waits o result longer = record { patient = tells.patient; bound = d.bound; next = next; on = tells.on } in
+    let after = seen_with seen c.args.tick waits o result longer in
+    let tables = c.put-after.ensures.holds seen longer put (record { cache = d.cache; pools = d.pools }) in
+    let last = last-chosen result waits o c.last_entry-last.result c.entry-entry.result c.closing_of-closing.result c.last_entry-last.ensures c.entry-entry.ensures c.closing_of-closing.ensures in
+    let greatest : c.max-self.result ≡ max core.greatest (last_entry result waits o) = omega (arith, c.max-self.ensures, last) in
+    let moment : c.max-self-2.result ≡ c.args.tick.now = omega (arith, c.max-self-2.ensures, tells.on.tells.later) in
+    rw (greatest, moment) (record {
+      bound = last-within seen c.args.tick waits o result longer put;
+      some = d.some;
+      cache = tables.cache;
+      pools = tables.pools;
+      resolutions = resolutions-later seen after (later-put seen c.args.tick waits o result longer put) core.resolutions.items d.resolutions;
+    })

@@ -1,9 +1,9 @@
 use Rattle.std.proofs.Common.{◌<◌, length, refl}
-use Rattle.std.proofs.lemmas.List.Elements.{All-set}
 use Rattle.std.proofs.lemmas.Result.{IfOk-weaker}
-use Rattle.recursor_core.specs.Derived.{terms_of, ResolutionHolds}
+use Rattle.recursor_core.specs.Derived.{seen_by}
+use Rattle.walk_tables.specs.Pools.{IsStepAt}
 use Rattle.recursor_core.proofs.Ranks.{sum_leaves, need_within}
-use Rattle.recursor_core.proofs.Cores.{held-at, begun-set, waits-at}
+use Rattle.recursor_core.proofs.Cores.{same-at, waits-at, derived-at}
 use Rattle.recursor_core.proofs.machine.RecursorCore.step_lookup.Goals as goal
 
 pub returns-clause-falls : goal.returns-clause-falls
@@ -22,25 +22,13 @@ returns-clause-waits c =
 
 pub returns-clause-derived : goal.returns-clause-derived
 returns-clause-derived c log d =
-    let core = c.args.self.now in
-    let terms = terms_of core in
-    let xs = c.args.self.now.resolutions.items in
-    let f = c.index_mut-resolution.result.now in
-    let at = c.index_mut-resolution.ensures.value in
-    let within : c.args.r < length xs = need_within xs c.args.r (λ e. cc) in
-    let P = ResolutionHolds terms core.greatest core.moment log in
-    let held = held-at P xs c.args.r f within at d.resolutions in
-    let stepped = rw c.tick-tick.ensures at c.step.ensures.holds terms log in
-    let goes = rw c.tick-tick.ensures at c.step.ensures.goes terms log in
-    let new = stepped d.pools held in (
-      record { bound = d.bound; some = d.some; cache = d.cache; pools = new.1; resolutions = All-set P xs c.args.r c.step.new.self new.0 d.resolutions },
-      goes d.pools,
+    let seen = seen_by c.args.self.now log in
+    let step : IsStepAt seen c.args.self.now.greatest c.tick-tick.result = record { since_is = refl; now_is = c.tick-tick.ensures } in (
+      derived-at c.args.self.now _ log c.args.r c.index_mut-resolution.result.now c.step.new.self (need_within c.args.self.now.resolutions.items c.args.r (λ e. cc)) c.index_mut-resolution.ensures.value refl refl d
+          (c.step.ensures.holds seen step d.pools),
+      c.step.ensures.goes seen step d.pools,
     )
 
 pub returns-clause-same : goal.returns-clause-same
 returns-clause-same c =
-    let xs = c.args.self.now.resolutions.items in
-    let f = c.index_mut-resolution.result.now in
-    let at = c.index_mut-resolution.ensures.value in
-    let within : c.args.r < length xs = need_within xs c.args.r (λ e. cc) in
-    record { setting = refl; cache = refl; greatest = refl; moment = refl; begun = begun-set xs c.args.r f c.step.new.self within at c.step.ensures.begun }
+    same-at c.args.self.now _ c.args.r c.index_mut-resolution.result.now c.step.new.self (need_within c.args.self.now.resolutions.items c.args.r (λ e. cc)) c.index_mut-resolution.ensures.value c.step.ensures.begun refl refl

@@ -8,10 +8,10 @@ returns-clause-falls c =
     c.settle.ensures.state (rw c.deref_mut.ensures.value at c.hear-came.ensures.falls)
 
 pub returns-clause-holds : goal.returns-clause-holds
-returns-clause-holds c terms greatest moment log filtered h =
+returns-clause-holds c seen filtered h =
     let r = c.args.self.now in
     let b = c.in-Under.walk in
     let state = rw c.in-Under.is at h.state in
-    settled-holds terms greatest moment log r c.settle.new.self (record b { value = c.hear-came.new.self }) c.hear-came.result c.settle.ensures.begun
+    settled-holds seen r c.settle.new.self (record b { value = c.hear-came.new.self }) c.hear-came.result c.settle.ensures.begun
     c.settle.ensures.state h.begun
-    (c.hear-came.ensures.holds terms greatest moment r.begun log filtered (rw c.deref_mut.ensures.value state))
+    (c.hear-came.ensures.holds seen r.begun filtered (rw c.deref_mut.ensures.value state))

@@ -8,10 +8,10 @@ returns-clause-falls c =
     c.settle.ensures.state (rw c.deref_mut.ensures.value at c.recall-came.ensures.falls)
 
 pub returns-clause-holds : goal.returns-clause-holds
-returns-clause-holds c terms greatest log filtered cached h =
+returns-clause-holds c seen at-now filtered cached h =
     let r = c.args.self.now in
     let b = c.in-Under.walk in
     let state = rw c.in-Under.is at h.state in
-    settled-holds terms greatest c.args.now log r c.settle.new.self (record b { value = c.recall-came.new.walk }) c.recall-came.result c.settle.ensures.begun
+    settled-holds seen r c.settle.new.self (record b { value = c.recall-came.new.walk }) c.recall-came.result c.settle.ensures.begun
     c.settle.ensures.state h.begun
-    (c.recall-came.ensures.holds terms greatest r.begun log filtered cached h.begun (rw c.deref_mut.ensures.value state))
+    (c.recall-came.ensures.holds seen r.begun filtered (record { at = at-now; since = rw at-now h.begun; holds = cached }) (rw c.deref_mut.ensures.value state))

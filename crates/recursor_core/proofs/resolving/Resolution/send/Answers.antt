@@ -1,4 +1,3 @@
-use Rattle.std.proofs.Common.{arith}
 use Rattle.std.proofs.lemmas.Result.{on_err_weaker}
 use Rattle.recursor_core.proofs.Resolved.{same-walk, walk-holds}
 use Rattle.recursor_core.proofs.resolving.Resolution.send.Goals as goal
@@ -9,8 +8,7 @@ returns-in-Under-clause-err c =
     (rw c.deref_mut.ensures.value at c.send.ensures.err)
 
 pub returns-in-Under-clause-holds : goal.returns-in-Under-clause-holds
-returns-in-Under-clause-holds c terms greatest log pools h =
+returns-in-Under-clause-holds c seen at-now pools h =
     let r = c.args.self.now in
-    let now = c.args.tick.now in
-    let sent = c.send.ensures.holds terms greatest r.begun log r.question.query pools (rw c.deref_mut.ensures.value (rw c.in-Under.is at h.state)) in
-    (walk-holds terms greatest now log r c.in-Under.walk c.send.new.self now h.begun (omega arith) sent.0, sent.1)
+    let sent = c.send.ensures.holds seen r.begun r.question.query at-now pools (rw c.deref_mut.ensures.value (rw c.in-Under.is at h.state)) in
+    (walk-holds seen r c.in-Under.walk c.send.new.self h.begun sent.0, sent.1)

@@ -1,7 +1,7 @@
 use Rattle.std.proofs.Common.{[], subst}
 use Rattle.std.proofs.lemmas.Result.{IfOk-weaker}
 use Rattle.order_carrier.specs.Growing.{TellsThat}
-use Rattle.walk_tables.specs.Terms.{terms_with}
+use Rattle.walk_tables.specs.View.{}
 use Rattle.recursor_setting.specs.declared.setting.Setting.{Setting}
 use Rattle.recursor_core.specs.Standing.{RepliesHold, run_moments}
 use Rattle.recursor_core.proofs.Leading.{leads_refl}
@@ -24,5 +24,5 @@ returns-clause-replies g c =
     let told = g.P.ConnectionProvider.log played.runner.carrier.provider in
     let waits = plays_wait run.core (g.P.ConnectionProvider.log run.runner.carrier.provider) start turns questions c.in_ok-self.field-0.items c.in_ok-self.ensures.waits in
     IfOk-weaker c.replies.result _ _ (λ v each.
-    subst (λ (held : Setting). TellsThat told (λ log. RepliesHold (terms_with held) log start turns questions v.items)) c.play_all.ensures.leads.setting
+    subst (λ (held : Setting). TellsThat told (λ log. RepliesHold held log start turns questions v.items)) c.play_all.ensures.leads.setting
     (replies_hold played.core told start turns [] questions played.plays.items v.items (c.play_all.ensures.plays waits) each)) c.replies.ensures.each

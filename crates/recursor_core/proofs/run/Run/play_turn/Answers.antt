@@ -6,7 +6,7 @@ use Rattle.recursor_core.proofs.Timed.{contains_first, contains_later, contains_
 use Rattle.recursor_core.proofs.run.Run.play_turn.Goals as goal
 
 pub returns-then-turn-eq0-clause-plays : goal.returns-then-turn-eq0-clause-plays
-returns-then-turn-eq0-clause-plays g c start turns rest after was here h =
+returns-then-turn-eq0-clause-plays g c start turns rest comes h =
     let run = c.args.self.now in
     plays_skip run.core (g.P.ConnectionProvider.log run.runner.carrier.provider) start turns rest c.args.turn.now c.args.questions.now run.plays.items c.if-turn-eq0.true h
 
@@ -34,7 +34,8 @@ returns-clause-leads g c =
     (leads_then p moments c.max-now.result _ _ _ _ _ _ _ _ _ now way c.begin_one.ensures.leads) c.play-played.ensures.leads
 
 pub returns-clause-plays : goal.returns-clause-plays
-returns-clause-plays g c start turns rest after was here h =
+returns-clause-plays g c start turns rest comes h =
+    let after = comes.after in
     let t = c.args.turn.now in
     let q : ℕ = t.question - 1 in
     let way = c.make_way-next.new.self.core.moment in
@@ -44,7 +45,7 @@ returns-clause-plays g c start turns rest after was here h =
     let come : start ≤ c.max-now.result = omega (arith, c.max-now.ensures, c.moment.ensures, c.make_way-next.ensures.leads.later, after) in
     let is : max t.moment way ≡ c.max-now.result = omega (arith, c.max-now.ensures, c.moment.ensures) in
     let now : Contains moments c.max-now.result = subst (Contains moments) is
-    (contains_max moments t.moment way here (one_of moments c.args.self.now.core.moment way was c.make_way-next.ensures.leads.timely)) in
+    (contains_max moments t.moment way comes.is_in (one_of moments c.args.self.now.core.moment way comes.was_in c.make_way-next.ensures.leads.timely)) in
     c.play-played.ensures.plays start turns rest c.args.questions.now now
     (c.begin_one.ensures.plays start turns (t ∷ rest) rest (turn_due start turns rest t q c.max-now.result names come due)
-    (c.make_way-next.ensures.plays start turns (t ∷ rest) c.args.questions.now was h))
+    (c.make_way-next.ensures.plays start turns (t ∷ rest) c.args.questions.now comes.was_in h))

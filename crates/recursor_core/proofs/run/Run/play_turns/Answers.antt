@@ -29,7 +29,7 @@ loop-turn-preserved g c =
     let here = run_turns start turns n _ within in
     record {
       leads = leads_then p (run_moments start turns) _ _ _ _ _ _ _ _ _ _ here i.leads e.leads;
-      plays = λ h. e.plays start turns (drop (n + 1) turns) i.leads.later i.leads.timely here
+      plays = λ h. e.plays start turns (drop (n + 1) turns) (record { after = i.leads.later; was_in = i.leads.timely; is_in = here })
           (subst (λ (ts : List Turn). Plays p c.loop-turn.self start turns ts c.args.questions.now) (drop_more turns n _ within) (i.plays h));
       count = e.count ∙ i.count;
     }

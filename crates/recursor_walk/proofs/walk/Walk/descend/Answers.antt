@@ -11,34 +11,34 @@ use Rattle.recursor_walk.proofs.Walks.{cut-way, cut-leaves, candidate-asked, can
 use Rattle.recursor_walk.proofs.walk.Walk.descend.Goals as goal
 
 pub returns-then-not-is_delegation-clause-holds : goal.returns-then-not-is_delegation-clause-holds
-returns-then-not-is_delegation-clause-holds c terms greatest moment t0 entry log filtered way stands =
-    c.advance.ensures.holds terms greatest moment t0 log way
-    (leaves-told terms greatest log c.args.question.now.query c.args.self.now c.requires way t0 entry (Pos c.args.kept.now) stands
+returns-then-not-is_delegation-clause-holds c seen t0 entry filtered h =
+    c.advance.ensures.holds seen t0 h.way
+    (leaves-told seen c.args.question.now.query c.args.self.now c.requires h.way t0 entry (Pos c.args.kept.now) h.stands
     (sym c.is_delegation.ensures ∙ c.if-not-is_delegation.true))
 
 pub returns-clause-holds : goal.returns-clause-holds
-returns-clause-holds c terms greatest moment t0 entry log filtered way stands =
+returns-clause-holds c seen t0 entry filtered h =
     let w = c.args.self.now in
     let filled = sym c.is_empty.ensures ∙ c.if-is_empty.false in
-    c.advance-2.ensures.holds terms greatest moment t0 log
-    (cut-way terms greatest t0 log c.args.question.now.query w c.args.kept.now entry c.in_ok-self.field-0 c.new.result c.requires way stands
+    c.advance-2.ensures.holds seen t0
+    (cut-way seen t0 c.args.question.now.query w c.args.kept.now entry c.in_ok-self.field-0 c.new.result c.requires h.way h.stands
     (sym c.is_delegation.ensures ∙ c.if-not-is_delegation.false) c.in_ok-self.ensures
     (subst (λ (xs : List IpAddr). 0 < length xs) (sym c.new.ensures) (grind (arith, nat_tests)))
-    (λ ip. subst (λ (xs : List IpAddr). Contains xs ip ↔ Contains (allowed (denies terms.server_filter) (glue c.args.kept.now w.lookup.query.name)) ip) (sym c.new.ensures)
+    (λ ip. subst (λ (xs : List IpAddr). Contains xs ip ↔ Contains (allowed (denies seen.setting.server_filter) (glue c.args.kept.now w.lookup.query.name)) ip) (sym c.new.ensures)
     (subst (λ (f : Access). Contains c.in_ok-ips.ips.items ip ↔ Contains (allowed (denies f) (glue c.args.kept.now w.lookup.query.name)) ip) (sym filtered) (c.in_ok-ips.ensures ip))))
-    (cut-leaves terms log w c.in_ok-self.field-0 c.new.result c.in_ok-self.ensures)
+    (cut-leaves seen w c.in_ok-self.field-0 c.new.result c.in_ok-self.ensures)
 
 pub returns-then-is_empty-clause-holds : goal.returns-then-is_empty-clause-holds
-returns-then-is_empty-clause-holds c terms greatest moment t0 entry log filtered way stands =
+returns-then-is_empty-clause-holds c seen t0 entry filtered h =
     let w = c.args.self.now in
     let asked = c.args.question.now in
     let name = w.lookup.query.name in
     let empty = sym c.is_empty.ensures ∙ c.if-is_empty.true in
-    stops terms greatest moment t0 log asked _ c.no_server.result (record { outcome = Err (NoNameServer w.name NoAddress); grounds = [] }) c.no_server.ensures (
-      way.name,
+    stops seen t0 asked _ c.no_server.result (record { outcome = Err (NoNameServer w.name NoAddress); grounds = [] }) c.no_server.ensures (
+      h.way.name,
       refl,
-      glueless-of terms greatest t0 log asked.query name w.lookup.query entry c.args.kept.now (candidate-on-the-way terms greatest log asked.query w c.requires way) stands
-          (candidate-asked terms greatest log asked.query w c.requires way)
+      glueless-of seen t0 asked.query name w.lookup.query entry c.args.kept.now (candidate-on-the-way seen asked.query w c.requires h.way) h.stands
+          (candidate-asked seen asked.query w c.requires h.way)
           (sym c.is_delegation.ensures ∙ c.if-not-is_delegation.false)
           (λ ip has. let place = (c.in_ok-ips.ensures ip).1 (subst (λ (f : Access). Contains (allowed (denies f) (glue c.args.kept.now name)) ip) filtered has) in let less = place.1 in grind (arith, nat_tests)),
     )

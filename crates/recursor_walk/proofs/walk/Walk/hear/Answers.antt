@@ -7,13 +7,15 @@ use Rattle.recursor_walk.specs.Walk.{EndsIf, verdict_found}
 use Rattle.recursor_walk.proofs.walk.Walk.hear.Goals as goal
 
 pub returns-in-None-clause-holds : goal.returns-in-None-clause-holds
-returns-in-None-clause-holds c terms greatest moment t0 log filtered h = let found = rw c.in-None.is at c.hear.ensures.found in cc
+returns-in-None-clause-holds c seen t0 filtered h = let found = rw c.in-None.is at c.hear.ensures.found in cc
 
 pub returns-in-Some-clause-holds : goal.returns-in-Some-clause-holds
-returns-in-Some-clause-holds c terms greatest moment t0 log filtered h =
+returns-in-Some-clause-holds c seen t0 filtered h =
     let w = c.args.self.now in
-    c.conclude.ensures.holds terms greatest moment t0 log filtered (way-looked terms greatest log c.args.question.now.query w c.hear.new.self c.hear.ensures.query h.way)
-    (rw c.in-Some.is at c.hear.ensures.holds terms greatest moment t0 log w.zone h.lookup)
+    c.conclude.ensures.holds seen t0 filtered (record {
+      way = way-looked seen c.args.question.now.query w c.hear.new.self c.hear.ensures.query h.way;
+      came = rw c.in-Some.is at c.hear.ensures.holds seen t0 w.zone h.lookup;
+    })
 
 pub returns-in-None-clause-ends : goal.returns-in-None-clause-ends
 returns-in-None-clause-ends c = let found = rw c.in-None.is at c.hear.ensures.found in cc

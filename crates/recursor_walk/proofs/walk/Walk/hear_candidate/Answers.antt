@@ -2,7 +2,7 @@ use Rattle.std.proofs.Common.{sym, subst, Option}
 use Rattle.dns_core.specs.declared.message.Query.{Query}
 use Rattle.resolution.specs.Walking.{Walked}
 use Rattle.resolver_settings.specs.Access.{denies}
-use Rattle.walk_tables.specs.Terms.{given_of}
+use Rattle.walk_tables.specs.View.{given_of}
 use Rattle.walk_tables.proofs.Counting.{counts-of}
 use Rattle.recursor_walk.proofs.Denials.{stands-of, left-no-error}
 use Rattle.recursor_walk.proofs.Walks.{candidate-asked, candidate-walked}
@@ -14,22 +14,23 @@ use Rattle.recursor_walk.proofs.Ending.{counts-none}
 use Rattle.recursor_walk.proofs.walk.Walk.hear_candidate.Goals as goal
 
 pub returns-in-Ok-clause-holds : goal.returns-in-Ok-clause-holds
-returns-in-Ok-clause-holds c terms greatest moment t0 log filtered way h =
+returns-in-Ok-clause-holds c seen t0 filtered heard =
     let w = c.args.self.now in
+    let way = heard.way in
     let l = w.lookup in
     let q = c.args.question.now.query in
     let v = c.in-Ok.verdict in
     let found = rw c.in-Ok.is at c.verdict_of_class.ensures.counts in
-    let counts = counts-of terms greatest t0 log w.zone l.query c.args.entry c.args._at c.args.class v h found in
-    let walked = subst (λ (p : Query). Walked (given_of terms) log p w.zone) (sym (candidate-asked terms greatest log q w c.requires way))
-    (candidate-walked terms greatest log q w c.requires way) in
-    c.heed_candidate.ensures.holds terms greatest moment t0 log filtered way
-    (stands-of terms greatest t0 log w.zone l.query c.args.entry c.args._at v counts walked)
+    let counts = counts-of seen t0 w.zone l.query c.args.entry c.args._at c.args.class v heard.came found in
+    let walked = subst (λ (p : Query). Walked (given_of seen.setting) seen.log p w.zone) (sym (candidate-asked seen q w c.requires way))
+    (candidate-walked seen q w c.requires way) in
+    c.heed_candidate.ensures.holds seen t0 filtered (record { way = way; stands = stands-of seen t0 w.zone l.query c.args.entry c.args._at v counts walked })
 
 pub returns-clause-holds : goal.returns-clause-holds
-returns-clause-holds c terms greatest moment t0 log filtered way h =
+returns-clause-holds c seen t0 filtered heard =
+    let h = heard.came in
     let q = c.args.self.now.lookup.query in
-    absurd (left-no-error (denies terms.answer_filter) h.outcome q h.response c.args.class c.in-Err.field-0 h.is h.left (rw c.in-Err.is at c.verdict_of_class.ensures.error))
+    absurd (left-no-error (denies seen.setting.answer_filter) h.outcome q h.response c.args.class c.in-Err.field-0 h.is h.left (rw c.in-Err.is at c.verdict_of_class.ensures.error))
 
 pub returns-in-Ok-clause-ends : goal.returns-in-Ok-clause-ends
 returns-in-Ok-clause-ends c =

@@ -2,41 +2,39 @@ use Rattle.std.proofs.Common.{sym, subst, [], ◌∷◌}
 use Rattle.dns_core.specs.declared.message.Query.{Query}
 use Rattle.resolution.specs.declared.verdict.Verdict.{Verdict}
 use Rattle.resolution.specs.declared.verdict.Verdict.TheVariants.{Made}
-use Rattle.recursor_walk.specs.Causes.{ErrorHolds}
 use Rattle.recursor_walk.specs.Counted.{Stands}
-use Rattle.walk_tables.specs.Terms.{given_of}
-use Rattle.walk_tables.specs.Tried.{machine_timer}
 use Rattle.walk_base.specs.Answer.{made_negative}
 use Rattle.recursor_walk.proofs.Denials.{made-on-the-way, denied}
 use Rattle.recursor_walk.proofs.Walks.{candidate-asked, candidate-on-the-way}
 use Rattle.std.specs.Prelude.{IsTrue}
 use Rattle.resolution.specs.Failing.{ends_walk}
 use Rattle.recursor_walk.proofs.walk.Walk.heed_candidate.Goals as goal
+use Rattle.recursor_walk.specs.Replies.{HasCause}
+use Rattle.recursor_walk.specs.Way.{HasHeard}
 
 pub returns-in-Pos-clause-holds : goal.returns-in-Pos-clause-holds
-returns-in-Pos-clause-holds c terms greatest moment t0 log filtered way h =
-    c.descend.ensures.holds terms greatest moment t0 c.args.counted.entry log filtered way
-    (subst (λ (v : Verdict). Stands terms greatest t0 log c.args.self.now.lookup.query c.args.counted.entry v) c.in-Pos.is h)
+returns-in-Pos-clause-holds c seen t0 filtered h =
+    c.descend.ensures.holds seen t0 c.args.counted.entry filtered (subst (λ (v : Verdict). HasHeard seen t0 c.args.question.now.query c.args.self.now c.args.counted.entry v) c.in-Pos.is h)
 
 pub returns-in-Neg-clause-holds : goal.returns-in-Neg-clause-holds
-returns-in-Neg-clause-holds c terms greatest moment t0 log filtered way h =
-    c.deny_candidate.ensures.holds terms greatest moment t0 log way
-    (subst (λ (v : Verdict). Stands terms greatest t0 log c.args.self.now.lookup.query c.args.counted.entry v) c.in-Neg.is h)
+returns-in-Neg-clause-holds c seen t0 filtered h =
+    c.deny_candidate.ensures.holds seen t0 (subst (λ (v : Verdict). HasHeard seen t0 c.args.question.now.query c.args.self.now c.args.counted.entry v) c.in-Neg.is h)
 
 pub returns-in_ok-reply_by-in-Made-clause-holds : goal.returns-in_ok-reply_by-in-Made-clause-holds
-returns-in_ok-reply_by-in-Made-clause-holds c terms greatest moment t0 log filtered way h =
+returns-in_ok-reply_by-in-Made-clause-holds c seen t0 filtered heard =
+    let way = heard.way in
     let w = c.args.self.now in
     let asked = c.args.question.now in
     let q = asked.query in
     let cause = c.in-Made.cause in
     let entry = c.args.counted.entry in
-    let now = subst (λ (v : Verdict). Stands terms greatest t0 log w.lookup.query entry v) c.in-Made.is h in
-    let at = candidate-asked terms greatest log q w c.requires way in
-    let here = subst (λ (p : Query). Stands terms greatest t0 log p entry (Made cause)) at now in
-    let made = made-on-the-way terms greatest moment t0 log q entry w.lookup.query.name cause (candidate-on-the-way terms greatest log q w c.requires way) here in
-    let told = subst (λ (p : Query). ErrorHolds (given_of terms) (machine_timer moment log t0) log t0 q (entry ∷ []) (made_negative p cause)) (sym at) made in
-    denied terms moment t0 log asked c.in_ok-reply_by-in-Made.field-0.value c.in_ok-denial-in-Made.denial (entry ∷ []) c.in_ok-reply_by-in-Made.ensures
-    (subst (ErrorHolds (given_of terms) (machine_timer moment log t0) log t0 q (entry ∷ [])) (sym c.in_ok-denial-in-Made.ensures) told)
+    let now = subst (λ (v : Verdict). Stands seen t0 w.lookup.query entry v) c.in-Made.is heard.stands in
+    let at = candidate-asked seen q w c.requires way in
+    let here = subst (λ (p : Query). Stands seen t0 p entry (Made cause)) at now in
+    let made = made-on-the-way seen t0 q entry w.lookup.query.name cause (candidate-on-the-way seen q w c.requires way) here in
+    let told = subst (λ (p : Query). HasCause seen t0 q (entry ∷ []) (made_negative p cause)) (sym at) made in
+    denied seen t0 asked c.in_ok-reply_by-in-Made.field-0.value c.in_ok-denial-in-Made.denial (entry ∷ []) c.in_ok-reply_by-in-Made.ensures
+    (subst (HasCause seen t0 q (entry ∷ [])) (sym c.in_ok-denial-in-Made.ensures) told)
 
 pub returns-in-Pos-clause-ends : goal.returns-in-Pos-clause-ends
 returns-in-Pos-clause-ends c here ends = let no = subst (λ (v : Verdict). IsTrue (ends_walk v)) c.in-Pos.is ends in cc

@@ -7,9 +7,9 @@ use Rattle.recursor_walk.proofs.Walks.{way-looked}
 use Rattle.recursor_walk.proofs.walk.Walk.recall.Goals as goal
 
 pub returns-in-Candidate-clause-holds : goal.returns-in-Candidate-clause-holds
-returns-in-Candidate-clause-holds c terms greatest moment t0 log filtered recalled h =
-    let found = subst (λ (o : Option Counted). IfSome o (IsRecalled terms greatest t0 log c.args.self.now.lookup.query)) c.in-Some.is recalled in
-    c.heed_candidate.ensures.holds terms greatest moment t0 log filtered h.way found.stands
+returns-in-Candidate-clause-holds c seen t0 filtered recalled h =
+    let found = subst (λ (o : Option Counted). IfSome o (IsRecalled seen t0 c.args.self.now.lookup.query)) c.in-Some.is recalled in
+    c.heed_candidate.ensures.holds seen t0 filtered (record { way = h.way; stands = found.stands })
 
 pub returns-in-Candidate-clause-answers : goal.returns-in-Candidate-clause-answers
 returns-in-Candidate-clause-answers c =
@@ -19,17 +19,17 @@ returns-in-Candidate-clause-answers c =
 pub returns-in-Last : goal.returns-in-Last
 returns-in-Last c = record {
   falls = c.recall_answer.ensures.falls;
-  holds = λ terms greatest moment t0 log filtered recalled h.
-      c.recall_answer.ensures.holds terms greatest moment t0 log
-      (subst (λ (o : Option Counted). IfSome o (IsRecalled terms greatest t0 log c.args.self.now.lookup.query)) c.in-Some.is recalled) h;
+  holds = λ seen t0 filtered recalled h.
+      c.recall_answer.ensures.holds seen t0
+      (subst (λ (o : Option Counted). IfSome o (IsRecalled seen t0 c.args.self.now.lookup.query)) c.in-Some.is recalled) h;
   answers = subst (λ (o : Option Counted). Recalls c.args.self.now o c.recall_answer.result) (sym c.in-Some.is)
       (λ other may. c.recall_answer.ensures.answers may, λ here ends. absurd (subst IsCandidate c.in-Last.is here));
 }
 
 pub returns-in_default-clause-holds : goal.returns-in_default-clause-holds
-returns-in_default-clause-holds c terms greatest moment t0 log filtered recalled h =
+returns-in_default-clause-holds c seen t0 filtered recalled h =
     let w = c.args.self.now in
     record {
-      way = way-looked terms greatest log c.args.question.now.query w c.begin.new.self c.begin.ensures.query h.way;
-      lookup = c.begin.ensures.holds terms greatest moment t0 log w.zone h.lookup;
+      way = way-looked seen c.args.question.now.query w c.begin.new.self c.begin.ensures.query h.way;
+      lookup = c.begin.ensures.holds seen t0 w.zone h.lookup;
     }

@@ -11,12 +11,12 @@ returns-clause-falls c =
     omega (arith, one, was))
 
 pub returns-clause-holds : goal.returns-clause-holds
-returns-clause-holds c terms greatest moment log pools h =
-    let came = rw c.in-Some.is at c.in_ok-answer.ensures terms greatest moment log pools in
+returns-clause-holds c seen pools h =
+    let came = rw c.in-Some.is at c.in_ok-answer.ensures seen pools in
     let same = c.leave.ensures.same in (
       record {
         above = rw same.0 h.above;
         ask = rw (same.0, same.1, c.answered_by.ensures, c.last_of-entry.ensures, c.items.ensures) came;
       },
-      c.leave.ensures.pools terms greatest moment log pools,
+      c.leave.ensures.pools seen pools,
     )

@@ -1,35 +1,35 @@
 use Rattle.walk_tables.proofs.lookup.Lookup.step.Goals as goal
 
 pub returns-in_err-settle-clause-holds : goal.returns-in_err-settle-clause-holds
-returns-in_err-settle-clause-holds c terms log pools h = c.settle.ensures.holds terms c.args.since c.args.tick.now log pools h
+returns-in_err-settle-clause-holds c seen step pools h = c.settle.ensures.holds seen pools h
 
 pub returns-then-branch-clause-holds : goal.returns-then-branch-clause-holds
-returns-then-branch-clause-holds c terms log pools h = c.settle.ensures.holds terms c.args.since c.args.tick.now log pools h
+returns-then-branch-clause-holds c seen step pools h = c.settle.ensures.holds seen pools h
 
 pub returns-in_default-clause-holds : goal.returns-in_default-clause-holds
-returns-in_default-clause-holds c terms log pools h = c.settle.ensures.holds terms c.args.since c.args.tick.now log pools h
+returns-in_default-clause-holds c seen step pools h = c.settle.ensures.holds seen pools h
 
 pub returns-in_err-number-clause-holds : goal.returns-in_err-number-clause-holds
-returns-in_err-number-clause-holds c terms log pools h =
-    let settled = c.settle.ensures.holds terms c.args.since c.args.tick.now log pools h in
-    (record { above = settled.0.above; ask = tt }, c.next.ensures.holds terms log settled.1)
+returns-in_err-number-clause-holds c seen step pools h =
+    let settled = c.settle.ensures.holds seen pools h in
+    (record { above = settled.0.above; ask = tt }, c.next.ensures.holds seen step settled.1)
 
 pub returns-in-Order-clause-holds : goal.returns-in-Order-clause-holds
-returns-in-Order-clause-holds c terms log pools h =
-    let settled = c.settle.ensures.holds terms c.args.since c.args.tick.now log pools h in
-    (record { above = settled.0.above; ask = tt }, c.next.ensures.holds terms log settled.1)
+returns-in-Order-clause-holds c seen step pools h =
+    let settled = c.settle.ensures.holds seen pools h in
+    (record { above = settled.0.above; ask = tt }, c.next.ensures.holds seen step settled.1)
 
 pub returns-in-Order-clause-goes : goal.returns-in-Order-clause-goes
-returns-in-Order-clause-goes c terms log pools =
+returns-in-Order-clause-goes c seen step pools =
     let same = rw c.if-branch.false at c.in_ok-settle.ensures.falls in
-    rw c.in-Order.is at c.in_ok-number.ensures.goes terms log (rw same.1 pools)
+    rw c.in-Order.is at c.in_ok-number.ensures.goes seen step (rw same.1 pools)
 
 pub returns-in-Waiting-clause-holds : goal.returns-in-Waiting-clause-holds
-returns-in-Waiting-clause-holds c terms log pools h =
-    let settled = c.settle.ensures.holds terms c.args.since c.args.tick.now log pools h in
-    (record { above = settled.0.above; ask = tt }, c.next.ensures.holds terms log settled.1)
+returns-in-Waiting-clause-holds c seen step pools h =
+    let settled = c.settle.ensures.holds seen pools h in
+    (record { above = settled.0.above; ask = tt }, c.next.ensures.holds seen step settled.1)
 
 pub returns-in-Done-clause-holds : goal.returns-in-Done-clause-holds
-returns-in-Done-clause-holds c terms log pools h =
-    let settled = c.settle.ensures.holds terms c.args.since c.args.tick.now log pools h in
-    c.finish.ensures.holds terms c.args.since c.args.tick.now log (c.next.ensures.holds terms log settled.1) (record { above = settled.0.above; ask = tt })
+returns-in-Done-clause-holds c seen step pools h =
+    let settled = c.settle.ensures.holds seen pools h in
+    c.finish.ensures.holds seen (c.next.ensures.holds seen step settled.1) (record { above = settled.0.above; ask = tt })

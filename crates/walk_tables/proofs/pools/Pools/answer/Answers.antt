@@ -5,9 +5,9 @@ use Rattle.walk_tables.proofs.Answering.{answer-holds}
 use Rattle.walk_tables.proofs.pools.Pools.answer.Goals as goal
 
 pub returns : goal.returns
-returns c terms greatest moment log pools =
+returns c seen pools =
     let n = c.args.lookup.now.number in
     let seeks : Seeks c.args.self.now n c.args.query.now c.args.zone.now c.args.begun c.in-Some.at = rw (c.number.ensures, c.in-Some.is) at c.seeks.ensures in
     let kept : out_of_memory c.in-Some-2.told ≡ false = sym c.is_memory.ensures ∙ c.if-is_memory.false in
-    answer-holds terms greatest moment log c.args.self.now n c.args.query.now c.args.zone.now c.args.begun c.in-Some.at c.in-Some-2.told c.in_ok-ends.ends pools seeks
+    answer-holds seen c.args.self.now n c.args.query.now c.args.zone.now c.args.begun c.in-Some.at c.in-Some-2.told c.in_ok-ends.ends pools seeks
     (sym c.in-Some-2.is ∙ c.in_ok-told.ensures) kept (c.in_ok-ends.ensures ∙ c.ends.ensures.ends)

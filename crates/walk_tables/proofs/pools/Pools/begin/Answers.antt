@@ -16,58 +16,58 @@ use Rattle.walk_tables.proofs.pools.Pools.begin.Goals as goal
 -- Servers that were met stay where memory is wanting.
 pub returns-in_err-servers : goal.returns-in_err-servers
 returns-in_err-servers c = record {
-  holds = λ terms greatest log above walked servers h.
-      pools-grown terms greatest c.args.tick.now log c.args.self.now c.meet_all.new.self c.meet_all.ensures.grown (c.meet_all.ensures.servers terms h.servers) h;
+  holds = λ seen here served h.
+      pools-grown seen c.args.self.now c.meet_all.new.self c.meet_all.ensures.grown (c.meet_all.ensures.servers seen.setting h.servers) h;
   given = c.meet_all.ensures.grown.given;
 }
 
 pub returns-in_err-pool : goal.returns-in_err-pool
 returns-in_err-pool c = record {
-  holds = λ terms greatest log above walked servers h.
-      let met = pools-grown terms greatest c.args.tick.now log c.args.self.now c.meet_all.new.self c.meet_all.ensures.grown (c.meet_all.ensures.servers terms h.servers) h in
-      subst (λ shared. PoolsHold terms greatest c.args.tick.now log (record c.meet_all.new.self { shared = shared })) (sym c.in_err-pool.ensures.err) met;
+  holds = λ seen here served h.
+      let met = pools-grown seen c.args.self.now c.meet_all.new.self c.meet_all.ensures.grown (c.meet_all.ensures.servers seen.setting h.servers) h in
+      subst (λ shared. PoolsHold seen (record c.meet_all.new.self { shared = shared })) (sym c.in_err-pool.ensures.err) met;
   given = ap (λ (shared : Shared). shared.given) c.in_err-pool.ensures.err ∙ c.meet_all.ensures.grown.given;
 }
 
 pub returns-in_err-lookup : goal.returns-in_err-lookup
 returns-in_err-lookup c = record {
-  holds = λ terms greatest log above walked servers h.
+  holds = λ seen here served h.
       let first = c.meet_all.new.self in
-      let met = pools-grown terms greatest c.args.tick.now log c.args.self.now first c.meet_all.ensures.grown (c.meet_all.ensures.servers terms h.servers) h in
+      let met = pools-grown seen c.args.self.now first c.meet_all.ensures.grown (c.meet_all.ensures.servers seen.setting h.servers) h in
       let numbered : Pools = record first { shared = c.from_nameservers.new.shared } in
-      subst (λ shared. PoolsHold terms greatest c.args.tick.now log (record first { shared = shared })) (sym c.in_err-lookup.ensures.err)
-      (pools-numbered terms greatest c.args.tick.now log first numbered (first.shared.pools + 1) (omega arith) c.in_ok-pool.ensures.ok refl refl met);
+      subst (λ shared. PoolsHold seen (record first { shared = shared })) (sym c.in_err-lookup.ensures.err)
+      (pools-numbered seen first numbered (first.shared.pools + 1) (omega arith) c.in_ok-pool.ensures.ok refl refl met);
   given = ap (λ (shared : Shared). shared.given) (c.in_err-lookup.ensures.err ∙ c.in_ok-pool.ensures.ok) ∙ c.meet_all.ensures.grown.given;
 }
 
 pub returns : goal.returns
 returns c = record {
-  holds = λ terms greatest log above walked servers h.
-      let now = c.args.tick.now in
+  holds = λ seen here served h.
+      let now = seen.moment in
       let n = c.in_ok-lookup.lookup.number in
       let request = c.args.request in
       let first = c.meet_all.new.self in
-      let met = pools-grown terms greatest now log c.args.self.now first c.meet_all.ensures.grown (c.meet_all.ensures.servers terms h.servers) h in
+      let met = pools-grown seen c.args.self.now first c.meet_all.ensures.grown (c.meet_all.ensures.servers seen.setting h.servers) h in
       let old : Pools = record first { shared = c.from_nameservers.new.shared } in
       let mid : Pools = record first { shared = c.send.new.shared } in
       let one_more = c.in_ok-pool.ensures.ok in
-      let numbered : PoolsHold terms greatest now log old = pools-numbered terms greatest now log first old (first.shared.pools + 1) (omega arith) one_more refl refl met in
+      let numbered : PoolsHold seen old = pools-numbered seen first old (first.shared.pools + 1) (omega arith) one_more refl refl met in
       let numbers = c.in_ok-servers.servers.items in
-      let there : AllZip (IsMet old) c.args.ips.now numbers = met-numbered first old (first.shared.pools + 1) one_more c.args.ips.now numbers (c.in_ok-servers.ensures.met terms h.servers) in
+      let there : AllZip (IsMet old) c.args.ips.now numbers = met-numbered first old (first.shared.pools + 1) one_more c.args.ips.now numbers (c.in_ok-servers.ensures.met seen.setting h.servers) in
       let pool = c.in_ok-pool.pool.number in
       let own : pool ≡ first.shared.pools + 1 = c.in_ok-pool.ensures.pool.number in
       let count : old.shared.pools ≡ first.shared.pools + 1 = ap (λ (shared : Shared). shared.pools) one_more in
       let later : (m : ℕ) (l : OpenLookup) → lookup_at old.shared m ≡ Some l → l.pool < pool =
       λ m l at. (let low = (met.numbered.each m l (sym (ap (λ (shared : Shared). lookup_at shared m) one_more) ∙ at)).pool in omega (arith, low, own)) in
-      let sent : HasSent pool numbers request now old.shared mid.shared n = rw c.in_ok-pool.ensures.pool.servers at c.in_ok-lookup.ensures.sent in
+      let sent : HasSent pool numbers request now old.shared mid.shared n = rw (c.in_ok-pool.ensures.pool.servers, here) at c.in_ok-lookup.ensures.sent in
       let begun : HasBegun pool numbers request now old.shared mid.shared n = has-begun pool numbers request now old.shared mid.shared n later sent in
       let within : pool ≤ old.shared.pools = omega (arith, own, count) in
-      let sought : Sought = record { query = c.in_ok-try_clone.field-0; zone = c.in_ok-try_clone-2.field-0; start = now; given = None; first = None; at = now } in
-      let holds : SoughtHolds terms greatest now log mid n sought =
-      rw (c.in_ok-try_clone.ensures, c.in_ok-try_clone-2.ensures)
-      (begun-holds terms greatest now log c.args.zone.now c.args.ips.now numbers request old mid pool n above walked servers numbered.servers there begun _
+      let sought : Sought = record { query = c.in_ok-try_clone.field-0; zone = c.in_ok-try_clone-2.field-0; start = c.args.tick.now; given = None; first = None; at = c.args.tick.now } in
+      let holds : SoughtHolds seen mid n sought =
+      rw (c.in_ok-try_clone.ensures, c.in_ok-try_clone-2.ensures, here)
+      (begun-holds seen c.args.zone.now c.args.ips.now numbers request old mid pool n served numbered.servers there begun _
       (begun-there pool numbers request now old.shared mid.shared n begun) refl (begun-rest pool numbers request now old.shared mid.shared n begun).servers.configs) in
-      pools-begun terms greatest now log n sought old mid c.keep.new.self (begun-rest pool numbers request now old.shared mid.shared n begun)
+      pools-begun seen n sought old mid c.keep.new.self (begun-rest pool numbers request now old.shared mid.shared n begun)
       (begun-numbered pool numbers request now old.shared mid.shared n begun within numbered.numbered) refl refl numbered c.keep.result c.in_ok-lookup.lookup
       (begun-fresh pool numbers request now old.shared mid.shared n begun numbered.numbered) holds c.keep.ensures.ok c.keep.ensures.err;
   given =

@@ -5,12 +5,13 @@ use Rattle.std.specs.Ordering.{nat_cmp}
 use Rattle.std.proofs.lemmas.Option.{none-some}
 use Rattle.walk_tables.specs.declared.pools.Sought.{Sought}
 use Rattle.walk_tables.proofs.pools.Pools.clear.Goals as goal
+use Rattle.walk_tables.proofs.Later.{pools-later}
 
 -- nothing is sought
 pub returns : goal.returns
 returns c = record {
-  holds = λ terms less greatest moment log h. record {
-    servers = record { numbers = h.servers.numbers; timeout = h.servers.timeout; filter = h.servers.filter };
+  holds = λ seen next later h. record {
+    servers = let s = (pools-later seen next later c.args.self.now h).servers in record { numbers = s.numbers; timeout = s.timeout; filter = s.filter };
     numbered = h.numbered;
     lookups = λ n s is. absurd (none-some s (subst (λ (es : List (ℕ × Sought)). lookup (tree.is_at (nat_cmp n)) es ≡ Some s) c.clear.ensures.empty is));
   };

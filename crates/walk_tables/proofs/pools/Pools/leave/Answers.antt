@@ -5,12 +5,12 @@ use Rattle.walk_tables.proofs.pools.Pools.leave.Goals as goal
 
 pub returns : goal.returns
 returns c = record {
-  holds = λ terms greatest moment log h.
+  holds = λ seen h.
       let n = c.args.lookup.number in
       let mid = c.forget.new.self in
       let forgotten = rw c.number.ensures at c.forget.ensures in
-      pools-left terms greatest moment log n mid _ (record { left = c.leave.ensures.left; last = c.leave.ensures.last; numbers = refl; sought = λ m. refl }) forgotten.none
-      (pools-forgotten terms greatest moment log n c.args.self.now mid forgotten h);
+      pools-left seen n mid _ (record { left = c.leave.ensures.left; last = c.leave.ensures.last; numbers = refl; sought = λ m. refl }) forgotten.none
+      (pools-forgotten seen n c.args.self.now mid forgotten h);
   given = ap (λ (shared : Shared). shared.given) (c.leave.ensures.left) ∙ ap (λ (shared : Shared). shared.given) c.forget.ensures.same.shared;
   gone = (rw c.number.ensures at c.forget.ensures).none;
 }

@@ -1,61 +1,60 @@
-use Rattle.std.proofs.Common.{◌≡◌, ◌∙◌, ℕ, max, inr, sym, refl, subst, Some, None, Ok, Result, arith, rules}
+use Rattle.std.proofs.Common.{◌≡◌, ◌∙◌, ℕ, max, inr, sym, refl, subst, Some, None, Ok, Result, arith, rules, Err}
 use Rattle.std.specs.Option.{option_copied}
 use Rattle.dns_core.specs.declared.errors.NoMemory.{NoMemory}
 use Rattle.server_core.specs.declared.order.After.{After}
 use Rattle.server_core.specs.declared.order.After.TheVariants.{Late}
 use Rattle.server_pool.specs.Orders.{open_at}
 use Rattle.walk_tables.specs.Pools.{IsOutcomeOf}
-use Rattle.walk_tables.specs.Order.{last_entry, closing_of}
+use Rattle.walk_tables.specs.Order.{closing_of, seen_with}
+use Rattle.walk_tables.specs.View.{View, seen_at}
 use Rattle.walk_tables.specs.Taking.{Took, TablesHold}
 use Rattle.walk_tables.proofs.Late.{late-other, open-late}
-use Rattle.walk_tables.proofs.Puts.{longer-put, err-last, err-is, was-put}
-use Rattle.walk_tables.proofs.Remembering.{cache-kept}
-use Rattle.walk_tables.proofs.Taking.{remembered-kept, tables-kept}
+use Rattle.walk_tables.proofs.Puts.{later-put, err-last, err-is, was-put}
+use Rattle.walk_tables.proofs.Later.{cache-later, tables-later}
+use Rattle.walk_tables.proofs.Taking.{remembered-kept}
 use Rattle.walk_tables.proofs.pools.Pools.put.Goals as goal
 
 -- what is late changes nothing
 pub returns-in_default-clause-holds : goal.returns-in_default-clause-holds
-returns-in_default-clause-holds c terms greatest moment log longer patient put h =
-    tables-kept terms log longer (longer-put greatest moment log c.args.tick (option_copied c.args.waits) c.args.outcome _ longer put) greatest _ moment c.args.tick.now c.args.cache.now c.args.self.now
-    (omega arith) put.tells.later h
+returns-in_default-clause-holds c seen longer put h =
+    tables-later seen _ (later-put seen c.args.tick (option_copied c.args.waits) c.args.outcome _ longer put) c.args.cache.now c.args.self.now h
 
 pub returns-in_default-given_for-clause-holds : goal.returns-in_default-given_for-clause-holds
-returns-in_default-given_for-clause-holds c terms greatest moment log longer patient put h =
-    tables-kept terms log longer (longer-put greatest moment log c.args.tick (option_copied c.args.waits) c.args.outcome _ longer put) greatest _ moment c.args.tick.now c.args.cache.now c.args.self.now
-    (omega arith) put.tells.later h
+returns-in_default-given_for-clause-holds c seen longer put h =
+    tables-later seen _ (later-put seen c.args.tick (option_copied c.args.waits) c.args.outcome _ longer put) c.args.cache.now c.args.self.now h
 
 -- where memory was wanting at the pools
 pub returns-in_err-after-clause-holds : goal.returns-in_err-after-clause-holds
-returns-in_err-after-clause-holds c terms greatest moment log longer patient put h =
+returns-in_err-after-clause-holds c seen longer put h =
     let waits = option_copied c.args.waits in
     let o = c.args.outcome in
     let r = c.from_residual.result in
     let is = c.from_residual.ensures.0 in
+    let fault = err-is seen c.args.tick waits o r _ longer is put in
     rw (err-last waits o r is)
-    (let pools = c.in_err-after.ensures.holds terms greatest moment log longer patient (err-is greatest moment log c.args.tick waits o r _ longer is put) h.pools in
-    let tables : TablesHold terms (max greatest (closing_of waits o)) c.args.tick.now longer c.args.cache.now c.take.new.self = record {
-      cache = cache-kept terms log longer (longer-put greatest moment log c.args.tick waits o _ longer put) greatest (max greatest (closing_of waits o)) c.args.cache.now (omega arith) h.cache;
-      pools = pools;
+    (let tables : TablesHold (seen_with seen c.args.tick waits o (Err _) longer) c.args.cache.now c.take.new.self = record {
+      cache = cache-later seen _ (later-put seen c.args.tick waits o _ longer fault) c.args.cache.now h.cache;
+      pools = c.in_err-after.ensures.holds seen longer fault h.pools;
     } in
     tables)
 
 -- where it was wanting for the cache
 pub returns-in_err-remember-clause-holds : goal.returns-in_err-remember-clause-holds
-returns-in_err-remember-clause-holds c terms greatest moment log longer patient put h =
+returns-in_err-remember-clause-holds c seen longer put h =
     let waits = option_copied c.args.waits in
     let o = c.args.outcome in
-    let now = c.args.tick.now in
     let fault = c.from_residual-in_err-remember in
     let did : Result After NoMemory = Ok c.in_ok-after.after in
-    let was = was-put greatest moment log c.args.tick waits o did fault.result longer fault.ensures.0 put in
-    let g = max greatest (last_entry did waits o) in
+    let was = was-put seen c.args.tick waits o did fault.result longer fault.ensures.0 put in
+    let middle = seen_with seen c.args.tick waits o did was.by in
     let fewer = was.last in
-    let tables : TablesHold terms g now was.by c.args.cache.now c.take.new.self = record {
-      cache = cache-kept terms log was.by (longer-put greatest moment log c.args.tick waits o did was.by was.put) greatest g c.args.cache.now (omega arith) h.cache;
-      pools = c.in_ok-after.ensures.holds terms greatest moment log was.by patient was.put h.pools;
+    let tables : TablesHold middle c.args.cache.now c.take.new.self = record {
+      cache = cache-later seen middle (later-put seen c.args.tick waits o did was.by was.put) c.args.cache.now h.cache;
+      pools = c.in_ok-after.ensures.holds seen was.by was.put h.pools;
     } in
+    let last : View = seen_at seen.setting (max seen.greatest (closing_of waits o)) c.args.tick.now longer in
     rw (err-last waits o fault.result fault.ensures.0, c.in_err-remember.ensures.err)
-    (tables-kept terms was.by longer was.extends g (max greatest (closing_of waits o)) now now c.args.cache.now c.take.new.self (omega (arith, fewer)) (omega arith) tables)
+    (tables-later middle last (record { setting = refl; patience = omega arith; greatest = omega (arith, fewer); moment = omega arith; extends = was.extends }) c.args.cache.now c.take.new.self tables)
 
 pub returns-clause-takes : goal.returns-clause-takes
 returns-clause-takes c =
@@ -67,16 +66,15 @@ returns-clause-takes c =
     })
 
 pub returns-clause-holds : goal.returns-clause-holds
-returns-clause-holds c terms greatest moment log longer patient put h =
+returns-clause-holds c seen longer put h =
     let waits = option_copied c.args.waits in
     let o = c.args.outcome in
-    let now = c.args.tick.now in
     let did : Result After NoMemory = Ok c.in_ok-after.after in
-    let g = max greatest (last_entry did waits o) in
-    let pools = c.in_ok-after.ensures.holds terms greatest moment log longer patient put h.pools in
-    let cache = cache-kept terms log longer (longer-put greatest moment log c.args.tick waits o did longer put) greatest g c.args.cache.now (omega arith) h.cache in
+    let next = seen_with seen c.args.tick waits o did longer in
+    let pools = c.in_ok-after.ensures.holds seen longer put h.pools in
+    let cache = cache-later seen next (later-put seen c.args.tick waits o did longer put) c.args.cache.now h.cache in
     record {
-      cache = remembered-kept terms g now longer c.take.new.self c.in-Some.lookup pools c.args.cache.now c.remember.new.cache c.remember.result c.remember.ensures.ok c.remember.ensures.err cache;
+      cache = remembered-kept next c.take.new.self c.in-Some.lookup pools c.args.cache.now c.remember.new.cache c.remember.result c.remember.ensures.ok c.remember.ensures.err cache;
       pools = pools;
     }
 

@@ -10,43 +10,43 @@ use Rattle.walk_tables.proofs.Numbering.{GivesAs, step-count}
 use Rattle.walk_tables.proofs.pools.Pools.step.Goals as goal
 
 pub returns-in-Ok-Order-clause-holds : goal.returns-in-Ok-Order-clause-holds
-returns-in-Ok-Order-clause-holds c terms log h =
+returns-in-Ok-Order-clause-holds c seen step h =
     let old = c.args.self.now in
     let n = c.args.lookup.now.number in
-    let note : HasNoted n (noted (Some (record { number = c.in-Ok-Order.number; aim = aim_of c.in-Ok-Order.order; since = c.args.since; polled = None })) None None) (record old { shared = c.next.new.shared }) c.note.new.self =
-    rw (c.number-n.ensures, c.aim_of-aim.ensures) at c.note.ensures in
-    pools-ordered terms c.args.since c.args.tick.now log n c.in-Ok-Order.field-0 old (record old { shared = c.next.new.shared }) c.note.new.self refl refl h
-    (rw c.number-n.ensures at (sym c.contains_key.ensures ∙ c.if-not-contains_key.false)) c.in-Ok-Order.ensures.steps c.in-Ok-Order.number c.in-Ok-Order.order c.in-Ok-Order.field-0-is note
+    let note : HasNoted n (noted (Some (record { number = c.in-Ok-Order.number; aim = aim_of c.in-Ok-Order.order; since = seen.greatest; polled = None })) None None) (record old { shared = c.next.new.shared }) c.note.new.self =
+    rw (c.number-n.ensures, c.aim_of-aim.ensures, step.since_is) at c.note.ensures in
+    pools-ordered seen n c.in-Ok-Order.field-0 old (record old { shared = c.next.new.shared }) c.note.new.self refl refl h
+    (rw c.number-n.ensures at (sym c.contains_key.ensures ∙ c.if-not-contains_key.false)) (rw step.now_is at c.in-Ok-Order.ensures.steps) c.in-Ok-Order.number c.in-Ok-Order.order c.in-Ok-Order.field-0-is note
 
 pub returns-in-Ok-Order-clause-goes : goal.returns-in-Ok-Order-clause-goes
-returns-in-Ok-Order-clause-goes c terms log h =
+returns-in-Ok-Order-clause-goes c seen step h =
     let old = c.args.self.now in
     let n = c.args.lookup.now.number in
-    pools-go terms c.args.since c.args.tick.now log n c.in-Ok-Order.field-0 old (record old { shared = c.next.new.shared }) c.note.new.self refl refl h
-    (rw c.number-n.ensures at (sym c.contains_key.ensures ∙ c.if-not-contains_key.false)) c.in-Ok-Order.ensures.steps c.in-Ok-Order.number c.in-Ok-Order.order c.in-Ok-Order.field-0-is
+    pools-go seen n c.in-Ok-Order.field-0 old (record old { shared = c.next.new.shared }) c.note.new.self refl refl h
+    (rw c.number-n.ensures at (sym c.contains_key.ensures ∙ c.if-not-contains_key.false)) (rw step.now_is at c.in-Ok-Order.ensures.steps) c.in-Ok-Order.number c.in-Ok-Order.order c.in-Ok-Order.field-0-is
 
 pub returns-in-Ok-Done-clause-holds : goal.returns-in-Ok-Done-clause-holds
-returns-in-Ok-Done-clause-holds c terms log h =
+returns-in-Ok-Done-clause-holds c seen step h =
     let old = c.args.self.now in
     let n = c.args.lookup.now.number in
-    pools-done terms c.args.since c.args.tick.now log n c.in-Ok-Done.field-0 old (record old { shared = c.next.new.shared }) c.note-in-Ok-Done.new.self refl refl h
-    (rw c.number-n.ensures at (sym c.contains_key.ensures ∙ c.if-not-contains_key.false)) c.in-Ok-Done.ensures.steps (rw c.number-n.ensures at c.note-in-Ok-Done.ensures)
+    pools-done seen n c.in-Ok-Done.field-0 old (record old { shared = c.next.new.shared }) c.note-in-Ok-Done.new.self refl refl h
+    (rw c.number-n.ensures at (sym c.contains_key.ensures ∙ c.if-not-contains_key.false)) (rw step.now_is at c.in-Ok-Done.ensures.steps) (rw c.number-n.ensures at c.note-in-Ok-Done.ensures)
 
 -- where memory is wanting, or it waits, it is forgotten
 pub returns-in-Ok-Waiting-clause-holds : goal.returns-in-Ok-Waiting-clause-holds
-returns-in-Ok-Waiting-clause-holds c terms log h =
+returns-in-Ok-Waiting-clause-holds c seen step h =
     let old = c.args.self.now in
     let n = c.args.lookup.now.number in
-    pools-waits terms c.args.since c.args.tick.now log n old (record old { shared = c.next.new.shared }) c.forget.new.self (Ok c.in-Ok-Waiting.field-0) refl refl
-    (rw c.number-n.ensures at (sym c.contains_key.ensures ∙ c.if-not-contains_key.false)) c.in-Ok-Waiting.ensures.steps c.in-Ok-Waiting.ensures.halts (rw c.number-n.ensures at c.forget.ensures) h
+    pools-waits seen n old (record old { shared = c.next.new.shared }) c.forget.new.self (Ok c.in-Ok-Waiting.field-0) refl refl
+    (rw c.number-n.ensures at (sym c.contains_key.ensures ∙ c.if-not-contains_key.false)) (rw step.now_is at c.in-Ok-Waiting.ensures.steps) c.in-Ok-Waiting.ensures.halts (rw c.number-n.ensures at c.forget.ensures) h
 
 pub returns-clause-holds : goal.returns-clause-holds
-returns-clause-holds c terms log h =
+returns-clause-holds c seen step h =
     let old = c.args.self.now in
     let n = c.args.lookup.now.number in
     let none = c.in-Err.ensures in
-    pools-waits terms c.args.since c.args.tick.now log n old (record old { shared = c.next.new.shared }) c.forget-in-Err.new.self (Err c.in-Err.field-0) refl refl
-    (rw c.number-n.ensures at (sym c.contains_key.ensures ∙ c.if-not-contains_key.false)) none.steps none.halts (rw c.number-n.ensures at c.forget-in-Err.ensures) h
+    pools-waits seen n old (record old { shared = c.next.new.shared }) c.forget-in-Err.new.self (Err c.in-Err.field-0) refl refl
+    (rw c.number-n.ensures at (sym c.contains_key.ensures ∙ c.if-not-contains_key.false)) none.steps (rw step.now_is at none.halts) (rw c.number-n.ensures at c.forget-in-Err.ensures) h
 
 -- ---- how many orders were given
 
