@@ -1,6 +1,6 @@
 //! The command over sources and sinks that fail, and with other words.
 
-use crate::message_samples::shown;
+use crate::samples::shown;
 use dns_core::{Bytes, MemorySink, MemorySource, NoMemory, Numbers, Text};
 use recursor_command::{Fault, Status, run, say};
 use std::alloc::Global;

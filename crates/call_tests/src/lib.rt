@@ -1,34 +1,17 @@
-//! Tests of what only calls show, from pools on: agendas, orders that are carried over a script,
-//! lookups step by step, the cache, logs told to the plain programs of the definitions, texts that are
-//! very long, and sources and sinks that fail. Each call that may want memory is called once here,
-//! where there is memory.
+//! Tests of what only calls of the whole show: a run that is driven to its transcript, errors as they
+//! are printed, texts that are very long, and sources and sinks that fail. Each call that may want memory
+//! is called once here, where there is memory.
 //!
 //! They stand here and not in the layers, since a crate with tests is proved once more with them.
 #![tactic(auto)]
 
 #[cfg(test)]
-mod agenda_tests;
-#[cfg(test)]
-mod cache_tests;
-#[cfg(test)]
-mod carrier_tests;
-#[cfg(test)]
 mod command_tests;
-#[cfg(test)]
-mod lookup_samples;
-#[cfg(test)]
-mod lookup_tests;
-#[cfg(test)]
-mod message_samples;
-#[cfg(test)]
-mod pool_tests;
 #[cfg(test)]
 mod printing_tests;
 #[cfg(test)]
 mod recursor_tests;
 #[cfg(test)]
-mod serving_tests;
-#[cfg(test)]
-mod sharing_tests;
+mod samples;
 #[cfg(test)]
 mod text_tests;

@@ -1,6 +1,6 @@
 //! Texts of errors, records and logs that no run comes to yet.
 
-use crate::message_samples::{ip, is_text, query};
+use crate::samples::{ip, is_text, query};
 use dns_core::{
     Bytes, DnsClass, IoKind, Log, LogEntry, Name, NameError, NetError, NoMemory, Protocol, RData,
     Record, RecordType,

@@ -1,6 +1,6 @@
 //! A recursor from its scenario to its transcript, where there is memory.
 
-use crate::message_samples::{answer, is_text, v4};
+use crate::samples::{answer, is_text, v4};
 use dns_core::{Ips, Items, Log, NoMemory, TryClone};
 use recursor_core::{Recursor, RecursorOptions, drive};
 use recursor_text::{

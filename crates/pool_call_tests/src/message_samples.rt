@@ -13,7 +13,6 @@ use resolver_settings::{
 use server_core::NameServer;
 use std::alloc::Global;
 use std::net::{IpAddr, Ipv4Addr};
-use std::test::Fail;
 
 /// What is seen of a value. Values of large enums are handed to `seen`, which lets go of them: a body
 /// that keeps one alive is dear to prove.
@@ -30,20 +29,6 @@ pub fn seen<S: Copy, T: Sight<S>>(value: T) -> S {
 pub fn put<T: Drop>(list: &mut Vec<T>, item: T) -> Result<(), NoMemory> {
     list.push(item)?;
     Ok(())
-}
-
-/// A text of bytes for a message of a test.
-pub fn shown(bytes: &[u8]) -> &str {
-    std::str::from_utf8(bytes).unwrap_or("no text")
-}
-
-/// A text that was written is this one.
-pub fn is_text(found: Vec<u8>, wanted: &str) -> Result<(), Fail> {
-    if found.as_slice() == wanted.as_bytes() {
-        return Ok(());
-    }
-    let found = shown(&found);
-    Err(Fail::new(format_args!("{found} in place of {wanted}")))
 }
 
 /// The address 11.0.0 with a last octet.

@@ -1,5 +1,5 @@
 //! What a lookup has still to ask, end by end.
-ghost use Rattle.call_tests.specs.Agenda.{IsWithin};
+ghost use Rattle.pool_call_tests.specs.Agenda.{IsWithin};
 ghost use Rattle.retry_rules.specs.Agenda.{HasRoom};
 
 use crate::message_samples::{Sight, denial, message, query, seen};

@@ -8,7 +8,7 @@ use Rattle.retry_rules.specs.KeptError.{kept_after}
 use Rattle.retry_rules.specs.declared.candidate.Candidate.{Candidate}
 use Rattle.retry_rules.specs.declared.candidate.Ending.{Ending}
 use Rattle.retry_rules.specs.declared.candidate.Ending.TheVariants.{Turns, Passes, Ends}
-use Rattle.call_tests.specs.Agenda.{IsWithin}
+use Rattle.pool_call_tests.specs.Agenda.{IsWithin}
 use Rattle.retry_rules.proofs.Turning.{after_yes, after_no}
 
 fewer : {X : Type 0} (p : X → Bool) (xs : List X) (c : X) → find p xs ≡ Some c → 1 + length (after_first p xs) ≤ length xs
