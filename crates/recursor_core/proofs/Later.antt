@@ -1,5 +1,6 @@
 -- What the machine keeps goes on being derived as it comes further.
-use Rattle.std.proofs.Common.{◌≡◌, ◌<◌, ℕ, List, All, length, refl, sym, subst, arith}
+use Rattle.std.proofs.Common.{◌≡◌, ◌<◌, ℕ, List, All, Option, Some, None, length, refl, sym, subst, arith}
+use Rattle.std.specs.Global.{Box}
 use Rattle.std.proofs.lemmas.List.Elements.{All-weaker}
 use Rattle.dns_core.specs.Log.{Log, Extends}
 use Rattle.dns_core.specs.declared.request.Question.{Question}
@@ -7,7 +8,7 @@ use Rattle.recursor_setting.specs.declared.setting.Setting.{Setting}
 use Rattle.walk_tables.specs.View.{View, Later}
 use Rattle.walk_tables.proofs.Later.{cache-later, pools-later, later-by}
 use Rattle.recursor_walk.proofs.Later.{walk-later, reply-later}
-use Rattle.recursor_core.specs.Derived.{StateHolds, ResolutionHolds, seen_by, Derived}
+use Rattle.recursor_core.specs.Derived.{StateHolds, ResolutionHolds, KeptHolds, seen_by, Derived}
 use Rattle.recursor_core.specs.declared.resolving.State.{State}
 use Rattle.recursor_core.specs.declared.resolving.State.TheVariants.{New, Under, Done, Ended}
 use Rattle.recursor_core.specs.declared.resolving.Resolution.{Resolution}
@@ -24,9 +25,14 @@ module _ (old new : View) (later : Later old new) where
   resolution-later : (r : Resolution) → ResolutionHolds old r → ResolutionHolds new r
   resolution-later r h = record { begun = let b = h.begun in let m = later.moment in omega arith; state = state-later r.begun r.question r.state h.state }
 
+  -- the one that is kept at a place
+  kept-later : (x : Option (Box Resolution)) → KeptHolds old x → KeptHolds new x
+  kept-later None h = tt
+  kept-later (Some r) h = resolution-later r.value h
+
   -- all of them
-  pub resolutions-later : (rs : List Resolution) → All (ResolutionHolds old) rs → All (ResolutionHolds new) rs
-  resolutions-later rs = All-weaker (ResolutionHolds old) (ResolutionHolds new) resolution-later rs
+  pub resolutions-later : (rs : List (Option (Box Resolution))) → All (KeptHolds old) rs → All (KeptHolds new) rs
+  resolutions-later rs = All-weaker (KeptHolds old) (KeptHolds new) kept-later rs
 
 -- What the machine keeps is derived, where that holds by what it sees now.
 pub derived-later : (old core : RecursorCore) (log longer : Log) → Derived old log → Later (seen_by old log) (seen_by core longer) → core.greatest < longer.next → core.cache ≡ old.cache

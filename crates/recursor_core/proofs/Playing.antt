@@ -13,8 +13,8 @@ use Rattle.dns_core.specs.declared.provider.ConnectionProvider.{Ghosts}
 use Rattle.walk_tables.specs.Tried.{Timer, machine_timer}
 use Rattle.recursor_walk.specs.Replies.{ReplyHolds}
 use Rattle.order_carrier.specs.Growing.{TellsThat, Grown}
-use Rattle.recursor_core.specs.Machine.{Begun, begun_at}
-use Rattle.recursor_core.specs.Standing.{Moves, ReplyTold, first_moment, last_moment, begin_moment, run_moments, run_timer, PlayHolds, PlaysHold, RepliesHold}
+use Rattle.recursor_core.specs.Machine.{Begun, begun_at, begun_of, kept_in, IsOneMore}
+use Rattle.recursor_core.specs.Standing.{Moves, ReplyTold, first_moment, last_moment, begin_moment, run_moments, run_timer, PlayHolds, PlaysHold, RepliesHold, ReplyFor}
 use Rattle.recursor_core.specs.Turns.{Begins, BeginsIf, BeginsAt, IsRefused, ReplyOf}
 use Rattle.recursor_setting.specs.declared.setting.Setting.{Setting}
 use Rattle.order_carrier.specs.declared.carrier.Carrier.{Carrier}
@@ -27,6 +27,8 @@ use Rattle.recursor_walk.proofs.Earlier.{reply-earlier}
 use Rattle.recursor_core.proofs.Standing.{ReplyHolds-grown, Grown-refl}
 use Rattle.recursor_core.proofs.Timed.{reply-timed, run_first}
 use Rattle.walk_tables.specs.View.{seen_at}
+use Rattle.recursor_core.specs.declared.resolving.Resolution.{Resolution}
+use Rattle.std.specs.Option.{option_map}
 
 -- two numbers are equal, or not
 same_or_not : (k n : ℕ) → (k ≡ n) ⊎ (k ≢ n)
@@ -103,16 +105,17 @@ begins_else (Some x) now core (Some (played.Begun r)) ne = refl
 begins_else (Some x) now core (Some (played.Answered a)) ne = refl
 begins_else (Some x) now core (Some played.Unanswered) ne = refl
 
--- a question that goes on as it was
+-- a question that goes on as it was, where no place is gone and what is under way at its own was so before
 play_on : (now : ℕ) (core new : RecursorCore) (told later : Option (List LogEntry)) (start : ℕ) (turns rest left : List Turn) (q : ℕ)
     (question : Question) (p : Played)
-    → new.setting ≡ core.setting → ((k : ℕ) (b : Begun) → begun_at core k ≡ Some b → begun_at new k ≡ Some b) → Grown now told later
+    → new.setting ≡ core.setting → length core.resolutions.items ≤ length new.resolutions.items
+    → ((k : ℕ) (b : Begun) → k < length core.resolutions.items → begun_at new k ≡ Some b → begun_at core k ≡ Some b) → Grown now told later
     → (p ≡ played.Waiting → first_moment rest q ≡ first_moment left q)
     → PlayHolds core told start turns rest q question p → PlayHolds new later start turns left q question p
-play_on now core new told later start turns rest left q question played.Waiting setting begun grown same h = h ∙ same refl
-play_on now core new told later start turns rest left q question (played.Begun r) setting begun grown same h =
-    record { begun = h.begun; is = begun r h.begun h.is; question = h.question; late = h.late }
-play_on now core new told later start turns rest left q question (played.Answered reply) setting begun grown same h =
+play_on now core new told later start turns rest left q question played.Waiting setting count begun grown same h = h ∙ same refl
+play_on now core new told later start turns rest left q question (played.Begun r) setting count begun grown same h =
+    record { within = let low = h.within in omega (arith, low, count); is = λ b e. h.is b (begun r b h.within e) }
+play_on now core new told later start turns rest left q question (played.Answered reply) setting count begun grown same h =
     record {
       now = h.now;
       in_run = h.in_run;
@@ -120,36 +123,52 @@ play_on now core new told later start turns rest left q question (played.Answere
           (begin_moment start turns q) question reply.value)) (sym setting)
           (ReplyHolds-grown now h.now core.setting (begin_moment start turns q) question reply.value told later grown h.holds);
     }
-play_on now core new told later start turns rest left q question played.Unanswered setting begun grown same h = tt
+play_on now core new told later start turns rest left q question played.Unanswered setting count begun grown same h = tt
+
+-- so it is where one more question may have begun
+play_more : (core new : RecursorCore) (told : Option (List LogEntry)) (start : ℕ) (turns rest left : List Turn) (q : ℕ) (question : Question) (p : Played)
+    → new.setting ≡ core.setting → IsOneMore core new → (p ≡ played.Waiting → first_moment rest q ≡ first_moment left q)
+    → PlayHolds core told start turns rest q question p → PlayHolds new told start turns left q question p
+play_more core new told start turns rest left q question p setting more same h =
+    play_on 0 core new told told start turns rest left q question p setting more.count (λ k b low e. sym (more.before k low) ∙ e) (Grown-refl 0 told) same h
+
+-- a place at which a question is under way is one of the machine's
+place_of_begun : (xs : List (Option (Box Resolution))) (r : ℕ) (b : Begun) → option_map begun_of (kept_in (slice_get xs r)) ≡ Some b → r < length xs
+place_of_begun [] r b e = cc
+place_of_begun (x ∷ xs) zero b e = omega arith
+place_of_begun (x ∷ xs) (suc r) b e = omega (arith, place_of_begun xs r b e)
 
 -- a question at the place where one begins
 begin_here : (core new : RecursorCore) (told : Option (List LogEntry)) (start : ℕ) (turns rest left : List Turn) (q now : ℕ)
     (question : Question) (old : Option Played) (p : Played)
-    → new.setting ≡ core.setting → ((k : ℕ) (b : Begun) → begun_at core k ≡ Some b → begun_at new k ≡ Some b)
+    → new.setting ≡ core.setting → IsOneMore core new
     → (first_moment turns q ≡ first_moment rest q → begin_moment start turns q ≤ now)
     → BeginsIf (Some question) now new old (Some p) → ((was : Played) → old ≡ Some was → PlayHolds core told start turns rest q question was)
     → PlayHolds new told start turns left q question p
 begin_here core new told start turns rest left q now question None p setting begun due begins h = cc
 begin_here core new told start turns rest left q now question (Some played.Waiting) played.Waiting setting begun due begins h = absurd begins
 begin_here core new told start turns rest left q now question (Some played.Waiting) (played.Begun r) setting begun due begins h =
-    record { begun = record { question = question; moment = now }; is = begins; question = refl; late = due (h played.Waiting refl) }
+    record {
+      within = place_of_begun new.resolutions.items r (record { question = question; moment = now }) begins;
+      is = λ b e. let same : record { question = question; moment = now } ≡ b = same_Some _ _ (sym begins ∙ e) in
+          (ap (λ (x : Begun). x.question) (sym same), subst (λ (x : Begun). begin_moment start turns q ≤ x.moment) same (due (h played.Waiting refl)));
+    }
 begin_here core new told start turns rest left q now question (Some played.Waiting) (played.Answered reply) setting begun due begins h =
     record { now = start; in_run = run_first start turns; holds = λ es t. refused_holds new.setting (machine_timer start) (log_of es) (begin_moment start turns q) question reply.value begins }
 begin_here core new told start turns rest left q now question (Some played.Waiting) played.Unanswered setting begun due begins h = tt
 begin_here core new told start turns rest left q now question (Some (played.Begun r)) p setting begun due begins h =
     subst (λ (x : Played). PlayHolds new told start turns left q question x) (sym (same_Some _ _ begins))
-    (play_on now core new told told start turns rest left q question (played.Begun r) setting begun (Grown-refl now told) (λ e. cc) (h (played.Begun r) refl))
+    (play_more core new told start turns rest left q question (played.Begun r) setting begun (λ e. cc) (h (played.Begun r) refl))
 begin_here core new told start turns rest left q now question (Some (played.Answered reply)) p setting begun due begins h =
     subst (λ (x : Played). PlayHolds new told start turns left q question x) (sym (same_Some _ _ begins))
-    (play_on now core new told told start turns rest left q question (played.Answered reply) setting begun (Grown-refl now told) (λ e. cc)
-    (h (played.Answered reply) refl))
+    (play_more core new told start turns rest left q question (played.Answered reply) setting begun (λ e. cc) (h (played.Answered reply) refl))
 begin_here core new told start turns rest left q now question (Some played.Unanswered) p setting begun due begins h =
     subst (λ (x : Played). PlayHolds new told start turns left q question x) (sym (same_Some _ _ begins)) tt
 
 -- Where a question waits at the place it begins, if its moment has come; the others go on.
 pub begins_hold : (core new : RecursorCore) (told : Option (List LogEntry)) (start : ℕ) (turns rest left : List Turn) (questions : List Question)
     (old plays : List Played) (q now : ℕ)
-    → new.setting ≡ core.setting → ((k : ℕ) (b : Begun) → begun_at core k ≡ Some b → begun_at new k ≡ Some b)
+    → new.setting ≡ core.setting → IsOneMore core new
     → ((k : ℕ) → k ≢ q → slice_get plays k ≡ slice_get old k)
     → BeginsAt questions q now new (slice_get old q) (slice_get plays q)
     → ((k : ℕ) → k ≢ q → first_moment rest k ≡ first_moment left k)
@@ -162,9 +181,17 @@ begins_hold core new told start turns rest left questions old plays q now settin
     let at_q : BeginsIf (Some question) now new (slice_get old q) (Some p) = rw (asks_q, plays_q) at begins in
     subst (λ i. PlayHolds new told start turns left i question p) (sym same)
     (begin_here core new told start turns rest left q now question (slice_get old q) p setting begun due at_q (λ was e. h q question was asks_q e)))
-    (λ ne. play_on now core new told told start turns rest left k question p setting begun (Grown-refl now told) (λ e. after k ne)
+    (λ ne. play_more core new told start turns rest left k question p setting begun (λ e. after k ne)
     (h k question p asks (sym (others k ne) ∙ plays_p)))
     (same_or_not k q)
+
+-- the reply of a question that is under way is one of a question that began no earlier
+reply_for : (setting : Setting) (now t0 : ℕ) (begun : Option Begun) (question : Question) (reply : Reply) (log : Log)
+    → ((b : Begun) → begun ≡ Some b → (b.question ≡ question) × (t0 ≤ b.moment)) → ReplyFor setting now begun reply log → ReplyHolds setting (machine_timer now) log t0 question reply
+reply_for setting now t0 None question reply log is h = absurd h
+reply_for setting now t0 (Some b) question reply log is h =
+    let of = is b refl in
+    reply-earlier (seen_at setting 0 now log) t0 b.moment question reply of.1 (subst (λ (x : Question). ReplyHolds setting (machine_timer now) log b.moment x reply) of.0 h)
 
 module _ {P C F E : Type 0} (p : Ghosts P C F E) (patience now : ℕ) (core new : RecursorCore) (c later : Carrier P C F E p)
     (moves : Moves p patience now core new c later) where
@@ -172,7 +199,8 @@ module _ {P C F E : Type 0} (p : Ghosts P C F E) (patience now : ℕ) (core new 
   pub plays_moved : (start : ℕ) (turns rest : List Turn) (questions : List Question) (plays : List Played)
       → PlaysHold core (p.log c.provider) start turns rest questions plays → PlaysHold new (p.log later.provider) start turns rest questions plays
   plays_moved start turns rest questions plays h q question play asks at =
-      play_on now core new (p.log c.provider) (p.log later.provider) start turns rest rest q question play moves.setting moves.begun moves.grown
+      play_on now core new (p.log c.provider) (p.log later.provider) start turns rest rest q question play moves.setting
+      (let same = moves.begun.count in omega (arith, same)) (λ k b low e. moves.begun.each k b e) moves.grown
       (λ e. refl) (h q question play asks at)
 
   -- one has its reply
@@ -187,15 +215,12 @@ module _ {P C F E : Type 0} (p : Ghosts P C F E) (patience now : ℕ) (core new 
       let is : play ≡ played.Answered reply = same_Some _ _ (sym play_k ∙
       (ap (slice_get (set plays q (played.Answered reply))) same ∙ slice_get-set_same plays q (played.Answered reply) (slice_get_within plays q _ at))) in
       let f = h q question (played.Begun r) asks_q at in
-      let b = f.begun in
-      let holds : TellsThat told_now (λ log. ReplyHolds core.setting (machine_timer now) log b.moment b.question reply.value) = rw f.is at told in
       let given : PlayHolds new told_now start turns rest q question (played.Answered reply) = record {
         now = now;
         in_run = here;
         holds = λ es t.
-            reply-earlier (seen_at new.setting 0 now (log_of es)) (begin_moment start turns q) b.moment question reply.value f.late
-            (subst (λ (held : Setting). ReplyHolds held (machine_timer now) (log_of es) b.moment question reply.value) (sym moves.setting)
-            (subst (λ (x : Question). ReplyHolds core.setting (machine_timer now) (log_of es) b.moment x reply.value) f.question (holds es t)));
+            subst (λ (held : Setting). ReplyHolds held (machine_timer now) (log_of es) (begin_moment start turns q) question reply.value) (sym moves.setting)
+            (reply_for core.setting now (begin_moment start turns q) (begun_at core r) question reply.value (log_of es) f.is (told es t));
       } in
       subst (λ i. PlayHolds new told_now start turns rest i question play) (sym same)
       (subst (λ (x : Played). PlayHolds new told_now start turns rest q question x) (sym is) given))
@@ -257,7 +282,7 @@ pub plays_skip : (core : RecursorCore) (told : Option (List LogEntry)) (start : 
     (questions : List Question) (plays : List Played) → t.question ≡ 0
     → PlaysHold core told start turns (t ∷ rest) questions plays → PlaysHold core told start turns rest questions plays
 plays_skip core told start turns rest t questions plays none h q question p asks at =
-    play_on 0 core core told told start turns (t ∷ rest) rest q question p refl (λ k b e. e) (Grown-refl 0 told)
+    play_on 0 core core told told start turns (t ∷ rest) rest q question p refl (omega arith) (λ k b low e. e) (Grown-refl 0 told)
     (λ e. first_other t rest q (λ named. omega arith)) (h q question p asks at)
 
 -- the last turn is at the last moment

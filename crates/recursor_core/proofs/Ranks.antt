@@ -1,46 +1,70 @@
 -- How many steps resolutions have before them, and a list of them in which one is changed.
-use Rattle.std.proofs.Common.{◌≡◌, ◌≢◌, ◌≤◌, ◌<◌, ℕ, zero, suc, List, [], ◌∷◌, length, get_or, Some, refl, arith, sym, ap}
+use Rattle.std.proofs.Common.{◌≡◌, ◌≢◌, ◌≤◌, ◌<◌, ◌∙◌, ℕ, zero, suc, List, [], ◌∷◌, length, get_or, Option, Some, refl, arith, sym, ap}
+use Rattle.std.specs.Global.{Box}
 use Rattle.std.specs.Prelude.{slice_get, sum_by}
 use Rattle.std.proofs.Math.ListN.{set}
 use Rattle.std.proofs.lemmas.List.Sums.{sum_by-set}
-use Rattle.std.proofs.lemmas.Option.{slice_get_read}
+use Rattle.std.proofs.lemmas.Option.{slice_get_read, same_Some}
 use Rattle.walk_tables.specs.Lookup.{LeavesLess}
 use Rattle.walk_tables.specs.declared.pools.Stepped.{Stepped}
 use Rattle.walk_tables.specs.declared.pools.Stepped.TheVariants as stepped
 use Rattle.recursor_core.specs.Resolving.{steps}
 use Rattle.recursor_core.specs.declared.resolving.Resolution.{Resolution}
 use Rattle.recursor_core.specs.declared.resolving.Need.TheVariants as need
-use Rattle.recursor_core.specs.Machine.{need_in}
+use Rattle.recursor_core.specs.Machine.{kept_in, need_in, steps_of}
 
--- where something is needed there is a resolution
-pub need_within : (xs : List Resolution) (i : ℕ) → need_in (slice_get xs i) ≢ need.Nothing → i < length xs
+-- where something is needed there is a place
+pub need_within : (xs : List (Option (Box Resolution))) (i : ℕ) → need_in (kept_in (slice_get xs i)) ≢ need.Nothing → i < length xs
 need_within [] i h = absurd (h refl)
 need_within (x ∷ xs) zero h = omega arith
 need_within (x ∷ xs) (suc i) h = omega (arith, need_within xs i h)
 
--- one of a list falls, and so does the sum
-pub sum_falls : (xs : List Resolution) (i : ℕ) (f g : Resolution) → i < length xs → f ≡ get_or xs i f → steps g < steps f
-    → sum_by steps (set xs i g) < sum_by steps xs
-sum_falls xs i f g within is h = let moved = rw (sym (ap steps is)) at (sum_by-set steps xs i g f within) in omega (arith, moved, h)
+-- what was read there
+pub found_at : (xs : List (Option (Box Resolution))) (i : ℕ) (f : Option (Box Resolution)) → i < length xs → f ≡ get_or xs i f → slice_get xs i ≡ Some f
+found_at xs i f within is = slice_get_read xs (length xs) i f refl within is
 
--- the one at a place that was read
-pub read_at : (xs : List Resolution) (i : ℕ) (f : Resolution) → i < length xs → f ≡ get_or xs i f → slice_get xs i ≡ Some f
-read_at xs i f within is = slice_get_read xs (length xs) i f refl within is
+-- is a resolution that is kept
+pub kept_at : (xs : List (Option (Box Resolution))) (i : ℕ) (f : Option (Box Resolution)) (b : Box Resolution) → need_in (kept_in (slice_get xs i)) ≢ need.Nothing
+    → f ≡ get_or xs i f → f ≡ Some b → slice_get xs i ≡ Some (Some b)
+kept_at xs i f b h at is = found_at xs i f (need_within xs i h) at ∙ ap Some is
 
--- and the one that was put there
-pub put_at : (xs : List Resolution) (i : ℕ) (g : Resolution) → i < length xs → slice_get (set xs i g) i ≡ Some g
+-- a place at which something stands is one of the list
+pub place_within : (xs : List (Option (Box Resolution))) (i : ℕ) (x : Option (Box Resolution)) → slice_get xs i ≡ Some x → i < length xs
+place_within [] i x h = cc
+place_within (y ∷ xs) zero x h = omega arith
+place_within (y ∷ xs) (suc i) x h = omega (arith, place_within xs i x h)
+
+-- and it is read there
+pub place_read : (xs : List (Option (Box Resolution))) (i : ℕ) (x : Option (Box Resolution)) → slice_get xs i ≡ Some x → x ≡ get_or xs i x
+place_read [] i x h = cc
+place_read (y ∷ xs) zero x h = sym (same_Some _ _ h)
+place_read (y ∷ xs) (suc i) x h = place_read xs i x h
+
+-- what was put at a place stands there
+pub put_at : (xs : List (Option (Box Resolution))) (i : ℕ) (g : Option (Box Resolution)) → i < length xs → slice_get (set xs i g) i ≡ Some g
 put_at [] i g within = absurd (omega (arith, within))
 put_at (x ∷ xs) zero g within = refl
 put_at (x ∷ xs) (suc i) g within = put_at xs i g (omega arith)
 
--- one of a list doesn't grow, nor does the sum
-pub sum_keeps : (xs : List Resolution) (i : ℕ) (f g : Resolution) → i < length xs → f ≡ get_or xs i f → steps g ≤ steps f
-    → sum_by steps (set xs i g) ≤ sum_by steps xs
-sum_keeps xs i f g within is h = let moved = rw (sym (ap steps is)) at (sum_by-set steps xs i g f within) in omega (arith, moved, h)
+module _ (xs : List (Option (Box Resolution))) (i : ℕ) (b : Box Resolution) (g : Resolution) (at : slice_get xs i ≡ Some (Some b)) where
+  -- the list in which it is changed
+  abbrev pub changed : List (Option (Box Resolution))
+  changed = set xs i (Some (record b { value = g }))
 
--- so the sum after a step of one of them
-pub sum_leaves : (xs : List Resolution) (i : ℕ) (f g : Resolution) → i < length xs → f ≡ get_or xs i f → (s : Stepped) → LeavesLess (steps f) (steps g) s
-    → LeavesLess (sum_by steps xs) (sum_by steps (set xs i g)) s
-sum_leaves xs i f g within is (stepped.Order number order) h = sum_keeps xs i f g within is h
-sum_leaves xs i f g within is (stepped.Waiting number) h = sum_keeps xs i f g within is h
-sum_leaves xs i f g within is stepped.Done h = sum_falls xs i f g within is h
+  -- one of a list falls, and so does the sum
+  pub sum_falls : steps g < steps b.value → sum_by steps_of changed < sum_by steps_of xs
+  sum_falls h =
+      let moved = rw (sym (ap steps_of (place_read xs i (Some b) at))) at (sum_by-set steps_of xs i (Some (record b { value = g })) (Some b) (place_within xs i (Some b) at)) in
+      omega (arith, moved, h)
+
+  -- one of a list doesn't grow, nor does the sum
+  sum_keeps : steps g ≤ steps b.value → sum_by steps_of changed ≤ sum_by steps_of xs
+  sum_keeps h =
+      let moved = rw (sym (ap steps_of (place_read xs i (Some b) at))) at (sum_by-set steps_of xs i (Some (record b { value = g })) (Some b) (place_within xs i (Some b) at)) in
+      omega (arith, moved, h)
+
+  -- so the sum after a step of one of them
+  pub sum_leaves : (s : Stepped) → LeavesLess (steps b.value) (steps g) s → LeavesLess (sum_by steps_of xs) (sum_by steps_of changed) s
+  sum_leaves (stepped.Order number order) h = sum_keeps h
+  sum_leaves (stepped.Waiting number) h = sum_keeps h
+  sum_leaves stepped.Done h = sum_falls h

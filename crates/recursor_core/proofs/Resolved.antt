@@ -10,7 +10,6 @@ use Rattle.walk_tables.specs.Remembered.{CacheHolds}
 use Rattle.walk_tables.specs.View.{View}
 use Rattle.recursor_walk.specs.Walk.{Goes}
 use Rattle.recursor_core.specs.Resolving.{state_want, state_steps, steps, IsSettled, SameBegun}
-use Rattle.walk_tables.specs.declared.pools.Stepped.TheVariants as stepped
 use Rattle.recursor_walk.specs.Way.{WalkHolds, WalkComes}
 use Rattle.recursor_core.specs.Derived.{StateHolds, ResolutionHolds}
 use Rattle.recursor_walk.specs.declared.counted.Counted.{Counted}

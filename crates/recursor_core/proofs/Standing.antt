@@ -24,7 +24,7 @@ use Rattle.walk_tables.specs.Remembered.{EntryHolds}
 use Rattle.walk_tables.specs.Taking.{TablesHold}
 use Rattle.recursor_setting.specs.Setting.{with_patience as setting_with}
 use Rattle.recursor_core.specs.Machine.{Begun, begun_at, SameCore, ReplyGiven, StepGives, IsNewCore, TellsTo}
-use Rattle.recursor_core.specs.Standing.{IsPast, Holds, Rests, Moves, Ready, Goes, ReplyTold, TurnedTold}
+use Rattle.recursor_core.specs.Standing.{IsPast, Holds, Rests, Moves, Ready, Goes, ReplyTold, TurnedTold, KeepsTo}
 use Rattle.walk_tables.specs.Order.{is_given_up, IsGivenUpIn, LogGoesOnIf}
 use Rattle.order_runner.specs.Runner.{RunnerHolds, RunnerMoves, GoesNowhere, sent_by, still_awaited, IsLast, HasTold}
 use Rattle.order_runner.specs.declared.runner.Runner.{Runner}
@@ -144,7 +144,7 @@ module _ (core new : RecursorCore) (told : Option (List LogEntry)) where
   -- a reply that is given to a question that has begun is told
   reply_told : (b : Option Begun) (reply : Reply) → TellsThat told (λ log. ReplyGiven (seen_by core log) b reply)
       → ReplyTold core.setting core.moment told b reply
-  reply_told None reply h = tt
+  reply_told None reply h = h
   reply_told (Some b) reply h = h
 
   -- a reply that it gives is told
@@ -166,11 +166,34 @@ AsksServers-patience given patience log a =
           record { zone = s.zone; above = s.above; serves = Serves-extend given patience log log x s.serves };
     }
 
--- a reply to a question that has begun is one to the same question later
-pub ReplyTold-later : (setting : Setting) (now : ℕ) (told : Option (List LogEntry)) (old new : Option Begun) (reply : Reply) → ((b : Begun) → old ≡ Some b → new ≡ Some b)
+-- a reply to a question that is under way is one to the same question before
+ReplyTold-before : (setting : Setting) (now : ℕ) (told : Option (List LogEntry)) (old new : Option Begun) (reply : Reply) → ((b : Begun) → new ≡ Some b → old ≡ Some b)
     → ReplyTold setting now told new reply → ReplyTold setting now told old reply
-ReplyTold-later setting now told None new reply same h = tt
-ReplyTold-later setting now told (Some b) new reply same h = subst (λ (x : Option Begun). ReplyTold setting now told x reply) (same b refl) h
+ReplyTold-before setting now told old None reply same h = λ es t. absurd (h es t)
+ReplyTold-before setting now told old (Some b) reply same h = subst (λ (x : Option Begun). ReplyTold setting now told x reply) (sym (same b refl)) h
+
+-- ---- questions under way
+
+keeps-refl : (core : RecursorCore) → KeepsTo core core
+keeps-refl core = record { count = refl; each = λ k b e. e }
+
+keeps-trans : (a b c : RecursorCore) → KeepsTo a b → KeepsTo b c → KeepsTo a c
+keeps-trans a b c x y = record { count = y.count ∙ x.count; each = λ k q e. x.each k q (y.each k q e) }
+
+-- where no resolution has changed
+keeps-same : (core new : RecursorCore) → new.resolutions ≡ core.resolutions → KeepsTo core new
+keeps-same core new same = record {
+  count = rw same refl;
+  each = λ k b e. rw same at e;
+}
+
+-- one that may have ended
+still-begun : (k r : ℕ) (old new : Option Begun) (b : Begun) → (new ≡ old) ⊎ ((k ≡ r) × (new ≡ None)) → new ≡ Some b → old ≡ Some b
+still-begun k r old new b (inl same) e = sym same ∙ e
+still-begun k r old new b (inr ended) e = let none : None ≡ Some b = sym ended.1 ∙ e in cc
+
+keeps-at : (r : ℕ) (core new : RecursorCore) → SameCore r core new → KeepsTo core new
+keeps-at r core new same = record { count = same.count; each = λ k b e. still-begun k r (begun_at core k) (begun_at new k) b (same.begun k) e }
 
 -- a log without entries has none under any number
 unlogged : (n : ℕ) (e : LogEntry) → Logged (log_of []) n e → ⊥
@@ -292,17 +315,17 @@ module _ {P C F E : Type 0} (p : Ghosts P C F E) where
       → Moves p patience now a c x z
   moves_trans patience now a b c x y z m n = record {
     setting = n.setting ∙ m.setting;
-    begun = λ k begun e. n.begun k begun (m.begun k begun e);
+    begun = keeps-trans a b c m.begun n.begun;
     grown = Grown-trans now (p.log x.provider) (p.log y.provider) (p.log z.provider) m.grown n.grown;
     patient = IsPatient-trans (max 1 patience) (p.log x.provider) (p.log y.provider) (p.log z.provider) m.patient n.patient;
   }
 
   -- a step of the machine alone that keeps the questions
   pub moves_core : (patience now : ℕ) (core new : RecursorCore) (c : Carrier P C F E p) → new.setting ≡ core.setting
-      → ((k : ℕ) → begun_at new k ≡ begun_at core k) → Moves p patience now core new c c
+      → KeepsTo core new → Moves p patience now core new c c
   moves_core patience now core new c setting begun = record {
     setting = setting;
-    begun = λ k b e. begun k ∙ e;
+    begun = begun;
     grown = Grown-refl now (p.log c.provider);
     patient = IsPatient-refl (max 1 patience) (p.log c.provider);
   }
@@ -310,7 +333,7 @@ module _ {P C F E : Type 0} (p : Ghosts P C F E) where
   -- a step of the provider alone
   pub moves_grown : (patience now : ℕ) (goes : Given → Type 0) (core : RecursorCore) (c new : Carrier P C F E p) → RunnerMoves patience now goes (p.log c.provider) (p.log new.provider)
       → Moves p patience now core core c new
-  moves_grown patience now goes core c new moves = record { setting = refl; begun = λ k b e. e; grown = moves.grown; patient = moves.patient }
+  moves_grown patience now goes core c new moves = record { setting = refl; begun = keeps-refl core; grown = moves.grown; patient = moves.patient }
 
   module _ (tick : Tick) where
     -- two steps that go right are one
@@ -322,13 +345,13 @@ module _ {P C F E : Type 0} (p : Ghosts P C F E) where
     }
 
     -- a step of the machine alone
-    pub goes_core : (core new : RecursorCore) (r : Runner P C F E p) → SameCore core new → ((log : Log) → Derived core log → Derived new log) → Ready p tick core r → Goes p tick core new r r
-    goes_core core new r same derived ready =
+    pub goes_core : {k : ℕ} (core new : RecursorCore) (r : Runner P C F E p) → SameCore k core new → ((log : Log) → Derived core log → Derived new log) → Ready p tick core r → Goes p tick core new r r
+    goes_core {k} core new r same derived ready =
         let at = same.moment in
         record {
           vouches = λ es h. h;
           ready = record { holds = holds_derived tick.patience core new r same.setting (omega (arith, at)) derived ready.holds; moment = at ∙ ready.moment };
-          moves = moves_core tick.patience tick.now core new r.carrier same.setting same.begun;
+          moves = moves_core tick.patience tick.now core new r.carrier same.setting (keeps-at k core new same);
         }
 
     -- the moment of the step has come
@@ -337,7 +360,7 @@ module _ {P C F E : Type 0} (p : Ghosts P C F E) where
     goes_reached core new r setting same early at derived holds = record {
       vouches = λ es h. h;
       ready = record { holds = holds_derived tick.patience core new r setting (omega (arith, at)) derived holds; moment = omega (arith, at) };
-      moves = moves_core tick.patience tick.now core new r.carrier setting (λ k. rw same refl);
+      moves = moves_core tick.patience tick.now core new r.carrier setting (keeps-same core new same);
     }
 
     -- a step of what carries out the orders alone
@@ -352,7 +375,7 @@ module _ {P C F E : Type 0} (p : Ghosts P C F E) where
 
     -- nothing at all
     pub goes_nowhere : (core : RecursorCore) (r : Runner P C F E p) → Ready p tick core r → Goes p tick core core r r
-    goes_nowhere core r ready = record { vouches = λ es h. h; ready = ready; moves = moves_core tick.patience tick.now core core r.carrier refl (λ k. refl) }
+    goes_nowhere core r ready = record { vouches = λ es h. h; ready = ready; moves = moves_core tick.patience tick.now core core r.carrier refl (keeps-refl core) }
 
     -- an order is forgotten
     pub goes_closed : (core : RecursorCore) (r new : Runner P C F E p) → new.carrier ≡ r.carrier → RunnerHolds p new → Ready p tick core r → Goes p tick core core r new
@@ -371,12 +394,12 @@ module _ {P C F E : Type 0} (p : Ghosts P C F E) where
     told_before a b x y told r turned.Pending goes h = tt
     told_before a b x y told r (turned.Done reply) goes h =
         subst (λ (held : Setting). ReplyTold held tick.now told (begun_at a r) reply.value) goes.moves.setting
-        (ReplyTold-later b.setting tick.now told (begun_at a r) (begun_at b r) reply.value (goes.moves.begun r) h)
+        (ReplyTold-before b.setting tick.now told (begun_at a r) (begun_at b r) reply.value (goes.moves.begun.each r) h)
     told_before a b x y told r turned.Ended goes h = tt
 
     -- what the order of the number came to is put, where what carries out the orders has gone on so
     pub goes_settled : (number : ℕ) (core new : RecursorCore) (r later : Runner P C F E p) (o : Outcome) (result : Result After NoMemory) → new.setting ≡ core.setting
-        → (core.moment ≡ tick.now → new.moment ≡ tick.now) → ((k : ℕ) → begun_at new k ≡ begun_at core k)
+        → (core.moment ≡ tick.now → new.moment ≡ tick.now) → new.resolutions ≡ core.resolutions
         → ((log longer : Log) → Derived core log → TellsTo core log tick (still_awaited o (sent_by r number)) o result longer → Derived new longer)
         → p.log later.carrier.provider ≡ settled_log (is_given_up result) tick.now (sent_by r number) (p.log r.carrier.provider)
         → TellsThat (p.log r.carrier.provider) (HasTold tick.now (sent_by r number) o) → Ready p tick core r → Goes p tick core core r later → Goes p tick core new r later
@@ -385,7 +408,7 @@ module _ {P C F E : Type 0} (p : Ghosts P C F E) where
         record {
           vouches = run.vouches;
           ready = record { holds = holds_settled number tick core new r later o result setting at ready.moment derived log told ready.holds run.ready.holds; moment = at };
-          moves = moves_trans tick.patience tick.now core core new r.carrier later.carrier later.carrier run.moves (moves_core tick.patience tick.now core new later.carrier setting begun);
+          moves = moves_trans tick.patience tick.now core core new r.carrier later.carrier later.carrier run.moves (moves_core tick.patience tick.now core new later.carrier setting (keeps-same core new begun));
         }
 
   -- a machine at rest begins a run: its questions are left, and its patience may be less

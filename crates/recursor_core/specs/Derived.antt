@@ -1,5 +1,6 @@
 -- What the machine keeps, as derived from a log.
-use Rattle.std.specs.Prelude.{◌≡◌, ℕ, ◌≤◌, ◌<◌, length, true, All, Result, IfOk}
+use Rattle.std.specs.Prelude.{Option, Some, None, ◌≡◌, ℕ, ◌≤◌, ◌<◌, length, true, All, Result, IfOk}
+use Rattle.std.specs.Global.{Box}
 use Rattle.dns_core.specs.Log.{Log}
 use Rattle.dns_core.specs.declared.request.Question.{Question}
 use Rattle.dns_core.specs.declared.errors.NoMemory.{NoMemory}
@@ -27,6 +28,11 @@ pub record ResolutionHolds (seen : View) (r : Resolution) : Type 0 where
   pub begun : r.begun ≤ seen.moment
   pub state : StateHolds seen r.begun r.question r.state
 
+-- so it is with the one that is kept at a place, if there is one
+abbrev pub KeptHolds : View → Option (Box Resolution) → Type 0
+KeptHolds seen None = Unit {0}
+KeptHolds seen (Some r) = ResolutionHolds seen r.value
+
 -- what the machine sees of a log
 abbrev pub seen_by : RecursorCore → Log → View
 seen_by core log = seen_at core.setting core.greatest core.moment log
@@ -37,4 +43,4 @@ pub record Derived (core : RecursorCore) (log : Log) : Type 0 where
   pub some : 0 < length core.setting.roots
   pub cache : CacheHolds (seen_by core log) core.cache
   pub pools : PoolsHold (seen_by core log) core.pools
-  pub resolutions : All (ResolutionHolds (seen_by core log)) core.resolutions.items
+  pub resolutions : All (KeptHolds (seen_by core log)) core.resolutions.items

@@ -1,6 +1,7 @@
 -- The machine as a whole.
-use Rattle.std.specs.Prelude.{◌≡◌, ◌≤◌, ◌<◌, ◌+◌, ℕ, List, [], Option, Some, None, Result, Ok, Err, slice_get, sum_by, ◌⊎◌}
+use Rattle.std.specs.Prelude.{length, ◌≡◌, ◌≤◌, ◌<◌, ◌+◌, ℕ, List, [], Option, Some, None, Result, Ok, Err, slice_get, sum_by, ◌⊎◌}
 use Rattle.std.specs.Option.{option_map}
+use Rattle.std.specs.Global.{Box}
 use Rattle.std.specs.declared.net.ip_addr.IpAddr.{IpAddr}
 use Rattle.dns_core.specs.Log.{Log}
 use Rattle.dns_core.specs.declared.message.Query.{Query}
@@ -41,9 +42,18 @@ abbrev pub need_in : Option Resolution → Need
 need_in None = need.Nothing
 need_in (Some r) = one.want_of r
 
+-- the resolution that is kept at a place, where there is one that has not ended
+abbrev pub kept_in : Option (Option (Box Resolution)) → Option Resolution
+kept_in None = None
+kept_in (Some None) = None
+kept_in (Some (Some r)) = Some r.value
+
+abbrev pub resolution_at : RecursorCore → ℕ → Option Resolution
+resolution_at core r = kept_in (slice_get core.resolutions.items r)
+
 -- what the resolution at a place needs
 abbrev pub need_at : RecursorCore → ℕ → Need
-need_at core r = need_in (slice_get core.resolutions.items r)
+need_at core r = need_in (resolution_at core r)
 
 abbrev pub asked_in : Option Resolution → Option Query
 asked_in None = None
@@ -51,7 +61,7 @@ asked_in (Some r) = one.asked_of r.state
 
 -- the question that it asks now
 abbrev pub asked_at : RecursorCore → ℕ → Option Query
-asked_at core r = asked_in (slice_get core.resolutions.items r)
+asked_at core r = asked_in (resolution_at core r)
 
 -- the request asks what the resolution at a place asks now
 abbrev pub AsksForAt : DnsRequest → RecursorCore → ℕ → Type 0
@@ -70,21 +80,27 @@ pub record Begun : Type 0 where
 abbrev pub begun_of : Resolution → Begun
 begun_of r = record { question = r.question; moment = r.begun }
 
--- what the resolution at a place is of
+-- what the resolution at a place is of, where it has not ended
 abbrev pub begun_at : RecursorCore → ℕ → Option Begun
-begun_at core r = option_map begun_of (slice_get core.resolutions.items r)
+begun_at core r = option_map begun_of (resolution_at core r)
 
 -- the resolution at a place is of this question, which began at the moment
 abbrev pub IsBegunAt : RecursorCore → ℕ → Question → ℕ → Type 0
 IsBegunAt core r question now = begun_at core r ≡ Some (record { question = question; moment = now })
 
--- What it is set to, the cache, the greatest entry and moment and the questions are as before.
-pub record SameCore (old new : RecursorCore) : Type 0 where
+-- What it is set to, the cache, the greatest entry and moment and the questions are as before, but that the one at the place may have ended.
+pub record SameCore (r : ℕ) (old new : RecursorCore) : Type 0 where
   pub setting : new.setting ≡ old.setting
   pub cache : new.cache ≡ old.cache
   pub greatest : new.greatest ≡ old.greatest
   pub moment : new.moment ≡ old.moment
-  pub begun : (k : ℕ) → begun_at new k ≡ begun_at old k
+  pub count : length new.resolutions.items ≡ length old.resolutions.items
+  pub begun : (k : ℕ) → (begun_at new k ≡ begun_at old k) ⊎ ((k ≡ r) × (begun_at new k ≡ None))
+
+-- One question more has begun, or none; those before it are as they were.
+pub record IsOneMore (old new : RecursorCore) : Type 0 where
+  pub count : length old.resolutions.items ≤ length new.resolutions.items
+  pub before : (k : ℕ) → k < length old.resolutions.items → begun_at new k ≡ begun_at old k
 
 -- ---- its orders
 
@@ -94,7 +110,7 @@ open_in pools (Some r) = one.open_of pools r
 
 -- the order that the resolution at a place waits for
 abbrev pub open_at : RecursorCore → ℕ → Option ℕ
-open_at core r = open_in core.pools (slice_get core.resolutions.items r)
+open_at core r = open_in core.pools (resolution_at core r)
 
 -- how many orders it gave so far
 abbrev pub given_by : RecursorCore → ℕ
@@ -102,9 +118,13 @@ given_by core = given_so_far core.pools
 
 -- ---- how much is left
 
+abbrev pub steps_of : Option (Box Resolution) → ℕ
+steps_of None = 0
+steps_of (Some r) = one.steps r.value
+
 -- how many steps are before the machine, at most, till it gives an order, or waits
 abbrev pub rank : RecursorCore → ℕ
-rank core = sum_by one.steps core.resolutions.items
+rank core = sum_by steps_of core.resolutions.items
 
 -- An order has the next number; no other step gives one. The resolution waits for the order that is given, or for the one that it is said to wait for; its reply is given once.
 abbrev pub StepIs : RecursorCore → RecursorCore → ℕ → Step → Type 0
@@ -133,7 +153,7 @@ pub record TellsTo (core : RecursorCore) (log : Log) (tick : Tick) (waits : Opti
   pub on : TellsOn core.moment log tick waits o result longer
 
 abbrev pub ReplyGiven : View → Option Begun → Reply → Type 0
-ReplyGiven seen None reply = Unit {0}
+ReplyGiven seen None reply = ⊥
 ReplyGiven seen (Some b) reply = Replied seen b.moment b.question reply
 
 -- what a step gives is derived: an order goes to a server by what was put before, and a reply holds

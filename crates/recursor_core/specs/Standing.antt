@@ -88,10 +88,15 @@ pub record Rests {P C F E : Type 0} (p : Ghosts P C F E) (core : RecursorCore) (
   pub past : TellsThat (p.log r.carrier.provider) (IsPast core.moment)
   pub rises : TellsThat (p.log r.carrier.provider) MomentsRise
 
--- What it is set to and the questions are as before, and the log has only grown, by entries of the moment, none of which waits for an entry beyond patience.
+-- Each question that is under way was so before, and no place is gone.
+pub record KeepsTo (old new : RecursorCore) : Type 0 where
+  pub count : length new.resolutions.items ≡ length old.resolutions.items
+  pub each : (k : ℕ) (b : Begun) → begun_at new k ≡ Some b → begun_at old k ≡ Some b
+
+-- What it is set to is as before, no question has begun, and the log has only grown, by entries of the moment, none of which waits for an entry beyond patience.
 pub record Moves {P C F E : Type 0} (p : Ghosts P C F E) (patience now : ℕ) (core new_core : RecursorCore) (c new : Carrier P C F E p) : Type 0 where
   pub setting : new_core.setting ≡ core.setting
-  pub begun : (k : ℕ) (b : Begun) → begun_at core k ≡ Some b → begun_at new_core k ≡ Some b
+  pub begun : KeepsTo core new_core
   pub grown : Grown now (p.log c.provider) (p.log new.provider)
   pub patient : IsPatient (max 1 patience) (p.log c.provider) (p.log new.provider)
 
@@ -106,10 +111,13 @@ pub record Goes {P C F E : Type 0} (p : Ghosts P C F E) (tick : Tick) (core new_
   pub ready : Ready p tick new_core new
   pub moves : Moves p tick.patience tick.now core new_core r.carrier new.carrier
 
--- a reply holds by the log, where it is told
+abbrev pub ReplyFor : Setting → ℕ → Option Begun → Reply → Log → Type 0
+ReplyFor setting now None reply log = ⊥
+ReplyFor setting now (Some b) reply log = ReplyHolds setting (machine_timer now) log b.moment b.question reply
+
+-- a reply holds by the log, where it is told, for the question that has begun
 abbrev pub ReplyTold : Setting → ℕ → Option (List LogEntry) → Option Begun → Reply → Type 0
-ReplyTold setting now told None reply = Unit {0}
-ReplyTold setting now told (Some b) reply = TellsThat told (λ log. ReplyHolds setting (machine_timer now) log b.moment b.question reply)
+ReplyTold setting now told b reply = TellsThat told (ReplyFor setting now b reply)
 
 abbrev pub TurnedTold : Setting → ℕ → Option (List LogEntry) → Option Begun → Turned → Type 0
 TurnedTold setting now told b turned.Pending = Unit {0}
@@ -138,12 +146,10 @@ run_moments start turns = start ∷ map (λ t. t.moment) turns
 abbrev pub run_timer : ℕ → List Turn → Timer
 run_timer start turns log t0 = known_to_drive (run_moments start turns) false false log t0
 
--- The resolution at a place is of the question, which began no earlier than the moment.
+-- The resolution at a place, till it has ended, is of the question, which began no earlier than the moment.
 pub record IsBegunFrom (core : RecursorCore) (r : ℕ) (q : Question) (moment : ℕ) : Type 0 where
-  pub begun : Begun
-  pub is : begun_at core r ≡ Some begun
-  pub question : begun.question ≡ q
-  pub late : moment ≤ begun.moment
+  pub within : r < length core.resolutions.items
+  pub is : (b : Begun) → begun_at core r ≡ Some b → (b.question ≡ q) × (moment ≤ b.moment)
 
 -- The reply was given at a moment of the run, and holds.
 pub record AnsweredAt (setting : Setting) (told : Option (List LogEntry)) (moments : List ℕ) (t0 : ℕ) (question : Question) (reply : Reply) : Type 0 where

@@ -13,7 +13,7 @@ ghost use Rattle.recursor_setting.specs.Setting.{with_patience};
 ghost use Rattle.walk_tables.specs.declared.lookup.Want.TheVariants as want;
 ghost use Rattle.walk_tables.specs.Pools.{GivesNext, IsOutcomeOf};
 ghost use Rattle.recursor_core.specs.Derived.{seen_by, Derived};
-ghost use Rattle.recursor_core.specs.Machine.{TellsTo, need_at, begun_at, open_at, given_by, IsRequestAt, rank, IsNearer, GoesOn, Steps, Gives, StepGives, IsNewError, IsBeginError, IsNewCore, SameCore, LookupGives, IsBegunAt};
+ghost use Rattle.recursor_core.specs.Machine.{TellsTo, resolution_at, need_at, open_at, given_by, IsRequestAt, rank, IsNearer, GoesOn, Steps, Gives, StepGives, IsNewError, IsBeginError, IsNewCore, SameCore, IsOneMore, LookupGives, IsBegunAt};
 
 use crate::resolving::{Need, Resolution, State};
 use dns_core::{ConnectOptions, DnsRequest, NoMemory, Question, TryClone};
@@ -23,6 +23,7 @@ use resolver_cache::ResponseCache;
 use server_core::{After, Order, Outcome, PoolContext, Sent, Tick};
 use std::alloc::Global;
 use std::collections::BTreeSet;
+use std::mem;
 use std::net::IpAddr;
 use walk_tables::{Pools, Stepped, Want};
 
@@ -42,14 +43,14 @@ pub enum Progress {
     Step(Step),
 }
 
-/// The resolutions, in the order of their beginning, and what they share: the cache of responses, the
-/// servers that were met and the lookups at them, the greatest moment handed in so far, and the greatest
-/// number of a log entry.
+/// The resolutions, in the order of their beginning, each kept until it has ended, and what they share: the
+/// cache of responses, the servers that were met and the lookups at them, the greatest moment handed in so
+/// far, and the greatest number of a log entry.
 #[derive(Drop, Debug)]
 pub struct RecursorCore {
     setting: Setting,
     cache: ResponseCache,
-    resolutions: Vec<Resolution>,
+    resolutions: Vec<Option<Box<Resolution>>>,
     pools: Pools,
     moment: u64,
     greatest: u64,
@@ -181,19 +182,24 @@ impl RecursorCore {
 
     /// Begins a question, and answers its place among the resolutions. One whose name is not fully
     /// qualified changes nothing.
-    pub fn begin(&mut self, question: Question, now: u64) -> Result<usize, RecursorError>
+    pub fn begin(
+        &mut self,
+        alloc: Global,
+        question: Question,
+        now: u64,
+    ) -> Result<usize, RecursorError>
         ensures not_qualified { (result ≡ Err (RecursorError.Message MessageKind.NotQualified)) ↔ (question.query.name.fqdn ≡ false) }
         ensures only { IfErr result IsBeginError }
         ensures refused { question.query.name.fqdn ≡ false → self.new ≡ self.old }
         ensures derived { (log : Log) → self.old.moment ≤ now → Derived self.old log → Derived self.new log }
         ensures stays { (self.new.setting ≡ self.old.setting) × (self.old.moment ≤ now → (self.new.moment ≡ self.old.moment) ⊎ (self.new.moment ≡ now)) }
-        ensures others { (k : ℕ) → k < length self.old.resolutions.items → begun_at self.new k ≡ begun_at self.old k }
+        ensures others { IsOneMore self.old self.new }
         ensures begun { IfOk result (λ r. (r ≡ length self.old.resolutions.items) × IsBegunAt self.new r question now) }
     {
         if !question.query.name.is_fqdn() {
             return Err(RecursorError::Message(MessageKind::NotQualified));
         }
-        match self.begin_resolution(question, now) {
+        match self.begin_resolution(alloc, question, now) {
             Ok(place) => {
                 self.moment = self.moment.max(now);
                 Ok(place)
@@ -202,25 +208,41 @@ impl RecursorCore {
         }
     }
 
-    fn begin_resolution(&mut self, question: Question, now: u64) -> Result<usize, NoMemory>
+    fn begin_resolution(
+        &mut self,
+        alloc: Global,
+        question: Question,
+        now: u64,
+    ) -> Result<usize, NoMemory>
         requires { question.query.name.fqdn ≡ true }
         ensures derived { (log : Log) → self.old.moment ≤ now → Derived self.old log
             → IfOk result (λ r. Derived (record self.new { moment = now }) log) }
         ensures same { (self.new.setting ≡ self.old.setting) × (self.new.moment ≡ self.old.moment) × (self.new.greatest ≡ self.old.greatest) × (self.new.cache ≡ self.old.cache) }
-        ensures others { (k : ℕ) → k < length self.old.resolutions.items → begun_at self.new k ≡ begun_at self.old k }
+        ensures others { IsOneMore self.old self.new }
         ensures begun { IfOk result (λ r. (r ≡ length self.old.resolutions.items) × IsBegunAt self.new r question now) }
         ensures pools { self.new.pools ≡ self.old.pools }
         ensures err { IfErr result (λ e. self.new.resolutions.items ≡ self.old.resolutions.items) }
     {
         let place = self.resolutions.len();
-        self.resolutions.push(Resolution::begin(question, now))?;
+        let resolution = Box::new(alloc, Resolution::begin(question, now))?;
+        self.resolutions.push(Some(resolution))?;
         Ok(place)
+    }
+
+    /// The resolution at a place, which has not ended.
+    fn resolution(&self, r: usize) -> Option<&Resolution>
+        ensures { option_copied result ≡ resolution_at self.now r }
+    {
+        match self.resolutions.get(r) {
+            Some(Some(resolution)) => Some(resolution),
+            _ => None,
+        }
     }
 
     fn need(&self, r: usize) -> Need
         ensures { result ≡ need_at self.now r }
     {
-        match self.resolutions.get(r) {
+        match self.resolution(r) {
             Some(resolution) => resolution.need(),
             None => Need::Nothing,
         }
@@ -231,11 +253,13 @@ impl RecursorCore {
         requires { need_at self.old r ≡ Need.SetOut }
         ensures nearer { IsNearer self.old self.new }
         ensures derived { (log : Log) → Derived self.old log → Derived self.new log }
-        ensures same { SameCore self.old self.new }
+        ensures same { SameCore r self.old self.new }
     {
         let now = self.moment;
-        let resolution = &mut self.resolutions[r];
-        resolution.set_out(alloc, &self.setting.roots, &self.cache, now)
+        match &mut self.resolutions[r] {
+            Some(resolution) => resolution.set_out(alloc, &self.setting.roots, &self.cache, now),
+            None => unreachable!(),
+        }
     }
 
     /// Goes by what the cache has for the present lookup of a resolution.
@@ -243,21 +267,30 @@ impl RecursorCore {
         requires { need_at self.old r ≡ Need.Send want.Recall }
         ensures nearer { IsNearer self.old self.new }
         ensures derived { (log : Log) → Derived self.old log → Derived self.new log }
-        ensures same { SameCore self.old self.new }
+        ensures same { SameCore r self.old self.new }
     {
         let now = self.moment;
-        let resolution = &mut self.resolutions[r];
-        resolution.recall(alloc, &self.setting.server_filter, &self.cache, now)
+        match &mut self.resolutions[r] {
+            Some(resolution) => resolution.recall(
+                alloc,
+                &self.setting.server_filter,
+                &self.cache,
+                now,
+            ),
+            None => unreachable!(),
+        }
     }
 
     fn hear(&mut self, alloc: Global, r: usize) -> Result<(), NoMemory>
         requires { need_at self.old r ≡ Need.Send want.Hear }
         ensures nearer { IsNearer self.old self.new }
         ensures derived { (log : Log) → Derived self.old log → Derived self.new log }
-        ensures same { SameCore self.old self.new }
+        ensures same { SameCore r self.old self.new }
     {
-        let resolution = &mut self.resolutions[r];
-        resolution.hear(alloc, &self.setting.server_filter)
+        match &mut self.resolutions[r] {
+            Some(resolution) => resolution.hear(alloc, &self.setting.server_filter),
+            None => unreachable!(),
+        }
     }
 
     /// The present moment; a step that puts nothing reads no patience.
@@ -277,11 +310,13 @@ impl RecursorCore {
         ensures falls { OnOk result (rank self.new < rank self.old) }
         ensures given { given_by self.new ≡ given_by self.old }
         ensures derived { (log : Log) → Derived self.old log → Derived self.new log }
-        ensures same { SameCore self.old self.new }
+        ensures same { SameCore r self.old self.new }
     {
         let tick = self.tick();
-        let resolution = &mut self.resolutions[r];
-        resolution.send(alloc, &mut self.pools, request, tick)
+        match &mut self.resolutions[r] {
+            Some(resolution) => resolution.send(alloc, &mut self.pools, request, tick),
+            None => unreachable!(),
+        }
     }
 
     /// What the present lookup of a resolution has next: an order with its number, one that it waits for,
@@ -291,13 +326,15 @@ impl RecursorCore {
         ensures falls { IfOk result (LeavesLess (rank self.old) (rank self.new)) }
         ensures given { GivesNext (given_by self.old) (given_by self.new) result }
         ensures derived { (log : Log) → Derived self.old log → Derived self.new log × IfOk result (LookupGives self.old log) }
-        ensures same { SameCore self.old self.new }
+        ensures same { SameCore r self.old self.new }
         ensures waits { IfOk result (IfAwaits (open_at self.new r)) }
     {
         let since = self.greatest;
         let tick = self.tick();
-        let resolution = &mut self.resolutions[r];
-        resolution.step(alloc, &mut self.pools, since, tick)
+        match &mut self.resolutions[r] {
+            Some(resolution) => resolution.step(alloc, &mut self.pools, since, tick),
+            None => unreachable!(),
+        }
     }
 
     fn take_reply(&mut self, r: usize) -> Option<Box<Reply>>
@@ -306,17 +343,19 @@ impl RecursorCore {
         ensures ended { need_at self.new r ≡ Need.Nothing }
         ensures some { IsSome result }
         ensures derived { (log : Log) → Derived self.old log → Derived self.new log × IfSome result (λ reply. StepGives self.old log r (Step.Done reply)) }
-        ensures same { SameCore self.old self.new }
+        ensures same { SameCore r self.old self.new }
     {
-        let resolution = &mut self.resolutions[r];
-        resolution.take_reply()
+        match mem::replace(&mut self.resolutions[r], None) {
+            Some(resolution) => Box::into_inner(resolution).into_reply(),
+            None => unreachable!(),
+        }
     }
 
     /// The request of what a resolution asks now.
     fn request(&self, alloc: Global, r: usize) -> Result<DnsRequest, NoMemory>
         ensures { IfOk result (λ request. IsRequestAt request self.now r) }
     {
-        let query = match self.resolutions.get(r) {
+        let query = match self.resolution(r) {
             Some(resolution) => resolution.query(alloc)?,
             None => None,
         };
@@ -332,7 +371,7 @@ impl RecursorCore {
         requires { need_at self.old r ≡ Need.Send want.Begin }
         ensures goes { GoesOn self.old self.new r result }
         ensures gives { (log : Log) → Derived self.old log → Derived self.new log × IfOk result (Gives self.old log r) }
-        ensures same { SameCore self.old self.new }
+        ensures same { SameCore r self.old self.new }
     {
         let request = self.request(alloc, r)?;
         self.begin_lookup(alloc, r, request)?;
@@ -345,7 +384,7 @@ impl RecursorCore {
         requires { need_at self.old r ≡ Need.Send want.Step }
         ensures goes { GoesOn self.old self.new r result }
         ensures gives { (log : Log) → Derived self.old log → Derived self.new log × IfOk result (Gives self.old log r) }
-        ensures same { SameCore self.old self.new }
+        ensures same { SameCore r self.old self.new }
     {
         match self.step_lookup(alloc, r)? {
             Stepped::Order { number, order } => {
@@ -361,7 +400,7 @@ impl RecursorCore {
         requires { need_at self.old r ≡ Need.Reply }
         ensures goes { GoesOn self.old self.new r (Ok result) }
         ensures gives { (log : Log) → Derived self.old log → Derived self.new log × Gives self.old log r result }
-        ensures same { SameCore self.old self.new }
+        ensures same { SameCore r self.old self.new }
     {
         match self.take_reply(r) {
             Some(reply) => Progress::Step(Step::Done(reply)),
@@ -374,7 +413,7 @@ impl RecursorCore {
         requires { need_at self.old r ≡ Need.Send want }
         ensures goes { GoesOn self.old self.new r result }
         ensures gives { (log : Log) → Derived self.old log → Derived self.new log × IfOk result (Gives self.old log r) }
-        ensures same { SameCore self.old self.new }
+        ensures same { SameCore r self.old self.new }
     {
         match want {
             Want::Recall => {
@@ -393,7 +432,7 @@ impl RecursorCore {
     fn step(&mut self, alloc: Global, r: usize) -> Result<Progress, NoMemory>
         ensures goes { GoesOn self.old self.new r result }
         ensures gives { (log : Log) → Derived self.old log → Derived self.new log × IfOk result (Gives self.old log r) }
-        ensures same { SameCore self.old self.new }
+        ensures same { SameCore r self.old self.new }
     {
         match self.need(r) {
             Need::SetOut => {
@@ -410,7 +449,7 @@ impl RecursorCore {
     pub fn next(&mut self, alloc: Global, r: usize) -> Result<Step, NoMemory>
         ensures steps { Steps self.old self.new r result }
         ensures gives { (log : Log) → Derived self.old log → Derived self.new log × IfOk result (StepGives self.old log r) }
-        ensures same { SameCore self.old self.new }
+        ensures same { SameCore r self.old self.new }
     {
         'steps: loop {
             match self.step(alloc, r)? {
@@ -448,7 +487,7 @@ impl RecursorCore {
         ensures takes { IfOk result (Takes self.old.cache self.new.cache self.old.pools self.new.pools number outcome tick) }
         ensures setting { self.new.setting ≡ self.old.setting }
         ensures moment { self.old.moment ≡ tick.now → self.new.moment ≡ tick.now }
-        ensures begun { (k : ℕ) → begun_at self.new k ≡ begun_at self.old k }
+        ensures begun { self.new.resolutions ≡ self.old.resolutions }
     {
         let entry = outcome.entry();
         if !self.is_next(entry) {
@@ -481,7 +520,7 @@ impl RecursorCore {
     fn open_order(&self, r: usize) -> Option<u64>
         ensures { result ≡ open_at self.now r }
     {
-        match self.resolutions.get(r) {
+        match self.resolution(r) {
             Some(resolution) => resolution.open_order(&self.pools),
             None => None,
         }
@@ -493,12 +532,14 @@ impl RecursorCore {
         ensures ended { need_at self.new r ≡ Need.Nothing }
         ensures given { given_by self.new ≡ given_by self.old }
         ensures derived { (log : Log) → Derived self.old log → Derived self.new log }
-        ensures same { SameCore self.old self.new }
+        ensures same { SameCore r self.old self.new }
     {
         let order = self.open_order(r);
         if r < self.resolutions.len() {
-            let resolution = &mut self.resolutions[r];
-            resolution.end(&mut self.pools);
+            match mem::replace(&mut self.resolutions[r], None) {
+                Some(resolution) => Box::into_inner(resolution).leave(&mut self.pools),
+                None => {}
+            }
         }
         order
     }

@@ -2,7 +2,7 @@
 ghost use Rattle.std.specs.Prelude.{All, ◌≡◌, ◌≢◌, ◌≤◌, ◌<◌, ◌⊎◌, ℕ, [], Some, Err, IfOk, length, slice_get, slice_set, vec_len};
 ghost use Rattle.dns_core.specs.Log.{Log};
 ghost use Rattle.recursor_core.specs.Derived.{Derived};
-ghost use Rattle.recursor_core.specs.Machine.{Begun, begun_at};
+ghost use Rattle.recursor_core.specs.Machine.{IsOneMore};
 ghost use Rattle.recursor_core.specs.Turns.{open_plays, is_waiting, IsBegunAt, IsUnderWay, Begins, BeginsAt, ReplyOf};
 ghost use Rattle.recursor_types.specs.declared.reply.Reply.{Reply};
 
@@ -37,13 +37,13 @@ pub fn begun(alloc: Global, core: &mut RecursorCore, question: &Question, now: u
     ensures derived { (log : Log) → core.old.moment ≤ now → Derived core.old log → Derived core.new log }
     ensures setting { core.new.setting ≡ core.old.setting }
     ensures moment { core.old.moment ≤ now → (core.new.moment ≡ core.old.moment) ⊎ (core.new.moment ≡ now) }
-    ensures others { (k : ℕ) (b : Begun) → begun_at core.old k ≡ Some b → begun_at core.new k ≡ Some b }
+    ensures others { IsOneMore core.old core.new }
     ensures begun { Begins question.now now core.new result }
 {
     let Ok(question) = question.try_clone(alloc) else {
         return Played::Unanswered;
     };
-    match core.begin(question, now) {
+    match core.begin(alloc, question, now) {
         Ok(place) => Played::Begun { place },
         Err(error) => {
             let reply = Reply {
@@ -70,7 +70,7 @@ pub fn begin_at(
     requires { core.old.moment ≤ now }
     ensures derived { (log : Log) → Derived core.old log → Derived core.new log }
     ensures same { (core.new.setting ≡ core.old.setting) × ((core.new.moment ≡ core.old.moment) ⊎ (core.new.moment ≡ now)) }
-    ensures begun { (k : ℕ) (b : Begun) → begun_at core.old k ≡ Some b → begun_at core.new k ≡ Some b }
+    ensures begun { IsOneMore core.old core.new }
     ensures others { (k : ℕ) → k ≢ q → slice_get plays.new.items k ≡ slice_get plays.old.items k }
     ensures count { vec_len plays.new ≡ vec_len plays.old }
     ensures begins { BeginsAt questions.now q now core.new (slice_get plays.old.items q) (slice_get plays.new.items q) }

@@ -20,7 +20,6 @@ use resolver_cache::ResponseCache;
 use resolver_settings::AccessControlSet;
 use server_core::Tick;
 use std::alloc::Global;
-use std::mem;
 use walk_tables::{Pools, Stepped, Want};
 
 /// Not begun, under way to its servers, answered, or ended.
@@ -280,31 +279,34 @@ impl Resolution {
         }
     }
 
-    /// Gives its reply away, and has ended.
-    pub fn take_reply(&mut self) -> Option<Box<Reply>>
-        requires { want_of self.old ≡ Need.Reply }
-        ensures ended { want_of self.new ≡ Need.Nothing }
+    /// Its reply, which is all that is left of it.
+    pub fn into_reply(self) -> Option<Box<Reply>>
+        requires { want_of self ≡ Need.Reply }
         ensures some { IsSome result }
-        ensures begun { SameBegun self.old self.new }
-        ensures holds { (seen : View)
-            → ResolutionHolds seen self.old
-            → ResolutionHolds seen self.new × IfSome result (λ reply. Replied seen self.old.begun self.old.question reply.value) }
+        ensures holds { (seen : View) → ResolutionHolds seen self → IfSome result (λ reply. Replied seen self.begun self.question reply.value) }
     {
-        match mem::replace(&mut self.state, State::Ended) {
+        let Resolution {
+            question: _,
+            begun: _,
+            state,
+        } = self;
+        match state {
             State::Done(reply) => Some(reply),
             _ => None,
         }
     }
 
-    /// Ends without a reply, and leaves its lookup.
-    pub fn end(&mut self, pools: &mut Pools)
-        ensures nothing { want_of self.new ≡ Need.Nothing }
+    /// Ends without a reply: its lookup is left.
+    pub fn leave(self, pools: &mut Pools)
         ensures given { given_so_far pools.new ≡ given_so_far pools.old }
-        ensures begun { SameBegun self.old self.new }
-        ensures holds { (seen : View) → PoolsHold seen pools.old
-            → ResolutionHolds seen self.old → ResolutionHolds seen self.new × PoolsHold seen pools.new }
+        ensures holds { (seen : View) → PoolsHold seen pools.old → PoolsHold seen pools.new }
     {
-        match mem::replace(&mut self.state, State::Ended) {
+        let Resolution {
+            question: _,
+            begun: _,
+            state,
+        } = self;
+        match state {
             State::Under(mut walk) => walk.lookup.leave(pools),
             _ => {}
         }

@@ -1,22 +1,37 @@
-use Rattle.std.proofs.Common.{◌<◌, ◌≤◌, length, refl, arith}
+use Rattle.std.proofs.Common.{◌≤◌, length, None, ap, refl, arith}
+use Rattle.std.proofs.Math.ListN.{set}
 use Rattle.recursor_core.specs.Derived.{seen_by}
-use Rattle.recursor_core.proofs.Cores.{same-at, need-set, need-past, derived-at}
+use Rattle.recursor_core.proofs.Ranks.{found_at}
+use Rattle.recursor_core.proofs.Cores.{ended-at, need-ended, need-past, derived-at}
 use Rattle.recursor_core.proofs.machine.RecursorCore.cancel.Goals as goal
 
-pub returns-then-r-len-clause-derived : goal.returns-then-r-len-clause-derived
-returns-then-r-len-clause-derived c log d =
-    derived-at c.args.self.now _ log c.args.r c.index_mut-resolution.result.now c.end.new.self (omega (arith, c.if-r-len.true)) c.index_mut-resolution.ensures.value refl refl d
-    (c.end.ensures.holds (seen_by c.args.self.now log) d.pools)
-
-pub returns-then-r-len-clause-same : goal.returns-then-r-len-clause-same
-returns-then-r-len-clause-same c =
-    same-at c.args.self.now _ c.args.r c.index_mut-resolution.result.now c.end.new.self (omega (arith, c.if-r-len.true)) c.index_mut-resolution.ensures.value c.end.ensures.begun refl refl
-
-pub returns-then-r-len-clause-ended : goal.returns-then-r-len-clause-ended
-returns-then-r-len-clause-ended c =
+pub returns-in-Some-clause-derived : goal.returns-in-Some-clause-derived
+returns-in-Some-clause-derived c log d =
     let xs = c.args.self.now.resolutions.items in
-    let within : c.args.r < length xs = omega (arith, c.if-r-len.true) in
-    need-set xs c.args.r c.end.new.self _ within c.end.ensures.nothing
+    let at = found_at xs c.args.r c.index_mut.result.now (omega (arith, c.if-r-len.true)) c.index_mut.ensures.value in
+    derived-at c.args.self.now _ log c.args.r _ None at refl (ap (set xs c.args.r) c.replace.ensures.after) d
+    (λ h. (tt, c.leave.ensures.holds (seen_by c.args.self.now log) d.pools))
+
+pub returns-in-Some-clause-same : goal.returns-in-Some-clause-same
+returns-in-Some-clause-same c =
+    let xs = c.args.self.now.resolutions.items in
+    ended-at c.args.self.now _ c.args.r (omega (arith, c.if-r-len.true)) refl (ap (set xs c.args.r) c.replace.ensures.after)
+
+pub returns-in-None-clause-derived : goal.returns-in-None-clause-derived
+returns-in-None-clause-derived c log d =
+    let xs = c.args.self.now.resolutions.items in
+    let at = found_at xs c.args.r c.index_mut.result.now (omega (arith, c.if-r-len.true)) c.index_mut.ensures.value in
+    derived-at c.args.self.now _ log c.args.r _ None at refl (ap (set xs c.args.r) c.replace.ensures.after) d (λ h. (tt, d.pools))
+
+pub returns-in-None-clause-same : goal.returns-in-None-clause-same
+returns-in-None-clause-same c =
+    let xs = c.args.self.now.resolutions.items in
+    ended-at c.args.self.now _ c.args.r (omega (arith, c.if-r-len.true)) refl (ap (set xs c.args.r) c.replace.ensures.after)
+
+pub returns-in-None-clause-ended : goal.returns-in-None-clause-ended
+returns-in-None-clause-ended c =
+    let xs = c.args.self.now.resolutions.items in
+    rw c.replace.ensures.after (need-ended xs c.args.r (omega (arith, c.if-r-len.true)))
 
 pub returns-else-r-len-clause-ended : goal.returns-else-r-len-clause-ended
 returns-else-r-len-clause-ended c =

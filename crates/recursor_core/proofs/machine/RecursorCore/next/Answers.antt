@@ -8,7 +8,7 @@ returns-in_err-step-clause-gives c log d =
     ((c.in_err-step.ensures.gives log (c.steps.invariant.derived log d)).0, IfOk-from_err c.from_residual.result _ c.from_residual.ensures.0)
 
 pub returns-in_err-step-clause-same : goal.returns-in_err-step-clause-same
-returns-in_err-step-clause-same c = same-trans c.args.self.now c.steps.self c.step.new.self c.steps.invariant.same c.in_err-step.ensures.same
+returns-in_err-step-clause-same c = same-trans c.args.r c.args.self.now c.steps.self c.step.new.self c.steps.invariant.same c.in_err-step.ensures.same
 
 pub returns-in-Step-clause-gives : goal.returns-in-Step-clause-gives
 returns-in-Step-clause-gives c log d =
@@ -16,7 +16,7 @@ returns-in-Step-clause-gives c log d =
     (given.0, gives-before c.args.self.now c.steps.self log c.args.r c.in-Step.step c.steps.invariant.same (rw c.in-Step.is at given.1))
 
 pub returns-in-Step-clause-same : goal.returns-in-Step-clause-same
-returns-in-Step-clause-same c = same-trans c.args.self.now c.steps.self c.step.new.self c.steps.invariant.same c.in_ok-step.ensures.same
+returns-in-Step-clause-same c = same-trans c.args.r c.args.self.now c.steps.self c.step.new.self c.steps.invariant.same c.in_ok-step.ensures.same
 
 pub returns-in_err-step-clause-steps : goal.returns-in_err-step-clause-steps
 returns-in_err-step-clause-steps c =
@@ -33,5 +33,5 @@ steps-preserved c =
     record {
       given = goes.1 ∙ c.steps.invariant.given;
       derived = λ log d. (c.in_ok-step.ensures.gives log (c.steps.invariant.derived log d)).0;
-      same = same-trans c.args.self.now c.steps.self c.step.new.self c.steps.invariant.same c.in_ok-step.ensures.same;
+      same = same-trans c.args.r c.args.self.now c.steps.self c.step.new.self c.steps.invariant.same c.in_ok-step.ensures.same;
     }

@@ -1,19 +1,23 @@
 use Rattle.std.proofs.Common.{refl}
 use Rattle.recursor_core.specs.Derived.{seen_by}
-use Rattle.recursor_core.proofs.Ranks.{sum_falls, need_within}
+use Rattle.recursor_core.proofs.Ranks.{sum_falls, kept_at}
 use Rattle.recursor_core.proofs.Cores.{same-at, derived-at}
 use Rattle.recursor_core.proofs.machine.RecursorCore.set_out.Goals as goal
 
 pub returns-clause-nearer : goal.returns-clause-nearer
 returns-clause-nearer c =
     let xs = c.args.self.now.resolutions.items in
-    (sum_falls xs c.args.r c.index_mut-resolution.result.now c.set_out.new.self (need_within xs c.args.r (λ e. cc)) c.index_mut-resolution.ensures.value c.set_out.ensures.falls, refl)
+    let at = kept_at xs c.args.r c.index_mut.result.now c.in-Some.resolution (λ e. cc) c.index_mut.ensures.value c.in-Some.is in
+    (sum_falls xs c.args.r c.in-Some.resolution c.set_out.new.self at (rw c.deref_mut.ensures.value at c.set_out.ensures.falls), refl)
 
 pub returns-clause-derived : goal.returns-clause-derived
 returns-clause-derived c log d =
-    derived-at c.args.self.now _ log c.args.r c.index_mut-resolution.result.now c.set_out.new.self (need_within c.args.self.now.resolutions.items c.args.r (λ e. cc)) c.index_mut-resolution.ensures.value refl refl d
-    (λ h. (c.set_out.ensures.holds (seen_by c.args.self.now log) refl (record { are = refl; some = d.some }) d.cache h, d.pools))
+    let xs = c.args.self.now.resolutions.items in
+    let at = kept_at xs c.args.r c.index_mut.result.now c.in-Some.resolution (λ e. cc) c.index_mut.ensures.value c.in-Some.is in
+    derived-at c.args.self.now _ log c.args.r _ _ at refl refl d (λ h. (c.set_out.ensures.holds (seen_by c.args.self.now log) refl (record { are = refl; some = d.some }) d.cache (rw c.deref_mut.ensures.value h), d.pools))
 
 pub returns-clause-same : goal.returns-clause-same
 returns-clause-same c =
-    same-at c.args.self.now _ c.args.r c.index_mut-resolution.result.now c.set_out.new.self (need_within c.args.self.now.resolutions.items c.args.r (λ e. cc)) c.index_mut-resolution.ensures.value c.set_out.ensures.begun refl refl
+    let xs = c.args.self.now.resolutions.items in
+    let at = kept_at xs c.args.r c.index_mut.result.now c.in-Some.resolution (λ e. cc) c.index_mut.ensures.value c.in-Some.is in
+    same-at c.args.self.now _ c.args.r c.in-Some.resolution c.set_out.new.self at (rw c.deref_mut.ensures.value at c.set_out.ensures.begun) refl refl

@@ -1,29 +1,29 @@
-use Rattle.std.proofs.Common.{◌<◌, length, ap, refl}
-use Rattle.recursor_core.specs.Derived.{seen_by, ResolutionHolds}
+use Rattle.std.proofs.Common.{◌∙◌, Option, Some, None, IfSome, ap, sym, subst, refl}
+use Rattle.std.specs.Global.{Box}
+use Rattle.std.proofs.Math.ListN.{set}
 use Rattle.std.specs.Option.{option_map}
-use Rattle.recursor_core.specs.Machine.{begun_of}
-use Rattle.recursor_core.proofs.Ranks.{read_at, need_within}
-use Rattle.recursor_core.proofs.Cores.{held-at, same-at, need-set, given-some, derived-at}
+use Rattle.recursor_walk.specs.Replies.{Replied}
+use Rattle.recursor_core.specs.Derived.{seen_by, ResolutionHolds, KeptHolds}
+use Rattle.recursor_core.specs.Machine.{begun_of, kept_in}
+use Rattle.recursor_core.specs.declared.resolving.Resolution.{Resolution}
+use Rattle.recursor_core.proofs.Ranks.{need_within, kept_at}
+use Rattle.recursor_core.proofs.Cores.{held-at, ended-at, given-some, derived-at}
 use Rattle.recursor_core.proofs.machine.RecursorCore.take_reply.Goals as goal
 
 pub returns-clause-derived : goal.returns-clause-derived
 returns-clause-derived c log d =
     let xs = c.args.self.now.resolutions.items in
-    let f = c.index_mut-resolution.result.now in
-    let at = c.index_mut-resolution.ensures.value in
-    let within : c.args.r < length xs = need_within xs c.args.r (λ e. cc) in
+    let b = c.in-Some.resolution in
+    let at = kept_at xs c.args.r c.index_mut.result.now b (λ e. cc) c.index_mut.ensures.value (sym c.replace.ensures.value ∙ c.in-Some.is) in
     let seen = seen_by c.args.self.now log in
-    let taken = c.take_reply.ensures.holds seen in (
-      derived-at c.args.self.now _ log c.args.r f c.take_reply.new.self within at refl refl d (λ h. ((taken h).0, d.pools)),
-      given-some seen c.take_reply.result _ (begun_of f) (ap (option_map begun_of) (read_at xs c.args.r f within at)) (taken (held-at (ResolutionHolds seen) xs c.args.r f within at d.resolutions)).1,
+    let held = held-at (KeptHolds seen) xs c.args.r (Some b) at d.resolutions in (
+      derived-at c.args.self.now _ log c.args.r (Some b) None at refl (ap (set xs c.args.r) c.replace.ensures.after) d (λ h. (tt, d.pools)),
+      given-some seen c.into_reply.result _ (begun_of b.value) (ap (λ (o : Option (Option (Box Resolution))). option_map begun_of (kept_in o)) at)
+          (subst (λ (r : Resolution). IfSome c.into_reply.result (λ given. Replied seen r.begun r.question given.value)) c.into_inner.ensures
+          (c.into_reply.ensures.holds seen (subst (ResolutionHolds seen) (sym c.into_inner.ensures) held))),
     )
-
-pub returns-clause-ended : goal.returns-clause-ended
-returns-clause-ended c =
-    let xs = c.args.self.now.resolutions.items in
-    let within : c.args.r < length xs = need_within xs c.args.r (λ e. cc) in
-    need-set xs c.args.r c.take_reply.new.self _ within c.take_reply.ensures.ended
 
 pub returns-clause-same : goal.returns-clause-same
 returns-clause-same c =
-    same-at c.args.self.now _ c.args.r c.index_mut-resolution.result.now c.take_reply.new.self (need_within c.args.self.now.resolutions.items c.args.r (λ e. cc)) c.index_mut-resolution.ensures.value c.take_reply.ensures.begun refl refl
+    let xs = c.args.self.now.resolutions.items in
+    ended-at c.args.self.now _ c.args.r (need_within xs c.args.r (λ e. cc)) refl (ap (set xs c.args.r) c.replace.ensures.after)
