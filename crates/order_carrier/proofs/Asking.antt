@@ -1,5 +1,5 @@
 -- A call asks only servers, where what it starts goes to one.
-use Rattle.std.proofs.Common.{◌≡◌, ◌+◌, ⊎_elim, ℕ, List, [], ◌∷◌, ◌++◌, Option, Some, None, sym, ◌∙◌, subst}
+use Rattle.std.proofs.Common.{◌≡◌, ◌≤◌, ◌+◌, ⊎_elim, ℕ, List, [], ◌∷◌, ◌++◌, Option, Some, None, sym, ◌∙◌, subst}
 use Rattle.std.specs.declared.net.ip_addr.IpAddr.{IpAddr}
 use Rattle.dns_core.specs.Connection.{protocol_of}
 use Rattle.dns_core.specs.Log.{Log, Extends, log_of, added}
@@ -8,9 +8,9 @@ use Rattle.dns_core.specs.declared.log.LogEntry.TheVariants.{Opened, Asked, Wait
 use Rattle.dns_core.specs.declared.log.ToldOutcome.TheVariants as said
 use Rattle.dns_core.specs.declared.message.Query.{Query}
 use Rattle.dns_core.specs.declared.net_error.NetError.{NetError}
-use Rattle.resolution.specs.Given.{Given}
+use Rattle.resolution.specs.Given.{Given, with_patience}
 use Rattle.resolution.specs.Asking.{IsServer, IsServerFor, AsksServers}
-use Rattle.resolution.proofs.Keeping.{Serves-extend}
+use Rattle.resolution.proofs.Keeping.{Serves-later, Serves-extend}
 use Rattle.server_core.specs.declared.order.Order.{Order}
 use Rattle.server_core.specs.declared.order.Order.TheVariants.{Open, Ask, Sleep}
 use Rattle.server_core.specs.declared.order.Outcome.{Outcome}
@@ -24,7 +24,7 @@ use Rattle.order_carrier.specs.Growing.{TellsThat, with_entries}
 use Rattle.order_carrier.specs.declared.key.OrderKey.{OrderKey}
 use Rattle.order_carrier.specs.declared.polling.Heard.{Heard}
 use Rattle.order_carrier.specs.declared.polling.Heard.TheVariants as hear
-use Rattle.order_carrier.proofs.Growing.{Longer-from_added, Extends-added, entry_cases}
+use Rattle.order_carrier.proofs.Growing.{Extends-refl, Longer-from_added, Extends-added, entry_cases}
 
 -- An entry that opens or asks goes to a server.
 abbrev pub GoesRight : Given → Log → LogEntry → Type 0
@@ -74,6 +74,24 @@ AsksServers-same given old new same asks es told = asks es (sym same ∙ told)
 AsksServers-grown : (given : Given) (e : LogEntry) (old new : Option (List LogEntry)) → new ≡ added e old → TellsThat old (λ log. GoesRight given log e)
     → TellsThat old (AsksServers given) → TellsThat new (AsksServers given)
 AsksServers-grown given e old new grew right asks = AsksServers-same given (added e old) new grew (AsksServers-added given e old right asks)
+
+-- who is a server does not depend on patience
+pub AsksServers-patience : (given : Given) (patience : ℕ) (log : Log) → AsksServers given log → AsksServers (with_patience patience given) log
+AsksServers-patience given patience log a =
+    let x = Extends-refl log in
+    record {
+      opened = λ n ip protocol moment refused at. let s = a.opened n ip protocol moment refused at in record
+          { zone = s.zone; serves = Serves-extend given patience log log x s.serves };
+      asked = λ n ip protocol q moment refused at.
+          let s = a.asked n ip protocol q moment refused at in
+          record { zone = s.zone; above = s.above; serves = Serves-extend given patience log log x s.serves };
+    }
+
+-- an order that goes to a server by what was told before also does by what is told later
+pub GoesToServer-later : (given : Given) (log : Log) (n m : ℕ) (order : Order) → n ≤ m → GoesToServer given log n order → GoesToServer given log m order
+GoesToServer-later given log n m (Open ip config) le h = record { zone = h.zone; serves = Serves-later given log le h.serves }
+GoesToServer-later given log n m (Ask conn ip protocol request) le h = record { zone = h.zone; above = h.above; serves = Serves-later given log le h.serves }
+GoesToServer-later given log n m (Sleep until) le h = tt
 
 -- ---- the laws
 

@@ -48,6 +48,11 @@ Extends-added es e = record { later = omega (arith, length-append es (e ∷ []))
 pub Logged-newest : (es : List LogEntry) (e : LogEntry) → Logged (log_of (es ++ e ∷ [])) (length es + 1) e
 Logged-newest es e = record { below = omega (arith, length-append es (e ∷ [])); is = rw add-one (slice_get-end es e) }
 
+-- a log without entries has none under any number
+pub unlogged : (n : ℕ) (e : LogEntry) → Logged (log_of []) n e → ⊥
+unlogged zero e h = let is : None ≡ Some e = h.is in cc
+unlogged (suc n) e h = let is : None ≡ Some e = h.is in cc
+
 -- each entry of a longer log is an old one, or the newest
 pub entry_cases : (es : List LogEntry) (e : LogEntry) (n : ℕ) (f : LogEntry)
     → Logged (log_of (es ++ e ∷ [])) n f → Logged (log_of es) n f ⊎ ((n ≡ length es + 1) × (e ≡ f))
@@ -98,10 +103,18 @@ IsAt-is now moment (Some m) h e = sym (same_Some _ _ e) ∙ h
 IsAt-is now moment None h e = cc
 
 -- a number is below another, or at or above it
-below_or_from : (i n : ℕ) → (i < n) ⊎ (n ≤ i)
+pub below_or_from : (i n : ℕ) → (i < n) ⊎ (n ≤ i)
 below_or_from i zero = inr (omega arith)
 below_or_from zero (suc n) = inl (omega arith)
 below_or_from (suc i) (suc n) = ⊎_elim (λ h. inl (omega (arith, h))) (λ h. inr (omega (arith, h))) (below_or_from i n)
+
+-- an early entry of the longer log is one of the shorter
+Logged-shrink : (old new : Log) → Extends old new → (i : ℕ) (e : LogEntry) → i < old.next → Logged new i e → Logged old i e
+Logged-shrink old new x i e low h = record { below = low; is = sym (x.kept i low) ∙ h.is }
+
+-- each entry of the longer log is one of the shorter, or a new one
+pub entry_sides : (old new : Log) → Extends old new → (i : ℕ) (e : LogEntry) → Logged new i e → Logged old i e ⊎ (old.next ≤ i)
+entry_sides old new x i e h = ⊎_elim (λ low. inl (Logged-shrink old new x i e low h)) (λ high. inr high) (below_or_from i old.next)
 
 -- what does not change has grown
 pub Grown-refl : (now : ℕ) (told : Option (List LogEntry)) → Grown now told told
@@ -122,9 +135,9 @@ Grown-trans now a b c x y es t =
       was = one.was;
       extends = Extends-trans _ _ _ one.extends two.extends;
       at = λ i moment e after logged is. ⊎_elim
-          (λ below. one.at i moment e after (record { below = below; is = sym (two.extends.kept i below) ∙ logged.is }) is)
-          (λ from. two.at i moment e from logged is)
-          (below_or_from i (log_of two.before).next);
+          (λ early. one.at i moment e after early is)
+          (λ late. two.at i moment e late logged is)
+          (entry_sides (log_of two.before) (log_of es) two.extends i e logged);
     }
 
 -- an entry of the moment, or of none, was appended

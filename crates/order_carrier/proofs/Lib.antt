@@ -1,5 +1,6 @@
 pub mod Growing
 pub mod Keys
+pub mod Moments
 pub mod Asking
 pub mod Begun
 pub mod Outcomes

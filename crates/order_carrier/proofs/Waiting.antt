@@ -138,6 +138,10 @@ patient-none most old new w es t =
     let l = w es t in
     record { before = l.before; was = l.was; waited = λ of. omega (arith, l.waited of) }
 
+-- a log that stays as it is waits for nothing
+pub IsPatient-refl : (most : ℕ) (told : Option (List LogEntry)) → IsPatient most told told
+IsPatient-refl most told = patient-none most told told (WaitsFor-refl told)
+
 -- one that waited for what was waited for less often is patient
 pub patient-polled : (most polled : ℕ) (old new : Option (List LogEntry)) → TellsThat old (λ log. waits log polled log.next < most)
     → WaitsFor (Some polled) old new → IsPatient most old new

@@ -10,14 +10,14 @@ use Rattle.resolution.specs.Telling.{Logged}
 use Rattle.server_core.specs.declared.order.Order.{Order}
 use Rattle.server_core.specs.declared.order.Order.TheVariants.{Open, Ask, Sleep}
 use Rattle.server_core.specs.declared.order.Outcome.{Outcome}
-use Rattle.server_core.specs.declared.order.Outcome.TheVariants.{Pending}
+use Rattle.server_core.specs.declared.order.Outcome.TheVariants.{Pending, Connected, Told, Failed, Slept}
 use Rattle.server_core.specs.declared.order.Sent.{Sent}
 use Rattle.order_carrier.specs.Awaited.{IsSentFor, sent_for}
 use Rattle.order_carrier.specs.Carrying.{StateHolds}
 use Rattle.order_carrier.specs.Did.{Did, Stand, State, Carried, May, MayHear, HasNumbers, order_in, sent_in, start_entry, poll_entry, appended, told_by, handed, made_by, heard_stand, stand_after}
 use Rattle.order_carrier.specs.Did.Did.{Barred, LacksMemory, Refused, Started, Polled}
 use Rattle.order_carrier.specs.Did.Stand.{Unseen, UnderWay, Made, Over}
-use Rattle.order_carrier.specs.Fits.{IsPendingOf, IsOutcome}
+use Rattle.order_carrier.specs.Fits.{IsPendingOf, IsOutcome, WaitsBy}
 use Rattle.order_carrier.specs.Growing.{TellsThat}
 use Rattle.order_carrier.specs.Patience.{IsPatient, waited_by, waits_more}
 use Rattle.order_carrier.specs.declared.key.OrderKey.{OrderKey}
@@ -27,7 +27,7 @@ use Rattle.order_carrier.proofs.Asking.{carried-asks}
 use Rattle.order_carrier.proofs.Growing.{carried-grown}
 use Rattle.order_carrier.proofs.Outcomes.{sent_for-new, sent_for-sends, carried-outcome}
 use Rattle.order_carrier.proofs.Waiting.{carried-waits, carried-waited, carried-patient}
-use Rattle.order_runner.specs.Runner.{RunnerMoves, GoesRight, HasTold}
+use Rattle.order_runner.specs.Runner.{RunnerMoves, GoesRight, HasTold, still_awaited}
 
 -- what is under way has an order
 pub order-sent : (stand : Stand) (s : Sent) → order_in stand ≡ None → sent_in stand ≡ Some s → ⊥
@@ -283,3 +283,13 @@ module _ {P : Type 0} (key : OrderKey) (order : Order) (now : ℕ) (old new : St
       let none = no-more (waited_by c.did) s.of (other-waited result c k differ s at w.before w.was) in
       let was = few w.before w.was in
       omega (arith, longer, none, was)
+
+-- ---- what is waited for still
+
+-- a poll that found nothing is in the log, also by what is waited for still
+pub waits-still : (log : Log) (s : Option Sent) (o : Outcome) → WaitsBy log s o → WaitsBy log (still_awaited o s) o
+waits-still log s (Pending entry of) h = h
+waits-still log s (Connected entry sent) h = tt
+waits-still log s (Told entry sent message) h = tt
+waits-still log s (Failed entry sent refused error) h = tt
+waits-still log s Slept h = tt

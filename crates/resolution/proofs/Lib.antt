@@ -15,3 +15,4 @@ pub mod KeptErrors
 pub mod WalksCaseless
 pub mod SameDelegations
 pub mod Addresses
+pub mod WayDown

@@ -18,6 +18,10 @@ base n = record { labels = drop 1 n.labels; fqdn = n.fqdn }
 abbrev pub is_above : DomainName → DomainName → Bool
 is_above z n = z.fqdn && n.fqdn && is_suffix z.labels n.labels
 
+-- the last labels of a name
+abbrev pub last_name : ℕ → DomainName → DomainName
+last_name k n = record { labels = last_labels k n.labels; fqdn = n.fqdn }
+
 -- the names at which a walk to n looks for a cut: the last 1, 2, .. labels of n (RFC 1034 section 5.3.3)
 abbrev pub candidates : DomainName → List DomainName
 candidates n = map (λ k. record { labels = last_labels k n.labels; fqdn = n.fqdn }) (range_with_len 1 (length n.labels))

@@ -17,4 +17,6 @@ pub mod Reached
 pub mod Opens
 pub mod Moments
 pub mod Sent
-pub mod Stays
+pub mod Orders
+pub mod SendEnds
+pub mod Taken

@@ -1,5 +1,5 @@
 -- Where the orders of a lookup go.
-use Rattle.std.proofs.Common.{◌≡◌, ◌∙◌, ℕ, zero, suc, ◌+◌, ◌&&◌, Bool, true, false, cond, List, [], ◌∷◌, ◌++◌, map, slice_get, find, Option, Some, None, inl, inr, refl, ap, sym, subst, arith, eq-eqb}
+use Rattle.std.proofs.Common.{◌≡◌, ◌∙◌, ℕ, ◌+◌, ◌&&◌, Bool, true, false, List, [], ◌∷◌, ◌++◌, map, find, Option, Some, None, inl, inr, refl, ap, sym, subst, eq-eqb}
 use Rattle.std.specs.Prelude.{slice_set, count_by, Contains}
 use Rattle.std.specs.declared.net.ip_addr.IpAddr.{IpAddr}
 use Rattle.resolution.proofs.Members.{Has, Has-append_right}
@@ -13,7 +13,6 @@ use Rattle.server_core.specs.declared.server_send.ServerSend.{ServerSend}
 use Rattle.server_core.specs.declared.server_send.Stage.{Stage}
 use Rattle.server_core.specs.declared.server_send.Stage.TheVariants as stage
 use Rattle.retry_rules.specs.declared.candidate.Candidate.{Candidate}
-use Rattle.retry_rules.proofs.Standing.{count_cons}
 use Rattle.retry_lookup.specs.declared.attempt.Attempt.{Attempt}
 use Rattle.retry_lookup.specs.declared.giving.Want.{Want}
 use Rattle.retry_lookup.specs.declared.giving.Want.TheVariants as want
@@ -29,30 +28,8 @@ use Rattle.retry_lookup.proofs.Dealing.{under_from_pool, picked_has}
 use Rattle.retry_lookup.proofs.Facts.{all_get}
 use Rattle.retry_lookup.proofs.Laws.{asks_so}
 use Rattle.retry_lookup.proofs.Next.{beginning_goes}
+use Rattle.retry_lookup.proofs.Places.{first_set, first_more}
 use Rattle.retry_lookup.proofs.Steps.{resume_asks, begin_asks}
-
--- ---- the first that passes, where none did
-
-module _ {X : Type 0} (p : X → Bool) where
-  none_counted : (x : X) (xs : List X) → count_by p (x ∷ xs) ≡ 0 → (p x ≡ false) × (count_by p xs ≡ 0)
-  none_counted x xs h = at_head (p x) refl (count_cons p x xs)
-    where
-      at_head : (b : Bool) → p x ≡ b → count_by p (x ∷ xs) ≡ cond b 1 0 + count_by p xs → (p x ≡ false) × (count_by p xs ≡ 0)
-      at_head true e n = absurd (omega (arith, h, n))
-      at_head false e n = (e, omega (arith, h, n))
-
-  first_set : (xs : List X) (i : ℕ) (x y : X) → count_by p xs ≡ 0 → slice_get xs i ≡ Some x → p y ≡ true → find p (slice_set xs i y) ≡ Some y
-  first_set [] i x y none there passes = cc
-  first_set (z ∷ xs) zero x y none there passes = ap (λ (b : Bool). cond b (Some y) (find p xs)) passes
-  first_set (z ∷ xs) (suc i) x y none there passes =
-      let n = none_counted z xs none in
-      ap (λ (b : Bool). cond b (Some z) (find p (slice_set xs i y))) n.0 ∙ first_set xs i x y n.1 there passes
-
-  first_more : (xs : List X) (y : X) → count_by p xs ≡ 0 → p y ≡ true → find p (xs ++ y ∷ []) ≡ Some y
-  first_more [] y none passes = ap (λ (b : Bool). cond b (Some y) None) passes
-  first_more (z ∷ xs) y none passes =
-      let n = none_counted z xs none in
-      ap (λ (b : Bool). cond b (Some z) (find p (xs ++ y ∷ []))) n.0 ∙ first_more xs y n.1 passes
 
 -- ---- what a send gives
 

@@ -12,3 +12,5 @@ pub mod Calls
 pub mod Outcomes
 pub mod Running
 pub mod Sendings
+pub mod Bounding
+pub mod Left

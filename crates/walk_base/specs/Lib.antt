@@ -2,4 +2,5 @@ pub mod Answer
 pub mod Kept
 pub mod Lending
 pub mod Response
-pub mod Stage
+pub mod Candidate
+pub mod Shown

@@ -4,17 +4,17 @@
 #![tactic(auto)]
 
 mod answer;
+mod candidate;
 mod class;
 mod glue;
 mod kept;
 mod response;
-mod stage;
 mod verdict;
 
 pub use answer::{ends_walk, just, made_negative, outcome_of, reply_by, told_negative};
+pub use candidate::{candidate_query, walked_name};
 pub use class::class_of;
 pub use glue::{addresses, is_delegation};
 pub use kept::{kept_of, response_in, verdict_kept};
 pub use response::verdict_of_class;
-pub use stage::{Stage, query_at, stage_after, walked_name};
 pub use verdict::{answer_within, negative_within};

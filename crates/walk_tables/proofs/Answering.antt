@@ -1,40 +1,31 @@
 -- What a lookup that was answered came to, as the log shows it.
-use Rattle.std.proofs.Common.{◌≡◌, ℕ, suc, ◌≤◌, ◌<◌, Bool, true, false, not, ◌||◌, cond, List, [], ◌∷◌, ◌++◌, map, find, length, Contains, Option, Some, None, IfSome, IsSomeAnd, Result, Ok, Err, ◌⊎◌, inl, inr, refl, sym, ap, subst, ◌∙◌, arith}
+use Rattle.std.proofs.Common.{◌≡◌, ℕ, ◌≤◌, ◌<◌, Bool, true, false, not, ◌||◌, List, [], ◌∷◌, ◌++◌, map, length, Option, Some, None, IfSome, IsSomeAnd, Result, Ok, Err, ◌⊎◌, inl, inr, refl, sym, ap, subst, ◌∙◌, arith}
 use Rattle.std.specs.Prelude.{IsTrue, nat_le, option_and_then, ◌==◌, if◌then◌else◌}
-use Rattle.std.specs.List.{list_any, list_all, last_or, before_first, after_first, filter_map, AllByRecursion}
-use Rattle.std.specs.List.Sorted.{IsPermutation}
+use Rattle.std.specs.List.{list_all, last_or}
 use Rattle.std.proofs.lemmas.Bool.{and_parts, leb-true}
 use Rattle.std.proofs.lemmas.Option.{same_Some}
-use Rattle.std.proofs.lemmas.List.Elements.{All-weaker, All-from_recursion, recursion_from_All}
-use Rattle.std.proofs.lemmas.List.Folds.{list_all-append, list_all-map}
-use Rattle.std.proofs.lemmas.List.Sorted.{All-permutation, IsPermutation-sym}
+use Rattle.std.proofs.lemmas.List.Elements.{All-weaker, recursion_from_All}
+use Rattle.std.proofs.lemmas.List.Sorted.{IsPermutation-sym}
 use Rattle.std.specs.declared.net.ip_addr.IpAddr.{IpAddr}
 use Rattle.dns_core.specs.Name.{DomainName}
 use Rattle.dns_core.specs.Log.{Log}
 use Rattle.dns_core.specs.declared.message.Query.{Query}
 use Rattle.dns_core.specs.declared.message.Message.{Message}
 use Rattle.dns_core.specs.declared.record.Record.{Record}
-use Rattle.dns_core.specs.declared.log.ToldOutcome.{ToldOutcome}
-use Rattle.dns_core.specs.declared.net_error.NoRecords.{NoRecords}
 use Rattle.dns_core.specs.declared.net_error.NetError.{NetError}
 use Rattle.dns_core.specs.declared.net_error.NetError.TheVariants as net
 use Rattle.dns_core.specs.declared.net_error.DnsError.{DnsError}
 use Rattle.dns_core.specs.declared.net_error.DnsError.TheVariants as dns
 use Rattle.resolver_settings.specs.Access.{denies}
-use Rattle.dns_core.specs.Classifying.{no_records}
-use Rattle.resolution.specs.Class.{class_of, class_of_error, class_of_message, has_no_data_for, is_foreign}
-use Rattle.resolution.specs.Records.{records}
+use Rattle.resolution.specs.Class.{class_of}
 use Rattle.resolution.specs.Verdict.{is_all_denied, without_denied}
-use Rattle.resolution.specs.Given.{Given}
 use Rattle.resolution.specs.Serving.{Heard}
-use Rattle.resolution.specs.Lookups.{Answered, class_of_answer, End, Rules, is_retryable, answer_of, negative_of, is_timed_out, least_bad, class_of_end, turns, the_turn, but_turn, retries, none_is_final, all_were_tried, what_is_left, IsDecided, PoolRun, IsBounded}
+use Rattle.resolution.specs.Lookups.{Answered, class_of_answer, End, is_retryable, answer_of, what_is_left, IsDecided, PoolRun, IsBounded}
 use Rattle.resolution.specs.Lookups.PoolRun.{decided, spent, late}
 use Rattle.resolution.specs.Ending.{by_address, EndSends}
 use Rattle.resolution.specs.Ending.EndSends.{no_send, and_send}
 use Rattle.resolution.specs.declared.class.Class.{Class}
 use Rattle.resolution.specs.declared.class.Class.TheVariants.{Error, Code, Truncated, Negative, Foreign, Positive}
-use Rattle.resolution.proofs.Caseless.{both}
-use Rattle.resolution.proofs.Invented.{class_of-positive}
 use Rattle.retry_rules.specs.Agenda.{rules_of, class_of_sent}
 use Rattle.retry_rules.specs.AnswerFilter.{foreign_class, nothing_left}
 use Rattle.retry_lookup.specs.Asked.{answer_in, answer_of as answer_of_state}
@@ -46,147 +37,35 @@ use Rattle.retry_lookup.specs.declared.lookup.State.TheVariants.{Asking, Backing
 use Rattle.server_pool.specs.Lookups.{closed_by}
 use Rattle.server_pool.specs.Shared.{lookup_at}
 use Rattle.server_pool.specs.declared.open_lookup.OpenLookup.{OpenLookup}
-use Rattle.retry_rules.specs.declared.candidate.Candidate.{Candidate}
 use Rattle.retry_rules.proofs.Plans.{same_self, same_is}
-use Rattle.retry_rules.proofs.Turning.{but_none}
 use Rattle.server_pool.specs.ByAddress.{at_address}
 use Rattle.server_pool.proofs.ByAddress.{IsTrustedBeyondUdp, run_by_address}
-use Rattle.walk_tables.specs.Lookup.{is_lookup_error, last_of, failed_by, answered_by, nothing_left_for, left_of_class, IsTold, AskHolds}
+use Rattle.walk_base.specs.Shown.{nothing_left_for, left_of_class}
+use Rattle.walk_base.proofs.Runs.{PoolRun-permuted, answer_whole, run_later, sends_length}
+use Rattle.walk_tables.specs.Lookup.{is_lookup_error, last_of, failed_by, answered_by, IsTold, AskHolds}
 use Rattle.walk_tables.specs.View.{View, given_of}
 use Rattle.walk_tables.specs.Tried.{Began, is_response, told_of, AreHeard, Concluded}
 use Rattle.walk_tables.specs.Pools.{IsAt, SoughtHolds, PoolsHold, Seeks}
 use Rattle.walk_tables.specs.Asked.{AskedAs}
 use Rattle.walk_tables.specs.declared.pools.Pools.{Pools}
 use Rattle.walk_tables.specs.declared.pools.Sought.{Sought}
-use Rattle.walk_tables.proofs.Bounding.{bounded-images, bounded-permuted}
+use Rattle.server_pool.proofs.Bounding.{bounded_images, bounded_permuted}
+use Rattle.server_pool.proofs.Left.{IsLeft, ends_from, left_error, no_denial_error, spent_some}
 
--- ---- whole answers
+-- ---- what ends a lookup
 
--- an answer is not cut, and has no record of another class
-whole_by : (q : Query) (m m' : Message) (code cut bare : Bool) (o : Option Record)
-    → cond code (Code m.response_code) (cond cut Truncated (cond bare (Negative (no_records m)) (elim o [ Some r ↦ Foreign r | None ↦ Positive m ]))) ≡ Positive m' → (cut ≡ false) × (o ≡ None)
-whole_by q m m' true cut bare o e = cc
-whole_by q m m' false true bare o e = cc
-whole_by q m m' false false true o e = cc
-whole_by q m m' false false false (Some r) e = cc
-whole_by q m m' false false false None e = (refl, refl)
-
-pub answer-whole : (outcome : ToldOutcome) (q : Query) (m : Message) → class_of outcome q ≡ Some (Positive m) → (m.truncation ≡ false) × (find (is_foreign q) (records m) ≡ None)
-answer-whole outcome q m is =
-    let told : class_of_message m q ≡ Positive m = same_Some _ _ (subst (λ (o : ToldOutcome). class_of o q ≡ Some (Positive m)) (class_of-positive outcome q m is) is) in
-    whole_by q m m (not (m.response_code.code == 0 || m.response_code.code == 3)) m.truncation (has_no_data_for q m) (find (is_foreign q) (records m)) told
-
--- ---- the servers in another order
-
-passes : {X : Type 0} (p : X → Bool) (xs : List X) → list_all p xs ≡ true → AllByRecursion (λ x. p x ≡ true) xs
-passes p [] h = tt
-passes p (x ∷ xs) h = let b = and_parts (p x) (list_all p xs) h in (b.0, passes p xs b.1)
-
-passed : {X : Type 0} (p : X → Bool) (xs : List X) → AllByRecursion (λ x. p x ≡ true) xs → list_all p xs ≡ true
-passed p [] a = refl
-passed p (x ∷ xs) a = both (p x) (list_all p xs) a.0 (passed p xs a.1)
-
-all-permuted : {X : Type 0} (p : X → Bool) (xs ys : List X) → IsPermutation xs ys → list_all p xs ≡ true → list_all p ys ≡ true
-all-permuted p xs ys same h =
-    passed p ys (recursion_from_All (λ x. p x ≡ true) ys (All-permutation (λ x. p x ≡ true) xs ys same (All-from_recursion (λ x. p x ≡ true) xs (passes p xs h))))
-
--- a lookup at servers is one at the same servers in another order
-pub PoolRun-permuted : {S : Type 0} {rules : Rules S} {class : Answered → Class} {ends : List (End S)} {result : Answered} {start now : ℕ} (xs ys : List S) → IsPermutation xs ys
-    → PoolRun rules class xs ends result start now → PoolRun rules class ys ends result start now
-PoolRun-permuted xs ys same (decided d) = decided d
-PoolRun-permuted xs ys same (spent s) =
-    spent (record { none = s.none; tried = all-permuted _ xs ys same s.tried; again = s.again; busy = all-permuted _ xs ys same s.busy; answers = s.answers })
-PoolRun-permuted xs ys same (late l) = late l
-
--- what was answered at a moment was so by a later one
-pub run-later : {S : Type 0} {rules : Rules S} {class : Answered → Class} {servers : List S} {ends : List (End S)} {result : Answered} {start : ℕ} (now later : ℕ) → now ≤ later
-    → PoolRun rules class servers ends result start now → PoolRun rules class servers ends result start later
-run-later now later le (decided d) = decided d
-run-later now later le (spent s) = spent s
-run-later now later le (late l) = late (record { none = l.none; answers = l.answers; reached = let r = l.reached in omega arith; some = l.some })
-
--- ---- what is left where no end decides
-
--- none of those that another server is asked after is a denial, where denials are trusted
-no_negatives : (cs : List Class) → list_all (is_retryable true) cs ≡ true → filter_map negative_of cs ≡ []
-no_negatives [] h = refl
-no_negatives (Error e ∷ cs) h = no_negatives cs (and_parts (is_retryable true (Error e)) (list_all (is_retryable true) cs) h).1
-no_negatives (Negative n ∷ cs) h =
-    let final = (and_parts (n.response_code.code == 3) false (and_parts (is_retryable true (Negative n)) (list_all (is_retryable true) cs) h).0).1 in cc
-no_negatives (Code c ∷ cs) h = cc
-no_negatives (Truncated ∷ cs) h = cc
-no_negatives (Foreign r ∷ cs) h = cc
-no_negatives (Positive m ∷ cs) h = cc
-
-least_by : (ns : List NoRecords) (silent cut : Bool) → ns ≡ []
-    → IsTrue (is_lookup_error (elim ns [ n ∷ rest ↦ net.Dns (dns.NoRecordsFound n) | [] ↦ if silent then net.Timeout else (if cut then net.Truncated else net.NoConnections) ]))
-least_by [] true cut is = refl
-least_by [] false true is = refl
-least_by [] false false is = refl
-least_by (n ∷ ns) silent cut is = cc
-
-least-lookup : (cut : Bool) (cs : List Class) → list_all (is_retryable true) cs ≡ true → IsTrue (is_lookup_error (least_bad cut cs))
-least-lookup cut cs h = least_by (filter_map negative_of cs) (list_any is_timed_out cs) cut (no_negatives cs h)
-
-none_any : {X : Type 0} (p : X → Bool) (xs : List X) → find p xs ≡ None → list_any p xs ≡ false
-none_any p [] e = refl
-none_any {X} p (x ∷ xs) e = at_head (p x) e (none_any p xs)
-  where
-    at_head : (b : Bool) → cond b (Some x) (find p xs) ≡ None → (find p xs ≡ None → list_any p xs ≡ false) → (b || list_any p xs) ≡ false
-    at_head true h next = cc
-    at_head false h next = next h
-
-module _ (timeout : ℕ) (q : Query) where
-  abbrev rules : Rules IpAddr
-  rules = by_address timeout
-
-  abbrev class : Answered → Class
-  class = class_of_answer q
-
-  abbrev classes : List (End IpAddr) → List Class
-  classes ends = map (class_of_end rules class) ends
-
-  retry-classes : (ends : List (End IpAddr)) → list_all (retries rules class) ends ≡ true → list_all (is_retryable true) (classes ends) ≡ true
-  retry-classes ends h = list_all-map (is_retryable true) (class_of_end rules class) ends ∙ h
-
-  after-retries : (ends : List (End IpAddr)) → none_is_final rules class ends ≡ true → list_all (retries rules class) (after_first (turns rules class) ends) ≡ true
-  after-retries ends h =
-      let before = before_first (turns rules class) ends in
-      let after = after_first (turns rules class) ends in
-      (and_parts (list_all (retries rules class) before) (list_all (retries rules class) after) (sym (list_all-append (retries rules class) before after) ∙ h)).1
-
-  left-after : (after but : List Class) (c : Class) → list_all (is_retryable true) after ≡ true → list_all (is_retryable true) but ≡ true
-      → IsTrue (is_lookup_error (elim c [ Truncated ↦ least_bad true after | _ ↦ least_bad false but ]))
-  left-after after but Truncated a b = least-lookup true after a
-  left-after after but (Error e) a b = least-lookup false but b
-  left-after after but (Code c) a b = least-lookup false but b
-  left-after after but (Negative n) a b = least-lookup false but b
-  left-after after but (Foreign r) a b = least-lookup false but b
-  left-after after but (Positive m) a b = least-lookup false but b
-
-  left-by : (ends : List (End IpAddr)) (o : Option (End IpAddr)) → the_turn rules class ends ≡ o → none_is_final rules class ends ≡ true
-      → IsTrue (is_lookup_error (elim o [
-        | None ↦ least_bad false (classes ends)
-        | Some e ↦ elim (class_of_end rules class e) [ Truncated ↦ least_bad true (classes (after_first (turns rules class) ends)) | _ ↦ least_bad false (classes (but_turn rules class ends)) ]
-      ]))
-  left-by ends None is h =
-      let all = but_none (turns rules class) ends (none_any (turns rules class) ends is) in
-      least-lookup false (classes ends) (retry-classes ends (sym (ap (list_all (retries rules class)) all) ∙ h))
-  left-by ends (Some e) is h =
-      left-after (classes (after_first (turns rules class) ends)) (classes (but_turn rules class ends)) (class_of_end rules class e)
-      (retry-classes (after_first (turns rules class) ends) (after-retries ends h)) (retry-classes (but_turn rules class ends) h)
-
-  -- what is left is answered, and is no denial
-  pub left-lookup : (ends : List (End IpAddr)) → none_is_final rules class ends ≡ true → IsTrue (is_lookup_error (what_is_left rules class ends))
-  left-lookup ends h = left-by ends (the_turn rules class ends) refl h
-
-  -- where no server is left, one was asked
-  spent-some : (ips : List IpAddr) (ends : List (End IpAddr)) → 0 < length ips → all_were_tried rules class ips ends ≡ true → 0 < length ends
-  spent-some [] ends some h = absurd (omega (arith, some))
-  spent-some (ip ∷ ips) [] some h = cc
-  spent-some (ip ∷ ips) (e ∷ ends) some h = omega arith
-
--- ---- what an end answers that decides
+-- what is left where no end decides
+lookup-error : (e : NetError) → IsLeft e → IsTrue (is_lookup_error e)
+lookup-error net.Timeout h = refl
+lookup-error net.Truncated h = refl
+lookup-error net.NoConnections h = refl
+lookup-error net.Busy h = absurd h
+lookup-error (net.Io kind) h = absurd h
+lookup-error (net.Dns error) h = absurd h
+lookup-error net.QueryCaseMismatch h = absurd h
+lookup-error (net.ForeignClassRecord n c t) h = absurd h
+lookup-error (net.Msg text) h = absurd h
+lookup-error net.NoMemory h = absurd h
 
 -- an error that ends a lookup: it is none by which another server is asked, and no denial
 final-error : (q : Query) (o : Answered) (e : NetError) → class_of_answer q o ≡ Error e → is_retryable true (Error e) ≡ false → IsTrue (is_lookup_error e)
@@ -200,30 +79,7 @@ final-error q o (net.ForeignClassRecord n c t) is final = refl
 final-error q o (net.Msg text) is final = refl
 final-error q o net.NoMemory is final = refl
 final-error q o (net.Dns (dns.ResponseCode code)) is final = refl
-final-error q (Err f) (net.Dns (dns.NoRecordsFound n)) is final = absurd (error-no_denial f n is)
-  where
-    error-no_denial : (f : NetError) (n : NoRecords) → class_of_error f ≡ Error (net.Dns (dns.NoRecordsFound n)) → ⊥
-    error-no_denial net.Busy n is = cc
-    error-no_denial (net.Io kind) n is = cc
-    error-no_denial net.NoConnections n is = cc
-    error-no_denial net.Timeout n is = cc
-    error-no_denial net.Truncated n is = cc
-    error-no_denial net.QueryCaseMismatch n is = cc
-    error-no_denial (net.ForeignClassRecord m c t) n is = cc
-    error-no_denial (net.Msg text) n is = cc
-    error-no_denial net.NoMemory n is = cc
-    error-no_denial (net.Dns (dns.ResponseCode code)) n is = cc
-    error-no_denial (net.Dns (dns.NoRecordsFound m)) n is = cc
-final-error q (Ok m) (net.Dns (dns.NoRecordsFound n)) is final =
-    absurd (by_tests m (not (m.response_code.code == 0 || m.response_code.code == 3)) m.truncation (has_no_data_for q m) (find (is_foreign q) (records m)) _ is)
-  where
-    by_tests : (m : Message) (code cut bare : Bool) (o : Option Record) (f : NetError)
-        → cond code (Code m.response_code) (cond cut Truncated (cond bare (Negative (no_records m)) (elim o [ Some r ↦ Foreign r | None ↦ Positive m ]))) ≡ Error f → ⊥
-    by_tests m true cut bare o f e = cc
-    by_tests m false true bare o f e = cc
-    by_tests m false false true o f e = cc
-    by_tests m false false false (Some r) f e = cc
-    by_tests m false false false None f e = cc
+final-error q o (net.Dns (dns.NoRecordsFound n)) is final = absurd (no_denial_error q o n is)
 
 -- what was told is of the class of the answer
 class-told : (q : Query) (o : Answered) → class_of (told_of o) q ≡ Some (class_of_answer q o)
@@ -231,12 +87,6 @@ class-told q (Ok m) = refl
 class-told q (Err e) = refl
 
 -- ---- the entries of the ends
-
--- there is one for each end, at one moment
-sends-length : {given : Given} {log : Log} {q : Query} {ips : List IpAddr} {g moments : List ℕ} {ends : List (End IpAddr)} → EndSends given log q ips g ends moments
-    → (length g ≡ length ends) × (length moments ≡ length ends)
-sends-length no_send = (refl, refl)
-sends-length (and_send s c rest) = let more = sends-length rest in (ap suc more.0, ap suc more.1)
 
 last-later : (xs : List ℕ) (k n : ℕ) → last_or None xs ≡ Some n → last_or (Some k) xs ≡ Some n
 last-later [] k n h = cc
@@ -314,19 +164,15 @@ not_false false h = refl
 
 -- ---- a lookup that was answered
 
-ends-from : (servers : List Candidate) (heard : List HeardEnd) → AllByRecursion (λ h. Contains servers h.end.server) heard → AllByRecursion (λ e. Contains servers e.server) (ends_of heard)
-ends-from servers [] a = tt
-ends-from servers (h ∷ heard) a = (a.0, ends-from servers heard a.1)
-
 -- each address has few ends, as each candidate has
 bounded-of : (seen : View) (pools : Pools) (n : ℕ) (s : Sought) (h : SoughtHolds seen pools n s) → IsBounded (by_address 5000000) (class_of_answer s.query) h.ips h.ends
 bounded-of seen pools n s h =
     let l = h.shared_by.lookup in
     let at_time = subst (λ (t : ℕ). IsBounded (rules_of t) (class_of_sent (question_of l)) l.servers (ends_of h.heard)) h.time h.stands.keeps.each in
     let asked = subst (λ (q : Query). IsBounded (rules_of 5000000) (class_of_sent q) l.servers (ends_of h.heard)) h.asks at_time in
-    let from = ends-from l.servers h.heard h.stands.keeps.from_pool in
-    let by_ip = bounded-images (rules_of 5000000) (by_address 5000000) (class_of_sent s.query) (class_of_answer s.query) (at_address h.ip_of) same_self same_is l.servers from h.beside asked in
-    bounded-permuted (by_address 5000000) (class_of_answer s.query) h.ends (map (at_address h.ip_of) l.servers) h.ips (IsPermutation-sym h.ips (map (at_address h.ip_of) l.servers) h.whole) by_ip
+    let from = ends_from l.servers h.heard h.stands.keeps.from_pool in
+    let by_ip = bounded_images (rules_of 5000000) (by_address 5000000) (class_of_sent s.query) (class_of_answer s.query) (at_address h.ip_of) same_self same_is l.servers from h.beside asked in
+    bounded_permuted (by_address 5000000) (class_of_answer s.query) h.ends (map (at_address h.ip_of) l.servers) h.ips (IsPermutation-sym h.ips (map (at_address h.ip_of) l.servers) h.whole) by_ip
 
 -- by addresses, in the order of the list, no later than the moment
 run-of : (seen : View) (pools : Pools) (n : ℕ) (s : Sought) (h : SoughtHolds seen pools n s) (answer : Answered) (at : ℕ) → at ≤ seen.moment
@@ -339,9 +185,9 @@ run-of seen pools n s h answer at early ran =
     let run = subst (λ (t : ℕ). PoolRun (rules_of 5000000) (class_of_sent s.query) l.servers (ends_of h.heard) answer t at) h.starts asked in
     let plain = recursion_from_All IsTrustedBeyondUdp l.servers
     (All-weaker (λ c. IsAt pools.shared.table (h.ip_of c.server) c) IsTrustedBeyondUdp (λ c at. record { beyond_udp = at.beyond_udp; trusted = at.trusted }) l.servers h.known) in
-    let from = ends-from l.servers h.heard h.stands.keeps.from_pool in
+    let from = ends_from l.servers h.heard h.stands.keeps.from_pool in
     let by_ip = run_by_address 5000000 h.ip_of l.servers (class_of_sent s.query) (class_of_answer s.query) plain from h.beside run in
-    run-later at seen.moment early (PoolRun-permuted (map (at_address h.ip_of) l.servers) h.ips (IsPermutation-sym h.ips (map (at_address h.ip_of) l.servers) h.whole) by_ip)
+    run_later at seen.moment early (PoolRun-permuted (map (at_address h.ip_of) l.servers) h.ips (IsPermutation-sym h.ips (map (at_address h.ip_of) l.servers) h.whole) by_ip)
 
 module _ (seen : View) (pools : Pools) (n : ℕ) (s : Sought) (h : SoughtHolds seen pools n s) (begun : ℕ) (since : begun ≤ s.start) where
   abbrev g : List ℕ
@@ -355,7 +201,7 @@ module _ (seen : View) (pools : Pools) (n : ℕ) (s : Sought) (h : SoughtHolds s
       → Concluded seen begun s.zone s.query g answer
   concluded answer some run =
       let t = h.tried in
-      let lengths = sends-length t.logged in
+      let lengths = sends_length t.logged in
       let entries : 0 < length g = omega (arith, some, lengths.0) in
       let moments : 0 < length t.moments = omega (arith, some, lengths.1) in
       let past = h.past in
@@ -441,7 +287,7 @@ module _ (seen : View) (pools : Pools) (n : ℕ) (s : Sought) (h : SoughtHolds s
   decided-by : (answer : Answered) (d : IsDecided (by_address 5000000) (class_of_answer s.query) h.ends answer) (c : Class) → class_of_answer s.query d.last.outcome ≡ c
       → is_retryable true c ≡ false → Comes answer
   decided-by answer d (Positive m) is final =
-      let whole = answer-whole (told_of d.last.outcome) s.query m (class-told s.query d.last.outcome ∙ ap Some is) in
+      let whole = answer_whole (told_of d.last.outcome) s.query m (class-told s.query d.last.outcome ∙ ap Some is) in
       let left = positive d.earlier d.last m d.whole is (is_all_denied denied m) refl in
       subst Comes (sym (d.answers ∙ ap answer_of is))
       (subst (λ (o : Option Record). AskHolds seen begun s.zone s.query g (answered_by (last_of g) s.at (elim o [
@@ -463,8 +309,8 @@ module _ (seen : View) (pools : Pools) (n : ℕ) (s : Sought) (h : SoughtHolds s
       let c = class_of_answer s.query d.last.outcome in
       decided-by answer d c refl (not_false (is_retryable true c) (and_parts (not (is_retryable true c)) _ d.final).0)
   answered-by answer (spent e) =
-      ended answer (what_is_left (by_address 5000000) (class_of_answer s.query) h.ends) e.answers (left-lookup 5000000 s.query h.ends e.none)
-      (spent-some 5000000 s.query h.ips h.ends h.served.pool.some e.tried) (spent e)
+      ended answer (what_is_left (by_address 5000000) (class_of_answer s.query) h.ends) e.answers (lookup-error (what_is_left (by_address 5000000) (class_of_answer s.query) h.ends) (left_error 5000000 s.query h.ends e.none))
+      (spent_some 5000000 s.query h.ips h.ends h.served.pool.some e.tried) (spent e)
   answered-by answer (late l) = ended answer net.Timeout l.answers refl (late-some h.ends l.some) (late l)
 
   -- What a lookup came to that was answered.

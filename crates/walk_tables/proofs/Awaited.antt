@@ -25,7 +25,7 @@ use Rattle.walk_tables.specs.declared.pools.Given.{Given}
 use Rattle.walk_tables.specs.declared.pools.Pools.{Pools}
 use Rattle.walk_tables.specs.declared.pools.Sought.{Sought}
 use Rattle.walk_tables.proofs.Giving.{sought-there}
-use Rattle.walk_tables.proofs.Orders.{gives-open}
+use Rattle.retry_lookup.proofs.Orders.{gives_open}
 
 -- It waits for the order that was given for it last, where that is open at it.
 awaits : (pools : Pools) (n : ℕ) (s : Sought) (g : Given) → sought_at pools n ≡ Some s → s.given ≡ Some g → open_at g.number pools.shared ≡ Some n → awaited_in pools n ≡ Some g.number
@@ -67,7 +67,7 @@ module _ (n now : ℕ) (old mid new : Pools) (told : PoolStep) (number : ℕ) (o
           (open_is (old.shared.given + 1) n (moved_to s.step.next l) mid.shared (record {
             order = ap (under (old.shared.given + 1)) orders ∙ inserted (old.shared.given + 1) n old.shared.orders;
             there = ap (under n) s.step.lookups ∙ found_with n (moved_to s.step.next) l old.shared.lookups there;
-            waits = gives-open (old.shared.given + 1) now old.shared.table (started now l.lookup) given s.step.next g;
+            waits = gives_open (old.shared.given + 1) now old.shared.table (started now l.lookup) given s.step.next g;
           }))
       by step.Waiting e g orders = cc
       by (step.Done answer) e g orders = cc

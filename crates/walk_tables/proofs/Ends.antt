@@ -1,13 +1,12 @@
 -- What a send of a lookup ended with, as the log shows it.
-use Rattle.std.proofs.Common.{◌≡◌, ℕ, ◌+◌, ◌-◌, ◌^◌, ◌≤◌, min, Bool, true, false, cond, Option, Some, None, Result, Ok, Err, refl, sym, ap, subst, ◌∙◌, arith}
+use Rattle.std.proofs.Common.{◌≡◌, ℕ, ◌+◌, ◌-◌, ◌^◌, ◌≤◌, min, Bool, true, false, Option, Some, None, Result, Ok, Err, refl, sym, ap, subst, ◌∙◌, arith}
 use Rattle.std.specs.Prelude.{IsTrue, if◌then◌else◌}
 use Rattle.std.proofs.lemmas.Bool.{leb-true}
-use Rattle.std.proofs.lemmas.Option.{same_Some, none-some}
+use Rattle.std.proofs.lemmas.Option.{same_Some}
 use Rattle.std.specs.declared.net.ip_addr.IpAddr.{IpAddr}
 use Rattle.dns_core.specs.Name.{DomainName}
 use Rattle.dns_core.specs.Log.{Log}
 use Rattle.dns_core.specs.Classifying.{classify_of}
-use Rattle.dns_core.specs.declared.connection.Protocol.{Protocol}
 use Rattle.dns_core.specs.declared.errors.NoMemory.{NoMemory}
 use Rattle.dns_core.specs.declared.message.Query.{Query}
 use Rattle.dns_core.specs.declared.message.Message.{Message}
@@ -25,19 +24,18 @@ use Rattle.resolution.specs.Ending.EndsSend.{answered}
 use Rattle.resolution.specs.Serving.{Serves, Heard}
 use Rattle.resolution.specs.Serving.Heard.{heard}
 use Rattle.resolution.proofs.Keeping.{Serves-later}
-use Rattle.server_core.specs.Sending.{is_open, asked_of, opening_of, pendings, end_of, is_last_poll, after_put, is_tried_again, after_error, after_opening, response_end, result_of, lost, polled, polled_once, taken, come_to}
+use Rattle.server_core.specs.Sending.{is_open, asked_of, pendings, end_of, is_last_poll, after_put, response_end, result_of, lost, taken, come_to}
 use Rattle.server_core.specs.declared.order.After.{After}
 use Rattle.server_core.specs.declared.order.After.TheVariants as after
 use Rattle.server_core.specs.declared.order.Sent.{Sent}
 use Rattle.server_core.specs.declared.order.Outcome.{Outcome}
 use Rattle.server_core.specs.declared.order.Outcome.TheVariants.{Pending, Connected, Told, Failed, Slept}
 use Rattle.server_core.specs.declared.server_send.Asked.{Asked}
-use Rattle.server_core.specs.declared.server_send.Stage.{Stage}
-use Rattle.server_core.specs.declared.server_send.Stage.TheVariants as stage
 use Rattle.server_core.specs.declared.server_send.ServerSend.{ServerSend}
 use Rattle.retry_rules.specs.Agenda.{class_of_sent}
 use Rattle.retry_lookup.specs.Hearing.{closing_entry}
 use Rattle.retry_lookup.specs.Running.{IsFor as IsAt_stage}
+use Rattle.retry_lookup.proofs.SendEnds.{lost_end, polled_end, is_open_for, comes_open, asked_there, connected_goes_on}
 use Rattle.order_carrier.specs.Fits.{Closes, WaitsBy, OutcomeIs}
 use Rattle.server_pool.proofs.ByAddress.{told_class_itself}
 use Rattle.walk_tables.specs.Order.{IsFor, IsGivenUpIn, is_given_up, LogGoesOnIf, LogGoesOn, last_entry}
@@ -76,74 +74,6 @@ error-denial net.QueryCaseMismatch h = cc
 error-denial (net.ForeignClassRecord n c t) h = cc
 error-denial (net.Msg text) h = cc
 error-denial net.NoMemory h = cc
-
--- ---- how an outcome ends a send
-
--- what an order that was lost leaves
-lost-by : (o : Option Asked) (error : NetError) (s : ServerSend) (result : Answered) → end_of (after_error o error s).stage ≡ Some result → Err error ≡ result
-lost-by None error s result is = same_Some _ _ is
-lost-by (Some asked) error s result is = by (is_tried_again s.retried asked error) is
-  where
-    by : (again : Bool) → end_of (cond again (record s { retried = true; stage = stage.Ready }) (record s { stage = stage.Ended (Err error) })).stage ≡ Some result → Err error ≡ result
-    by true h = cc
-    by false h = same_Some _ _ h
-
-lost-end : (error : NetError) (s : ServerSend) (result : Answered) → end_of (lost error s).stage ≡ Some result → Err error ≡ result
-lost-end error s result is = lost-by (asked_of s.stage) error s result is
-
--- a poll before the last one ends nothing
-pub once-open : (at : Stage) → is_open at ≡ true → end_of (polled_once at) ≡ None
-once-open stage.Ready opened = cc
-once-open (stage.Opening protocol order polls) opened = refl
-once-open (stage.Opened protocol conn) opened = cc
-once-open (stage.Asking asked polls) opened = refl
-once-open (stage.Ended result) opened = cc
-once-open stage.Over opened = cc
-
--- the last poll ends it with a timeout
-pub polled-end : (patience : ℕ) (s : ServerSend) (result : Answered) → is_open s.stage ≡ true → end_of (polled patience s).stage ≡ Some result → (is_last_poll patience s.stage ≡ true) × (Err net.Timeout ≡ result)
-polled-end patience s result opened is = by (is_last_poll patience s.stage) refl is
-  where
-    by : (b : Bool) → is_last_poll patience s.stage ≡ b → end_of (cond b (lost net.Timeout s) (record s { stage = polled_once s.stage })).stage ≡ Some result
-        → (is_last_poll patience s.stage ≡ true) × (Err net.Timeout ≡ result)
-    by true e h = (e, lost-end net.Timeout s result h)
-    by false e h = absurd (none-some result (sym (once-open s.stage opened) ∙ h))
-
--- an order to open or to ask is open
-pub is-open : (asks : Bool) (at : Stage) → IsAt_stage asks at → is_open at ≡ true
-is-open asks stage.Ready for = absurd for
-is-open asks (stage.Opening protocol order polls) for = refl
-is-open asks (stage.Opened protocol conn) for = absurd for
-is-open asks (stage.Asking asked polls) for = refl
-is-open asks (stage.Ended r) for = absurd for
-is-open asks stage.Over for = absurd for
-
--- what it comes to is what the outcome makes of it
-pub come-open : (patience : ℕ) (o : Outcome) (s : ServerSend) → is_open s.stage ≡ true → come_to patience o s ≡ taken patience o s
-come-open patience o s opened = ap (λ (b : Bool). cond b (taken patience o s) s) opened
-
--- one that opens has an opening
-opening-there : (at : Stage) → IsAt_stage false at → (x : Protocol × ℕ) × (opening_of at ≡ Some x)
-opening-there stage.Ready for = absurd for
-opening-there (stage.Opening protocol order polls) for = ((protocol, order), refl)
-opening-there (stage.Opened protocol conn) for = absurd for
-opening-there (stage.Asking asked polls) for = cc
-opening-there (stage.Ended r) for = absurd for
-opening-there stage.Over for = absurd for
-
--- and one that asks a question
-asked-there : (at : Stage) → IsAt_stage true at → (x : Asked) × (asked_of at ≡ Some x)
-asked-there stage.Ready for = absurd for
-asked-there (stage.Opening protocol order polls) for = cc
-asked-there (stage.Opened protocol conn) for = absurd for
-asked-there (stage.Asking asked polls) for = (asked, refl)
-asked-there (stage.Ended r) for = absurd for
-asked-there stage.Over for = absurd for
-
-connected-goes_on : (s : ServerSend) (result : Answered) → IsAt_stage false s.stage → end_of (after_opening (opening_of s.stage) s).stage ≡ Some result → ⊥
-connected-goes_on s result for is =
-    let x = opening-there s.stage for in
-    none-some result (subst (λ (o : Option (Protocol × ℕ)). end_of (after_opening o s).stage ≡ Some result) x.1 is)
 
 -- ---- what the order of it came to
 
@@ -237,10 +167,10 @@ module _ (seen : View) (now since : ℕ) (zone : DomainName) (q : Query) (ip : I
   module _ (patience start : ℕ) (first : Option IpAddr) (ended asks : Bool) (before : Option ℕ) (s : ServerSend) (told : Log) (did : After) (result : Answered) (patient : seen.setting.patience ≤ patience)
       (for : IsAt_stage asks s.stage) where
     opened : is_open s.stage ≡ true
-    opened = is-open asks s.stage for
+    opened = is_open_for asks s.stage for
 
     taken-end : (o : Outcome) → end_of (come_to patience o s).stage ≡ Some result → end_of (taken patience o s).stage ≡ Some result
-    taken-end o is = sym (ap (λ (x : ServerSend). end_of x.stage) (come-open patience o s opened)) ∙ is
+    taken-end o is = sym (ap (λ (x : ServerSend). end_of x.stage) (comes_open patience o s opened)) ∙ is
 
     -- a poll that found nothing was the last one
     gives-up : (entry of : ℕ) → did ≡ after_put patience s.stage (Pending entry of) → is_last_poll patience s.stage ≡ true → did ≡ after.GiveUp
@@ -256,7 +186,7 @@ module _ (seen : View) (now since : ℕ) (zone : DomainName) (q : Query) (ip : I
         → end_of (come_to patience (Pending entry of) s).stage ≡ Some result → IsEndedBy seen now (closing_entry (Pending entry of)) zone q ip result × (sent_to w (Pending entry of) ≡ Some ip)
     pending-end None entry of may by goes is enough end = absurd may
     pending-end (Some w) entry of may by goes is enough end =
-        let p = polled-end patience s result opened (taken-end (Pending entry of) end) in
+        let p = polled_end patience s result opened (taken-end (Pending entry of) end) in
         let up = up-in entry of w (gives-up entry of is p.0) goes in
         let most : patience ≤ pendings s.stage + 1 = leb-true patience (pendings s.stage + 1) p.0 in
         let many : seen.setting.patience ≤ waits seen.log w.of (entry + 1) = subst (λ (k : ℕ). seen.setting.patience ≤ waits seen.log k (entry + 1)) (sym may.0) (omega (arith, patient, most, enough)) in
@@ -274,9 +204,9 @@ module _ (seen : View) (now since : ℕ) (zone : DomainName) (q : Query) (ip : I
         → IsEndedBy seen now (closing_entry o) zone q ip result × (sent_to w o ≡ Some ip)
     ended-by w (Pending entry of) may fits by goes is enough end = pending-end w entry of may by goes is (enough entry of refl) end
     ended-by w (Connected entry sent) may fits by goes is enough end =
-        absurd (connected-goes_on s result (subst (λ (b : Bool). IsAt_stage b s.stage) may.0 for) (taken-end (Connected entry sent) end))
+        absurd (connected_goes_on s result (subst (λ (b : Bool). IsAt_stage b s.stage) may.0 for) (taken-end (Connected entry sent) end))
     ended-by w (Told entry sent message) may fits by goes is enough end =
-        let x = asked-there s.stage (subst (λ (b : Bool). IsAt_stage b s.stage) may.0 for) in
+        let x = asked_there s.stage (subst (λ (b : Bool). IsAt_stage b s.stage) may.0 for) in
         let told_end : response_end (asked_of s.stage) (classify_of message) ≡ result = same_Some _ _ (taken-end (Told entry sent message) end) in
         let result_is : result_of (classify_of message) ≡ result = sym (ap (λ (o : Option Asked). response_end o (classify_of message)) x.1) ∙ told_end in (
           subst (λ (r : Answered). IsEndedBy seen now entry zone q ip r) result_is
@@ -284,7 +214,7 @@ module _ (seen : View) (now since : ℕ) (zone : DomainName) (q : Query) (ip : I
           ap (λ (x : IpAddr). Some x) (sent-to asks ip q since sent may.1.over),
         )
     ended-by w (Failed entry sent refused error) may fits by goes is enough end = (
-      subst (λ (r : Answered). IsEndedBy seen now entry zone q ip r) (lost-end error s result (taken-end (Failed entry sent refused error) end)) (failed-end asks entry sent refused error may.0 may.1.over fits),
+      subst (λ (r : Answered). IsEndedBy seen now entry zone q ip r) (lost_end error s result (taken-end (Failed entry sent refused error) end)) (failed-end asks entry sent refused error may.0 may.1.over fits),
       ap (λ (x : IpAddr). Some x) (sent-to asks ip q since sent may.1.over),
     )
     ended-by w Slept may fits by goes is enough end = absurd may
@@ -298,7 +228,7 @@ module _ (seen : View) (now since : ℕ) (zone : DomainName) (q : Query) (ip : I
         → last_entry (done-so did) w o ≡ closing_entry o
     ended-last None (Pending entry of) may is end = absurd may
     ended-last (Some w) (Pending entry of) may is end =
-        ap (λ (d : After). last_entry (done-so d) (Some w) (Pending entry of)) (gives-up entry of is (polled-end patience s result opened (taken-end (Pending entry of) end)).0)
+        ap (λ (d : After). last_entry (done-so d) (Some w) (Pending entry of)) (gives-up entry of is (polled_end patience s result opened (taken-end (Pending entry of) end)).0)
     ended-last w (Connected entry sent) may is end = ap (λ (d : After). last_entry (done-so d) w (Connected entry sent)) (ended-is is)
     ended-last w (Told entry sent message) may is end = ap (λ (d : After). last_entry (done-so d) w (Told entry sent message)) (ended-is is)
     ended-last w (Failed entry sent refused error) may is end = ap (λ (d : After). last_entry (done-so d) w (Failed entry sent refused error)) (ended-is is)

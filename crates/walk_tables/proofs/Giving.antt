@@ -50,7 +50,7 @@ use Rattle.walk_tables.specs.declared.pools.Given.{Given}
 use Rattle.walk_tables.specs.declared.pools.Pools.{Pools}
 use Rattle.walk_tables.specs.declared.pools.Sought.{Sought}
 use Rattle.walk_tables.proofs.Pooling.{config-same, servers-with, carried-beside, carried-same, sought-carried}
-use Rattle.walk_tables.proofs.Orders.{no-polls}
+use Rattle.retry_lookup.proofs.Orders.{no_polls}
 use Rattle.walk_tables.proofs.Sharing.{stepped-numbered}
 
 -- the address of a server that is reached so
@@ -149,7 +149,7 @@ module _ (seen : View) (old new : Pools) (n : ℕ) (s : Sought) (told : PoolStep
         by : (made : LookupStep) → gives.Order number o ≡ told_as (old.shared.given + 1) made → Gives (old.shared.given + 1) seen.moment old.shared.table (started seen.moment l) made t.step.next → pendings a.send.stage ≡ 0
         by (step.Order given) e g =
             let same : number ≡ old.shared.given + 1 = cc in
-            no-polls (old.shared.given + 1) seen.moment old.shared.table (started seen.moment l) given t.step.next idle g asking a
+            no_polls (old.shared.given + 1) seen.moment old.shared.table (started seen.moment l) given t.step.next idle g asking a
             (subst (λ (k : ℕ). find (is_open_at k) t.step.next.attempts ≡ Some a) same found)
         by step.Waiting e g = cc
         by (step.Done answer) e g = cc

@@ -32,7 +32,8 @@ use Rattle.walk_tables.specs.View.{View, Later, given_of}
 use Rattle.walk_tables.specs.Tried.{BeganBy, Began, AreHeard, Tried, IsTimed, machine_timer, Concluded}
 use Rattle.walk_tables.specs.Pools.{AreServers, IsWaitedFor, IsSentTo, GivenHolds, SoughtHolds, PoolsHold, ArePool, AreFor}
 use Rattle.walk_tables.specs.Remembered.{EntryHolds, CacheHolds}
-use Rattle.walk_tables.specs.Lookup.{AskHolds, LookupHolds, left_of_class}
+use Rattle.walk_base.specs.Shown.{left_of_class}
+use Rattle.walk_tables.specs.Lookup.{AskHolds, LookupHolds}
 use Rattle.walk_tables.specs.Taking.{TablesHold}
 use Rattle.walk_tables.specs.declared.pools.Aim.{Aim}
 use Rattle.walk_tables.specs.declared.pools.Aim.TheVariants as aim

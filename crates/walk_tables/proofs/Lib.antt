@@ -6,16 +6,13 @@ pub mod Waited
 pub mod Pooling
 pub mod Meeting
 pub mod Beginning
-pub mod Orders
 pub mod Ends
-pub mod Taken
 pub mod Tries
 pub mod Giving
 pub mod Putting
 pub mod Losing
 pub mod Outcomes
 pub mod Begun
-pub mod Bounding
 pub mod Answering
 pub mod Puts
 pub mod Counting

@@ -36,7 +36,7 @@ use Rattle.walk_tables.proofs.Ends.{done-so}
 use Rattle.walk_tables.proofs.Putting.{entries-more, come-stands, taken-holds, slept-holds, pools-after}
 use Rattle.walk_tables.proofs.Puts.{goes-on, put-later, later-put}
 use Rattle.walk_tables.proofs.Sharing.{put-there, put-order, put-numbered}
-use Rattle.walk_tables.proofs.Taken.{heard-none, heard-some, heard-sleep, open-has, sleep-has}
+use Rattle.retry_lookup.proofs.Taken.{heard_none, heard_some, heard_sleep, open_has, sleep_has}
 
 -- ---- the open order
 
@@ -64,9 +64,9 @@ module _ (seen : View) (old : Pools) (n : ℕ) (w : Option Sent) (o : Outcome) (
 
   -- it stands under its number, and is open
   order-open : (a : Aim) → GivenHolds seen old n s.zone l.servers l g a → (lookup_of old.shared g.number ≡ Some n) × (has_order g.number l ≡ true)
-  order-open (aim.Open ip) gave = (gave.of, open-has g.number gave.candidate false l gave.open_to)
-  order-open (aim.Ask ip) gave = (gave.of, open-has g.number gave.candidate true l gave.open_to)
-  order-open aim.Sleep gave = (gave.0, sleep-has g.number l gave.1)
+  order-open (aim.Open ip) gave = (gave.of, open_has g.number gave.candidate false l gave.open_to)
+  order-open (aim.Ask ip) gave = (gave.of, open_has g.number gave.candidate true l gave.open_to)
+  order-open aim.Sleep gave = (gave.0, sleep_has g.number l gave.1)
 
   -- The open order of a lookup is open at it.
   pub open-order : IsOpenOrder g.number n holds.shared_by old.shared
@@ -208,14 +208,14 @@ module _ (seen : View) (longer : Log) (old mid new : Pools) (n : ℕ) (tick : Ti
       (subst (λ (at : ℕ). SoughtHolds next new n (with_both (sent_to w o) at)) at taken)
     where
       ended-is : (r : Option Answered) → end_by tick.patience o to.open_to.attempt ≡ r → note.ended ≡ is_some r
-      ended-is None is = none-ended (heard-none (denies seen.setting.answer_filter) tick g.number o hold.heard state to.candidate asks to.open_to is)
-      ended-is (Some r) is = some-ended to.candidate r (closing_entry o) (heard-some (denies seen.setting.answer_filter) tick g.number o hold.heard state to.candidate asks to.open_to r is)
+      ended-is None is = none-ended (heard_none (denies seen.setting.answer_filter) tick g.number o hold.heard state to.candidate asks to.open_to is)
+      ended-is (Some r) is = some-ended to.candidate r (closing_entry o) (heard_some (denies seen.setting.answer_filter) tick g.number o hold.heard state to.candidate asks to.open_to r is)
 
   -- a sleep
   slept-after : (under : IsBackingOffUnder g.number state) → g.aim ≡ aim.Sleep → SoughtHolds next new n after
   slept-after under asleep =
       let slept = slept-holds seen last put.on.told longer put.on.tells.extends on ahead.extends old new n its tick w o put.patient ahead.moment ahead.greatest rest-new hold g there-new asleep under did puts.did order-new in
-      let none : note.ended ≡ false = none-ended (heard-sleep (denies seen.setting.answer_filter) tick g.number o hold.heard state under) in
+      let none : note.ended ≡ false = none-ended (heard_sleep (denies seen.setting.answer_filter) tick g.number o hold.heard state under) in
       let at : its.at ≡ unwrap_or (if note.ended then Some tick.now else None) its.at = at-noted None note.ended tick.now its.at none in
       let first : first_of g.aim w o ≡ None = ap (λ (a : Aim). first_of a w o) asleep in
       subst (λ (first : Option IpAddr). SoughtHolds next new n (with_both first (unwrap_or (if note.ended then Some tick.now else None) its.at))) (sym first)

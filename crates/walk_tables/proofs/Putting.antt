@@ -52,7 +52,7 @@ use Rattle.walk_tables.proofs.Pooling.{config-same}
 use Rattle.walk_tables.proofs.Giving.{known-still, pools-given}
 use Rattle.walk_tables.proofs.Sends.{outcome-extend, waits-extend_by}
 use Rattle.walk_tables.proofs.Ends.{IsEndedBy, done-so, ended-by, ended-last}
-use Rattle.walk_tables.proofs.Taken.{open-did, heard-none, heard-some, keeps, kept-open, kept-has, heard-sleep, rests-under, rests-has}
+use Rattle.retry_lookup.proofs.Taken.{open_did, heard_none, heard_some, keeps, kept_open, kept_has, heard_sleep, rests_under, rests_has}
 use Rattle.walk_tables.proofs.Tries.{tried-more, tried-on, outcome-began}
 use Rattle.walk_tables.proofs.Waited.{polled-more, polled-waited}
 
@@ -162,7 +162,7 @@ module _ (seen : View) (last : ℕ) (told longer : Log) (x : Extends seen.log to
     waited = waits-extend_by told longer y w o tells.waits_by
 
     did-put : did ≡ after_put tick.patience sent.open_to.attempt.send.stage o
-    did-put = did-is ∙ open-did denied tick number o h.heard l c asks sent.open_to
+    did-put = did-is ∙ open_did denied tick number o h.heard l c asks sent.open_to
 
     -- the address of the candidate
     at-ip : h.ip_of c.server ≡ ip
@@ -229,9 +229,9 @@ module _ (seen : View) (last : ℕ) (told longer : Log) (x : Extends seen.log to
       sent-still : IsSentTo next new n s.zone come.servers come again asks ip
       sent-still =
           let past = sent.past in
-          let still = kept-open denied tick number o h.heard l c asks sent.open_to did did-is kept in
+          let still = kept_open denied tick number o h.heard l c asks sent.open_to did did-is kept in
           record {
-            of = order (kept-has denied tick number o h.heard l c asks sent.open_to did did-is kept);
+            of = order (kept_has denied tick number o h.heard l c asks sent.open_to did did-is kept);
             candidate = c;
             from_pool = subst (λ (cs : List Candidate). Contains cs c) (sym come-servers) sent.from_pool;
             at = record {
@@ -256,7 +256,7 @@ module _ (seen : View) (last : ℕ) (told longer : Log) (x : Extends seen.log to
       taken-by : (result : Option Answered) → end_by tick.patience o sent.open_to.attempt ≡ result
           → SoughtHolds next new n (record s { given = given_after again did; first = either s.first (sent_to w o); at = elim result [ None ↦ s.at | Some r ↦ tick.now ] })
       taken-by None is =
-          come-holds h.heard (heard-none denied tick number o h.heard l c asks sent.open_to is) h.ends (given_after again did) (either s.first (sent_to w o)) s.at h.beside
+          come-holds h.heard (heard_none denied tick number o h.heard l c asks sent.open_to is) h.ends (given_after again did) (either s.first (sent_to w o)) s.at h.beside
           (tried-on seen next ahead s.zone s.query h.ips s.start s.first (sent_to w o) ns h.ends s.at h.tried first-began) (given-still did refl)
       taken-by (Some r) is =
           let past = h.past in
@@ -275,7 +275,7 @@ module _ (seen : View) (last : ℕ) (told longer : Log) (x : Extends seen.log to
           let below : seen.greatest < last = omega (arith, under, past-entry) in
           let more = tried-more seen next ahead s.zone s.query h.ips s.start s.first (either s.first (sent_to w o)) ns h.ends s.at ip r by h.tried below start from-ips here in
           let heard-is : heard_after tick.patience number o h.heard l ≡ with_end h.heard c r last =
-          heard-some denied tick number o h.heard l c asks sent.open_to r is ∙ ap (λ (k : ℕ). with_end h.heard c r k) (sym closing) in
+          heard_some denied tick number o h.heard l c asks sent.open_to r is ∙ ap (λ (k : ℕ). with_end h.heard c r k) (sym closing) in
           come-holds (with_end h.heard c r last) heard-is (h.ends ++ end ∷ []) (given_after again did) (either s.first (sent_to w o)) tick.now
           (subst (λ es. SameEnds (at_address h.ip_of) (class_of_sent s.query) (class_of_answer s.query) es (h.ends ++ end ∷ [])) (sym (ends-more h.heard c r last))
           (beside_push (IsSameEnd (at_address h.ip_of) (class_of_sent s.query) (class_of_answer s.query)) h.beside (record { server = sym at-ip; outcome = by.class })))
@@ -299,7 +299,7 @@ module _ (seen : View) (last : ℕ) (told longer : Log) (x : Extends seen.log to
     resting : did ≡ after.Kept → GivenHolds next new n s.zone come.servers come rested g.aim
     resting kept =
         subst (λ (a : Aim). GivenHolds next new n s.zone come.servers come rested a) (sym asleep)
-        (order (rests-has denied tick g.number o h.heard l under did did-is kept), rests-under denied tick g.number o h.heard l under did did-is kept)
+        (order (rests_has denied tick g.number o h.heard l under did did-is kept), rests_under denied tick g.number o h.heard l under did did-is kept)
 
     rested-by : (d : After) → did ≡ d → IfSome (given_after rested d) (λ k. GivenHolds next new n s.zone come.servers come k k.aim)
     rested-by after.Kept is = resting is
@@ -309,7 +309,7 @@ module _ (seen : View) (last : ℕ) (told longer : Log) (x : Extends seen.log to
 
     pub slept-holds : SoughtHolds next new n (record s { given = given_after rested did; first = either s.first None; at = s.at })
     slept-holds =
-        come-holds h.heard (heard-sleep denied tick g.number o h.heard l under) h.ends (given_after rested did) (either s.first None) s.at h.beside
+        come-holds h.heard (heard_sleep denied tick g.number o h.heard l under) h.ends (given_after rested did) (either s.first None) s.at h.beside
         (tried-on seen next ahead s.zone s.query h.ips s.start s.first None (entries_of h.heard) h.ends s.at h.tried (λ none known. tt)) (rested-by did refl)
 
 -- ---- all of them

@@ -25,7 +25,8 @@ use Rattle.dns_core.specs.declared.net_error.DnsError.TheVariants as dns
 use Rattle.resolution.specs.Walking.{Walked}
 use Rattle.walk_base.specs.Kept.{kept_of, response_in}
 use Rattle.walk_tables.specs.Lookup.{IsTold}
-use Rattle.walk_tables.specs.Remembered.{IsShown, EntryHolds, CacheHolds, Telling, written, remembered}
+use Rattle.walk_base.specs.Shown.{IsShown}
+use Rattle.walk_tables.specs.Remembered.{EntryHolds, CacheHolds, Telling, written, remembered}
 use Rattle.recursor_setting.specs.declared.setting.Setting.{Setting}
 use Rattle.walk_tables.specs.View.{View, given_of}
 use Rattle.walk_tables.proofs.Counting.{counts-of}

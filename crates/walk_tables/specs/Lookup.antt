@@ -1,24 +1,22 @@
 -- Where a lookup stands, how many steps it has before it, and what it came to.
-use Rattle.std.specs.Prelude.{◌≡◌, ℕ, ◌≤◌, ◌<◌, Bool, true, false, IsTrue, if◌then◌else◌, List, [], Option, Some, None, Result, Ok, Err}
+use Rattle.std.specs.Prelude.{◌≡◌, ℕ, ◌≤◌, ◌<◌, Bool, true, false, IsTrue, List, Option, Some, None, Result, Ok, Err}
 use Rattle.std.specs.List.{last_or}
-use Rattle.std.specs.declared.net.ip_addr.IpAddr.{IpAddr}
 use Rattle.dns_core.specs.Name.{DomainName}
 use Rattle.dns_core.specs.declared.message.Query.{Query}
 use Rattle.dns_core.specs.declared.message.Message.{Message as Response}
-use Rattle.dns_core.specs.declared.net_error.NoRecords.{NoRecords}
 use Rattle.dns_core.specs.declared.net_error.DnsError.{DnsError}
 use Rattle.dns_core.specs.declared.log.ToldOutcome.{ToldOutcome}
 use Rattle.resolver_settings.specs.Access.{denies}
 use Rattle.resolution.specs.Names.{is_above, walk}
 use Rattle.resolution.specs.Class.{class_of}
-use Rattle.resolution.specs.Verdict.{is_all_denied, without_denied}
 use Rattle.resolution.specs.Serving.{Heard}
 use Rattle.resolution.specs.declared.class.Class.{Class}
-use Rattle.resolution.specs.declared.class.Class.TheVariants.{Error, Code, Truncated, Negative, Foreign, Positive}
+use Rattle.resolution.specs.declared.class.Class.TheVariants.{Error}
 use Rattle.dns_core.specs.declared.net_error.NetError.{NetError}
 use Rattle.dns_core.specs.declared.net_error.NetError.TheVariants as net
 use Rattle.dns_core.specs.declared.net_error.DnsError.TheVariants as dns
 use Rattle.resolution.specs.Lookups.{Answered}
+use Rattle.walk_base.specs.Shown.{left_of_class}
 use Rattle.walk_tables.specs.Asked.{AskedAs}
 use Rattle.walk_tables.specs.View.{View, given_of}
 use Rattle.walk_tables.specs.Tried.{Concluded}
@@ -84,29 +82,12 @@ found_in (ask.Told entry at class) = Some (found.Told entry at class)
 found_in (ask.Failed error) = Some (found.Error error)
 found_in ask.Heard = None
 
--- what is left for a question where the filter of answers leaves nothing
-abbrev pub nothing_left_for : Query → NoRecords
-nothing_left_for q = record { query = q; soa = None; ns = None; response_code = record { code = 3 }; authorities = [] }
-
 -- what a failed lookup is answered with: another server is asked where one is busy or not reached
 abbrev pub is_lookup_error : NetError → Bool
 is_lookup_error net.Busy = false
 is_lookup_error (net.Io kind) = false
 is_lookup_error (net.Dns (dns.NoRecordsFound n)) = false
 is_lookup_error _ = true
-
--- what the filter of answers leaves of an answer
-abbrev pub left_of_answer : (IpAddr → Bool) → Query → Response → Result Response DnsError
-left_of_answer denied q m = if is_all_denied denied m then Err (dns.NoRecordsFound (nothing_left_for q)) else Ok (without_denied denied m)
-
--- what it leaves of a response; of anything else there is nothing
-abbrev pub left_of_class : (IpAddr → Bool) → Query → Class → Option (Result Response DnsError)
-left_of_class denied q (Positive m) = Some (left_of_answer denied q m)
-left_of_class denied q (Negative n) = Some (Err (dns.NoRecordsFound n))
-left_of_class denied q (Error e) = None
-left_of_class denied q (Code c) = None
-left_of_class denied q Truncated = None
-left_of_class denied q (Foreign r) = None
 
 -- Entry i, no later than the greatest, tells an answer or a denial for the question as it was asked, by a server of the zone, at this moment, at or after t0;
 -- the class is what the filter of answers leaves of it.

@@ -13,25 +13,15 @@ use Rattle.resolution.specs.Verdict.{verdict}
 use Rattle.resolution.specs.Life.{life_in_seconds}
 use Rattle.resolution.specs.Serving.{Heard}
 use Rattle.resolution.specs.declared.verdict.Verdict.{Verdict}
-use Rattle.resolution.specs.declared.verdict.Verdict.TheVariants.{Pos, Neg, Made}
-use Rattle.resolution.specs.declared.verdict.Cause.TheVariants.{Filter}
 use Rattle.resolution.specs.Walking.{Walked}
 use Rattle.walk_base.specs.Kept.{kept_of, response_in}
+use Rattle.walk_base.specs.Shown.{IsShown}
 use Rattle.walk_tables.specs.Asked.{AskedAs}
 use Rattle.walk_tables.specs.View.{View, given_of}
-use Rattle.walk_tables.specs.Lookup.{nothing_left_for}
 use Rattle.walk_tables.specs.declared.lookup.Ask.{Ask}
 use Rattle.walk_tables.specs.declared.lookup.Ask.TheVariants as ask
 
 -- ---- what holds of the cache
-
--- as what a verdict is shown: as it is, or as a negative where the filter of answers left nothing
-abbrev pub IsShown : Query → Verdict → Verdict → Type 0
-IsShown q (Pos a) (Pos b) = a ≡ b
-IsShown q (Neg a) (Neg b) = a ≡ b
-IsShown q (Neg a) (Made Filter) = a ≡ nothing_left_for q
-IsShown q (Made a) (Made b) = a ≡ b
-IsShown q _ _ = ⊥
 
 -- The response under a question, as it was asked, shows the verdict of the entry that it names, told by a server of a zone to which a walk went down, and it
 -- expires no later than its life after the moment of the telling.

@@ -1,26 +1,11 @@
 //! What a finished lookup leaves in the cache of responses.
 ghost use Rattle.std.specs.Prelude.{◌≡◌, OnOk, OnErr};
-ghost use Rattle.walk_base.specs.Kept.{response_in};
 ghost use Rattle.walk_tables.specs.Remembered.{remembered};
 
-use dns_core::{DnsError, Message, Name, NetError, NoMemory, Query, RecordType, TryClone};
+use dns_core::{DnsError, Message, Name, NoMemory, Query, RecordType, TryClone};
 use resolver_cache::ResponseCache;
 use std::alloc::Global;
-use walk_base::{kept_of, verdict_of_class};
-
-/// As what a message is kept that was told for the question by a server of the zone.
-fn kept_in(
-    class: Result<Message, DnsError>,
-    query: &Query,
-    zone: &Name,
-) -> Option<Result<Message, NetError>>
-    ensures { result ≡ response_in zone.now query.now class }
-{
-    match verdict_of_class(class, query, zone) {
-        Ok(verdict) => kept_of(verdict),
-        Err(_) => None,
-    }
-}
+use walk_base::response_in;
 
 /// Writes what was told for a question by a server of the zone, by an entry, at a moment, where it is
 /// kept.
@@ -36,7 +21,7 @@ pub(crate) fn write(
     ensures ok { OnOk result (cache.new ≡ remembered cache.old (Some (record { zone = zone.now; query = query.now; entry = entry; at = at; class = class }))) }
     ensures err { OnErr result (cache.new ≡ cache.old) }
 {
-    let Some(response) = kept_in(class, query, zone) else {
+    let Some(response) = response_in(class, query, zone) else {
         return Ok(());
     };
     let query = query.try_clone(alloc)?;

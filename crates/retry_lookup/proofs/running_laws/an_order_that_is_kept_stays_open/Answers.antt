@@ -1,4 +1,4 @@
-use Rattle.retry_lookup.proofs.Stays.{order_kept}
+use Rattle.retry_lookup.proofs.Taken.{order_kept}
 use Rattle.retry_lookup.proofs.running_laws.an_order_that_is_kept_stays_open.Goals as goal
 
 pub returns : goal.returns
