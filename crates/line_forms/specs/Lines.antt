@@ -21,7 +21,7 @@ use Rattle.line_forms.specs.declared.rules.Counts.{Counts}
 use Rattle.line_forms.specs.declared.rules.MessageHead.{MessageHead}
 use Rattle.text_words.specs.Addresses.{ip_of}
 use Rattle.text_words.specs.Codes.{type_of, response_code_of, class_in}
-use Rattle.text_words.specs.Fields.{Fields, field, in_table, both, skip, whole, nothing, wide_field}
+use Rattle.text_words.specs.Fields.{Fields, field, in_table, end_of, both, skip, whole, nothing, wide_field}
 use Rattle.text_words.specs.Names.{relaxed_name, full_name}
 use Rattle.text_words.specs.Numbers.{◌>>=◌, number_within}
 use Rattle.line_forms.specs.OptionForm.{option_line_of}
@@ -116,6 +116,10 @@ connect_fields = both (field ip_of) (both (field (in_table protocols)) (both del
 
 abbrev pub connect_from : connect_parts → Form
 connect_from x = form.Rule (Connect x.0 x.1.0 x.1.1.0 (result_err x.1.1.1))
+
+-- the rule of a connection, where no word is left
+abbrev pub connect_rule : List (List ℕ) → connect_parts → Option Form
+connect_rule ws x = end_of ws >>= λ e. Some (connect_from x)
 
 abbrev pub reply_parts : Type 0
 reply_parts = IpAddr × (Protocol × (DomainName × (RecordType × (ℕ × Result MessageHead NetError))))

@@ -20,11 +20,19 @@ use Rattle.text_words.specs.Pieces.{pieces}
 unfoldable pub record_head : Fields (DomainName × (ℕ × (DnsClass × RecordType)))
 record_head = both (field full_name) (both wide_field (both (field class_of) (field type_of)))
 
+-- the last three numbers of an SOA
+abbrev pub soa_lives : Fields (ℕ × (ℕ × ℕ))
+soa_lives = both wide_field (both wide_field wide_field)
+
+-- the five numbers of an SOA
+abbrev pub soa_numbers : Fields (ℕ × (ℕ × (ℕ × (ℕ × ℕ))))
+soa_numbers = both wide_field (both wide_field soa_lives)
+
 abbrev pub soa_parts : Type 0
 soa_parts = DomainName × (DomainName × (ℕ × (ℕ × (ℕ × (ℕ × ℕ)))))
 
 abbrev pub soa_fields : Fields soa_parts
-soa_fields = both (field full_name) (both (field full_name) (both wide_field (both wide_field (both wide_field (both wide_field wide_field)))))
+soa_fields = both (field full_name) (both (field full_name) soa_numbers)
 
 abbrev pub soa_from : soa_parts → Soa
 soa_from x = record { mname = x.0; rname = x.1.0; serial = x.1.1.0; refresh = x.1.1.1.0; retry = x.1.1.1.1.0; expire = x.1.1.1.1.1.0; minimum = x.1.1.1.1.1.1 }

@@ -1,7 +1,7 @@
 //! The lines of a scenario that are no record lines, each read on its own.
 ghost use Rattle.std.specs.Prelude.{◌≡◌};
 ghost use Rattle.text_words.specs.Fields.{Gives, GivesFields, field, in_table};
-ghost use Rattle.line_forms.specs.Lines.{protocols, failures, flags, dnssec_words, counts_fields, message_fields, delay_field, connected_fields, answered_fields, bare_message, head_of, root_of, option_of, patience_of, told_of, connect_of, refuse_of, reply_of, question_of, turn_of, end_line_of, form_of};
+ghost use Rattle.line_forms.specs.Lines.{protocols, failures, flags, dnssec_words, counts_fields, message_fields, delay_field, connected_fields, answered_fields, bare_message, connect_rule, head_of, root_of, option_of, patience_of, told_of, connect_of, refuse_of, reply_of, question_of, turn_of, end_line_of, form_of};
 
 use crate::option_form::{OptionLine, option_line};
 use crate::rules::{Counts, MessageHead, OpenRule};
@@ -14,7 +14,7 @@ use std::net::IpAddr;
 use text_words::{LineError, Words};
 
 /// What a line says that is no record line.
-#[derive(Drop, Debug)]
+#[derive(Drop)]
 pub enum Form {
     Head,
     Root(IpAddr),
@@ -252,6 +252,25 @@ fn bare_message(alloc: Global, name: Name, query_type: RecordType, head: Message
     }
 }
 
+/// The rule of a connection, where no word is left.
+fn connect_rule(
+    words: &Words,
+    ip: IpAddr,
+    protocol: Protocol,
+    delay: u32,
+    outcome: Result<(), NetError>,
+) -> Result<Form, LineError>
+    ensures { Gives result (connect_rule words.now (ip, (protocol, (delay, outcome)))) }
+{
+    words.end()?;
+    Ok(Form::Rule(ScriptLine::Connect {
+        ip,
+        protocol,
+        delay,
+        error: outcome.err(),
+    }))
+}
+
 #[tactic(auto, unfolding(crate::specs::Lines::connect_of))]
 fn connect_line(alloc: Global, words: &mut Words) -> Result<Form, LineError>
     ensures { Gives result (connect_of words.old) }
@@ -260,13 +279,7 @@ fn connect_line(alloc: Global, words: &mut Words) -> Result<Form, LineError>
     let protocol = protocol(words)?;
     let delay = delay(words)?;
     let outcome = connected(words)?;
-    words.end()?;
-    Ok(Form::Rule(ScriptLine::Connect {
-        ip,
-        protocol,
-        delay,
-        error: outcome.err(),
-    }))
+    connect_rule(words, ip, protocol, delay, outcome)
 }
 
 #[tactic(auto, unfolding(crate::specs::Lines::refuse_of))]

@@ -14,14 +14,14 @@ use text_words::{LineError, Words};
 const STANDARD_LIMIT: u8 = 24;
 
 /// The least and the greatest time to live, in seconds.
-#[derive(Clone, Copy, Debug, PartialEq, Eq)]
+#[derive(Clone, Copy)]
 pub struct Bounds {
     pub least: u64,
     pub most: u64,
 }
 
 /// An option that a line sets. A further option has a variant here, its rank, and what it changes.
-#[derive(Drop, Debug)]
+#[derive(Drop)]
 pub enum OptionLine {
     ResponseCacheSize(u64),
     RecursionLimit(u8),

@@ -8,7 +8,7 @@ ghost use Rattle.text_words.specs.Hex.{bytes_of};
 ghost use Rattle.text_words.specs.Names.{full_name};
 ghost use Rattle.text_words.specs.Numbers.{ipv4_of};
 ghost use Rattle.text_words.specs.Fields.{wide_field};
-ghost use Rattle.line_forms.specs.RecordLines.{record_head, soa_of, signature_of, data_of, record_from, record_of_data, record_of};
+ghost use Rattle.line_forms.specs.RecordLines.{record_head, soa_lives, soa_numbers, soa_of, signature_of, data_of, record_from, record_of_data, record_of};
 
 use dns_core::{DnsClass, Name, RData, Record, RecordType, Soa};
 use std::alloc::Global;
@@ -69,17 +69,33 @@ fn alias_data(alloc: Global, words: &mut Words) -> Result<RData, LineError>
     Ok(RData::CNAME(target))
 }
 
+/// The last three numbers of an SOA.
+fn soa_lives(words: &mut Words) -> Result<(u32, (u32, u32)), LineError>
+    ensures { GivesFields result words.new (soa_lives words.old) }
+{
+    let retry = wide(words)?;
+    let expire = wide(words)?;
+    let minimum = wide(words)?;
+    Ok((retry, (expire, minimum)))
+}
+
+/// The five numbers of an SOA.
+fn soa_numbers(words: &mut Words) -> Result<(u32, (u32, (u32, (u32, u32)))), LineError>
+    ensures { GivesFields result words.new (soa_numbers words.old) }
+{
+    let serial = wide(words)?;
+    let refresh = wide(words)?;
+    let lives = soa_lives(words)?;
+    Ok((serial, (refresh, lives)))
+}
+
 #[tactic(auto, unfolding(crate::specs::RecordLines::soa_of))]
 fn soa_data(alloc: Global, words: &mut Words) -> Result<RData, LineError>
     ensures { Gives result (soa_of words.old) }
 {
     let mname = words.full_name(alloc)?;
     let rname = words.full_name(alloc)?;
-    let serial = wide(words)?;
-    let refresh = wide(words)?;
-    let retry = wide(words)?;
-    let expire = wide(words)?;
-    let minimum = wide(words)?;
+    let (serial, (refresh, (retry, (expire, minimum)))) = soa_numbers(words)?;
     words.end()?;
     Ok(RData::SOA(Soa {
         mname,

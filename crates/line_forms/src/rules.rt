@@ -4,7 +4,7 @@ use dns_core::{Message, Protocol, ResponseCode};
 use std::net::IpAddr;
 
 /// How many records of each section are still to come.
-#[derive(Clone, Copy, Debug, PartialEq, Eq)]
+#[derive(Clone, Copy)]
 pub struct Counts {
     pub answers: u32,
     pub authorities: u32,
@@ -12,7 +12,7 @@ pub struct Counts {
 }
 
 /// What the line of a message says of it: all but its question and its records.
-#[derive(Clone, Copy, Debug, PartialEq, Eq)]
+#[derive(Clone, Copy)]
 pub struct MessageHead {
     pub response_code: ResponseCode,
     pub authoritative: bool,
@@ -21,7 +21,7 @@ pub struct MessageHead {
 }
 
 /// A rule that tells a message, some of whose records are still to come.
-#[derive(Drop, Debug)]
+#[derive(Drop)]
 pub struct OpenRule {
     pub ip: IpAddr,
     pub protocol: Protocol,

@@ -1,6 +1,6 @@
 //! What errors print where no contract says it: kinds of messages, causes, and errors that hold one of these.
 
-use dns_core::Name;
+use dns_core::{Name, NameError};
 use recursor_types::{MessageKind, RecursorError, WalkCause};
 use std::alloc::Global;
 use std::fmt;
@@ -15,68 +15,79 @@ fn prints<T: fmt::Display>(alloc: Global, value: &T, text: &str) -> Result<(), F
     Err(Fail::new(format_args!("{printed} in place of {text}")))
 }
 
+/// The same of a value that is not used again, as it was made or not made: a body that lets go of a large
+/// one itself is dear to prove.
+fn prints_once<T: fmt::Display + Drop>(
+    alloc: Global,
+    made: Result<T, NameError>,
+    text: &str,
+) -> Result<(), Fail> {
+    let value = made?;
+    prints(alloc, &value, text)
+}
+
+/// Kinds of messages, and their texts.
+const KINDS: [(MessageKind, &str); 4] = [
+    (
+        MessageKind::NotQualified,
+        "query's domain name must be fully qualified",
+    ),
+    (MessageKind::NoRoots, "roots must not be empty"),
+    (MessageKind::ReversedTtl, "minimum TTL above maximum TTL"),
+    (
+        MessageKind::FirstDelays,
+        "first delays must be from 1 to 31",
+    ),
+];
+
 #[test]
 fn kinds_of_messages_print_their_texts(rt: HostRuntime) -> Result<(), Fail> {
     let alloc = rt.alloc();
-    prints(
-        alloc,
-        &MessageKind::NotQualified,
-        "query's domain name must be fully qualified",
-    )?;
-    prints(alloc, &MessageKind::NoRoots, "roots must not be empty")?;
-    prints(
-        alloc,
-        &MessageKind::ReversedTtl,
-        "minimum TTL above maximum TTL",
-    )?;
-    prints(
-        alloc,
-        &MessageKind::FirstDelays,
-        "first delays must be from 1 to 31",
-    )?;
-    prints(
-        alloc,
-        &RecursorError::Message(MessageKind::NoRoots),
-        "roots must not be empty",
-    )
+    for (value, text) in &KINDS {
+        prints(alloc, value, *text)?;
+    }
+    let error = RecursorError::Message(MessageKind::NoRoots);
+    prints_once(alloc, Ok(error), "roots must not be empty")
 }
+
+/// Causes, and their texts.
+const CAUSES: [(WalkCause, &str); 6] = [
+    (WalkCause::DepthLimit, "maximum recursion limit exceeded"),
+    (WalkCause::Timeout, "net error: Timeout"),
+    (
+        WalkCause::NoAddress,
+        "no glue found for any nameservers for zone",
+    ),
+    (WalkCause::Budget, "per-request query budget exceeded"),
+    (WalkCause::ZoneEntries, "zone entry limit exceeded"),
+    (
+        WalkCause::Collision,
+        "zone is already on the resolution stack",
+    ),
+];
 
 #[test]
 fn causes_print_their_texts(rt: HostRuntime) -> Result<(), Fail> {
     let alloc = rt.alloc();
-    prints(
-        alloc,
-        &WalkCause::DepthLimit,
-        "maximum recursion limit exceeded",
-    )?;
-    prints(alloc, &WalkCause::Timeout, "net error: Timeout")?;
-    prints(
-        alloc,
-        &WalkCause::NoAddress,
-        "no glue found for any nameservers for zone",
-    )?;
-    prints(
-        alloc,
-        &WalkCause::Budget,
-        "per-request query budget exceeded",
-    )?;
-    prints(alloc, &WalkCause::ZoneEntries, "zone entry limit exceeded")?;
-    prints(
-        alloc,
-        &WalkCause::Collision,
-        "zone is already on the resolution stack",
-    )
+    for (value, text) in &CAUSES {
+        prints(alloc, value, *text)?;
+    }
+    Ok(())
+}
+
+fn unserved(alloc: Global) -> Result<RecursorError, NameError> {
+    let zone = Name::parse(alloc, "example.com.")?;
+    Ok(RecursorError::NoNameServer {
+        zone,
+        cause: WalkCause::Timeout,
+    })
 }
 
 #[test]
 fn a_zone_without_servers_is_named(rt: HostRuntime) -> Result<(), Fail> {
-    let error = RecursorError::NoNameServer {
-        zone: Name::parse(rt.alloc(), "example.com.")?,
-        cause: WalkCause::Timeout,
-    };
-    prints(
+    prints_once(
         rt.alloc(),
-        &error,
+        unserved(rt.alloc()),
         "no nameserver found for example.com.: net error: Timeout",
     )
 }

@@ -22,6 +22,17 @@ pub fn seen<S: Copy, T: Sight<S>>(value: T) -> S {
     value.sight()
 }
 
+/// Two values, where both were made. A body that asks for several values, each alive while it asks for the
+/// next, is dear to prove.
+pub fn both<A: Drop, B: Drop, E: Drop>(
+    left: Result<A, E>,
+    right: Result<B, E>,
+) -> Result<(A, B), E> {
+    let left = left?;
+    let right = right?;
+    Ok((left, right))
+}
+
 /// A value takes the place of another.
 pub fn put_in<T: Drop>(place: &mut T, value: T)
     ensures { place.new ≡ value }
@@ -116,21 +127,37 @@ fn authority(alloc: Global) -> Result<Record, NameError> {
     record(alloc, RecordType::SOA, RData::SOA(soa))
 }
 
+/// Adds a value, as it was made or not made. What is made piece by piece is lent to functions that add to
+/// it so: a body that asks for many large values itself is dear to prove.
+fn put<T: Drop>(to: &mut Items<T>, made: Result<T, NameError>) -> Result<(), NameError> {
+    let value = made?;
+    to.push(value)?;
+    Ok(())
+}
+
+fn put_addresses(alloc: Global, to: &mut Records) -> Result<(), NameError> {
+    put(to, address(alloc))?;
+    put(to, wide_address(alloc))
+}
+
 pub fn addresses(alloc: Global) -> Result<Records, NameError> {
     let mut records = Records::empty(alloc);
-    records.push(address(alloc)?)?;
-    records.push(wide_address(alloc)?)?;
+    put_addresses(alloc, &mut records)?;
     Ok(records)
+}
+
+fn put_others(alloc: Global, to: &mut Records) -> Result<(), NameError> {
+    put(to, server(alloc))?;
+    put(to, alias(alloc))?;
+    put(to, opaque(alloc))?;
+    put(to, signature(alloc))?;
+    put(to, authority(alloc))
 }
 
 /// Records of the other kinds of data.
 pub fn others(alloc: Global) -> Result<Records, NameError> {
     let mut records = Records::empty(alloc);
-    records.push(server(alloc)?)?;
-    records.push(alias(alloc)?)?;
-    records.push(opaque(alloc)?)?;
-    records.push(signature(alloc)?)?;
-    records.push(authority(alloc)?)?;
+    put_others(alloc, &mut records)?;
     Ok(records)
 }
 
@@ -166,32 +193,22 @@ pub fn forward(alloc: Global) -> Result<ForwardNsData, NameError> {
 
 fn forwards(alloc: Global) -> Result<Items<ForwardNsData>, NameError> {
     let mut forwards = Items::empty(alloc);
-    forwards.push(forward(alloc)?)?;
+    put(&mut forwards, forward(alloc))?;
     Ok(forwards)
-}
-
-fn put_data(alloc: Global, to: &mut NoRecords) -> Result<(), NameError> {
-    to.soa = Some(authority(alloc)?);
-    to.ns = Some(forwards(alloc)?);
-    to.authorities = others(alloc)?;
-    Ok(())
-}
-
-fn nothing(alloc: Global) -> Result<NoRecords, NameError> {
-    Ok(NoRecords {
-        query: query(alloc)?,
-        soa: None,
-        ns: None,
-        response_code: ResponseCode::NXDomain,
-        authorities: Records::empty(alloc),
-    })
 }
 
 /// That `a.` does not exist, with all that a denial may tell.
 pub fn no_records(alloc: Global) -> Result<NoRecords, NameError> {
-    let mut found = nothing(alloc)?;
-    put_data(alloc, &mut found)?;
-    Ok(found)
+    let told = both(authority(alloc), query(alloc));
+    let more = both(forwards(alloc), others(alloc));
+    let ((soa, query), (ns, authorities)) = both(told, more)?;
+    Ok(NoRecords {
+        query,
+        soa: Some(soa),
+        ns: Some(ns),
+        response_code: ResponseCode::NXDomain,
+        authorities,
+    })
 }
 
 pub fn denial(alloc: Global) -> Result<NetError, NameError> {

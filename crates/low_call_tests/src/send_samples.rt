@@ -1,10 +1,14 @@
 //! Sends to one server, and what is seen of their steps.
-ghost use Rattle.std.specs.Prelude.{◌≡◌, ◌<◌, length};
+ghost use Rattle.std.specs.Prelude.{◌≡◌, ◌<◌, IfOk, length};
 ghost use Rattle.server_core.specs.Servers.{place_of};
 
-use crate::message_samples::{Sight, addresses, put_in, request, response, seen, server_address};
+use crate::message_samples::{
+    Sight, addresses, both, put_in, request, response, seen, server_address,
+};
 use crate::server_samples::{Reached, context, server};
-use dns_core::{IoKind, Message, NameError, NetError, NoMemory, Protocol, Records, ResponseCode};
+use dns_core::{
+    DnsRequest, IoKind, Message, NameError, NetError, NoMemory, Protocol, Records, ResponseCode,
+};
 use server_core::{
     After, ConnectionPolicy, Order, Outcome, PoolContext, SendStep, Sent, ServerSend, ServerTable,
     Status, Tick,
@@ -13,7 +17,7 @@ use std::alloc::Global;
 use std::test::Fail;
 
 /// What a send ends with that has no answer.
-#[derive(Clone, Copy, Debug, PartialEq, Eq)]
+#[derive(Clone, Copy, Debug, PartialEq)]
 pub enum End {
     Closed,
     Refused,
@@ -25,7 +29,7 @@ pub enum End {
 /// What is seen of a call: over which protocol a connection is opened, over which connection the
 /// request is asked, what a send ends with, what an outcome did, or the numbers of the first two
 /// connections to the server, 0 for none.
-#[derive(Clone, Copy, Debug, PartialEq, Eq)]
+#[derive(Clone, Copy, Debug, PartialEq)]
 pub enum Seen {
     Opens(Protocol),
     Asks(u64),
@@ -71,7 +75,7 @@ pub enum Call {
 
 /// What is kept of the server after an outcome: the delay of its first connection and its status, and
 /// its own delay as it reads, in whole microseconds.
-#[derive(Clone, Copy, Debug, PartialEq, Eq)]
+#[derive(Clone, Copy, Debug, PartialEq)]
 pub struct Kept {
     pub connection: u32,
     pub status: Status,
@@ -158,6 +162,16 @@ fn told(message: Message) -> Outcome {
     }
 }
 
+fn answered(alloc: Global) -> Result<Outcome, NameError> {
+    let answers = addresses(alloc)?;
+    Ok(told(message(alloc, 0, false, answers)?))
+}
+
+fn told_empty(alloc: Global, code: u16, truncation: bool) -> Result<Outcome, NameError> {
+    let message = message(alloc, code, truncation, Records::empty(alloc))?;
+    Ok(told(message))
+}
+
 fn outcome(alloc: Global, what: What) -> Result<Outcome, NameError> {
     match what {
         What::Pending => Ok(Outcome::Pending { entry: 2, of: 1 }),
@@ -165,10 +179,10 @@ fn outcome(alloc: Global, what: What) -> Result<Outcome, NameError> {
             entry: 2,
             sent: sent(),
         }),
-        What::Answer => Ok(told(message(alloc, 0, false, addresses(alloc)?)?)),
-        What::Cut => Ok(told(message(alloc, 0, true, Records::empty(alloc))?)),
-        What::Empty => Ok(told(message(alloc, 0, false, Records::empty(alloc))?)),
-        What::Code(code) => Ok(told(message(alloc, code, false, Records::empty(alloc))?)),
+        What::Answer => answered(alloc),
+        What::Cut => told_empty(alloc, 0, true),
+        What::Empty => told_empty(alloc, 0, false),
+        What::Code(code) => told_empty(alloc, code, false),
         What::Closed => Ok(failed(NetError::Io(IoKind::Closed))),
         What::Refused => Ok(failed(NetError::Io(IoKind::Refused))),
         What::Busy => Ok(failed(NetError::Busy)),
@@ -234,19 +248,48 @@ fn put_to(
     Ok(Seen::Has(send.put(alloc, table, context, outcome, tick(now))?))
 }
 
+/// What is made for a course beside its table: the requests of its sends, and the context.
+type Parts = ((DnsRequest, DnsRequest), PoolContext);
+
+fn context_of(alloc: Global) -> Result<PoolContext, NameError> {
+    Ok(context(alloc)?)
+}
+
+fn parts(alloc: Global) -> Result<Parts, NameError> {
+    let requests = both(request(alloc), request(alloc));
+    both(requests, context_of(alloc))
+}
+
+/// A table of one server.
+fn table_of(alloc: Global, reached: Reached) -> Result<ServerTable, NameError>
+    ensures { IfOk result (λ table. length table ≡ 1) }
+{
+    let server = server(alloc, reached)?;
+    let mut table = ServerTable::new(alloc);
+    table.add(alloc, server)?;
+    Ok(table)
+}
+
 impl Course {
     fn over(alloc: Global, reached: Reached, disable_udp: bool) -> Result<Course, NameError> {
+        let table = table_of(alloc, reached)?;
+        Course::at(table, parts(alloc), disable_udp)
+    }
+
+    fn at(
+        table: ServerTable,
+        parts: Result<Parts, NameError>,
+        disable_udp: bool,
+    ) -> Result<Course, NameError>
+        requires { length table ≡ 1 }
+    {
         let policy = ConnectionPolicy { disable_udp };
-        let first = request(alloc)?;
-        let late = request(alloc)?;
-        let mut table = ServerTable::new(alloc);
-        let context = context(alloc)?;
-        let number = table.add(alloc, server(alloc, reached)?)?;
+        let ((first, late), context) = parts?;
         Ok(Course {
             table,
             context,
-            first: ServerSend::new(number, first, policy),
-            late: ServerSend::new(number, late, policy),
+            first: ServerSend::new(1, first, policy),
+            late: ServerSend::new(1, late, policy),
         })
     }
 
@@ -269,6 +312,16 @@ impl Course {
         self.table.get(self.first.server).decayed_srtt(now) >> 60
     }
 
+    fn next_of_first(&mut self, alloc: Global, now: u64) -> Result<Seen, NameError> {
+        let (table, context) = (&mut self.table, &mut self.context);
+        Ok(next_of(alloc, table, context, &mut self.first, now)?)
+    }
+
+    fn next_of_late(&mut self, alloc: Global, now: u64) -> Result<Seen, NameError> {
+        let (table, context) = (&mut self.table, &mut self.context);
+        Ok(next_of(alloc, table, context, &mut self.late, now)?)
+    }
+
     fn put_first(&mut self, alloc: Global, what: What, now: u64) -> Result<Seen, NameError> {
         let (table, context) = (&mut self.table, &mut self.context);
         put_to(alloc, table, context, &mut self.first, what, now)
@@ -283,23 +336,11 @@ impl Course {
 impl Stepped for Course {
     fn see(&mut self, alloc: Global, call: Call, now: u64) -> Result<Seen, NameError> {
         match call {
-            Call::Next => Ok(next_of(
-                alloc,
-                &mut self.table,
-                &mut self.context,
-                &mut self.first,
-                now,
-            )?),
+            Call::Next => self.next_of_first(alloc, now),
             Call::Put(what) => self.put_first(alloc, what, now),
             Call::TakeEnd => Ok(seen(self.first.take_end())),
             Call::Again { disable_udp } => self.begin_again(alloc, disable_udp),
-            Call::LateNext => Ok(next_of(
-                alloc,
-                &mut self.table,
-                &mut self.context,
-                &mut self.late,
-                now,
-            )?),
+            Call::LateNext => self.next_of_late(alloc, now),
             Call::LatePut(what) => self.put_late(alloc, what, now),
             Call::Connections => Ok(Seen::Connections(self.connection(0), self.connection(1))),
             Call::Delay => Ok(Seen::Delay(self.delay(now))),

@@ -184,25 +184,38 @@ const UNCHANGED: Kept = Kept {
     server: 10,
 };
 
-/// The same over a connection that stands.
-fn standing(kept: Kept) -> Kept {
-    Kept {
-        status: Status::Established,
-        ..kept
-    }
-}
+/// A failure over a connection that stands.
+const STANDING_FAILURE: Kept = Kept {
+    connection: 151_000,
+    status: Status::Established,
+    server: 149_168,
+};
+
+/// What counts not at all, over a connection that stands.
+const STANDING: Kept = Kept {
+    connection: 1_000,
+    status: Status::Established,
+    server: 10,
+};
+
+/// Outcomes, and what each leaves.
+const LEFT: [(What, Kept); 9] = [
+    (What::Answer, ANSWERED),
+    (What::Cut, ANSWERED),
+    (What::Empty, STANDING_FAILURE),
+    (What::Code(3), STANDING_FAILURE),
+    (What::Code(5), STANDING),
+    (What::Busy, FAILURE),
+    (What::Closed, FAILURE),
+    (What::Timeout, FAILURE),
+    (What::Mismatch, UNCHANGED),
+];
 
 #[test]
 fn an_outcome_counts_by_its_time_as_a_failure_or_not_at_all(rt: HostRuntime) -> Result<(), Fail> {
     let alloc = rt.alloc();
-    keeps(alloc, What::Answer, ANSWERED)?;
-    keeps(alloc, What::Cut, ANSWERED)?;
-    keeps(alloc, What::Empty, standing(FAILURE))?;
-    keeps(alloc, What::Code(3), standing(FAILURE))?;
-    keeps(alloc, What::Code(5), standing(UNCHANGED))?;
-    keeps(alloc, What::Busy, FAILURE)?;
-    keeps(alloc, What::Closed, FAILURE)?;
-    keeps(alloc, What::Timeout, FAILURE)?;
-    keeps_given_up(alloc, FAILURE)?;
-    keeps(alloc, What::Mismatch, UNCHANGED)
+    for (what, wanted) in &LEFT {
+        keeps(alloc, *what, *wanted)?;
+    }
+    keeps_given_up(alloc, FAILURE)
 }

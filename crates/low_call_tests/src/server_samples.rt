@@ -174,7 +174,7 @@ fn of_tcp_and_udp(alloc: Global) -> Result<NameServer, NoMemory> {
 }
 
 /// How a server is reached, and the connections that were opened to it: 3 and 4, in the user's order.
-#[derive(Clone, Copy, Debug)]
+#[derive(Clone, Copy)]
 pub enum Reached {
     /// Over UDP and TCP, without a connection.
     Unopened,

@@ -1,7 +1,8 @@
 //! Servers: their connections, their ways, and how a connection to them is chosen.
 
+use crate::message_samples::both;
 use crate::server_samples::{Reached, context, opened, server};
-use dns_core::Protocol;
+use dns_core::{NoMemory, Protocol};
 use resolver_settings::ServerOrderingStrategy;
 use server_core::{ConnectionPolicy, NameServer, PoolContext, ServerTable};
 use std::alloc::Global;
@@ -23,8 +24,8 @@ fn numbers(server: NameServer) -> [u64; 3] {
     ]
 }
 
-fn is_ordered(server: NameServer, wanted: [u64; 3]) -> Result<(), Fail> {
-    let found = numbers(server);
+fn is_ordered(server: Result<NameServer, NoMemory>, wanted: [u64; 3]) -> Result<(), Fail> {
+    let found = numbers(server?);
     if found == wanted {
         return Ok(());
     }
@@ -40,8 +41,11 @@ fn protocols(server: NameServer) -> [Option<Protocol>; 3] {
 }
 
 /// The protocols of the ways to a server are these.
-fn is_reached_over(server: NameServer, wanted: [Option<Protocol>; 3]) -> Result<(), Fail> {
-    let found = protocols(server);
+fn is_reached_over(
+    server: Result<NameServer, NoMemory>,
+    wanted: [Option<Protocol>; 3],
+) -> Result<(), Fail> {
+    let found = protocols(server?);
     if found == wanted {
         return Ok(());
     }
@@ -51,13 +55,13 @@ fn is_reached_over(server: NameServer, wanted: [Option<Protocol>; 3]) -> Result<
 /// The places of the connection and of the way that are used, over UDP and without it.
 fn chosen(
     server: NameServer,
-    context: &PoolContext,
+    context: PoolContext,
     disable_udp: bool,
 ) -> (Option<usize>, Option<usize>) {
     let policy = ConnectionPolicy { disable_udp };
     (
-        policy.select_connection(&server, context, 0),
-        policy.select_connection_config(&server, context, 0),
+        policy.select_connection(&server, &context, 0),
+        policy.select_connection_config(&server, &context, 0),
     )
 }
 
@@ -67,8 +71,8 @@ fn is_chosen(
     disable_udp: bool,
     wanted: (Option<usize>, Option<usize>),
 ) -> Result<(), Fail> {
-    let context = context(alloc)?;
-    let found = chosen(server(alloc, reached)?, &context, disable_udp);
+    let (server, context) = both(server(alloc, reached), context(alloc))?;
+    let found = chosen(server, context, disable_udp);
     if found == wanted {
         return Ok(());
     }
@@ -79,13 +83,13 @@ fn is_chosen(
 fn servers_have_their_connections_and_their_ways(rt: HostRuntime) -> Result<(), Fail> {
     let alloc = rt.alloc();
     let given = ServerOrderingStrategy::UserProvidedOrder;
-    is_ordered(opened(alloc, &MIXED, given)?, [1, 2, 4])?;
+    is_ordered(opened(alloc, &MIXED, given), [1, 2, 4])?;
     let turns = ServerOrderingStrategy::RoundRobin;
-    is_ordered(opened(alloc, &MIXED, turns)?, [2, 4, 1])?;
-    is_ordered(server(alloc, Reached::Known)?, [3, 0, 0])?;
+    is_ordered(opened(alloc, &MIXED, turns), [2, 4, 1])?;
+    is_ordered(server(alloc, Reached::Known), [3, 0, 0])?;
     let (udp, tcp) = (Some(Protocol::Udp), Some(Protocol::Tcp));
-    is_reached_over(server(alloc, Reached::Unopened)?, [udp, tcp, None])?;
-    is_reached_over(server(alloc, Reached::ByUdp)?, [udp, None, None])
+    is_reached_over(server(alloc, Reached::Unopened), [udp, tcp, None])?;
+    is_reached_over(server(alloc, Reached::ByUdp), [udp, None, None])
 }
 
 #[test]

@@ -3,8 +3,8 @@
 use crate::message_samples::server_address;
 use crate::server_samples::{bounds, encrypted, filter, options, plain, resolver_config, written};
 use dns_core::{
-    Items, MemorySource, Name, NoMemory, Numbers, Ports, Protocol, ProtocolConfig, RecordType,
-    Source,
+    Items, MemorySource, Name, NameError, NoMemory, Numbers, Ports, Protocol, ProtocolConfig,
+    RecordType, Source,
 };
 use resolver_settings::{
     ConfError, IpNet, NameServerConfig, ResolverConfig, ResolverOpts, ServerOrderingStrategy,
@@ -34,6 +34,11 @@ fn recommended(alloc: Global) -> Result<(usize, Option<IpNet>), NoMemory> {
     Ok((nets.len(), nets.first().copied()))
 }
 
+fn are_recommended(alloc: Global) -> Result<bool, Fail> {
+    let loopback = net(127, 0, 8)?;
+    Ok(recommended(alloc)? == (22, Some(loopback)))
+}
+
 /// The bounds for answers of A, and for denials of NS.
 fn bounds_of(alloc: Global) -> Result<((u64, u64), (u64, u64)), NoMemory> {
     let config = bounds(alloc)?;
@@ -47,7 +52,7 @@ fn bounds_of(alloc: Global) -> Result<((u64, u64), (u64, u64)), NoMemory> {
 fn networks_and_bounds_are_set(rt: HostRuntime) -> Result<(), Fail> {
     let alloc = rt.alloc();
     assert!(rt; denied(alloc)? == (false, true));
-    assert!(rt; recommended(alloc)? == (22, Some(net(127, 0, 8)?)));
+    assert!(rt; are_recommended(alloc)?);
     assert!(rt; bounds_of(alloc)? == ((5, 6), (3, 4)));
     Ok(())
 }
@@ -71,8 +76,11 @@ fn ways(server: NameServerConfig) -> [Option<(u16, Protocol)>; 5] {
     ]
 }
 
-fn is_reached(server: NameServerConfig, wanted: [Option<(u16, Protocol)>; 5]) -> Result<(), Fail> {
-    let found = ways(server);
+fn is_reached(
+    server: Result<NameServerConfig, NoMemory>,
+    wanted: [Option<(u16, Protocol)>; 5],
+) -> Result<(), Fail> {
+    let found = ways(server?);
     if found == wanted {
         return Ok(());
     }
@@ -100,15 +108,15 @@ fn servers_are_reached_in_these_ways(rt: HostRuntime) -> Result<(), Fail> {
     let alloc = rt.alloc();
     let ip = server_address();
     is_reached(
-        NameServerConfig::udp(alloc, ip)?,
+        NameServerConfig::udp(alloc, ip),
         [UDP, None, None, None, None],
     )?;
     is_reached(
-        NameServerConfig::tcp(alloc, ip)?,
+        NameServerConfig::tcp(alloc, ip),
         [TCP, None, None, None, None],
     )?;
-    is_reached(plain(alloc)?, [UDP, TCP, None, None, None])?;
-    is_reached(encrypted(alloc)?, [UDP, TCP, TLS, QUIC, None])?;
+    is_reached(plain(alloc), [UDP, TCP, None, None, None])?;
+    is_reached(encrypted(alloc), [UDP, TCP, TLS, QUIC, None])?;
     assert!(rt; is_named(encrypted(alloc)?, "192.0.2.1"));
     Ok(())
 }
@@ -188,13 +196,22 @@ fn parsed(alloc: Global) -> Said {
 /// What that text says of a host in `example.com`.
 const WHOLE: Said = Ok(((1, 1, Some(2)), 3));
 
+fn is_read_whole(alloc: Global) -> bool {
+    parsed(alloc) == WHOLE
+}
+
+fn has_its_parts(alloc: Global) -> Result<bool, NameError> {
+    let config = resolver_config(alloc)?;
+    Ok(parts(config) == (1, 2, Some(1)))
+}
+
 #[test]
 fn configurations_are_made_and_read(rt: HostRuntime) -> Result<(), Fail> {
     let alloc = rt.alloc();
     assert!(rt; are_standard(alloc)?);
-    assert!(rt; parts(resolver_config(alloc)?) == (1, 2, Some(1)));
+    assert!(rt; has_its_parts(alloc)?);
     assert!(rt; gives(alloc, "a.com\tb.net.", "a.com b.net. ")?);
-    assert!(rt; parsed(alloc) == WHOLE);
+    assert!(rt; is_read_whole(alloc));
     Ok(())
 }
 
@@ -223,14 +240,22 @@ fn comment(alloc: Global, size: usize) -> Result<Vec<u8>, NoMemory> {
     Ok(vec![in alloc; b'#'; size]?)
 }
 
+fn reads_text(alloc: Global, call: u64, wanted: Said) -> Result<(), Fail> {
+    let text = TEXT.as_bytes().to_vec(alloc)?;
+    reads(alloc, text, call, wanted)
+}
+
+/// No call fails.
+fn reads_comment(alloc: Global, size: usize, wanted: Said) -> Result<(), Fail> {
+    let text = comment(alloc, size)?;
+    reads(alloc, text, 1000, wanted)
+}
+
 #[test]
 fn a_source_is_read_to_its_end_fails_or_is_too_long(rt: HostRuntime) -> Result<(), Fail> {
     let alloc = rt.alloc();
-    let text = TEXT.as_bytes();
-    reads(alloc, text.to_vec(alloc)?, 9, WHOLE)?;
-    reads(alloc, text.to_vec(alloc)?, 2, Err(ConfError::ReadFault))?;
-    let no_server = Err(ConfError::NoNameServers);
-    reads(alloc, comment(alloc, 1_048_576)?, 1000, no_server)?;
-    let too_long = Err(ConfError::TooLong);
-    reads(alloc, comment(alloc, 1_048_577)?, 1000, too_long)
+    reads_text(alloc, 9, WHOLE)?;
+    reads_text(alloc, 2, Err(ConfError::ReadFault))?;
+    reads_comment(alloc, 1_048_576, Err(ConfError::NoNameServers))?;
+    reads_comment(alloc, 1_048_577, Err(ConfError::TooLong))
 }

@@ -1,5 +1,5 @@
-//! Sources and sinks, whole and failing in mid-stream. Each is handed to generic functions, which let
-//! go of it or hand it back: a body that keeps one in memory alive is dear to prove.
+//! Sources and sinks, whole and failing in mid-stream. Each is handed to generic functions as it was made,
+//! or not made, which let go of it or hand it back: a body that keeps one in memory alive is dear to prove.
 
 use crate::message_samples::shown;
 use dns_core::{
@@ -59,8 +59,8 @@ const FRONT: [Result<&[u8], Failed>; 1] = [Ok(b"ab")];
 const REST: [Result<&[u8], Failed>; 3] = [Err(Failed), Ok(b"c"), Ok(b"")];
 
 /// A source goes on after its front, and so does its copy.
-fn goes_on<S: Source + TryClone>(alloc: Global, source: S) -> Result<(), Fail> {
-    let source = reads(source, &FRONT)?;
+fn goes_on<S: Source + TryClone>(alloc: Global, source: Result<S, NoMemory>) -> Result<(), Fail> {
+    let source = reads(source?, &FRONT)?;
     let copy = source.try_clone(alloc)?;
     reads(source, &REST)?;
     reads(copy, &REST)?;
@@ -69,7 +69,7 @@ fn goes_on<S: Source + TryClone>(alloc: Global, source: S) -> Result<(), Fail> {
 
 #[test]
 fn a_source_in_memory_fails_where_it_is_told_to(rt: HostRuntime) -> Result<(), Fail> {
-    goes_on(rt.alloc(), source_of(rt.alloc(), b"abc", 2)?)
+    goes_on(rt.alloc(), source_of(rt.alloc(), b"abc", 2))
 }
 
 /// A write of these bytes takes so many, or fails.
@@ -84,7 +84,8 @@ fn takes<K: Sink>(sink: &mut K, bytes: &[u8], wanted: Result<usize, Failed>) -> 
 /// Bytes to be written, one after another, and how many are taken.
 type Writes<'a> = &'a [(&'a [u8], Result<usize, Failed>)];
 
-fn writes<K: Sink + Drop>(mut sink: K, wanted: Writes<'_>) -> Result<K, Fail> {
+fn writes<K: Sink + Drop>(sink: Result<K, NoMemory>, wanted: Writes<'_>) -> Result<K, Fail> {
+    let mut sink = sink?;
     for (bytes, count) in wanted {
         takes(&mut sink, *bytes, *count)?;
     }
@@ -103,7 +104,8 @@ impl Keeps for MemorySink {
 }
 
 /// It kept this.
-fn has<K: Keeps>(sink: K, wanted: &[u8]) -> Result<(), Fail> {
+fn has<K: Keeps>(sink: Result<K, Fail>, wanted: &[u8]) -> Result<(), Fail> {
+    let sink = sink?;
     let found = sink.kept();
     if found == wanted {
         return Ok(());
@@ -112,10 +114,15 @@ fn has<K: Keeps>(sink: K, wanted: &[u8]) -> Result<(), Fail> {
 }
 
 /// It kept this, and so did its copy.
-fn has_again<K: Keeps + TryClone>(alloc: Global, sink: K, wanted: &[u8]) -> Result<(), Fail> {
+fn has_again<K: Keeps + TryClone>(
+    alloc: Global,
+    sink: Result<K, Fail>,
+    wanted: &[u8],
+) -> Result<(), Fail> {
+    let sink = sink?;
     let copy = sink.try_clone(alloc)?;
-    has(sink, wanted)?;
-    has(copy, wanted)
+    has(Ok(sink), wanted)?;
+    has(Ok(copy), wanted)
 }
 
 const SECOND_FAILS: [(&[u8], Result<usize, Failed>); 3] = [
@@ -126,7 +133,7 @@ const SECOND_FAILS: [(&[u8], Result<usize, Failed>); 3] = [
 
 #[test]
 fn a_sink_in_memory_keeps_what_it_took(rt: HostRuntime) -> Result<(), Fail> {
-    let sink = writes(sink_of(rt.alloc(), 2)?, &SECOND_FAILS)?;
+    let sink = writes(sink_of(rt.alloc(), 2), &SECOND_FAILS);
     has_again(rt.alloc(), sink, b"abef")
 }
 
@@ -138,7 +145,7 @@ const ALL_WRITTEN: [(&[u8], Result<usize, Failed>); 1] = [(b"abc", Ok(3))];
 fn the_streams_of_the_system_pass_bytes_on(rt: HostRuntime) -> Result<(), Fail> {
     let source = reads(StdSource::new(b"abc".as_slice()), &ALL_READ)?;
     assert_eq!(rt; source.faults, 0);
-    let sink = writes(StdSink::new(Vec::new(rt.alloc())), &ALL_WRITTEN)?;
+    let sink = writes(Ok(StdSink::new(Vec::new(rt.alloc()))), &ALL_WRITTEN)?;
     assert_eq!(rt; sink.faults, 0);
     Ok(())
 }
@@ -171,23 +178,32 @@ fn is_read(
     Err(Fail::new(format_args!("{found:?} in place of {wanted:?}, call {call}, at most {most}")))
 }
 
+/// The number of the call that fails, the limit, and what is read.
+const LIMITED: [(u64, usize, Result<usize, ReadError>); 7] = [
+    (0, 6000, Ok(5000)),
+    (0, 5000, Ok(5000)),
+    (0, 4999, Ok(4999)),
+    (0, 0, Ok(0)),
+    (1, 6000, Err(ReadError::Failed)),
+    (2, 6000, Err(ReadError::Failed)),
+    (3, 6000, Err(ReadError::Failed)),
+];
+
 #[test]
 fn a_source_is_read_to_its_end_or_the_limit_or_fails(rt: HostRuntime) -> Result<(), Fail> {
     let alloc = rt.alloc();
-    is_read(alloc, 0, 6000, Ok(5000))?;
-    is_read(alloc, 0, 5000, Ok(5000))?;
-    is_read(alloc, 0, 4999, Ok(4999))?;
-    is_read(alloc, 0, 0, Ok(0))?;
-    is_read(alloc, 1, 6000, Err(ReadError::Failed))?;
-    is_read(alloc, 2, 6000, Err(ReadError::Failed))?;
-    is_read(alloc, 3, 6000, Err(ReadError::Failed))
+    for (call, most, wanted) in &LIMITED {
+        is_read(alloc, *call, *most, *wanted)?;
+    }
+    Ok(())
 }
 
 /// Whole texts are written, or a write of them fails.
 fn writes_whole<K: Sink + Drop>(
-    mut sink: K,
+    sink: Result<K, NoMemory>,
     texts: &[(&[u8], Result<(), Failed>)],
 ) -> Result<K, Fail> {
+    let mut sink = sink?;
     for (text, wanted) in texts {
         let found = write_all(&mut sink, *text);
         if found != *wanted {
@@ -206,7 +222,7 @@ const ONE_IS_LOST: [(&[u8], Result<(), Failed>); 3] = [
 #[test]
 fn a_write_that_fails_is_told(rt: HostRuntime) -> Result<(), Fail> {
     has(
-        writes_whole(sink_of(rt.alloc(), 2)?, &ONE_IS_LOST)?,
+        writes_whole(sink_of(rt.alloc(), 2), &ONE_IS_LOST),
         b"frontend",
     )
 }

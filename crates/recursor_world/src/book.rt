@@ -7,14 +7,14 @@ ghost use Rattle.std.specs.Prelude.{◌≡◌, ℕ, ◌+◌, ◌-◌, min, filte
 
 use crate::course::{Course, Stage};
 use crate::index::{Asking, Endpoint, Index};
-use crate::late::{Late, Room, push_or_back};
+use crate::late::{Late, Room, let_go, push_or_back};
 use crate::script::{Script, ScriptLine};
 use dns_core::{IoKind, Items, Log, LogEntry, NetError, NoMemory, Query, ToldOutcome, TryClone};
 use std::alloc::Global;
 use std::collections::HashMap;
 
 /// A script, where its lines are, what each open entry still comes to, and the log.
-#[derive(Drop, Debug)]
+#[derive(Drop)]
 pub struct Book {
     pub script: Script,
     pub index: Index,
@@ -80,15 +80,23 @@ impl Book {
         ensures err { OnErr result ((n : ℕ) → open_at self.new n ≡ open_at self.old n) }
         ensures same { self.new ≡ record self.old { «open» = self.new.open } }
     {
-        self.open.insert(number, course)?;
-        Ok(())
+        match self.open.insert(number, course) {
+            Ok(replaced) => {
+                let_go(replaced);
+                Ok(())
+            }
+            Err(failed) => {
+                let_go(failed);
+                Err(NoMemory)
+            }
+        }
     }
 
     fn forget(&mut self, number: u64)
         ensures fewer { (n : ℕ) → open_at self.new n ≡ (if nat_eq number n then None else open_at self.old n) }
         ensures same { self.new ≡ record self.old { «open» = self.new.open } }
     {
-        self.open.remove(&number);
+        let_go(self.open.remove(&number));
     }
 
     /// Notes an entry that opened or asked, or forgets what it comes to.

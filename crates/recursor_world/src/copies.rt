@@ -2,18 +2,18 @@
 ghost use Rattle.std.specs.Prelude.{◌≡◌, IfOk};
 
 use crate::script::{Script, ScriptLine};
-use dns_core::{Message, NetError, NoMemory, TryClone};
+use dns_core::{NoMemory, TryClone};
 use std::alloc::Global;
 
 /// A copy of what a question comes to.
-fn outcome_copy(
+fn outcome_copy<T: TryClone, E: TryClone>(
     alloc: Global,
-    outcome: &Result<Message, NetError>,
-) -> Result<Result<Message, NetError>, NoMemory>
+    outcome: &Result<T, E>,
+) -> Result<Result<T, E>, NoMemory>
     ensures { IfOk result (λ copy. copy ≡ outcome.now) }
 {
     match outcome {
-        Ok(message) => Ok(Ok(message.try_clone(alloc)?)),
+        Ok(told) => Ok(Ok(told.try_clone(alloc)?)),
         Err(error) => Ok(Err(error.try_clone(alloc)?)),
     }
 }

@@ -1,22 +1,24 @@
 //! What a connection or a question comes to.
 ghost use Rattle.std.specs.Prelude.{◌≡◌, ◌↔◌, IfOk, IfSome, IsTrue};
 ghost use Rattle.dns_core.specs.NetError.{negative_query};
-ghost use Rattle.recursor_world.specs.Course.{error_about, answer};
+ghost use Rattle.recursor_world.specs.Course.{dns_error_about, error_about, answer};
 
+use crate::late::let_go;
 use crate::script::ScriptLine;
 use dns_core::{DnsError, Message, NetError, NoMemory, Query, ToldOutcome, TryClone};
 use std::alloc::Global;
+use std::mem;
 
 /// What a connection or a question comes to: it is told an outcome after some polls, or waits for
 /// ever.
-#[derive(Drop, Debug)]
+#[derive(Drop)]
 pub enum Course {
     Never,
     After { polls: u32, outcome: ToldOutcome },
 }
 
 /// What is to be done at a poll.
-#[derive(Clone, Copy, Debug, PartialEq, Eq)]
+#[derive(Clone, Copy)]
 pub enum Stage {
     /// The entry is not open, or cannot be told the outcome.
     Unknown,
@@ -144,15 +146,25 @@ fn asked_about(alloc: Global, query: &Query, error: &NetError) -> Result<NetErro
     ensures { IfOk result (λ about. about ≡ error_about query.now error.now) }
 {
     match error {
-        NetError::Dns(DnsError::NoRecordsFound(found)) => {
+        NetError::Dns(error) => {
+            let error = denied_about(alloc, query, error)?;
+            Ok(NetError::Dns(error))
+        }
+        other => other.try_clone(alloc),
+    }
+}
+
+fn denied_about(alloc: Global, query: &Query, error: &DnsError) -> Result<DnsError, NoMemory>
+    ensures { IfOk result (λ about. about ≡ dns_error_about query.now error.now) }
+{
+    match error {
+        DnsError::NoRecordsFound(found) => {
+            let asked = query.try_clone(alloc)?;
             let mut found = found.try_clone(alloc)?;
-            found.query = query.try_clone(alloc)?;
-            Ok(NetError::Dns(DnsError::NoRecordsFound(found)))
+            let_go(mem::replace(&mut found.query, asked));
+            Ok(DnsError::NoRecordsFound(found))
         }
-        other => {
-            let other = other.try_clone(alloc)?;
-            Ok(other)
-        }
+        DnsError::ResponseCode(code) => Ok(DnsError::ResponseCode(*code)),
     }
 }
 

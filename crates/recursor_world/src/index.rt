@@ -16,7 +16,7 @@ pub struct Endpoint {
 }
 
 /// The four values by which a question finds its line. Names are equal without ASCII case.
-#[derive(Drop, Debug, PartialEq, Eq, Hash)]
+#[derive(Drop, PartialEq, Eq, Hash)]
 pub struct Asking {
     pub ip: IpAddr,
     pub protocol: Protocol,
@@ -42,7 +42,7 @@ impl Asking {
 }
 
 /// The places of the lines of a question, and how many of them are used up.
-#[derive(Drop, Debug)]
+#[derive(Drop)]
 pub struct Turns {
     pub places: Items<usize>,
     pub used: usize,
@@ -62,14 +62,14 @@ impl Turns {
 }
 
 /// Whether a connection is refused, and the place of the first line that says what it comes to.
-#[derive(Clone, Copy, Debug)]
+#[derive(Clone, Copy)]
 pub struct Route {
     pub refused: bool,
     pub place: Option<usize>,
 }
 
 /// Where the lines of a script are, by whom and what they are for.
-#[derive(Drop, Debug)]
+#[derive(Drop)]
 pub struct Index {
     pub replies: HashMap<Asking, Turns>,
     pub routes: HashMap<Endpoint, Route>,

@@ -7,18 +7,23 @@ use std::marker::Model;
 use std::mem;
 
 /// Entries, the newest first, each in room of its own.
-#[derive(Debug)]
 pub enum Chain {
     End,
     Entry(LogEntry, Box<Chain>),
 }
+
+/// Lets a value go: a body that lets go of a large one itself is dear to prove.
+pub(crate) fn let_go<T: Drop>(_value: T) {}
 
 impl Drop for Chain {
     fn drop(mut self) {
         'dropping: loop {
             match self {
                 Chain::End => return,
-                Chain::Entry(_, rest) => self = Box::into_inner(rest),
+                Chain::Entry(entry, rest) => {
+                    let_go(entry);
+                    self = Box::into_inner(rest);
+                }
             }
         }
     }
@@ -61,7 +66,7 @@ impl Chain {
 }
 
 /// Room for one entry.
-#[derive(Drop, Debug)]
+#[derive(Drop)]
 pub struct Room {
     room: Box<Chain>,
 }
@@ -79,7 +84,7 @@ impl Room {
 }
 
 /// Entries that wait for memory, which contracts see as a list, the oldest first.
-#[derive(Drop, Debug)]
+#[derive(Drop)]
 pub struct Late {
     chain: Chain,
 }
@@ -106,8 +111,9 @@ impl Late {
         ensures { self.new ≡ self.old ++ entry ∷ [] }
     {
         let Room { mut room } = room;
-        *room = mem::replace(&mut self.chain, Chain::End);
-        self.chain = Chain::Entry(entry, room);
+        let older = mem::replace(&mut self.chain, Chain::End);
+        let_go(mem::replace(&mut *room, older));
+        let_go(mem::replace(&mut self.chain, Chain::Entry(entry, room)));
     }
 
     /// Moves the entries to the end of the log, as many as find memory, the oldest first.

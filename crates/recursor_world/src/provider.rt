@@ -12,7 +12,7 @@ use dns_core::{
 use std::net::IpAddr;
 
 /// A connection that is being opened.
-#[derive(Drop, Debug)]
+#[derive(Drop)]
 pub struct ScriptOpening {
     of: u64,
     endpoint: Endpoint,
@@ -21,7 +21,7 @@ pub struct ScriptOpening {
 }
 
 /// A question that is being asked.
-#[derive(Drop, Debug)]
+#[derive(Drop)]
 pub struct ScriptExchange {
     of: u64,
     query: Query,

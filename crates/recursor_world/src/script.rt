@@ -4,7 +4,7 @@ use dns_core::{Items, Message, Name, NetError, Protocol, RecordType};
 use std::net::IpAddr;
 
 /// A line of a script. A delay is the number of polls that find nothing yet.
-#[derive(Drop, Debug, PartialEq, Eq)]
+#[derive(Drop, Debug)]
 pub enum ScriptLine {
     /// What a connection comes to, which is its error or that it is connected.
     Connect {
@@ -31,7 +31,7 @@ pub enum ScriptLine {
 
 /// Lines, in an order that matters only among lines of one kind with the same address, protocol,
 /// name and type.
-#[derive(Drop, Debug, PartialEq, Eq)]
+#[derive(Drop, Debug)]
 pub struct Script {
     pub lines: Items<ScriptLine>,
 }

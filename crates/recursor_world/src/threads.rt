@@ -12,6 +12,10 @@ pub fn scripts_cross_threads() {
     crosses::<ScriptLine>();
     crosses::<Script>();
     crosses::<Endpoint>();
+    calls_cross_threads();
+}
+
+fn calls_cross_threads() {
     crosses::<ScriptOpening>();
     crosses::<ScriptExchange>();
     crosses::<ScriptUpstream>();

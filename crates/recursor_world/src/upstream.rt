@@ -16,7 +16,7 @@ use std::marker::Model;
 
 /// An upstream that answers as its script says. Contracts see the script, the log with the entries
 /// that wait for memory, and how many calls failed and how many polls found nothing yet.
-#[derive(Drop, Debug)]
+#[derive(Drop)]
 pub struct ScriptUpstream {
     pub(crate) alloc: Global,
     pub(crate) book: Book,

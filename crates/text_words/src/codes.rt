@@ -1,102 +1,70 @@
 //! Types, classes and response codes, each by its one word.
-ghost use Rattle.std.specs.Prelude.{◌≡◌, drop};
+ghost use Rattle.std.specs.Prelude.{◌≡◌, map};
 ghost use Rattle.dns_core.specs.CodeTexts.{type_names, class_names, code_names};
 ghost use Rattle.text_words.specs.Codes.{code_in, number_behind, type_of, class_of, response_code_of};
 
 use crate::numbers::number;
 use dns_core::{DnsClass, RecordType, ResponseCode};
 
+/// The types that have names.
+const TYPES: [(u16, &[u8]); 23] = [
+    (1, b"A"),
+    (2, b"NS"),
+    (5, b"CNAME"),
+    (6, b"SOA"),
+    (10, b"NULL"),
+    (12, b"PTR"),
+    (15, b"MX"),
+    (16, b"TXT"),
+    (28, b"AAAA"),
+    (33, b"SRV"),
+    (41, b"OPT"),
+    (43, b"DS"),
+    (46, b"RRSIG"),
+    (47, b"NSEC"),
+    (48, b"DNSKEY"),
+    (50, b"NSEC3"),
+    (51, b"NSEC3PARAM"),
+    (64, b"SVCB"),
+    (65, b"HTTPS"),
+    (251, b"IXFR"),
+    (252, b"AXFR"),
+    (255, b"ANY"),
+    (257, b"CAA"),
+];
+
+/// The classes that have names.
+const CLASSES: [(u16, &[u8]); 3] = [(1, b"IN"), (3, b"CH"), (4, b"HS")];
+
+/// The response codes that have names.
+const RESPONSE_CODES: [(u16, &[u8]); 6] = [
+    (0, b"NOERROR"),
+    (1, b"FORMERR"),
+    (2, b"SERVFAIL"),
+    (3, b"NXDOMAIN"),
+    (4, b"NOTIMP"),
+    (5, b"REFUSED"),
+];
+
+/// The number that a table names so.
+fn code_in(mut table: &[(u16, &[u8])], word: &[u8]) -> Option<u16>
+    ensures { result ≡ code_in (map (λ e. (e.0, e.1.now)) table.entry.now) word.now }
+{
+    while let [entry, rest @ ..] = table {
+        if word == entry.1 {
+            return Some(entry.0);
+        }
+        table = rest;
+    }
+    None
+}
+
 /// The number of a type that has a name.
 #[tactic(auto, unfolding(dns_core::specs::CodeTexts::type_names))]
 fn named_type(word: &[u8]) -> Option<u16>
     ensures { result ≡ code_in type_names word.now }
 {
-    if word == b"A".as_slice() {
-        return Some(1);
-    }
-    if word == b"NS".as_slice() {
-        return Some(2);
-    }
-    if word == b"CNAME".as_slice() {
-        return Some(5);
-    }
-    if word == b"SOA".as_slice() {
-        return Some(6);
-    }
-    if word == b"NULL".as_slice() {
-        return Some(10);
-    }
-    if word == b"PTR".as_slice() {
-        return Some(12);
-    }
-    if word == b"MX".as_slice() {
-        return Some(15);
-    }
-    if word == b"TXT".as_slice() {
-        return Some(16);
-    }
-    later_type(word)
-}
-
-/// Of the names from AAAA on.
-#[tactic(auto, unfolding(dns_core::specs::CodeTexts::type_names))]
-fn later_type(word: &[u8]) -> Option<u16>
-    ensures { result ≡ code_in (drop 8 type_names) word.now }
-{
-    if word == b"AAAA".as_slice() {
-        return Some(28);
-    }
-    if word == b"SRV".as_slice() {
-        return Some(33);
-    }
-    if word == b"OPT".as_slice() {
-        return Some(41);
-    }
-    if word == b"DS".as_slice() {
-        return Some(43);
-    }
-    if word == b"RRSIG".as_slice() {
-        return Some(46);
-    }
-    if word == b"NSEC".as_slice() {
-        return Some(47);
-    }
-    if word == b"DNSKEY".as_slice() {
-        return Some(48);
-    }
-    if word == b"NSEC3".as_slice() {
-        return Some(50);
-    }
-    last_type(word)
-}
-
-/// Of the names from NSEC3PARAM on.
-#[tactic(auto, unfolding(dns_core::specs::CodeTexts::type_names))]
-fn last_type(word: &[u8]) -> Option<u16>
-    ensures { result ≡ code_in (drop 16 type_names) word.now }
-{
-    if word == b"NSEC3PARAM".as_slice() {
-        return Some(51);
-    }
-    if word == b"SVCB".as_slice() {
-        return Some(64);
-    }
-    if word == b"HTTPS".as_slice() {
-        return Some(65);
-    }
-    if word == b"IXFR".as_slice() {
-        return Some(251);
-    }
-    if word == b"AXFR".as_slice() {
-        return Some(252);
-    }
-    if word == b"ANY".as_slice() {
-        return Some(255);
-    }
-    if word == b"CAA".as_slice() {
-        return Some(257);
-    }
-    None
+    code_in(&TYPES, word)
 }
 
 /// The number behind a word.
@@ -131,16 +99,7 @@ pub fn record_type(word: &[u8]) -> Option<RecordType>
 fn named_class(word: &[u8]) -> Option<u16>
     ensures { result ≡ code_in class_names word.now }
 {
-    if word == b"IN".as_slice() {
-        return Some(1);
-    }
-    if word == b"CH".as_slice() {
-        return Some(3);
-    }
-    if word == b"HS".as_slice() {
-        return Some(4);
-    }
-    None
+    code_in(&CLASSES, word)
 }
 
 /// The class that a word names.
@@ -164,25 +123,7 @@ pub fn dns_class(word: &[u8]) -> Option<DnsClass>
 fn named_response_code(word: &[u8]) -> Option<u16>
     ensures { result ≡ code_in code_names word.now }
 {
-    if word == b"NOERROR".as_slice() {
-        return Some(0);
-    }
-    if word == b"FORMERR".as_slice() {
-        return Some(1);
-    }
-    if word == b"SERVFAIL".as_slice() {
-        return Some(2);
-    }
-    if word == b"NXDOMAIN".as_slice() {
-        return Some(3);
-    }
-    if word == b"NOTIMP".as_slice() {
-        return Some(4);
-    }
-    if word == b"REFUSED".as_slice() {
-        return Some(5);
-    }
-    None
+    code_in(&RESPONSE_CODES, word)
 }
 
 /// The response code that a word names.

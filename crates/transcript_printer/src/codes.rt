@@ -17,13 +17,12 @@ fn put_named(
     ensures { Appends result out.old.items out.new.items (unwrap_or (option_copied name.entry) (other.now ++ decimal number)) }
 {
     match name {
-        Some(name) => put_bytes(name.as_bytes(), out)?,
+        Some(name) => put_bytes(name.as_bytes(), out),
         None => {
             put_bytes(other.as_bytes(), out)?;
-            put_number(u64::from(number), out)?;
+            put_number(u64::from(number), out)
         }
     }
-    Ok(())
 }
 
 #[tactic(auto, unfolding(dns_core::specs::CodeTexts::type_text))]

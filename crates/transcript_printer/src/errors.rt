@@ -1,5 +1,5 @@
 //! The errors that questions are answered with.
-ghost use Rattle.std.specs.Prelude.{◌≡◌, ◌++◌, ◌∷◌, IsTrue, OnOk, OnErr, flat_map, option_to_list};
+ghost use Rattle.std.specs.Prelude.{◌≡◌, ◌++◌, ◌∷◌, [], IsTrue, OnOk, OnErr, codes, decimal, flat_map, option_to_list, is_some};
 ghost use Rattle.transcript_printer.specs.Appending.{Appends, spaced};
 ghost use Rattle.text_words.specs.Texts.{record_lines, line_of};
 ghost use Rattle.text_words.specs.Texts.{flag_text};
@@ -47,8 +47,7 @@ fn put_spaced_text(text: &str, out: &mut Vec<u8>) -> Result<(), NoMemory>
     ensures { Appends result out.old.items out.new.items (32 ∷ text.now) }
 {
     put_bytes(b" ", out)?;
-    put_bytes(text.as_bytes(), out)?;
-    Ok(())
+    put_bytes(text.as_bytes(), out)
 }
 
 fn net_name(error: &NetError) -> &'static str
@@ -73,7 +72,7 @@ fn put_net_details(error: &NetError, out: &mut Vec<u8>) -> Result<(), NoMemory>
     ensures { Appends result out.old.items out.new.items (spaced (net_details error.now)) }
 {
     match error {
-        NetError::Dns(DnsError::ResponseCode(code)) => put_spaced_code(*code, out)?,
+        NetError::Dns(DnsError::ResponseCode(code)) => put_spaced_code(*code, out),
         NetError::ForeignClassRecord {
             record_name,
             record_class,
@@ -81,19 +80,26 @@ fn put_net_details(error: &NetError, out: &mut Vec<u8>) -> Result<(), NoMemory>
         } => {
             put_spaced_name(record_name, out)?;
             put_spaced_class(*record_class, out)?;
-            put_spaced_type(*record_type, out)?;
+            put_spaced_type(*record_type, out)
         }
-        _ => {}
+        _ => Ok(()),
     }
-    Ok(())
 }
 
 fn put_net_words(error: &NetError, out: &mut Vec<u8>) -> Result<(), NoMemory>
     ensures { Appends result out.old.items out.new.items (spaced (net_words error.now)) }
 {
     put_spaced_text(net_name(error), out)?;
-    put_net_details(error, out)?;
-    Ok(())
+    put_net_details(error, out)
+}
+
+/// The flags of a negative response.
+fn put_negative_flags(negative: &AuthorityData, out: &mut Vec<u8>) -> Result<(), NoMemory>
+    ensures { Appends result out.old.items out.new.items (spaced (flag_text negative.now.no_records_found ∷ flag_text negative.now.nx_domain ∷ flag_text (is_some negative.now.soa) ∷ [])) }
+{
+    put_flag(negative.no_records_found, out)?;
+    put_flag(negative.nx_domain, out)?;
+    put_flag(negative.soa.is_some(), out)
 }
 
 fn put_negative(negative: &AuthorityData, out: &mut Vec<u8>) -> Result<(), NoMemory>
@@ -101,11 +107,8 @@ fn put_negative(negative: &AuthorityData, out: &mut Vec<u8>) -> Result<(), NoMem
 {
     put_spaced_name(&negative.query.name, out)?;
     put_spaced_type(negative.query.query_type, out)?;
-    put_flag(negative.no_records_found, out)?;
-    put_flag(negative.nx_domain, out)?;
-    put_flag(negative.soa.is_some(), out)?;
-    put_count(negative.authorities.len() as u64, out)?;
-    Ok(())
+    put_negative_flags(negative, out)?;
+    put_count(negative.authorities.len() as u64, out)
 }
 
 fn error_name(error: &RecursorError) -> &'static str
@@ -133,32 +136,37 @@ fn put_error_details(error: &RecursorError, out: &mut Vec<u8>) -> Result<(), NoM
     match error {
         RecursorError::MaxRecordLimitExceeded { count, record_type } => {
             put_count(*count as u64, out)?;
-            put_spaced_type(*record_type, out)?;
+            put_spaced_type(*record_type, out)
         }
-        RecursorError::Message(kind) => put_spaced_text(message_kind_word(*kind), out)?,
-        RecursorError::Negative(negative) => put_negative(negative, out)?,
-        RecursorError::ForwardNS(forwards) => put_count(forwards.len() as u64, out)?,
-        RecursorError::Net(error) => put_net_words(error, out)?,
-        RecursorError::RecursionLimitExceeded { count } => put_count(*count as u64, out)?,
+        RecursorError::Message(kind) => put_spaced_text(message_kind_word(*kind), out),
+        RecursorError::Negative(negative) => put_negative(negative, out),
+        RecursorError::ForwardNS(forwards) => put_count(forwards.len() as u64, out),
+        RecursorError::Net(error) => put_net_words(error, out),
+        RecursorError::RecursionLimitExceeded { count } => put_count(*count as u64, out),
         RecursorError::NoNameServer { zone, cause } => {
             put_spaced_name(zone, out)?;
-            put_spaced_text(cause_word(*cause), out)?;
+            put_spaced_text(cause_word(*cause), out)
         }
-        _ => {}
+        _ => Ok(()),
     }
-    Ok(())
+}
+
+/// How many addresses are known for the target of an NS record, before the record.
+fn put_glue_count(count: usize, out: &mut Vec<u8>) -> Result<(), NoMemory>
+    ensures { Appends result out.old.items out.new.items (codes "ns " ++ decimal count ++ codes " ") }
+{
+    put_bytes(b"ns", out)?;
+    put_count(count as u64, out)?;
+    put_bytes(b" ", out)
 }
 
 #[tactic(auto, unfolding(crate::specs::Errors::forward_text, text_words::specs::Texts::record_line))]
 fn put_forward(alloc: Global, forward: &ForwardNsData, out: &mut Vec<u8>) -> Result<(), NoMemory>
     ensures { Appends result out.old.items out.new.items (forward_text forward.now) }
 {
-    put_bytes(b"ns", out)?;
-    put_count(forward.glue.len() as u64, out)?;
-    put_bytes(b" ", out)?;
+    put_glue_count(forward.glue.len(), out)?;
     put_record(alloc, &forward.ns, out)?;
-    put_records(alloc, forward.glue.items(), out)?;
-    Ok(())
+    put_records(alloc, forward.glue.items(), out)
 }
 
 fn put_forwards(
@@ -182,10 +190,9 @@ fn put_optional_record(
     ensures { Appends result out.old.items out.new.items (record_lines (option_to_list entry.now)) }
 {
     match entry {
-        Some(entry) => put_record(alloc, entry, out)?,
-        None => {}
+        Some(entry) => put_record(alloc, entry, out),
+        None => Ok(()),
     }
-    Ok(())
 }
 
 fn put_error_tail(alloc: Global, error: &RecursorError, out: &mut Vec<u8>) -> Result<(), NoMemory>
@@ -194,12 +201,11 @@ fn put_error_tail(alloc: Global, error: &RecursorError, out: &mut Vec<u8>) -> Re
     match error {
         RecursorError::Negative(negative) => {
             put_optional_record(alloc, &negative.soa, out)?;
-            put_records(alloc, negative.authorities.items(), out)?;
+            put_records(alloc, negative.authorities.items(), out)
         }
-        RecursorError::ForwardNS(forwards) => put_forwards(alloc, forwards.items(), out)?,
-        _ => {}
+        RecursorError::ForwardNS(forwards) => put_forwards(alloc, forwards.items(), out),
+        _ => Ok(()),
     }
-    Ok(())
 }
 
 #[tactic(auto, using(crate::proofs::Appended::line_of_words))]
@@ -208,8 +214,7 @@ fn put_error_line(error: &RecursorError, out: &mut Vec<u8>) -> Result<(), NoMemo
 {
     put_bytes(error_name(error).as_bytes(), out)?;
     put_error_details(error, out)?;
-    put_bytes(b"\n", out)?;
-    Ok(())
+    put_bytes(b"\n", out)
 }
 
 #[tactic(auto, unfolding(crate::specs::Errors::error_text))]
@@ -217,8 +222,7 @@ pub fn put_error(alloc: Global, error: &RecursorError, out: &mut Vec<u8>) -> Res
     ensures { Appends result out.old.items out.new.items (error_text error.now) }
 {
     put_error_line(error, out)?;
-    put_error_tail(alloc, error, out)?;
-    Ok(())
+    put_error_tail(alloc, error, out)
 }
 
 fn has_net_words(error: &NetError) -> bool

@@ -5,7 +5,7 @@ ghost use Rattle.transcript_printer.specs.Appending.{Appends, spaced};
 ghost use Rattle.dns_core.specs.CodeTexts.{type_text};
 ghost use Rattle.text_words.specs.Texts.{ip_text, protocol_text, error_word, has_error_word, line_of, record_lines};
 ghost use Rattle.transcript_printer.specs.Log.{numbered_text, refused_words, outcome_words, entry_words, outcome_records, entry_records, entry_text, log_text, has_refusal_word, has_entry_words, has_log_words};
-ghost use Rattle.dns_core.specs.declared.log.LogEntry.TheVariants.{Opened, Asked};
+ghost use Rattle.dns_core.specs.declared.log.LogEntry.TheVariants.{Opened, Asked, Told};
 
 use crate::codes::{put_error_word, put_protocol};
 use crate::records::{put_message_details, put_sections, put_spaced_name, put_spaced_type};
@@ -13,6 +13,13 @@ use crate::words::{put_bytes, put_count, put_ip, put_number};
 use dns_core::{Log, LogEntry, NetError, NoMemory, Protocol, Query, ToldOutcome};
 use std::alloc::Global;
 use std::net::IpAddr;
+
+fn put_spaced_protocol(protocol: Protocol, out: &mut Vec<u8>) -> Result<(), NoMemory>
+    ensures { Appends result out.old.items out.new.items (32 ∷ protocol_text protocol) }
+{
+    put_bytes(b" ", out)?;
+    put_protocol(protocol, out)
+}
 
 fn put_peer(
     alloc: Global,
@@ -24,25 +31,21 @@ fn put_peer(
 {
     put_bytes(b" ", out)?;
     put_ip(alloc, ip, out)?;
-    put_bytes(b" ", out)?;
-    put_protocol(protocol, out)?;
-    Ok(())
+    put_spaced_protocol(protocol, out)
 }
 
 fn put_query(query: &Query, out: &mut Vec<u8>) -> Result<(), NoMemory>
     ensures { Appends result out.old.items out.new.items (spaced (text_of query.now.name ∷ type_text query.now.query_type ∷ [])) }
 {
     put_spaced_name(&query.name, out)?;
-    put_spaced_type(query.query_type, out)?;
-    Ok(())
+    put_spaced_type(query.query_type, out)
 }
 
 fn put_spaced_error_word(error: &NetError, out: &mut Vec<u8>) -> Result<(), NoMemory>
     ensures { Appends result out.old.items out.new.items (32 ∷ error_word error.now) }
 {
     put_bytes(b" ", out)?;
-    put_error_word(error, out)?;
-    Ok(())
+    put_error_word(error, out)
 }
 
 fn put_refused(refused: &Option<NetError>, out: &mut Vec<u8>) -> Result<(), NoMemory>
@@ -51,28 +54,26 @@ fn put_refused(refused: &Option<NetError>, out: &mut Vec<u8>) -> Result<(), NoMe
     match refused {
         Some(error) => {
             put_bytes(b" refused", out)?;
-            put_spaced_error_word(error, out)?;
+            put_spaced_error_word(error, out)
         }
-        None => {}
+        None => Ok(()),
     }
-    Ok(())
 }
 
 fn put_outcome(outcome: &ToldOutcome, out: &mut Vec<u8>) -> Result<(), NoMemory>
     ensures { Appends result out.old.items out.new.items (spaced (outcome_words outcome.now)) }
 {
     match outcome {
-        ToldOutcome::Connected => put_bytes(b" connected", out)?,
+        ToldOutcome::Connected => put_bytes(b" connected", out),
         ToldOutcome::Message(m) => {
             put_bytes(b" message", out)?;
-            put_message_details(m, out)?;
+            put_message_details(m, out)
         }
         ToldOutcome::Error(error) => {
             put_bytes(b" error", out)?;
-            put_spaced_error_word(error, out)?;
+            put_spaced_error_word(error, out)
         }
     }
-    Ok(())
 }
 
 fn put_opened(
@@ -109,6 +110,16 @@ fn put_asked(
     put_refused(refused, out)
 }
 
+/// What an order was told, and when.
+fn put_told(of: u64, moment: u64, outcome: &ToldOutcome, out: &mut Vec<u8>) -> Result<(), NoMemory>
+    ensures { Appends result out.old.items out.new.items (spaced (entry_words (Told of moment outcome.now))) }
+{
+    put_bytes(b" told", out)?;
+    put_count(of, out)?;
+    put_count(moment, out)?;
+    put_outcome(outcome, out)
+}
+
 fn put_entry_words(alloc: Global, entry: &LogEntry, out: &mut Vec<u8>) -> Result<(), NoMemory>
     ensures { Appends result out.old.items out.new.items (spaced (entry_words entry.now)) }
 {
@@ -118,35 +129,29 @@ fn put_entry_words(alloc: Global, entry: &LogEntry, out: &mut Vec<u8>) -> Result
             protocol,
             moment,
             refused,
-        } => put_opened(alloc, *ip, *protocol, *moment, refused, out)?,
+        } => put_opened(alloc, *ip, *protocol, *moment, refused, out),
         LogEntry::Asked {
             ip,
             protocol,
             query,
             moment,
             refused,
-        } => put_asked(alloc, *ip, *protocol, query, *moment, refused, out)?,
+        } => put_asked(alloc, *ip, *protocol, query, *moment, refused, out),
         LogEntry::Waited { of } => {
             put_bytes(b" waited", out)?;
-            put_count(*of, out)?;
+            put_count(*of, out)
         }
         LogEntry::Told {
             of,
             moment,
             outcome,
-        } => {
-            put_bytes(b" told", out)?;
-            put_count(*of, out)?;
-            put_count(*moment, out)?;
-            put_outcome(outcome, out)?;
-        }
+        } => put_told(*of, *moment, outcome, out),
         LogEntry::GaveUp { of, moment } => {
             put_bytes(b" gaveup", out)?;
             put_count(*of, out)?;
-            put_count(*moment, out)?;
+            put_count(*moment, out)
         }
     }
-    Ok(())
 }
 
 #[tactic(auto, using(crate::proofs::Appended::line_of_words))]
@@ -171,10 +176,9 @@ fn put_entry_records(alloc: Global, entry: &LogEntry, out: &mut Vec<u8>) -> Resu
         LogEntry::Told {
             outcome: ToldOutcome::Message(m),
             ..
-        } => put_sections(alloc, m, out)?,
-        _ => {}
+        } => put_sections(alloc, m, out),
+        _ => Ok(()),
     }
-    Ok(())
 }
 
 #[tactic(auto, unfolding(crate::specs::Log::entry_text))]
@@ -187,8 +191,7 @@ fn put_entry(
     ensures { Appends result out.old.items out.new.items (entry_text number entry.now) }
 {
     put_entry_line(alloc, number, entry, out)?;
-    put_entry_records(alloc, entry, out)?;
-    Ok(())
+    put_entry_records(alloc, entry, out)
 }
 
 fn put_entries(alloc: Global, entries: &[LogEntry], out: &mut Vec<u8>) -> Result<(), NoMemory>
@@ -205,8 +208,7 @@ fn put_log_line(count: usize, out: &mut Vec<u8>) -> Result<(), NoMemory>
 {
     put_bytes(b"log", out)?;
     put_count(count as u64, out)?;
-    put_bytes(b"\n", out)?;
-    Ok(())
+    put_bytes(b"\n", out)
 }
 
 #[tactic(auto, unfolding(crate::specs::Log::log_text))]
@@ -214,8 +216,7 @@ pub fn put_log(alloc: Global, log: &Log, out: &mut Vec<u8>) -> Result<(), NoMemo
     ensures { Appends result out.old.items out.new.items (log_text log.now) }
 {
     put_log_line(log.len(), out)?;
-    put_entries(alloc, log.items(), out)?;
-    Ok(())
+    put_entries(alloc, log.items(), out)
 }
 
 fn has_error_word(error: &NetError) -> bool

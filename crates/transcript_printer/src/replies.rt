@@ -19,8 +19,7 @@ fn put_reply_number(number: u64, out: &mut Vec<u8>) -> Result<(), NoMemory>
 {
     put_bytes(b"reply", out)?;
     put_count(number, out)?;
-    put_bytes(b" ", out)?;
-    Ok(())
+    put_bytes(b" ", out)
 }
 
 #[tactic(auto, unfolding(text_words::specs::Texts::message_text, crate::specs::Transcript::answer_text))]
@@ -28,8 +27,7 @@ fn put_answer(alloc: Global, number: u64, m: &Message, out: &mut Vec<u8>) -> Res
     ensures { Appends result out.old.items out.new.items (answer_text number m.now) }
 {
     put_reply_number(number, out)?;
-    put_message(alloc, m, out)?;
-    Ok(())
+    put_message(alloc, m, out)
 }
 
 #[tactic(auto, unfolding(crate::specs::Errors::error_text, crate::specs::Transcript::failure_text))]
@@ -43,8 +41,7 @@ fn put_failure(
 {
     put_reply_number(number, out)?;
     put_bytes(b"error ", out)?;
-    put_error(alloc, error, out)?;
-    Ok(())
+    put_error(alloc, error, out)
 }
 
 #[tactic(auto, unfolding(crate::specs::Transcript::reply_text))]
@@ -72,8 +69,7 @@ fn put_transcript(alloc: Global, t: &Transcript, out: &mut Vec<u8>) -> Result<()
 {
     put_log(alloc, &t.log, out)?;
     put_replies(alloc, t.replies.items(), out)?;
-    put_bytes(b"end\n", out)?;
-    Ok(())
+    put_bytes(b"end\n", out)
 }
 
 fn has_reply_words(reply: &Reply) -> bool

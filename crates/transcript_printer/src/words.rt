@@ -1,5 +1,5 @@
 //! Numbers, bytes, addresses and names.
-ghost use Rattle.std.specs.Prelude.{◌≡◌, ◌+◌, ◌<◌, ◌∷◌, [], flat_map, decimal};
+ghost use Rattle.std.specs.Prelude.{◌≡◌, ◌+◌, ◌++◌, ◌<◌, ◌∷◌, [], flat_map, decimal};
 ghost use Rattle.std.specs.Char.{digit_char};
 ghost use Rattle.std.specs.Net.Addr.{ipv4_octets, ipv6_segments};
 ghost use Rattle.std.specs.Net.Text.{ipv4_text, hex_groups_text};
@@ -44,8 +44,7 @@ pub fn put_count(n: u64, out: &mut Vec<u8>) -> Result<(), NoMemory>
     ensures { Appends result out.old.items out.new.items (32 ∷ decimal n) }
 {
     put_bytes(b" ", out)?;
-    put_number(n, out)?;
-    Ok(())
+    put_number(n, out)
 }
 
 fn hex_digit(value: u8) -> u8
@@ -81,11 +80,26 @@ pub fn put_hex(bytes: &[u8], out: &mut Vec<u8>) -> Result<(), NoMemory>
     ensures { Appends result out.old.items out.new.items (hex_text bytes.now) }
 {
     if bytes.is_empty() {
-        put_bytes(b"-", out)?;
+        put_bytes(b"-", out)
     } else {
-        put_hex_pairs(bytes, out)?;
+        put_hex_pairs(bytes, out)
     }
-    Ok(())
+}
+
+/// A number behind a dot.
+fn put_octet(octet: u8, out: &mut Vec<u8>) -> Result<(), NoMemory>
+    ensures { Appends result out.old.items out.new.items (46 ∷ decimal octet) }
+{
+    put_bytes(b".", out)?;
+    put_number(octet as u64, out)
+}
+
+/// Two numbers, each behind a dot.
+fn put_octets(first: u8, second: u8, out: &mut Vec<u8>) -> Result<(), NoMemory>
+    ensures { Appends result out.old.items out.new.items ((46 ∷ decimal first) ++ (46 ∷ decimal second)) }
+{
+    put_octet(first, out)?;
+    put_octet(second, out)
 }
 
 pub fn put_ipv4(ip: Ipv4Addr, out: &mut Vec<u8>) -> Result<(), NoMemory>
@@ -93,12 +107,8 @@ pub fn put_ipv4(ip: Ipv4Addr, out: &mut Vec<u8>) -> Result<(), NoMemory>
 {
     let [a, b, c, d] = ip.octets();
     put_number(u64::from(a), out)?;
-    put_bytes(b".", out)?;
-    put_number(u64::from(b), out)?;
-    put_bytes(b".", out)?;
-    put_number(u64::from(c), out)?;
-    put_bytes(b".", out)?;
-    put_number(u64::from(d), out)?;
+    put_octet(b, out)?;
+    put_octets(c, d, out)?;
     Ok(())
 }
 
@@ -107,8 +117,7 @@ pub fn put_ipv6(alloc: Global, ip: Ipv6Addr, out: &mut Vec<u8>) -> Result<(), No
 {
     let groups = ip.hex_groups();
     let text = format!(in alloc; "{groups}")?;
-    put_bytes(text.as_bytes(), out)?;
-    Ok(())
+    put_bytes(text.as_bytes(), out)
 }
 
 pub fn put_ip(alloc: Global, ip: IpAddr, out: &mut Vec<u8>) -> Result<(), NoMemory>

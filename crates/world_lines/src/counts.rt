@@ -12,14 +12,14 @@ use std::marker::Model;
 use text_words::{LineError, Words};
 
 /// A number of 64 bits, or the digits of a greater one.
-#[derive(Drop, Debug)]
+#[derive(Drop)]
 enum Kept {
     Narrow(u64),
     Wide(Bytes),
 }
 
 /// How many records a zone has; clauses see the number.
-#[derive(Drop, Debug)]
+#[derive(Drop)]
 pub struct Count {
     kept: Kept,
 }

@@ -1,5 +1,5 @@
 //! What has come of a world so far.
-ghost use Rattle.std.specs.Prelude.{◌≡◌, OnOk, IfOk, is_some};
+ghost use Rattle.std.specs.Prelude.{◌≡◌, OnOk, is_some};
 ghost use Rattle.world_lines.specs.declared.lines.WorldForm.TheVariants as form;
 ghost use Rattle.world_lines.specs.Steps.{Steps, may_delay, may_alias, may_zone, may_host, start, opened, settled, filled, name_zones, put, added, taken, may_close, world_of};
 
@@ -18,7 +18,7 @@ const MOST_ZONES: usize = 10_000;
 const MOST_HOSTS: usize = 65_535;
 
 /// The last kind of line of a world that was taken.
-#[derive(Clone, Copy, Debug, PartialEq, Eq)]
+#[derive(Clone, Copy)]
 pub enum WorldStage {
     Start,
     Delayed,
@@ -28,14 +28,14 @@ pub enum WorldStage {
 }
 
 /// A zone that still owes records: it is whole where it has as many as its count says.
-#[derive(Drop, Debug)]
+#[derive(Drop)]
 pub struct OpenZone {
     pub zone: Zone,
     pub count: Count,
 }
 
 /// What the lines of a world so far say: `pending` is a zone that owes records.
-#[derive(Drop, Debug)]
+#[derive(Drop)]
 pub struct WorldDraft {
     pub stage: WorldStage,
     pub delay: u32,
@@ -84,13 +84,12 @@ fn opened(alloc: Global, head: ZoneHead) -> OpenZone
     }
 }
 
-/// The zone with one record more.
-fn filled(partial: OpenZone, entry: Record) -> Result<OpenZone, NoMemory>
-    ensures { IfOk result (λ whole. whole ≡ filled partial entry) }
+/// Adds a record to the zone.
+fn fill(open: &mut OpenZone, entry: Record) -> Result<(), NoMemory>
+    ensures { OnOk result (open.new ≡ filled open.old entry) }
 {
-    let mut open = partial;
     open.zone.records.push(entry)?;
-    Ok(open)
+    Ok(())
 }
 
 /// Each number is that of one of so many zones.
@@ -212,7 +211,8 @@ impl WorldDraft {
     {
         let entry = record_line(alloc, line)?;
         pass(entry.dns_class.code == 1)?;
-        let open = filled(partial, entry)?;
+        let mut open = partial;
+        fill(&mut open, entry)?;
         self.settle(alloc, open)?;
         Ok(())
     }

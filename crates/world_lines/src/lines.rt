@@ -14,14 +14,14 @@ use zone_worlds::Host;
 pub const MOST_ZONES: u64 = 10_000;
 
 /// The first line of a zone: its apex, and how many records follow.
-#[derive(Drop, Debug)]
+#[derive(Drop)]
 pub struct ZoneHead {
     pub apex: Name,
     pub count: Count,
 }
 
 /// What a line of a world says that is no record line.
-#[derive(Drop, Debug)]
+#[derive(Drop)]
 pub enum WorldForm {
     Delay(u32),
     /// Whether an answer follows the aliases inside a zone.
@@ -66,10 +66,9 @@ fn zone_numbers(alloc: Global, words: &mut Words) -> Result<Items<u32>, LineErro
         numbers.push(number as u32)?;
         match words.end() {
             Ok(()) => return Ok(numbers),
-            Err(LineError::Refused) => {}
+            Err(LineError::Refused) => low = number + 1,
             Err(LineError::NoMemory) => return Err(LineError::NoMemory),
         }
-        low = number + 1;
     }
 }
 

@@ -16,7 +16,7 @@ use std::net::IpAddr;
 use zone_worlds::{Host, Zone};
 
 /// Zones in their order; clauses see their list.
-#[derive(Drop, Debug)]
+#[derive(Drop)]
 pub struct ZoneList {
     zones: Vec<Zone>,
     apexes: BTreeSet<Name>,
@@ -35,7 +35,7 @@ impl Model for ZoneList {
 }
 
 /// Hosts in their order; clauses see their list.
-#[derive(Drop, Debug)]
+#[derive(Drop)]
 pub struct HostList {
     hosts: Vec<Host>,
     addresses: BTreeSet<IpAddr>,

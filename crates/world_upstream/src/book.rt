@@ -13,7 +13,7 @@ use std::collections::HashMap;
 use zone_worlds::IndexedWorld;
 
 /// A world, how many polls of each open entry find nothing yet, and the log.
-#[derive(Drop, Debug)]
+#[derive(Drop)]
 pub struct Book {
     pub world: IndexedWorld,
     pub open: HashMap<u64, u32>,

@@ -10,7 +10,7 @@ use recursor_world::{Endpoint, Room};
 use std::net::IpAddr;
 
 /// A connection that is being opened.
-#[derive(Drop, Debug)]
+#[derive(Drop)]
 pub struct WorldOpening {
     of: u64,
     endpoint: Endpoint,
@@ -19,7 +19,7 @@ pub struct WorldOpening {
 }
 
 /// A question that is being asked.
-#[derive(Drop, Debug)]
+#[derive(Drop)]
 pub struct WorldExchange {
     of: u64,
     query: Query,

@@ -13,7 +13,7 @@ use zone_worlds::{IndexedWorld, World};
 
 /// An upstream that answers as its world does. Contracts see the world, the log with the entries that
 /// wait for memory, and how many polls found nothing yet.
-#[derive(Drop, Debug)]
+#[derive(Drop)]
 pub struct WorldUpstream {
     pub(crate) alloc: Global,
     pub(crate) book: Book,

@@ -8,8 +8,9 @@ ghost use Rattle.zone_worlds.specs.Answer.{alias_for, next_alias_for, Leads, NoW
 use crate::choosing::{Alias, alias_in, owned};
 use crate::index::Index;
 use crate::telling::is_met;
+use crate::way::Way;
 use crate::world::{World, WorldAnswer};
-use dns_core::{Items, Name, NoMemory, Query, Record, TryClone};
+use dns_core::{Items, Name, NoMemory, Query, Record};
 use std::alloc::Global;
 
 /// The alias of a name in that zone. A question for CNAME asks for the alias itself.
@@ -54,14 +55,6 @@ fn next_alias_for<'w>(
     }
 }
 
-/// Aliases, all names on their way, and the last of these, which has none.
-#[derive(Drop)]
-pub(crate) struct Way {
-    pub aliases: Vec<Record>,
-    pub names: Vec<Name>,
-    pub last: Name,
-}
-
 /// The aliases of a question to their end, nothing where a name repeats.
 pub(crate) fn way_of(
     alloc: Global,
@@ -73,26 +66,22 @@ pub(crate) fn way_of(
     ensures some { IfOk result (λ found. IfSome found (λ way. Leads world.now query.now [] query.now.name way.aliases.items way.names.items way.last)) }
     ensures none { IfOk result (λ found. IfNone found (NoWay world.now query.now [] query.now.name)) }
 {
-    let mut aliases = Vec::new(alloc);
-    let mut met = Vec::new(alloc);
-    let mut at = query.name.try_clone(alloc)?;
-    'way: while let Some(alias) = next_alias_for(alloc, world, index, query, met.as_slice(), &at)? {
-        let target = alias.target.try_clone(alloc)?;
-        aliases.push(alias.record.try_clone(alloc)?)?;
-        met.push(at)?;
-        at = target;
+    let mut way = Way::begin(alloc, &query.name)?;
+    'way: while let Some(alias) = next_alias_for(
+        alloc,
+        world,
+        index,
+        query,
+        way.names.as_slice(),
+        &way.last,
+    )? {
+        way.follow(alloc, alias.record, alias.target)?;
     }
-    if is_met(met.as_slice(), &at) {
+    if is_met(way.names.as_slice(), &way.last) {
         return Ok(None);
     }
-    let last = at.try_clone(alloc)?;
-    let mut names = met;
-    names.push(at)?;
-    Ok(Some(Way {
-        aliases,
-        names,
-        last,
-    }))
+    way.end(alloc)?;
+    Ok(Some(way))
 }
 
 fn data_of(records: Vec<Record>) -> WorldAnswer

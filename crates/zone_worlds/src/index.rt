@@ -22,7 +22,7 @@ use std::net::IpAddr;
 
 /// The place of the first zone of each apex, and of the first host of each address, each name at or below which a record is owned, and the
 /// records of each name.
-#[derive(Drop, Debug)]
+#[derive(Drop)]
 pub(crate) struct Index {
     pub zones: HashMap<Name, usize>,
     pub hosts: HashMap<IpAddr, usize>,

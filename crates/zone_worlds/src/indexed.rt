@@ -20,7 +20,7 @@ use std::marker::Model;
 use std::net::IpAddr;
 
 /// A world with an index of its zones and names, which contracts see as the world.
-#[derive(Drop, Debug)]
+#[derive(Drop)]
 pub struct IndexedWorld {
     world: World,
     index: Index,

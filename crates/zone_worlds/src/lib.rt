@@ -17,6 +17,7 @@ mod telling;
 mod threads;
 mod tree;
 mod valid;
+mod way;
 mod world;
 
 pub use answer::world_answer;

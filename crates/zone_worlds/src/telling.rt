@@ -10,6 +10,7 @@ ghost use Rattle.zone_worlds.specs.Telling.{zone_asked, child_of, reply, refusal
 
 use crate::choosing::{Alias, alias_in, owned, server_addresses, servers, soa_of};
 use crate::tree::{first_cut, is_above, nearest, walked};
+use crate::way::Way;
 use crate::world::{Host, World, Zone};
 use dns_core::{
     Items, Message, Name, NoMemory, Query, Record, RecordType, Records, ResponseCode, TryClone,
@@ -153,38 +154,25 @@ fn next_alias<'w>(zone: &'w Zone, met: &[Name], name: &Name) -> Option<Alias<'w>
     }
 }
 
-/// Aliases of a zone, and the name to which the last of them leads.
-#[derive(Drop)]
-struct Chain {
-    aliases: Vec<Record>,
-    last: Name,
-}
-
-/// The aliases of the zone from a name on.
-fn follow(alloc: Global, zone: &Zone, name: &Name) -> Result<Chain, NoMemory>
-    ensures { IfOk result (λ chain. Follows zone.now [] name.now chain.aliases.items chain.last) }
+/// The aliases of the zone from a name on, and the name to which the last of them leads.
+fn follow(alloc: Global, zone: &Zone, name: &Name) -> Result<Way, NoMemory>
+    ensures { IfOk result (λ way. Follows zone.now [] name.now way.aliases.items way.last) }
 {
-    let mut aliases = Vec::new(alloc);
-    let mut met = Vec::new(alloc);
-    let mut at = name.try_clone(alloc)?;
-    'chain: while let Some(alias) = next_alias(zone, met.as_slice(), &at) {
-        let target = alias.target.try_clone(alloc)?;
-        aliases.push(alias.record.try_clone(alloc)?)?;
-        met.push(at)?;
-        at = target;
+    let mut way = Way::begin(alloc, name)?;
+    'chain: while let Some(alias) = next_alias(zone, way.names.as_slice(), &way.last) {
+        way.follow(alloc, alias.record, alias.target)?;
     }
-    Ok(Chain { aliases, last: at })
+    Ok(way)
 }
 
 /// The chain of aliases, and the records of the type at its end.
 fn chained(alloc: Global, zone: &Zone, query: &Query) -> Result<Records, NoMemory>
     ensures { IfOk result (AnswersByAlias zone.now query.now true) }
 {
-    let chain = follow(alloc, zone, &query.name)?;
-    let mut answers = chain.aliases;
+    let mut chain = follow(alloc, zone, &query.name)?;
     let mut rest = owned(alloc, zone, &chain.last, query.query_type)?;
-    answers.append(&mut rest)?;
-    Ok(Items::new(answers))
+    chain.aliases.append(&mut rest)?;
+    Ok(Items::new(chain.aliases))
 }
 
 fn alone(alloc: Global, zone: &Zone, query: &Query, alias: &Record) -> Result<Records, NoMemory>

@@ -4,14 +4,14 @@ use dns_core::{Items, Name, Records};
 use std::net::IpAddr;
 
 /// A zone: its apex and its records, in an order.
-#[derive(Drop, Debug, PartialEq, Eq)]
+#[derive(Drop, Debug)]
 pub struct Zone {
     pub apex: Name,
     pub records: Records,
 }
 
 /// An address, and the numbers of the zones that it serves. Zones are numbered from 1.
-#[derive(Drop, Debug, PartialEq, Eq)]
+#[derive(Drop, Debug)]
 pub struct Host {
     pub ip: IpAddr,
     pub zones: Items<u32>,
@@ -19,7 +19,7 @@ pub struct Host {
 
 /// A tree of zones with its hosts. With `chain`, an answer follows the aliases inside a zone. Each
 /// question waits for `delay` polls.
-#[derive(Drop, Debug, PartialEq, Eq)]
+#[derive(Drop, Debug)]
 pub struct World {
     pub zones: Items<Zone>,
     pub hosts: Items<Host>,
@@ -28,7 +28,7 @@ pub struct World {
 }
 
 /// What a world answers to a question.
-#[derive(Drop, Debug, PartialEq, Eq)]
+#[derive(Drop, Debug)]
 pub enum WorldAnswer {
     Records(Records),
     NxDomain,

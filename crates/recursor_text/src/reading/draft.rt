@@ -59,7 +59,7 @@ pub enum Stage {
 }
 
 /// What the lines so far say: `written` are the option lines, `pending` is a rule that owes records.
-#[derive(Drop, Debug)]
+#[derive(Drop)]
 pub struct Draft {
     pub stage: Stage,
     pub roots: Ips,

@@ -12,7 +12,7 @@ use text_words::{LineError, pass};
 use world_lines::{WorldDraft, is_world_line};
 
 /// The draft of a scenario. One that is told a world has no rules.
-#[derive(Drop, Debug)]
+#[derive(Drop)]
 pub struct WholeDraft {
     pub draft: Draft,
     pub world: Option<WorldDraft>,

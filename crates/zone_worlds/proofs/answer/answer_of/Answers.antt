@@ -3,7 +3,7 @@ use Rattle.std.specs.Prelude.{IfSome, IfNone}
 use Rattle.resolution.specs.Answering.{with_name}
 use Rattle.zone_worlds.specs.Answer.{Leads, NoWay, found, after, Answers}
 use Rattle.zone_worlds.specs.Answer.Answers.{ends, never_ends}
-use Rattle.zone_worlds.specs.declared.answer.Way.{Way}
+use Rattle.zone_worlds.specs.declared.way.Way.{Way}
 use Rattle.zone_worlds.specs.declared.world.WorldAnswer.{WorldAnswer}
 use Rattle.zone_worlds.proofs.answer.answer_of.Goals as goal
 

@@ -6,7 +6,7 @@ use Rattle.zone_worlds.proofs.answer.way_of.Given as goal
 
 -- what leads on from the name at hand leads on from the question's, and where nothing does nothing did
 abbrev pub invariant-way : goal.invariant-way
-invariant-way l = Reached l.world l.query l.met.items l.at l.aliases.items
+invariant-way l = Reached l.world l.query l.way.names.items l.way.last l.way.aliases.items
 
 abbrev pub decreases-way : goal.decreases-way
-decreases-way l = length (filter (unmet l.met.items) (all_records l.world))
+decreases-way l = length (filter (unmet l.way.names.items) (all_records l.world))

@@ -3,7 +3,7 @@ use Rattle.std.specs.Prelude.{IfSome, IfNone}
 use Rattle.dns_core.specs.Name.{DomainName}
 use Rattle.zone_worlds.specs.Answer.{Leads, NoWay}
 use Rattle.zone_worlds.specs.Valid.{IsShort}
-use Rattle.zone_worlds.specs.declared.answer.Way.{Way}
+use Rattle.zone_worlds.specs.declared.way.Way.{Way}
 use Rattle.zone_worlds.proofs.OneAnswer.{way-one}
 use Rattle.zone_worlds.proofs.valid.is_valid.Goals as goal
 
