@@ -10,11 +10,12 @@ use Rattle.resolver_settings.specs.Ttl.{TtlTable}
 use Rattle.resolution.specs.Asking.{AsksServers}
 use Rattle.resolution.specs.Telling.{Logged}
 use Rattle.resolution.specs.Ending.{waits}
+use Rattle.order_carrier.specs.Growing.{LongerOver}
 use Rattle.order_carrier.specs.Patience.{PatientSince}
 use Rattle.server_core.specs.Context.{Context}
 use Rattle.recursor_setting.specs.declared.setting.Setting.{Setting}
 use Rattle.walk_tables.specs.View.{given_of}
-use Rattle.recursor_core.specs.Standing.{Standing, run_terms, run_moments, LongerOver, RepliesHold}
+use Rattle.recursor_core.specs.Standing.{Standing, run_terms, run_moments, RepliesHold}
 use Rattle.recursor_types.specs.declared.reply.Reply.{Reply}
 use Rattle.recursor_command.specs.Command.{HappensAt, IsUntold}
 

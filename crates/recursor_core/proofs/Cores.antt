@@ -13,26 +13,26 @@ use Rattle.walk_tables.specs.declared.pools.Pools.{Pools}
 use Rattle.walk_tables.specs.View.{View, seen_at, given_of}
 use Rattle.recursor_walk.specs.Replies.{Replied}
 use Rattle.recursor_core.specs.Derived.{seen_by, Derived, KeptHolds}
-use Rattle.recursor_core.specs.Resolving.{SameBegun, open_of}
+use Rattle.recursor_walk.specs.Resolving.{SameBegun, open_of}
 use Rattle.walk_tables.specs.Taking.{IfAwaits}
-use Rattle.recursor_core.specs.declared.resolving.Need.TheVariants as need
 use Rattle.walk_tables.specs.declared.pools.Stepped.{Stepped}
-use Rattle.recursor_core.proofs.Ranks.{put_at, place_read, place_within}
-use Rattle.recursor_core.specs.Machine.{kept_in, Begun, begun_of, begun_at, IsOneMore, given_by, need_in, open_in, GoesOn, StepIs, Steps, ReplyGiven, StepGives, SameCore}
+use Rattle.recursor_core.proofs.Places.{slice_get-set_same}
+use Rattle.std.proofs.lemmas.Option.{get_or_from_slice_get, slice_get_within}
+use Rattle.recursor_core.specs.Machine.{kept_in, Begun, begun_of, begun_at, IsOneMore, given_by, open_in, GoesOn, StepIs, Steps, ReplyGiven, StepGives, SameCore}
 use Rattle.recursor_setting.specs.declared.setting.Setting.{Setting}
 use Rattle.recursor_core.specs.declared.machine.RecursorCore.{RecursorCore}
 use Rattle.recursor_core.specs.declared.machine.Step.{Step}
 use Rattle.recursor_core.specs.declared.machine.Step.TheVariants as step
 use Rattle.recursor_core.specs.declared.machine.Progress.{Progress}
 use Rattle.recursor_types.specs.declared.reply.Reply.{Reply}
-use Rattle.recursor_core.specs.declared.resolving.Resolution.{Resolution}
+use Rattle.recursor_walk.specs.declared.resolving.Resolution.{Resolution}
 use Rattle.walk_tables.specs.Pools.{PoolsHold}
 use Rattle.walk_tables.specs.Remembered.{CacheHolds}
 use Rattle.std.proofs.lemmas.List.{length-set}
 
 -- what holds of all holds of the one that is kept at a place
 pub held-at : (P : Option (Box Resolution) → Type 0) (xs : List (Option (Box Resolution))) (i : ℕ) (x : Option (Box Resolution)) → slice_get xs i ≡ Some x → All P xs → P x
-held-at P xs i x at all = subst P (sym (place_read xs i x at)) (all i x (place_within xs i x at))
+held-at P xs i x at all = subst P (get_or_from_slice_get xs i x x at) (all i x (slice_get_within xs i x at))
 
 -- what of is begun where one of a list was changed
 begun-set : (xs : List (Option (Box Resolution))) (i : ℕ) (b : Box Resolution) (g : Resolution) → slice_get xs i ≡ Some (Some b) → SameBegun b.value g → (k : ℕ)
@@ -60,18 +60,18 @@ begun-ended (x ∷ xs) (suc i) within (suc k) = ⊎_elim inl (λ h. inr (ap suc 
 pub waits-at : (pools : Pools) (xs : List (Option (Box Resolution))) (i : ℕ) (b : Box Resolution) (g : Resolution) (s : Stepped) → slice_get xs i ≡ Some (Some b)
     → IfAwaits (open_of pools g) s → IfAwaits (open_in pools (kept_in (slice_get (set xs i (Some (record b { value = g }))) i))) s
 waits-at pools xs i b g s at h =
-    subst (λ (o : Option (Option (Box Resolution))). IfAwaits (open_in pools (kept_in o)) s) (sym (put_at xs i (Some (record b { value = g })) (place_within xs i (Some b) at))) h
+    subst (λ (o : Option (Option (Box Resolution))). IfAwaits (open_in pools (kept_in o)) s) (sym (slice_get-set_same xs i (Some (record b { value = g })) (slice_get_within xs i (Some b) at))) h
 
--- where one has ended nothing is needed
-pub need-ended : (xs : List (Option (Box Resolution))) (i : ℕ) → i < length xs → need_in (kept_in (slice_get (set xs i None) i)) ≡ need.Nothing
-need-ended xs i within = ap (λ (o : Option (Option (Box Resolution))). need_in (kept_in o)) (put_at xs i None within)
+-- where one has ended nothing is kept
+pub gone-ended : (xs : List (Option (Box Resolution))) (i : ℕ) → i < length xs → kept_in (slice_get (set xs i None) i) ≡ None
+gone-ended xs i within = ap kept_in (slice_get-set_same xs i None within)
 
 -- nor beyond the last one
-pub need-past : (xs : List (Option (Box Resolution))) (i : ℕ) → length xs ≤ i → need_in (kept_in (slice_get xs i)) ≡ need.Nothing
-need-past [] zero h = refl
-need-past [] (suc i) h = refl
-need-past (x ∷ xs) zero h = absurd (omega (arith, h))
-need-past (x ∷ xs) (suc i) h = need-past xs i (omega (arith, h))
+pub gone-past : (xs : List (Option (Box Resolution))) (i : ℕ) → length xs ≤ i → kept_in (slice_get xs i) ≡ None
+gone-past [] zero h = refl
+gone-past [] (suc i) h = refl
+gone-past (x ∷ xs) zero h = absurd (omega (arith, h))
+gone-past (x ∷ xs) (suc i) h = gone-past xs i (omega (arith, h))
 
 -- one more leaves those before it
 pub begun-push : (xs : List (Option (Box Resolution))) (r : Option (Box Resolution)) (k : ℕ) → k < length xs
@@ -87,7 +87,7 @@ begun-last (x ∷ xs) r = begun-last xs r
 
 -- no question more
 pub one-more-refl : (core : RecursorCore) → IsOneMore core core
-one-more-refl core = record { count = omega arith; before = λ k within. refl }
+one-more-refl core = record { count = omega arith; one = omega arith; before = λ k within. refl }
 
 -- a step of one resolution that is still of its question leaves the machine as it is
 pub same-at : (core new : RecursorCore) (i : ℕ) (b : Box Resolution) (g : Resolution) → slice_get core.resolutions.items i ≡ Some (Some b) → SameBegun b.value g

@@ -3,9 +3,8 @@ pub mod Cores
 pub mod Due
 pub mod Later
 pub mod Leading
-pub mod Moments
+pub mod Places
 pub mod Playing
 pub mod Ranks
-pub mod Resolved
 pub mod Standing
 pub mod Timed

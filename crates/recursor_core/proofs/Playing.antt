@@ -1,5 +1,5 @@
 -- The questions of a run, as their turns are played.
-use Rattle.std.proofs.Common.{◌≡◌, ◌≢◌, ◌≤◌, ◌<◌, ◌+◌, ◌-◌, ◌++◌, ◌∙◌, ◌⊎◌, ⊎_elim, inl, inr, ℕ, zero, suc, max, List, [], ◌∷◌, length, get_or, Option, Some, None, Err, refl, sym, ap, subst, arith, slice_get, if◌then◌else◌, eq-eqb, All, Contains}
+use Rattle.std.proofs.Common.{◌≡◌, ◌≢◌, ◌≤◌, ◌<◌, ◌+◌, ◌-◌, ◌++◌, ◌∙◌, ◌⊎◌, ⊎_elim, inl, inr, ℕ, zero, suc, max, List, [], ◌∷◌, length, Option, Some, None, Err, refl, sym, ap, subst, arith, slice_get, if◌then◌else◌, eq-eqb, All, Contains}
 use Rattle.std.specs.Global.{Box}
 use Rattle.std.proofs.Math.ListN.{set}
 use Rattle.std.proofs.lemmas.Bool.{ne_eqb}
@@ -24,10 +24,12 @@ use Rattle.recursor_types.specs.declared.reply.Reply.{Reply}
 use Rattle.recursor_core.specs.declared.plays.Played.{Played}
 use Rattle.recursor_core.specs.declared.plays.Played.TheVariants as played
 use Rattle.recursor_walk.proofs.Earlier.{reply-earlier}
-use Rattle.recursor_core.proofs.Standing.{ReplyHolds-grown, Grown-refl}
+use Rattle.order_carrier.proofs.Growing.{Grown-refl}
+use Rattle.recursor_core.proofs.Places.{slice_get-set_same, slice_get-set_other}
+use Rattle.recursor_core.proofs.Standing.{ReplyHolds-grown}
 use Rattle.recursor_core.proofs.Timed.{reply-timed, run_first}
 use Rattle.walk_tables.specs.View.{seen_at}
-use Rattle.recursor_core.specs.declared.resolving.Resolution.{Resolution}
+use Rattle.recursor_walk.specs.declared.resolving.Resolution.{Resolution}
 use Rattle.std.specs.Option.{option_map}
 
 -- two numbers are equal, or not
@@ -36,26 +38,6 @@ same_or_not zero zero = inl refl
 same_or_not zero (suc n) = inr (λ e. omega arith)
 same_or_not (suc k) zero = inr (λ e. omega arith)
 same_or_not (suc k) (suc n) = ⊎_elim (λ e. inl (ap suc e)) (λ ne. inr (λ e. ne (omega arith))) (same_or_not k n)
-
--- what is set at a place stands there
-pub slice_get-set_same : {X : Type 0} (xs : List X) (i : ℕ) (x : X) → i < length xs → slice_get (set xs i x) i ≡ Some x
-slice_get-set_same [] i x h = absurd (omega arith)
-slice_get-set_same (y ∷ xs) zero x h = refl
-slice_get-set_same (y ∷ xs) (suc i) x h = slice_get-set_same xs i x (omega arith)
-
--- and the other places stay
-pub slice_get-set_other : {X : Type 0} (xs : List X) (i k : ℕ) (x : X) → k ≢ i → slice_get (set xs i x) k ≡ slice_get xs k
-slice_get-set_other [] i k x h = refl
-slice_get-set_other (y ∷ xs) zero zero x h = absurd (h refl)
-slice_get-set_other (y ∷ xs) zero (suc k) x h = refl
-slice_get-set_other (y ∷ xs) (suc i) zero x h = refl
-slice_get-set_other (y ∷ xs) (suc i) (suc k) x h = slice_get-set_other xs i k x (λ e. h (ap suc e))
-
--- what stands at a place
-pub get_here : {X : Type 0} (xs : List X) (i : ℕ) (x : X) → i < length xs → x ≡ get_or xs i x → slice_get xs i ≡ Some x
-get_here [] i x h e = absurd (omega arith)
-get_here (y ∷ ys) zero x h e = ap Some (sym e)
-get_here (y ∷ ys) (suc i) x h e = get_here ys i x (omega arith) e
 
 -- the first turn of a question is this one, or one of those after it
 first_here : (t : Turn) (rest : List Turn) (q : ℕ) → t.question ≡ q + 1 → first_moment (t ∷ rest) q ≡ Some t.moment

@@ -1,16 +1,16 @@
 -- How many steps resolutions have before them, and a list of them in which one is changed.
-use Rattle.std.proofs.Common.{◌≡◌, ◌≢◌, ◌≤◌, ◌<◌, ◌∙◌, ℕ, zero, suc, List, [], ◌∷◌, length, get_or, Option, Some, refl, arith, sym, ap}
+use Rattle.std.proofs.Common.{◌≡◌, ◌≢◌, ◌≤◌, ◌<◌, ◌∙◌, ℕ, zero, suc, List, [], ◌∷◌, length, get_or, Option, Some, refl, arith, ap}
 use Rattle.std.specs.Global.{Box}
 use Rattle.std.specs.Prelude.{slice_get, sum_by}
 use Rattle.std.proofs.Math.ListN.{set}
 use Rattle.std.proofs.lemmas.List.Sums.{sum_by-set}
-use Rattle.std.proofs.lemmas.Option.{slice_get_read, same_Some}
+use Rattle.std.proofs.lemmas.Option.{get_or_from_slice_get, slice_get_read, slice_get_within}
 use Rattle.walk_tables.specs.Lookup.{LeavesLess}
 use Rattle.walk_tables.specs.declared.pools.Stepped.{Stepped}
 use Rattle.walk_tables.specs.declared.pools.Stepped.TheVariants as stepped
-use Rattle.recursor_core.specs.Resolving.{steps}
-use Rattle.recursor_core.specs.declared.resolving.Resolution.{Resolution}
-use Rattle.recursor_core.specs.declared.resolving.Need.TheVariants as need
+use Rattle.recursor_walk.specs.Resolving.{steps}
+use Rattle.recursor_walk.specs.declared.resolving.Resolution.{Resolution}
+use Rattle.recursor_walk.specs.declared.resolving.Need.TheVariants as need
 use Rattle.recursor_core.specs.Machine.{kept_in, need_in, steps_of}
 
 -- where something is needed there is a place
@@ -19,32 +19,10 @@ need_within [] i h = absurd (h refl)
 need_within (x ∷ xs) zero h = omega arith
 need_within (x ∷ xs) (suc i) h = omega (arith, need_within xs i h)
 
--- what was read there
-pub found_at : (xs : List (Option (Box Resolution))) (i : ℕ) (f : Option (Box Resolution)) → i < length xs → f ≡ get_or xs i f → slice_get xs i ≡ Some f
-found_at xs i f within is = slice_get_read xs (length xs) i f refl within is
-
--- is a resolution that is kept
+-- and what was read there is a resolution that is kept
 pub kept_at : (xs : List (Option (Box Resolution))) (i : ℕ) (f : Option (Box Resolution)) (b : Box Resolution) → need_in (kept_in (slice_get xs i)) ≢ need.Nothing
     → f ≡ get_or xs i f → f ≡ Some b → slice_get xs i ≡ Some (Some b)
-kept_at xs i f b h at is = found_at xs i f (need_within xs i h) at ∙ ap Some is
-
--- a place at which something stands is one of the list
-pub place_within : (xs : List (Option (Box Resolution))) (i : ℕ) (x : Option (Box Resolution)) → slice_get xs i ≡ Some x → i < length xs
-place_within [] i x h = cc
-place_within (y ∷ xs) zero x h = omega arith
-place_within (y ∷ xs) (suc i) x h = omega (arith, place_within xs i x h)
-
--- and it is read there
-pub place_read : (xs : List (Option (Box Resolution))) (i : ℕ) (x : Option (Box Resolution)) → slice_get xs i ≡ Some x → x ≡ get_or xs i x
-place_read [] i x h = cc
-place_read (y ∷ xs) zero x h = sym (same_Some _ _ h)
-place_read (y ∷ xs) (suc i) x h = place_read xs i x h
-
--- what was put at a place stands there
-pub put_at : (xs : List (Option (Box Resolution))) (i : ℕ) (g : Option (Box Resolution)) → i < length xs → slice_get (set xs i g) i ≡ Some g
-put_at [] i g within = absurd (omega (arith, within))
-put_at (x ∷ xs) zero g within = refl
-put_at (x ∷ xs) (suc i) g within = put_at xs i g (omega arith)
+kept_at xs i f b h at is = slice_get_read xs (length xs) i f refl (need_within xs i h) at ∙ ap Some is
 
 module _ (xs : List (Option (Box Resolution))) (i : ℕ) (b : Box Resolution) (g : Resolution) (at : slice_get xs i ≡ Some (Some b)) where
   -- the list in which it is changed
@@ -54,13 +32,13 @@ module _ (xs : List (Option (Box Resolution))) (i : ℕ) (b : Box Resolution) (g
   -- one of a list falls, and so does the sum
   pub sum_falls : steps g < steps b.value → sum_by steps_of changed < sum_by steps_of xs
   sum_falls h =
-      let moved = rw (sym (ap steps_of (place_read xs i (Some b) at))) at (sum_by-set steps_of xs i (Some (record b { value = g })) (Some b) (place_within xs i (Some b) at)) in
+      let moved = rw (ap steps_of (get_or_from_slice_get xs i (Some b) (Some b) at)) at (sum_by-set steps_of xs i (Some (record b { value = g })) (Some b) (slice_get_within xs i (Some b) at)) in
       omega (arith, moved, h)
 
   -- one of a list doesn't grow, nor does the sum
   sum_keeps : steps g ≤ steps b.value → sum_by steps_of changed ≤ sum_by steps_of xs
   sum_keeps h =
-      let moved = rw (sym (ap steps_of (place_read xs i (Some b) at))) at (sum_by-set steps_of xs i (Some (record b { value = g })) (Some b) (place_within xs i (Some b) at)) in
+      let moved = rw (ap steps_of (get_or_from_slice_get xs i (Some b) (Some b) at)) at (sum_by-set steps_of xs i (Some (record b { value = g })) (Some b) (slice_get_within xs i (Some b) at)) in
       omega (arith, moved, h)
 
   -- so the sum after a step of one of them

@@ -1,30 +1,28 @@
 -- What holds of the machine and its provider goes on holding at each step of the two.
-use Rattle.std.proofs.Common.{◌≡◌, ◌≤◌, ◌<◌, ◌+◌, ◌∙◌, ◌⊎◌, ◌++◌, ⊎_elim, inl, inr, ℕ, zero, suc, Bool, true, false, List, [], ◌∷◌, length, All, Option, Some, None, Result, refl, sym, ap, subst, arith, min, max, if◌then◌else◌}
+use Rattle.std.proofs.Common.{◌≡◌, ◌≤◌, ◌<◌, ◌+◌, ◌∙◌, ◌⊎◌, ◌++◌, ⊎_elim, inl, inr, ℕ, Bool, true, false, List, [], ◌∷◌, length, All, Option, Some, None, Result, refl, sym, ap, subst, arith, min, max, if◌then◌else◌}
 use Rattle.std.specs.Global.{Box}
-use Rattle.dns_core.specs.Log.{Log, Extends, log_of}
+use Rattle.dns_core.specs.Log.{Log, log_of}
 use Rattle.std.specs.declared.net.ip_addr.IpAddr.{IpAddr}
 use Rattle.dns_core.specs.declared.log.LogEntry.{LogEntry}
 use Rattle.dns_core.specs.declared.log.LogEntry.TheVariants.{Opened, Asked, GaveUp}
 use Rattle.dns_core.specs.declared.request.Question.{Question}
 use Rattle.dns_core.specs.declared.provider.ConnectionProvider.{Ghosts}
-use Rattle.resolution.specs.Given.{Given, with_patience}
+use Rattle.resolution.specs.Given.{Given}
 use Rattle.resolution.specs.Telling.{Logged, MomentsRise}
 use Rattle.resolution.specs.Asking.{AsksServers}
-use Rattle.resolution.proofs.Keeping.{Serves-later, Serves-extend}
-use Rattle.order_carrier.specs.Fits.{WaitsBy, GoesToServer}
+use Rattle.order_carrier.specs.Fits.{GoesToServer}
 use Rattle.order_carrier.specs.GivingUp.{give_up_entry}
 use Rattle.walk_tables.specs.View.{given_of, seen_at}
 use Rattle.recursor_walk.specs.Replies.{ReplyHolds}
 use Rattle.walk_tables.specs.Tried.{machine_timer}
-use Rattle.order_carrier.specs.Growing.{TellsThat, Grown, with_entries}
+use Rattle.order_carrier.specs.Growing.{TellsThat, Grown, IsPast, with_entries}
 use Rattle.recursor_core.specs.Derived.{seen_by, Derived}
-use Rattle.order_carrier.specs.Patience.{IsPatient}
 use Rattle.resolver_cache.specs.Cached.{Cached}
 use Rattle.walk_tables.specs.Remembered.{EntryHolds}
 use Rattle.walk_tables.specs.Taking.{TablesHold}
 use Rattle.recursor_setting.specs.Setting.{with_patience as setting_with}
 use Rattle.recursor_core.specs.Machine.{Begun, begun_at, SameCore, ReplyGiven, StepGives, IsNewCore, TellsTo}
-use Rattle.recursor_core.specs.Standing.{IsPast, Holds, Rests, Moves, Ready, Goes, ReplyTold, TurnedTold, KeepsTo}
+use Rattle.recursor_core.specs.Standing.{Holds, Rests, Moves, Ready, Goes, ReplyTold, TurnedTold, KeepsTo}
 use Rattle.walk_tables.specs.Order.{is_given_up, IsGivenUpIn, LogGoesOnIf}
 use Rattle.order_runner.specs.Runner.{RunnerHolds, RunnerMoves, GoesNowhere, sent_by, still_awaited, IsLast, HasTold}
 use Rattle.order_runner.specs.declared.runner.Runner.{Runner}
@@ -38,69 +36,22 @@ use Rattle.recursor_core.specs.declared.turns.Turned.{Turned}
 use Rattle.recursor_core.specs.declared.turns.Turned.TheVariants as turned
 use Rattle.dns_core.specs.declared.errors.NoMemory.{NoMemory}
 use Rattle.server_core.specs.declared.order.Order.{Order}
-use Rattle.server_core.specs.declared.order.Order.TheVariants.{Open, Ask, Sleep}
 use Rattle.server_core.specs.declared.order.After.{After}
 use Rattle.server_core.specs.declared.order.Outcome.{Outcome}
 use Rattle.server_core.specs.declared.order.Outcome.TheVariants.{Pending, Connected, Told, Failed, Slept}
 use Rattle.server_core.specs.declared.order.Sent.{Sent}
 use Rattle.server_core.specs.declared.order.Tick.{Tick}
 use Rattle.recursor_types.specs.declared.reply.Reply.{Reply}
-use Rattle.order_carrier.proofs.Growing.{Extends-refl, Extends-trans, Longer-from_added, Extends-added, Logged-newest}
-use Rattle.order_carrier.proofs.Waiting.{IsPatient-trans, WaitsFor-refl, patient-none}
+use Rattle.order_carrier.proofs.Growing.{Extends-refl, Grown-refl, Grown-trans, Longer-from_added, Extends-added, Logged-newest, unlogged}
+use Rattle.order_carrier.proofs.Moments.{IsPast-later, IsPast-grown}
+use Rattle.order_carrier.proofs.Asking.{AsksServers-patience, GoesToServer-later}
+use Rattle.order_carrier.proofs.Waiting.{IsPatient-refl, IsPatient-trans}
+use Rattle.order_runner.proofs.Carried.{waits-still}
 use Rattle.walk_tables.proofs.Later.{later-by}
 use Rattle.recursor_walk.proofs.Later.{reply-later}
 use Rattle.recursor_core.proofs.Later.{Derived-extends}
 
 -- ---- growing logs
-
--- a number is below another, or not
-pub below_or_not : (i n : ℕ) → (i < n) ⊎ (n ≤ i)
-below_or_not i zero = inr (omega arith)
-below_or_not zero (suc n) = inl (omega arith)
-below_or_not (suc i) (suc n) = ⊎_elim (λ h. inl (omega arith)) (λ h. inr (omega arith)) (below_or_not i n)
-
--- an early entry of the longer log is one of the shorter
-Logged-shrink : (old new : Log) → Extends old new → (i : ℕ) (e : LogEntry) → i < old.next → Logged new i e → Logged old i e
-Logged-shrink old new x i e low h = record { below = low; is = sym (x.kept i low) ∙ h.is }
-
--- each entry of the longer log is one of the shorter, or a new one
-pub entry_sides : (old new : Log) → Extends old new → (i : ℕ) (e : LogEntry) → Logged new i e → Logged old i e ⊎ (old.next ≤ i)
-entry_sides old new x i e h = ⊎_elim (λ low. inl (Logged-shrink old new x i e low h)) (λ high. inr high) (below_or_not i old.next)
-
--- a log that stays as it is has grown by nothing
-pub Grown-refl : (now : ℕ) (told : Option (List LogEntry)) → Grown now told told
-Grown-refl now told es t = record {
-  before = es;
-  was = t;
-  extends = Extends-refl (log_of es);
-  at = λ i moment e high logged is. absurd (omega (arith, high, logged.below));
-}
-
--- a log that grows twice at a moment grows at that moment
-pub Grown-trans : (now : ℕ) (a b c : Option (List LogEntry)) → Grown now a b → Grown now b c → Grown now a c
-Grown-trans now a b c x y es t =
-    let two = y es t in
-    let one = x two.before two.was in
-    record {
-      before = one.before;
-      was = one.was;
-      extends = Extends-trans (log_of one.before) (log_of two.before) (log_of es) one.extends two.extends;
-      at = λ i moment e high logged is. ⊎_elim
-          (λ early. one.at i moment e high early is)
-          (λ late. two.at i moment e late logged is)
-          (entry_sides (log_of two.before) (log_of es) two.extends i e logged);
-    }
-
--- what no entry was later than stays so
-IsPast-later : (now later : ℕ) (told : Option (List LogEntry)) → now ≤ later → TellsThat told (IsPast now) → TellsThat told (IsPast later)
-IsPast-later now later told le h es t i moment e logged is = omega (arith, h es t i moment e logged is, le)
-
--- no entry is later than the moment of the last ones
-IsPast-grown : (now : ℕ) (old new : Option (List LogEntry)) → Grown now old new → TellsThat old (IsPast now) → TellsThat new (IsPast now)
-IsPast-grown now old new grown h es t i moment e logged is =
-    let l = grown es t in
-    ⊎_elim (λ early. h l.before l.was i moment e early is) (λ late. omega (arith, l.at i moment e late logged is))
-    (entry_sides (log_of l.before) (log_of es) l.extends i e logged)
 
 -- what was derived is derived from a longer log
 Derived-grown : (now : ℕ) (core : RecursorCore) (old new : Option (List LogEntry)) → Grown now old new → TellsThat old (Derived core)
@@ -123,12 +74,6 @@ pub moment_later : (a b now : ℕ) → a ≤ now → (b ≡ a) ⊎ (b ≡ now) �
 moment_later a b now le = ⊎_elim (λ same. omega (arith, same)) (λ at. omega (arith, at, le))
 
 -- ---- what a step gives
-
--- an order that goes to a server by what was told before also does by what is told later
-GoesToServer-later : (given : Given) (log : Log) (n m : ℕ) (order : Order) → n ≤ m → GoesToServer given log n order → GoesToServer given log m order
-GoesToServer-later given log n m (Open ip config) le h = record { zone = h.zone; serves = Serves-later given log le h.serves }
-GoesToServer-later given log n m (Ask conn ip protocol request) le h = record { zone = h.zone; above = h.above; serves = Serves-later given log le h.serves }
-GoesToServer-later given log n m (Sleep until) le h = tt
 
 module _ (core new : RecursorCore) (told : Option (List LogEntry)) where
   -- an order that the machine gives goes to a server by all that is told
@@ -153,18 +98,6 @@ module _ (core new : RecursorCore) (told : Option (List LogEntry)) where
       → ReplyTold core.setting core.moment told (begun_at core r) reply.value
   step_replies r next reply is d gives =
       reply_told (begun_at core r) reply.value (λ es t. subst (λ (s : Step). StepGives core (log_of es) r s) is (gives (log_of es) (d es t)).1)
-
--- who is a server does not depend on patience
-AsksServers-patience : (given : Given) (patience : ℕ) (log : Log) → AsksServers given log → AsksServers (with_patience patience given) log
-AsksServers-patience given patience log a =
-    let x = Extends-refl log in
-    record {
-      opened = λ n ip protocol moment refused at. let s = a.opened n ip protocol moment refused at in record
-          { zone = s.zone; serves = Serves-extend given patience log log x s.serves };
-      asked = λ n ip protocol q moment refused at.
-          let s = a.asked n ip protocol q moment refused at in
-          record { zone = s.zone; above = s.above; serves = Serves-extend given patience log log x s.serves };
-    }
 
 -- a reply to a question that is under way is one to the same question before
 ReplyTold-before : (setting : Setting) (now : ℕ) (told : Option (List LogEntry)) (old new : Option Begun) (reply : Reply) → ((b : Begun) → new ≡ Some b → old ≡ Some b)
@@ -195,16 +128,7 @@ still-begun k r old new b (inr ended) e = let none : None ≡ Some b = sym ended
 keeps-at : (r : ℕ) (core new : RecursorCore) → SameCore r core new → KeepsTo core new
 keeps-at r core new same = record { count = same.count; each = λ k b e. still-begun k r (begun_at core k) (begun_at new k) b (same.begun k) e }
 
--- a log without entries has none under any number
-unlogged : (n : ℕ) (e : LogEntry) → Logged (log_of []) n e → ⊥
-unlogged zero e h = let is : None ≡ Some e = h.is in cc
-unlogged (suc n) e h = let is : None ≡ Some e = h.is in cc
-
 -- ---- steps
-
--- a log that stays as it is waits for nothing
-pub IsPatient-refl : (most : ℕ) (told : Option (List LogEntry)) → IsPatient most told told
-IsPatient-refl most told = patient-none most told told (WaitsFor-refl told)
 
 -- what was given up after an outcome is in the log from then on
 pub record IsSettledBy (given_up : Bool) (now : ℕ) (waits : Option Sent) (o : Outcome) (old : Option (List LogEntry)) (es : List LogEntry) : Type 0 where
@@ -237,15 +161,7 @@ settled_by true now (Some s) o old new is told es t =
     by_outcome (Failed entry sent refused error) before is last = absurd last
     by_outcome Slept before is last = absurd last
 
--- a poll that found nothing is in the log, also by what is waited for still
-waits-still : (log : Log) (s : Option Sent) (o : Outcome) → WaitsBy log s o → WaitsBy log (still_awaited o s) o
-waits-still log s (Pending entry of) h = h
-waits-still log s (Connected entry sent) h = tt
-waits-still log s (Told entry sent message) h = tt
-waits-still log s (Failed entry sent refused error) h = tt
-waits-still log s Slept h = tt
-
--- and so the log goes on
+-- by what is waited for still after an outcome the log goes on as before
 goes-still : (given_up : Bool) (now : ℕ) (s : Option Sent) (o : Outcome) (told longer : Log) → LogGoesOnIf given_up now s o told longer
     → LogGoesOnIf given_up now (still_awaited o s) o told longer
 goes-still false now s o told longer h = h

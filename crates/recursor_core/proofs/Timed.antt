@@ -13,10 +13,10 @@ use Rattle.resolution.specs.Timing.{DriveTimed}
 use Rattle.walk_tables.specs.View.{given_of}
 use Rattle.recursor_walk.specs.Replies.{ReplyHolds}
 use Rattle.walk_tables.specs.Tried.{IsTimed, machine_timer}
+use Rattle.order_carrier.proofs.Growing.{below_or_from}
 use Rattle.recursor_core.specs.Standing.{last_moment, run_moments, run_timer}
 use Rattle.recursor_types.specs.declared.reply.Reply.{Reply}
 use Rattle.recursor_walk.proofs.Earlier.{outcome-earlier}
-use Rattle.recursor_core.proofs.Standing.{below_or_not}
 use Rattle.recursor_setting.specs.declared.setting.Setting.{Setting}
 
 -- a lookup of the machine is one of a run, where it was heard at a moment of the run
@@ -61,7 +61,7 @@ contains_later x y xs (k, low, is) = (suc k, omega arith, is)
 pub contains_max : (moments : List ℕ) (a b : ℕ) → Contains moments a → Contains moments b → Contains moments (max a b)
 contains_max moments a b x y =
     ⊎_elim (λ (low : a < b). let same : b ≡ max a b = omega (arith, low) in subst (Contains moments) same y)
-    (λ (high : b ≤ a). let same : a ≡ max a b = omega (arith, high) in subst (Contains moments) same x) (below_or_not a b)
+    (λ (high : b ≤ a). let same : a ≡ max a b = omega (arith, high) in subst (Contains moments) same x) (below_or_from a b)
 
 -- so is the moment of the machine after a step
 pub contains_moment : (moments : List ℕ) (a b now : ℕ) → (b ≡ a) ⊎ (b ≡ now) → Contains moments a → Contains moments now → Contains moments b

@@ -1,4 +1,3 @@
-pub mod Resolving
 pub mod Derived
 pub mod Machine
 pub mod Turns

@@ -21,7 +21,7 @@ use Rattle.walk_tables.specs.declared.pools.Stepped.{Stepped}
 use Rattle.recursor_core.specs.Derived.{seen_by}
 use Rattle.recursor_types.specs.declared.reply.Reply.{Reply}
 use Rattle.dns_core.specs.declared.errors.NoMemory.{NoMemory}
-use Rattle.recursor_core.specs.Resolving as one
+use Rattle.recursor_walk.specs.Resolving as one
 use Rattle.recursor_setting.specs.Asking.{request_options_of}
 use Rattle.recursor_types.specs.Options.{answer_filter_of}
 use Rattle.recursor_setting.specs.Setting.{setting_of}
@@ -29,9 +29,9 @@ use Rattle.recursor_types.specs.declared.options.RecursorOptions.{RecursorOption
 use Rattle.recursor_types.specs.declared.error.MessageKind.TheVariants as kind
 use Rattle.recursor_types.specs.declared.error.RecursorError.{RecursorError}
 use Rattle.recursor_types.specs.declared.error.RecursorError.TheVariants as error
-use Rattle.recursor_core.specs.declared.resolving.Need.{Need}
-use Rattle.recursor_core.specs.declared.resolving.Need.TheVariants as need
-use Rattle.recursor_core.specs.declared.resolving.Resolution.{Resolution}
+use Rattle.recursor_walk.specs.declared.resolving.Need.{Need}
+use Rattle.recursor_walk.specs.declared.resolving.Need.TheVariants as need
+use Rattle.recursor_walk.specs.declared.resolving.Resolution.{Resolution}
 use Rattle.recursor_core.specs.declared.machine.Step.{Step}
 use Rattle.recursor_core.specs.declared.machine.Step.TheVariants as step
 use Rattle.recursor_core.specs.declared.machine.Progress.{Progress}
@@ -100,6 +100,7 @@ pub record SameCore (r : ℕ) (old new : RecursorCore) : Type 0 where
 -- One question more has begun, or none; those before it are as they were.
 pub record IsOneMore (old new : RecursorCore) : Type 0 where
   pub count : length old.resolutions.items ≤ length new.resolutions.items
+  pub one : length new.resolutions.items ≤ length old.resolutions.items + 1
   pub before : (k : ℕ) → k < length old.resolutions.items → begun_at new k ≡ begun_at old k
 
 -- ---- its orders
@@ -126,11 +127,12 @@ steps_of (Some r) = one.steps r.value
 abbrev pub rank : RecursorCore → ℕ
 rank core = sum_by steps_of core.resolutions.items
 
--- An order has the next number; no other step gives one. The resolution waits for the order that is given, or for the one that it is said to wait for; its reply is given once.
+-- An order has the next number; no other step gives one. The resolution waits for the order that is given, or for the one that it is
+-- said to wait for; with its reply nothing of it is left.
 abbrev pub StepIs : RecursorCore → RecursorCore → ℕ → Step → Type 0
 StepIs old new r (step.Order number order) = (number ≡ given_by old + 1) × (given_by new ≡ given_by old + 1) × (open_at new r ≡ Some number)
 StepIs old new r (step.Waiting number) = (given_by new ≡ given_by old) × (open_at new r ≡ Some number)
-StepIs old new r (step.Done reply) = (given_by new ≡ given_by old) × (need_at new r ≡ need.Nothing)
+StepIs old new r (step.Done reply) = (given_by new ≡ given_by old) × (resolution_at new r ≡ None)
 StepIs old new r step.Ended = given_by new ≡ given_by old
 
 -- For want of memory an order may be lost.

@@ -4,9 +4,10 @@ use Rattle.dns_core.specs.declared.log.LogEntry.{LogEntry}
 use Rattle.dns_core.specs.declared.provider.ConnectionProvider.{Ghosts}
 use Rattle.dns_core.specs.declared.request.Question.{Question}
 use Rattle.dns_core.specs.declared.request.Turn.{Turn}
+use Rattle.order_carrier.specs.Growing.{GrownOver}
 use Rattle.order_carrier.specs.Patience.{IsPatient}
 use Rattle.order_runner.specs.declared.runner.Runner.{Runner}
-use Rattle.recursor_core.specs.Standing.{Holds, GrownOver, PlaysHold, first_moment, last_moment, begin_moment, run_moments}
+use Rattle.recursor_core.specs.Standing.{Holds, PlaysHold, first_moment, last_moment, begin_moment, run_moments}
 use Rattle.recursor_core.specs.Turns.{due, open_plays}
 use Rattle.recursor_core.specs.declared.machine.RecursorCore.{RecursorCore}
 use Rattle.recursor_core.specs.declared.run.Run.{Run}

@@ -1,7 +1,7 @@
 -- A recursor, as contracts see it, and what holds of its machine and its provider between two calls.
 use Rattle.std.specs.Prelude.{◌≡◌, ◌≤◌, ◌<◌, ℕ, false, min, max, List, [], ◌∷◌, ◌+◌, ◌==◌, map, length, Contains, if◌then◌else◌, Option, Some, None, slice_get}
 use Rattle.std.specs.declared.net.ip_addr.IpAddr.{IpAddr}
-use Rattle.dns_core.specs.Log.{Log, Extends, log_of}
+use Rattle.dns_core.specs.Log.{Log}
 use Rattle.dns_core.specs.declared.log.LogEntry.{LogEntry}
 use Rattle.dns_core.specs.declared.request.Question.{Question}
 use Rattle.dns_core.specs.declared.request.Turn.{Turn}
@@ -10,14 +10,14 @@ use Rattle.resolver_settings.specs.Access.{Access}
 use Rattle.resolver_settings.specs.Ttl.{TtlTable}
 use Rattle.server_core.specs.Context.{Context}
 use Rattle.server_core.specs.declared.order.Tick.{Tick}
-use Rattle.resolution.specs.Telling.{Logged, moment_of, MomentsRise}
+use Rattle.resolution.specs.Telling.{MomentsRise}
 use Rattle.resolution.specs.Asking.{AsksServers}
 use Rattle.resolution.specs.Timing.{known_to_drive}
 use Rattle.recursor_setting.specs.declared.setting.Setting.{Setting}
 use Rattle.walk_tables.specs.View.{given_of}
 use Rattle.walk_tables.specs.Tried.{Timer, machine_timer}
 use Rattle.recursor_walk.specs.Replies.{ReplyHolds}
-use Rattle.order_carrier.specs.Growing.{TellsThat, Grown}
+use Rattle.order_carrier.specs.Growing.{TellsThat, Grown, IsPast}
 use Rattle.recursor_core.specs.Derived.{seen_by, Derived}
 use Rattle.order_carrier.specs.Patience.{IsPatient}
 use Rattle.walk_tables.specs.Pools.{PoolsHold}
@@ -48,25 +48,6 @@ pub record Standing (P : Type 0) : Type 0 where
 -- what a run is set to with this patience, or with the least one of the runs before
 abbrev pub run_terms : {P : Type 0} → ℕ → Standing P → Setting
 run_terms patience recursor = record { roots = recursor.roots; server_filter = recursor.server_filter; answer_filter = recursor.answer_filter; lives = recursor.lives; context = recursor.context; patience = min recursor.patience patience }
-
--- no entry carries a later moment
-abbrev pub IsPast : ℕ → Log → Type 0
-IsPast now log = (i moment : ℕ) (e : LogEntry) → Logged log i e → moment_of e ≡ Some moment → moment ≤ now
-
--- The moments of the entries numbered n or more do not fall.
-abbrev pub RiseFrom : ℕ → Log → Type 0
-RiseFrom n log = (i j earlier later : ℕ) (e f : LogEntry) → n ≤ i → i ≤ j → Logged log i e → Logged log j f → moment_of e ≡ Some earlier → moment_of f ≡ Some later → earlier ≤ later
-
--- The log was told before, and goes on by entries at these moments, none before the first one, which do not fall.
-pub record LongerOver (moments : List ℕ) (from : ℕ) (old : Option (List LogEntry)) (es : List LogEntry) : Type 0 where
-  pub before : List LogEntry
-  pub was : old ≡ Some before
-  pub extends : Extends (log_of before) (log_of es)
-  pub at : (i moment : ℕ) (e : LogEntry) → (log_of before).next ≤ i → Logged (log_of es) i e → moment_of e ≡ Some moment → Contains moments moment × (from ≤ moment)
-  pub rises : RiseFrom (log_of before).next (log_of es)
-
-abbrev pub GrownOver : List ℕ → ℕ → Option (List LogEntry) → Option (List LogEntry) → Type 0
-GrownOver moments from old new = (es : List LogEntry) → new ≡ Some es → LongerOver moments from old es
 
 -- What the machine keeps is derived from the provider's log, and only servers were asked, none later than its moment. Its least
 -- patience is no greater than this one.

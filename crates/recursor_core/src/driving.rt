@@ -3,10 +3,10 @@ ghost use Rattle.std.specs.Prelude.{◌≡◌, ◌≤◌, List, Contains, length
 ghost use Rattle.dns_core.specs.declared.log.LogEntry.{LogEntry};
 ghost use Rattle.resolution.specs.Asking.{AsksServers};
 ghost use Rattle.walk_tables.specs.View.{given_of};
-ghost use Rattle.order_carrier.specs.Growing.{TellsThat};
+ghost use Rattle.order_carrier.specs.Growing.{TellsThat, IsPast, GrownOver};
 ghost use Rattle.order_carrier.specs.Patience.{IsPatient};
 ghost use Rattle.resolution.specs.Telling.{MomentsRise};
-ghost use Rattle.recursor_core.specs.Standing.{run_terms, RepliesHold, run_moments, IsPast, GrownOver};
+ghost use Rattle.recursor_core.specs.Standing.{run_terms, RepliesHold, run_moments};
 
 use crate::recursor::Recursor;
 use dns_core::{ConnectionProvider, NoMemory, Question, Turn};

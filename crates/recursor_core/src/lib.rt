@@ -5,7 +5,6 @@ mod driving;
 mod machine;
 mod plays;
 mod recursor;
-mod resolving;
 mod run;
 mod threads;
 mod turns;

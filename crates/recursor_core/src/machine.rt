@@ -15,10 +15,10 @@ ghost use Rattle.walk_tables.specs.Pools.{GivesNext, IsOutcomeOf};
 ghost use Rattle.recursor_core.specs.Derived.{seen_by, Derived};
 ghost use Rattle.recursor_core.specs.Machine.{TellsTo, resolution_at, need_at, open_at, given_by, IsRequestAt, rank, IsNearer, GoesOn, Steps, Gives, StepGives, IsNewError, IsBeginError, IsNewCore, SameCore, IsOneMore, LookupGives, IsBegunAt};
 
-use crate::resolving::{Need, Resolution, State};
 use dns_core::{ConnectOptions, DnsRequest, NoMemory, Question, TryClone};
 use recursor_setting::{Setting, connect_options, request_options};
 use recursor_types::{MessageKind, RecursorError, RecursorOptions, Reply};
+use recursor_walk::{Need, Resolution};
 use resolver_cache::ResponseCache;
 use server_core::{After, Order, Outcome, PoolContext, Sent, Tick};
 use std::alloc::Global;
@@ -340,7 +340,7 @@ impl RecursorCore {
     fn take_reply(&mut self, r: usize) -> Option<Box<Reply>>
         requires { need_at self.old r ≡ Need.Reply }
         ensures given { given_by self.new ≡ given_by self.old }
-        ensures ended { need_at self.new r ≡ Need.Nothing }
+        ensures ended { resolution_at self.new r ≡ None }
         ensures some { IsSome result }
         ensures derived { (log : Log) → Derived self.old log → Derived self.new log × IfSome result (λ reply. StepGives self.old log r (Step.Done reply)) }
         ensures same { SameCore r self.old self.new }
@@ -529,7 +529,7 @@ impl RecursorCore {
     /// Ends a resolution without a reply, and answers the order that it waited for.
     pub fn cancel(&mut self, r: usize) -> Option<u64>
         ensures awaited { result ≡ open_at self.old r }
-        ensures ended { need_at self.new r ≡ Need.Nothing }
+        ensures ended { resolution_at self.new r ≡ None }
         ensures given { given_by self.new ≡ given_by self.old }
         ensures derived { (log : Log) → Derived self.old log → Derived self.new log }
         ensures same { SameCore r self.old self.new }

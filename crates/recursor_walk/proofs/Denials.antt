@@ -41,7 +41,10 @@ use Rattle.resolution.proofs.SameDelegations.{Same-is_delegation, Same-glue, Sam
 use Rattle.resolution.specs.Same.{Same}
 use Rattle.walk_base.specs.Response.{error_of}
 use Rattle.walk_tables.specs.View.{View, given_of}
-use Rattle.recursor_walk.specs.Replies.{IsToldAnswer, OutcomeHolds, Replied, HasCause, IsReply}
+use Rattle.recursor_walk.specs.Replies.{IsToldAnswer, OutcomeHolds, Replied, HasCause}
+use Rattle.recursor_walk.specs.Walk.{IsCourseOf}
+use Rattle.recursor_walk.specs.declared.walk.Course.{Course}
+use Rattle.recursor_walk.specs.declared.walk.Course.TheVariants as course
 use Rattle.walk_tables.specs.Tried.{Concluded, machine_timer}
 use Rattle.recursor_walk.specs.Causes.{HasFailed, HasNoAddress}
 use Rattle.resolution.specs.Walking.{Walked}
@@ -52,7 +55,7 @@ use Rattle.recursor_walk.specs.Causes.IsReferred.{referred}
 use Rattle.recursor_walk.specs.Counted.{Stands, Answers, IsCurrentVerdict}
 use Rattle.walk_tables.specs.Asked.{AskedAs}
 use Rattle.recursor_walk.specs.SameTold.{SameIfAny, SameReferrals, SameNegative, SameVerdict, ShowsAsked, IsMadeFor}
-use Rattle.walk_tables.specs.Lookup.{nothing_left_for, left_of_class}
+use Rattle.walk_base.specs.Shown.{IsShown, nothing_left_for, left_of_class}
 use Rattle.walk_base.specs.Answer.{told_data, told_negative, made_negative, ends_walk, outcome_of}
 use Rattle.recursor_walk.specs.Way.{WalkComes}
 use Rattle.recursor_types.specs.declared.error.RecursorError.{RecursorError}
@@ -60,15 +63,15 @@ use Rattle.recursor_types.specs.declared.error.RecursorError.TheVariants.{Negati
 use Rattle.recursor_types.specs.declared.reply.Reply.{Reply}
 use Rattle.recursor_walk.specs.declared.walk.Walk.{Walk}
 use Rattle.walk_tables.proofs.Sends.{same_query-refl}
-use Rattle.walk_tables.specs.Remembered.{IsShown}
-use Rattle.walk_tables.proofs.Answering.{answer-whole}
-use Rattle.walk_tables.proofs.Counting.{Counts}
+use Rattle.walk_base.proofs.Runs.{answer_whole}
+use Rattle.walk_tables.proofs.Counting.{Counts, counts-of}
+use Rattle.recursor_walk.specs.Told.{IsToldAs}
 use Rattle.recursor_walk.proofs.Lowered.{negative_same, data_same}
 
 -- ---- what counts
 
 -- it was told of the question, since it began
-abbrev pub base-of : (seen : View) (t0 : ℕ) (zone : DomainName) (q : Query) (entry at : ℕ) (v : Verdict)
+abbrev base-of : (seen : View) (t0 : ℕ) (zone : DomainName) (q : Query) (entry at : ℕ) (v : Verdict)
     → (h : Counts seen t0 zone q entry at v) → Base (given_of seen.setting) seen.log t0 q entry zone h.whole
 base-of seen t0 zone q entry at v h =
     record { told = h.outcome; moment = at; heard = h.heard; counts = h.counts; fresh = inl h.late }
@@ -80,7 +83,7 @@ current-of t0 moment (Neg n) late = tt
 current-of t0 moment (Made cause) late = tt
 
 -- what is shown so is the same
-pub shown-same : (q : Query) (v whole : Verdict) → IsShown q v whole → SameVerdict q v whole
+shown-same : (q : Query) (v whole : Verdict) → IsShown q v whole → SameVerdict q v whole
 shown-same q (Pos a) (Pos b) h = subst (Same a) h (Same-refl a)
 shown-same q (Pos a) (Neg b) h = absurd h
 shown-same q (Pos a) (Made Filter) h = absurd h
@@ -94,7 +97,7 @@ shown-same q (Made a) (Neg b) h = absurd h
 shown-same q (Made a) (Made b) h = h
 
 -- what is shown so for the question as it was asked shows that
-pub shown-asked : (log : Log) (i : ℕ) (q : Query) (v whole : Verdict) → AskedAs log i q → IsShown q v whole → ShowsAsked log i q v whole
+shown-asked : (log : Log) (i : ℕ) (q : Query) (v whole : Verdict) → AskedAs log i q → IsShown q v whole → ShowsAsked log i q v whole
 shown-asked log i q (Pos a) whole asked h = tt
 shown-asked log i q (Neg a) (Pos b) asked h = tt
 shown-asked log i q (Neg a) (Neg b) asked h = tt
@@ -103,7 +106,7 @@ shown-asked log i q (Neg a) (Made Zone) asked h = absurd h
 shown-asked log i q (Made a) whole asked h = asked
 
 -- what counts, of a server of the zone to which a walk went down, stands
-abbrev pub stands-of : (seen : View) (t0 : ℕ) (zone : DomainName) (q : Query) (entry at : ℕ) (v : Verdict)
+abbrev stands-of : (seen : View) (t0 : ℕ) (zone : DomainName) (q : Query) (entry at : ℕ) (v : Verdict)
     → Counts seen t0 zone q entry at v → Walked (given_of seen.setting) seen.log q zone → Stands seen t0 q entry v
 stands-of seen t0 zone q entry at v h walked = record {
   zone = zone;
@@ -116,7 +119,7 @@ stands-of seen t0 zone q entry at v h walked = record {
 }
 
 -- and it may be answered
-pub answers-of : (seen : View) (t0 : ℕ) (zone : DomainName) (q : Query) (entry at : ℕ) (v : Verdict)
+answers-of : (seen : View) (t0 : ℕ) (zone : DomainName) (q : Query) (entry at : ℕ) (v : Verdict)
     → Counts seen t0 zone q entry at v → Walked (given_of seen.setting) seen.log q zone → Answers seen t0 q entry v
 answers-of seen t0 zone q entry at v h walked =
     record { stands = stands-of seen t0 zone q entry at v h walked; current = current-of t0 at h.whole h.late }
@@ -152,10 +155,10 @@ left-fails denied q m e false whole none fails =
     left-message-fails q kept kept.truncation (find (is_foreign q) (records kept)) e whole left fails
 
 -- what is left of a response has a verdict
-pub left-no-error : (denied : IpAddr → Bool) (outcome : ToldOutcome) (q : Query) (response : Class) (class : Result Message DnsError) (e : NetError) → class_of outcome q ≡ Some response
+left-no-error : (denied : IpAddr → Bool) (outcome : ToldOutcome) (q : Query) (response : Class) (class : Result Message DnsError) (e : NetError) → class_of outcome q ≡ Some response
     → left_of_class denied q response ≡ Some class → error_of (class_of_classified q class) ≡ Some e → ⊥
 left-no-error denied outcome q (Positive m) class e is left fails =
-    let whole = answer-whole outcome q m is in
+    let whole = answer_whole outcome q m is in
     left-fails denied q m e (is_all_denied denied m) whole.0 whole.1
     (subst (λ (c : Result Message DnsError). error_of (class_of_classified q c) ≡ Some e) (sym (same_Some _ _ left)) fails)
 left-no-error denied outcome q (NoData n) class e is left fails =
@@ -164,6 +167,20 @@ left-no-error denied outcome q (Error f) class e is left fails = cc
 left-no-error denied outcome q (Code c) class e is left fails = cc
 left-no-error denied outcome q Truncated class e is left fails = cc
 left-no-error denied outcome q (Foreign r) class e is left fails = cc
+
+-- so has what was told to a lookup
+pub told-no-error : (seen : View) (t0 : ℕ) (zone : DomainName) (q : Query) (entry : ℕ) (e : NetError) → IsToldAs seen t0 zone q entry (Err e) → ⊥
+told-no-error seen t0 zone q entry e h = left-no-error (access_denies seen.setting.answer_filter) h.told.outcome q h.told.response h.class e h.told.is h.told.left h.counts
+
+-- what was told to a lookup of the zone to which a walk went down stands
+pub told-stands : (seen : View) (t0 : ℕ) (zone : DomainName) (q : Query) (entry : ℕ) (v : Verdict)
+    → IsToldAs seen t0 zone q entry (Ok v) → Walked (given_of seen.setting) seen.log q zone → Stands seen t0 q entry v
+told-stands seen t0 zone q entry v h walked = stands-of seen t0 zone q entry h.at v (counts-of seen t0 zone q entry h.at h.class v h.told h.counts) walked
+
+-- and may be answered
+pub told-answers : (seen : View) (t0 : ℕ) (zone : DomainName) (q : Query) (entry : ℕ) (v : Verdict)
+    → IsToldAs seen t0 zone q entry (Ok v) → Walked (given_of seen.setting) seen.log q zone → Answers seen t0 q entry v
+told-answers seen t0 zone q entry v h walked = answers-of seen t0 zone q entry h.at v (counts-of seen t0 zone q entry h.at h.class v h.told h.counts) walked
 
 -- ---- replies
 
@@ -216,16 +233,17 @@ denies seen t0 asked r error g is cause =
     IfOk-weaker r _ (λ reply. Replied seen t0 asked reply.value) (λ reply e. denied seen t0 asked reply.value error g e cause) is
 
 -- it is the reply of a walk
-stopped : (seen : View) (t0 : ℕ) (asked : Question) (w : Walk) (reply : Reply) (given : Option (Box Reply))
-    → IsReply reply given → Replied seen t0 asked reply → WalkComes seen t0 asked w given
-stopped seen t0 asked w reply None is h = absurd is
-stopped seen t0 asked w reply (Some b) is h = subst (Replied seen t0 asked) (sym is) h
+stopped : (seen : View) (t0 : ℕ) (asked : Question) (w : Walk) (reply : Reply) (came : Course)
+    → IsCourseOf reply came → Replied seen t0 asked reply → WalkComes seen t0 asked w came
+stopped seen t0 asked w reply course.Further is h = absurd is
+stopped seen t0 asked w reply course.Arrived is h = absurd is
+stopped seen t0 asked w reply (course.Reply b) is h = subst (Replied seen t0 asked) (sym is) h
 
 -- a walk that stops with a reply
-pub stops : (seen : View) (t0 : ℕ) (asked : Question) (w : Walk) (r : Result (Option (Box Reply)) NoMemory) (reply : Reply)
-    → IfOk r (IsReply reply) → Replied seen t0 asked reply → IfOk r (WalkComes seen t0 asked w)
+pub stops : (seen : View) (t0 : ℕ) (asked : Question) (w : Walk) (r : Result Course NoMemory) (reply : Reply)
+    → IfOk r (IsCourseOf reply) → Replied seen t0 asked reply → IfOk r (WalkComes seen t0 asked w)
 stops seen t0 asked w r reply is h =
-    IfOk-weaker r _ (WalkComes seen t0 asked w) (λ given e. stopped seen t0 asked w reply given e h) is
+    IfOk-weaker r _ (WalkComes seen t0 asked w) (λ came e. stopped seen t0 asked w reply came e h) is
 
 -- a lookup for a question at the servers of the zone to which its walk went down failed
 pub has-failed : (seen : View) (t0 : ℕ) (zone : DomainName) (asked q : Query) (g : List ℕ) (e : NetError)

@@ -15,7 +15,7 @@ use Rattle.resolution.specs.Answering.{Base, IsCurrent, Answers, Answer}
 use Rattle.resolution.specs.Answering.Answers.{direct, by_alias}
 use Rattle.resolution.specs.Lookups.{End, Answered}
 use Rattle.walk_tables.proofs.Later.{below-greater}
-use Rattle.walk_tables.proofs.Answering.{run-later}
+use Rattle.walk_base.proofs.Runs.{run_later}
 use Rattle.resolution.specs.Ending.{Known, EndSends, Finished}
 use Rattle.resolution.specs.declared.verdict.Verdict.{Verdict}
 use Rattle.recursor_walk.specs.Causes.{IsDenied, IsReferred, HasFailed, HasNoServer, ErrorHolds}
@@ -115,7 +115,7 @@ module _ (given : Given) (log : Log) (early late : ℕ) (le : early ≤ late) (k
         listed = f.listed;
         rises = f.rises;
         logged = f.logged;
-        run = run-later _ _ t.1 f.run;
+        run = run_later _ _ t.1 f.run;
         bounded = f.bounded;
         since = f.since;
         till = below-greater f.now t.0 t.1 f.moments f.till;

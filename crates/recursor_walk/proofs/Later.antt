@@ -1,5 +1,5 @@
 -- What holds of a walk, and of a reply, goes on holding as a machine comes further.
-use Rattle.std.proofs.Common.{subst, ℕ, List, Result, Ok, Err}
+use Rattle.std.proofs.Common.{subst, ℕ, List, Result, Ok, Err, arith}
 use Rattle.dns_core.specs.Name.{DomainName}
 use Rattle.dns_core.specs.declared.message.Query.{Query}
 use Rattle.dns_core.specs.declared.message.Message.{Message}
@@ -7,7 +7,7 @@ use Rattle.dns_core.specs.declared.net_error.NetError.{NetError}
 use Rattle.dns_core.specs.declared.net_error.ForwardNsData.{ForwardNsData}
 use Rattle.dns_core.specs.declared.request.Question.{Question}
 use Rattle.std.specs.Prelude.{Bool}
-use Rattle.resolution.specs.Names.{question as question_for}
+use Rattle.resolution.specs.Names.{last_name, question as question_for}
 use Rattle.resolution.specs.Answering.{Base}
 use Rattle.resolution.specs.declared.verdict.Verdict.{Verdict}
 use Rattle.resolution.proofs.Keeping.{Base-extend, Answer-extend}
@@ -23,9 +23,15 @@ use Rattle.recursor_types.specs.declared.error.RecursorError.TheVariants as erro
 use Rattle.walk_tables.specs.View.{View, Later, given_of}
 use Rattle.recursor_walk.specs.Replies.{IsToldAnswer, OutcomeHolds, Replied}
 use Rattle.walk_tables.specs.Tried.{machine_timer}
-use Rattle.recursor_walk.specs.Way.{Passed, WayHolds, WalkHolds, last_name}
+use Rattle.recursor_walk.specs.Way.{Passed, WayHolds, WalkHolds}
 use Rattle.recursor_types.specs.declared.reply.Reply.{Reply}
 use Rattle.recursor_walk.specs.declared.walk.Walk.{Walk}
+use Rattle.recursor_walk.specs.Asking.{LastHolds}
+use Rattle.recursor_walk.specs.Resolved.{StateHolds, ResolutionHolds}
+use Rattle.recursor_walk.specs.declared.asking.Asking.{Asking as AtServers}
+use Rattle.recursor_walk.specs.declared.resolving.State.{State}
+use Rattle.recursor_walk.specs.declared.resolving.State.TheVariants.{New, Walking, Asking, Done, Ended}
+use Rattle.recursor_walk.specs.declared.resolving.Resolution.{Resolution}
 use Rattle.walk_tables.proofs.Later.{given-is, walked-on, pool-on, concluded-later, lookup-later, asked-kept}
 use Rattle.resolution.specs.Given.{Given, with_patience}
 use Rattle.resolution.specs.Walking.{NoCut}
@@ -47,17 +53,38 @@ module _ (old new : View) (later : Later old new) where
   as-given P h = subst P (given-is old new later) h
 
   -- the candidates that were passed
-  pub passed-later : (zone name : DomainName) (n : ℕ) → Passed old zone name n → Passed new zone name n
+  passed-later : (zone name : DomainName) (n : ℕ) → Passed old zone name n → Passed new zone name n
   passed-later zone name n p k below above =
       as-given (λ (g : Given). NoCut g new.log (last_name k name)) (NoCut-extend before less later.patience old.log new.log later.extends (p k below above))
 
   -- the way of a walk
-  pub way-later : (q : Query) (w : Walk) → WayHolds old q w → WayHolds new q w
-  way-later q w h = record { name = h.name; above = h.above; pool = pool-on old new later w.zone w.servers h.pool; stage = h.stage; passed = passed-later w.zone w.name _ h.passed }
+  way-later : (q : Query) (w : Walk) → WayHolds old q w → WayHolds new q w
+  way-later q w h = record {
+    name = h.name;
+    above = h.above;
+    pool = pool-on old new later w.asking.zone w.asking.servers h.pool;
+    low = h.low;
+    high = h.high;
+    beyond = h.beyond;
+    asks = h.asks;
+    passed = passed-later w.asking.zone w.name w.labels h.passed;
+  }
 
   -- a walk
-  pub walk-later : (t0 : ℕ) (q : Query) (w : Walk) → WalkHolds old t0 q w → WalkHolds new t0 q w
-  walk-later t0 q w h = record { way = way-later q w h.way; lookup = lookup-later old new later t0 w.zone w.lookup h.lookup }
+  walk-later : (t0 : ℕ) (q : Query) (w : Walk) → WalkHolds old t0 q w → WalkHolds new t0 q w
+  walk-later t0 q w h = record { way = way-later q w h.way; lookup = lookup-later old new later t0 w.asking.zone w.asking.lookup h.lookup }
+
+  -- the question itself at the servers of its name
+  last-later : (t0 : ℕ) (q : Query) (a : AtServers) → LastHolds old t0 q a → LastHolds new t0 q a
+  last-later t0 q a h =
+      let site = h.holds.site in
+      record {
+        asks = h.asks;
+        holds = record {
+          site = record { above = site.above; walked = walked-on old new later a.lookup.query a.zone site.walked; pool = pool-on old new later a.zone a.servers site.pool };
+          lookup = lookup-later old new later t0 a.zone a.lookup h.holds.lookup;
+        };
+      }
 
   -- what counts of one entry
   based : {t0 : ℕ} {q : Query} {i : ℕ} {z : DomainName} {v : Verdict} → Base before old.log t0 q i z v → Base after new.log t0 q i z v
@@ -139,3 +166,14 @@ module _ (old new : View) (later : Later old new) where
   -- a reply
   pub reply-later : (t0 : ℕ) (question : Question) (reply : Reply) → Replied old t0 question reply → Replied new t0 question reply
   reply-later t0 question reply h = outcome-later t0 question reply.grounds reply.outcome h
+
+  -- where a resolution stands
+  state-later : (t0 : ℕ) (question : Question) (s : State) → StateHolds old t0 question s → StateHolds new t0 question s
+  state-later t0 question New h = h
+  state-later t0 question (Walking w) h = walk-later t0 question.query w.value h
+  state-later t0 question (Asking a) h = last-later t0 question.query a.value h
+  state-later t0 question (Done reply) h = reply-later t0 question reply.value h
+  state-later t0 question Ended h = tt
+
+  pub resolution-later : (r : Resolution) → ResolutionHolds old r → ResolutionHolds new r
+  resolution-later r h = record { begun = let b = h.begun in let m = later.moment in omega (arith, b, m); state = state-later r.begun r.question r.state h.state }

@@ -1,8 +1,8 @@
 pub mod Lowered
 pub mod Denials
+pub mod Told
 pub mod Recalling
-pub mod Candidates
 pub mod Walks
+pub mod Resolved
 pub mod Later
 pub mod Earlier
-pub mod Ending

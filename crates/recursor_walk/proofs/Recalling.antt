@@ -1,5 +1,5 @@
 -- What is read from the cache stands for the question that reads it.
-use Rattle.std.proofs.Common.{◌≡◌, ℕ, ◌+◌, ◌*◌, ◌≤◌, true, ◌&&◌, Option, Some, None, Result, Ok, Err, IsTrue, refl, sym, ap, subst, inl, inr, arith}
+use Rattle.std.proofs.Common.{◌≡◌, ℕ, ◌+◌, ◌*◌, ◌≤◌, Bool, true, false, cond, ◌&&◌, Option, Some, None, Result, Ok, Err, IsTrue, IfSome, refl, sym, ap, subst, inl, inr, arith}
 use Rattle.std.specs.Prelude.{◌==◌, IsSomeAnd, option_and_then}
 use Rattle.std.specs.Option.{option_map}
 use Rattle.std.specs.Cmp.{first_so, second_so}
@@ -30,11 +30,11 @@ use Rattle.dns_core.specs.declared.net_error.NoRecords.{NoRecords}
 use Rattle.resolution.proofs.Caseless.{Base-same, both, same_through}
 use Rattle.resolution.proofs.WalksCaseless.{Walked-same}
 use Rattle.walk_base.specs.Kept.{kept_of, verdict_kept}
-use Rattle.recursor_walk.specs.Counted.{counted_for, recalled, may_answer, IsCurrentVerdict, Stands, Answers, IsRecalled}
+use Rattle.recursor_walk.specs.Counted.{counted_for, recalled, may_answer, answerable, IsCurrentVerdict, Stands, Answers, IsRecalled}
 use Rattle.walk_tables.specs.Remembered.{EntryHolds, CacheHolds}
 use Rattle.walk_tables.specs.View.{View, given_of}
 use Rattle.walk_tables.specs.Asked.{AskedAs}
-use Rattle.walk_tables.specs.Remembered.{IsShown}
+use Rattle.walk_base.specs.Shown.{IsShown}
 use Rattle.recursor_walk.specs.SameTold.{SameVerdict, ShowsAsked}
 use Rattle.recursor_walk.specs.declared.counted.Counted.{Counted}
 use Rattle.recursor_walk.proofs.Lowered.{lower_message, lower_denial}
@@ -177,3 +177,21 @@ pub kept-answers : (seen : View) (t0 : ℕ) (cache : Cached) (q : Query) → t0 
 kept-answers seen t0 cache q begun holds e m here is may =
     let stands = recalled-stands seen t0 cache q begun holds (counted-kept seen.moment e m) (kept-recalled cache q seen.moment e m here is) in
     record { stands = stands.stands; current = stands.current may }
+
+-- what was read from the cache stands, if anything was
+pub recalled-for : (seen : View) (t0 : ℕ) (cache : Cached) (q : Query) (found : Option Counted) → t0 ≤ seen.moment
+    → CacheHolds seen cache → found ≡ recalled cache q seen.moment → IfSome found (IsRecalled seen t0 q)
+recalled-for seen t0 cache q None begun holds is = tt
+recalled-for seen t0 cache q (Some c) begun holds is = recalled-stands seen t0 cache q begun holds c (sym is)
+
+-- what may be answered of it answers the question that was looked for
+pub recalled-answers : (seen : View) (t0 : ℕ) (p q : Query) (found : Option Counted) (c : Counted) → p ≡ q → IfSome found (IsRecalled seen t0 p)
+    → answerable found ≡ Some c → Answers seen t0 q c.entry c.verdict
+recalled-answers seen t0 p q None c same stands is = cc
+recalled-answers seen t0 p q (Some d) c same stands is = by (may_answer d.verdict) refl is
+  where
+    by : (b : Bool) → may_answer d.verdict ≡ b → cond b (Some d) None ≡ Some c → Answers seen t0 q c.entry c.verdict
+    by true may same_one =
+        subst (λ (x : Counted). Answers seen t0 q x.entry x.verdict) (same_Some _ _ same_one)
+        (subst (λ (x : Query). Answers seen t0 x d.entry d.verdict) same (record { stands = stands.stands; current = stands.current may }))
+    by false may none = cc

@@ -1,5 +1,5 @@
 -- What counts for a question, whether it was told just now or is read from the cache (RFC 2308 section 5).
-use Rattle.std.specs.Prelude.{◌≡◌, ℕ, ◌≤◌, Bool, true, IsTrue, Option, option_and_then}
+use Rattle.std.specs.Prelude.{◌≡◌, ℕ, ◌≤◌, Bool, true, IsTrue, if◌then◌else◌, Option, Some, None, option_and_then}
 use Rattle.std.specs.Option.{option_map}
 use Rattle.dns_core.specs.Name.{DomainName}
 use Rattle.dns_core.specs.declared.message.Query.{Query}
@@ -32,6 +32,11 @@ abbrev pub may_answer : Verdict → Bool
 may_answer (Pos k) = k.authoritative
 may_answer (Neg n) = true
 may_answer (Made cause) = true
+
+-- what counts, where it may be answered
+abbrev pub answerable : Option Counted → Option Counted
+answerable None = None
+answerable (Some c) = if may_answer c.verdict then Some c else None
 
 -- Entry i, no later than the greatest, tells for the question what counts so, but for TTLs, and is fresh at t0; its server is one of
 -- a zone to which the walk went down.

@@ -1,6 +1,6 @@
 //! What counts for a question, whether it was told just now or is read from the cache.
 ghost use Rattle.std.specs.Prelude.{◌≡◌, IfOk};
-ghost use Rattle.recursor_walk.specs.Counted.{recalled, may_answer};
+ghost use Rattle.recursor_walk.specs.Counted.{recalled, may_answer, answerable};
 
 use dns_core::{NoMemory, Query};
 use resolution::Verdict;
@@ -17,7 +17,7 @@ pub struct Counted {
 
 impl Counted {
     /// Whether it answers a question where it is read later: a negative, or an authoritative answer.
-    pub fn may_answer(&self) -> bool
+    fn may_answer(&self) -> bool
         ensures { result ≡ may_answer self.now.verdict }
     {
         match &self.verdict {
@@ -28,8 +28,24 @@ impl Counted {
     }
 }
 
+/// What counts, where it may be answered.
+pub(crate) fn answerable(counted: Option<Counted>) -> Option<Counted>
+    ensures { result ≡ answerable counted }
+{
+    match counted {
+        Some(counted) => {
+            if counted.may_answer() {
+                Some(counted)
+            } else {
+                None
+            }
+        }
+        None => None,
+    }
+}
+
 /// What the cache has for a question that is current at the moment.
-pub fn recalled(
+pub(crate) fn recalled(
     alloc: Global,
     cache: &ResponseCache,
     query: &Query,

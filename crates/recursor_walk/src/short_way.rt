@@ -13,7 +13,7 @@ use walk_base::just;
 
 /// The reply to a question with the authoritative message that the cache has for it, where there is
 /// one that is current at the moment.
-pub fn kept_answer(
+pub(crate) fn kept_answer(
     alloc: Global,
     cache: &ResponseCache,
     question: &Question,

@@ -1,7 +1,7 @@
 use Rattle.std.proofs.Common.{◌<◌, ◌∙◌, ℕ, length, IfOk, sym, subst}
-use Rattle.order_carrier.specs.Growing.{TellsThat}
-use Rattle.recursor_core.specs.Standing.{Standing, run_terms, run_moments, RepliesHold, IsPast}
-use Rattle.recursor_core.proofs.Moments.{rises_over}
+use Rattle.order_carrier.specs.Growing.{TellsThat, IsPast}
+use Rattle.recursor_core.specs.Standing.{Standing, run_terms, run_moments, RepliesHold}
+use Rattle.order_carrier.proofs.Moments.{rises_over}
 use Rattle.walk_tables.specs.View.{}
 use Rattle.recursor_setting.specs.Setting.{with_patience}
 use Rattle.recursor_setting.specs.declared.setting.Setting.{Setting}

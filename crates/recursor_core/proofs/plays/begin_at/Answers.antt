@@ -1,6 +1,7 @@
-use Rattle.std.proofs.Common.{◌≡◌, ◌<◌, length, Some, slice_get, sym, ◌∙◌, arith}
-use Rattle.std.proofs.lemmas.Option.{same_Some}
-use Rattle.recursor_core.proofs.Playing.{slice_get-set_other, get_here, begins_waiting, begins_else}
+use Rattle.std.proofs.Common.{◌≡◌, ◌<◌, length, Some, slice_get, refl, sym, ◌∙◌, arith}
+use Rattle.std.proofs.lemmas.Option.{same_Some, slice_get_read}
+use Rattle.recursor_core.proofs.Places.{slice_get-set_other}
+use Rattle.recursor_core.proofs.Playing.{begins_waiting, begins_else}
 use Rattle.recursor_core.proofs.plays.begin_at.Goals.{in-Waiting, in_default}
 use Rattle.recursor_core.proofs.plays.begin_at.Goals as goal
 
@@ -17,8 +18,8 @@ returns-then-matches-clause-begins c =
     let q = c.args.q in
     let played_here : q < length plays = omega (arith, c.if-q-len.false, c.len.ensures, c.args.plays.now.ok.0) in
     let asked_here : q < length questions = omega (arith, c.if-q-questions.false) in
-    let here : slice_get plays q ≡ Some c.index.result.now = get_here plays q c.index.result.now played_here c.index.ensures in
-    let asks : slice_get questions q ≡ Some c.index-questions-q.result = get_here questions q c.index-questions-q.result asked_here c.index-questions-q.is in
+    let here : slice_get plays q ≡ Some c.index.result.now = slice_get_read plays (length plays) q c.index.result.now refl played_here c.index.ensures in
+    let asks : slice_get questions q ≡ Some c.index-questions-q.result = slice_get_read questions (length questions) q c.index-questions-q.result refl asked_here c.index-questions-q.is in
     elim c.match-matches.branch [
       | in-Waiting w ↦ begins_waiting questions plays q c.args.now c.begun.new.core c.index-questions-q.result c.begun.result asks (rw w.in-Waiting.is at here)
           c.begun.ensures.begun
@@ -30,7 +31,7 @@ returns-else-matches-clause-begins c =
     let plays = c.args.plays.now.items in
     let q = c.args.q in
     let played_here : q < length plays = omega (arith, c.if-q-len.false, c.len.ensures, c.args.plays.now.ok.0) in
-    let here : slice_get plays q ≡ Some c.index.result.now = get_here plays q c.index.result.now played_here c.index.ensures in
+    let here : slice_get plays q ≡ Some c.index.result.now = slice_get_read plays (length plays) q c.index.result.now refl played_here c.index.ensures in
     elim c.match-matches.branch [
       | in-Waiting w ↦ let no = c.if-matches.false in let yes = w.matches-is in cc
       | in_default w ↦ begins_else (slice_get c.args.questions.now q) c.args.now c.args.core.now (slice_get plays q)

@@ -3,7 +3,7 @@ use Rattle.std.specs.Option.{option_map}
 use Rattle.std.specs.Global.{Box}
 use Rattle.dns_core.specs.declared.request.Question.{Question}
 use Rattle.recursor_core.specs.Machine.{Begun, begun_of, kept_in}
-use Rattle.recursor_core.specs.declared.resolving.Resolution.{Resolution}
+use Rattle.recursor_walk.specs.declared.resolving.Resolution.{Resolution}
 use Rattle.std.proofs.lemmas.List.Elements.{All-push}
 use Rattle.recursor_core.specs.Derived.{seen_by, KeptHolds}
 use Rattle.walk_tables.specs.View.{seen_at}
@@ -36,6 +36,7 @@ returns-clause-others c =
     let items = c.in_ok-push.ensures.items in
     record {
       count = let more = ap length items ∙ length_push xs (Some c.in_ok-resolution.resolution) in omega (arith, more);
+      one = let more = ap length items ∙ length_push xs (Some c.in_ok-resolution.resolution) in omega (arith, more);
       before = λ k within. ap (λ (rs : List (Option (Box Resolution))). option_map begun_of (kept_in (slice_get rs k))) items
           ∙ begun-push xs (Some c.in_ok-resolution.resolution) k within;
     }

@@ -1,14 +1,14 @@
 use Rattle.std.proofs.Common.{◌≤◌, length, None, ap, refl, arith}
 use Rattle.std.proofs.Math.ListN.{set}
+use Rattle.std.proofs.lemmas.Option.{slice_get_read}
 use Rattle.recursor_core.specs.Derived.{seen_by}
-use Rattle.recursor_core.proofs.Ranks.{found_at}
-use Rattle.recursor_core.proofs.Cores.{ended-at, need-ended, need-past, derived-at}
+use Rattle.recursor_core.proofs.Cores.{ended-at, gone-ended, gone-past, derived-at}
 use Rattle.recursor_core.proofs.machine.RecursorCore.cancel.Goals as goal
 
 pub returns-in-Some-clause-derived : goal.returns-in-Some-clause-derived
 returns-in-Some-clause-derived c log d =
     let xs = c.args.self.now.resolutions.items in
-    let at = found_at xs c.args.r c.index_mut.result.now (omega (arith, c.if-r-len.true)) c.index_mut.ensures.value in
+    let at = slice_get_read xs (length xs) c.args.r c.index_mut.result.now refl (omega (arith, c.if-r-len.true)) c.index_mut.ensures.value in
     derived-at c.args.self.now _ log c.args.r _ None at refl (ap (set xs c.args.r) c.replace.ensures.after) d
     (λ h. (tt, c.leave.ensures.holds (seen_by c.args.self.now log) d.pools))
 
@@ -20,7 +20,7 @@ returns-in-Some-clause-same c =
 pub returns-in-None-clause-derived : goal.returns-in-None-clause-derived
 returns-in-None-clause-derived c log d =
     let xs = c.args.self.now.resolutions.items in
-    let at = found_at xs c.args.r c.index_mut.result.now (omega (arith, c.if-r-len.true)) c.index_mut.ensures.value in
+    let at = slice_get_read xs (length xs) c.args.r c.index_mut.result.now refl (omega (arith, c.if-r-len.true)) c.index_mut.ensures.value in
     derived-at c.args.self.now _ log c.args.r _ None at refl (ap (set xs c.args.r) c.replace.ensures.after) d (λ h. (tt, d.pools))
 
 pub returns-in-None-clause-same : goal.returns-in-None-clause-same
@@ -28,13 +28,18 @@ returns-in-None-clause-same c =
     let xs = c.args.self.now.resolutions.items in
     ended-at c.args.self.now _ c.args.r (omega (arith, c.if-r-len.true)) refl (ap (set xs c.args.r) c.replace.ensures.after)
 
+pub returns-in-Some-clause-ended : goal.returns-in-Some-clause-ended
+returns-in-Some-clause-ended c =
+    let xs = c.args.self.now.resolutions.items in
+    rw c.replace.ensures.after (gone-ended xs c.args.r (omega (arith, c.if-r-len.true)))
+
 pub returns-in-None-clause-ended : goal.returns-in-None-clause-ended
 returns-in-None-clause-ended c =
     let xs = c.args.self.now.resolutions.items in
-    rw c.replace.ensures.after (need-ended xs c.args.r (omega (arith, c.if-r-len.true)))
+    rw c.replace.ensures.after (gone-ended xs c.args.r (omega (arith, c.if-r-len.true)))
 
 pub returns-else-r-len-clause-ended : goal.returns-else-r-len-clause-ended
 returns-else-r-len-clause-ended c =
     let xs = c.args.self.now.resolutions.items in
     let past : length xs ≤ c.args.r = omega (arith, c.if-r-len.false) in
-    need-past xs c.args.r past
+    gone-past xs c.args.r past

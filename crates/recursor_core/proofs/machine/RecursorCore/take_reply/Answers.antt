@@ -3,11 +3,12 @@ use Rattle.std.specs.Global.{Box}
 use Rattle.std.proofs.Math.ListN.{set}
 use Rattle.std.specs.Option.{option_map}
 use Rattle.recursor_walk.specs.Replies.{Replied}
-use Rattle.recursor_core.specs.Derived.{seen_by, ResolutionHolds, KeptHolds}
+use Rattle.recursor_core.specs.Derived.{seen_by, KeptHolds}
+use Rattle.recursor_walk.specs.Resolved.{ResolutionHolds}
 use Rattle.recursor_core.specs.Machine.{begun_of, kept_in}
-use Rattle.recursor_core.specs.declared.resolving.Resolution.{Resolution}
+use Rattle.recursor_walk.specs.declared.resolving.Resolution.{Resolution}
 use Rattle.recursor_core.proofs.Ranks.{need_within, kept_at}
-use Rattle.recursor_core.proofs.Cores.{held-at, ended-at, given-some, derived-at}
+use Rattle.recursor_core.proofs.Cores.{held-at, ended-at, gone-ended, given-some, derived-at}
 use Rattle.recursor_core.proofs.machine.RecursorCore.take_reply.Goals as goal
 
 pub returns-clause-derived : goal.returns-clause-derived
@@ -27,3 +28,8 @@ pub returns-clause-same : goal.returns-clause-same
 returns-clause-same c =
     let xs = c.args.self.now.resolutions.items in
     ended-at c.args.self.now _ c.args.r (need_within xs c.args.r (λ e. cc)) refl (ap (set xs c.args.r) c.replace.ensures.after)
+
+pub returns-clause-ended : goal.returns-clause-ended
+returns-clause-ended c =
+    let xs = c.args.self.now.resolutions.items in
+    rw c.replace.ensures.after (gone-ended xs c.args.r (need_within xs c.args.r (λ e. cc)))

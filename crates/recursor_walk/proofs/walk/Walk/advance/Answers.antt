@@ -1,11 +1,16 @@
-use Rattle.std.proofs.Common.{length, List, ap, ℕ}
-use Rattle.recursor_walk.proofs.Walks.{goes-on}
+use Rattle.std.proofs.Common.{◌≡◌, ◌+◌, ℕ, List, length, arith, ap, refl}
+use Rattle.recursor_walk.proofs.Walks.{goes-further, comes-there}
 use Rattle.recursor_walk.proofs.walk.Walk.advance.Goals as goal
 
+pub returns-then-self-labels-clause-holds : goal.returns-then-self-labels-clause-holds
+returns-then-self-labels-clause-holds c seen t0 question way leaves =
+    let w = c.args.self.now in
+    let count : length c.labels.result.now ≡ length w.name.labels = ap (λ (ls : List (List ℕ)). length ls) c.labels.ensures.labels in
+    comes-there seen question.query w way leaves (omega (arith, count, c.if-self-labels.true))
+
 pub returns-clause-holds : goal.returns-clause-holds
-returns-clause-holds c seen t0 way leaves =
-    goes-on seen t0 c.args.question.now.query c.args.self.now c.in-Candidate.labels
-    (length c.labels.result.now) c.stage_after-stage.result c.in_ok-query.query c.new-lookup.result
-    c.requires way leaves c.in-Candidate.is
-    (ap (λ (ls : List (List ℕ)). length ls) c.labels.ensures.labels) c.stage_after-stage.ensures.next c.in_ok-query.ensures c.new-lookup.ensures.query
-    (λ z. c.new-lookup.ensures.holds seen t0 z)
+returns-clause-holds c seen t0 question way leaves =
+    let w = c.args.self.now in
+    let count : length c.labels.result.now ≡ length w.name.labels = ap (λ (ls : List (List ℕ)). length ls) c.labels.ensures.labels in
+    goes-further seen t0 question.query w (w.labels + 1) c.in_ok-query.query c.new.result
+    way leaves (omega (arith, count, c.if-self-labels.false)) refl c.in_ok-query.ensures c.new.ensures.query (λ z. c.new.ensures.holds seen t0 z)

@@ -1,9 +1,22 @@
-use Rattle.std.proofs.Common.{refl}
-use Rattle.recursor_walk.proofs.Ending.{ends-with}
+use Rattle.std.proofs.Common.{sym, subst}
+use Rattle.walk_tables.specs.declared.lookup.Found.{Found}
+use Rattle.recursor_walk.specs.Walk.{EndsIf, verdict_found}
 use Rattle.recursor_walk.proofs.walk.Walk.conclude.Goals as goal
 
-pub returns-in_ok-reply-in-Last-clause-holds : goal.returns-in_ok-reply-in-Last-clause-holds
-returns-in_ok-reply-in-Last-clause-holds c seen t0 filtered h = c.in_ok-reply-in-Last.ensures seen t0 c.in-Last.is h
+pub returns-in-Told-clause-holds : goal.returns-in-Told-clause-holds
+returns-in-Told-clause-holds c seen t0 question filtered h =
+    c.weigh.ensures.holds seen t0 question filtered (record { way = h.way; came = rw c.in-Told.is at h.came })
 
-pub returns-in_ok-reply-in-Last-clause-ends : goal.returns-in_ok-reply-in-Last-clause-ends
-returns-in_ok-reply-in-Last-clause-ends c = ends-with _ _ _ refl
+pub returns-in-Error-clause-holds : goal.returns-in-Error-clause-holds
+returns-in-Error-clause-holds c seen t0 question filtered h =
+    c.pass_over.ensures.holds seen t0 question (record { way = h.way; failed = rw c.in-Error.is at h.came })
+
+pub returns-in-Told-clause-ends : goal.returns-in-Told-clause-ends
+returns-in-Told-clause-ends c =
+    let w = c.args.self.now in
+    subst (λ (f : Found). EndsIf (verdict_found w.asking.zone w.asking.lookup.query f) c.weigh.result) (sym c.in-Told.is) c.weigh.ensures.ends
+
+pub returns-in-Error-clause-ends : goal.returns-in-Error-clause-ends
+returns-in-Error-clause-ends c =
+    let w = c.args.self.now in
+    subst (λ (f : Found). EndsIf (verdict_found w.asking.zone w.asking.lookup.query f) c.pass_over.result) (sym c.in-Error.is) tt

@@ -1,44 +1,49 @@
 use Rattle.std.proofs.Common.{◌∙◌, sym, subst, refl, List, [], length, ◌<◌, ◌↔◌, Contains, Err, arith}
 use Rattle.std.proofs.lemmas.Bool.Decides.{nat_tests}
+use Rattle.std.specs.declared.net.ip_addr.IpAddr.{IpAddr}
 use Rattle.recursor_types.specs.declared.error.RecursorError.TheVariants.{NoNameServer}
 use Rattle.recursor_types.specs.declared.error.WalkCause.TheVariants.{NoAddress}
-use Rattle.resolution.specs.declared.verdict.Verdict.TheVariants.{Pos}
 use Rattle.resolution.specs.Serving.{allowed, glue}
+use Rattle.resolution.specs.declared.verdict.Verdict.TheVariants.{Pos}
 use Rattle.resolver_settings.specs.Access.{Access, denies}
-use Rattle.std.specs.declared.net.ip_addr.IpAddr.{IpAddr}
 use Rattle.recursor_walk.proofs.Denials.{glueless-of, stops}
 use Rattle.recursor_walk.proofs.Walks.{cut-way, cut-leaves, candidate-asked, candidate-on-the-way, leaves-told}
 use Rattle.recursor_walk.proofs.walk.Walk.descend.Goals as goal
 
 pub returns-then-not-is_delegation-clause-holds : goal.returns-then-not-is_delegation-clause-holds
-returns-then-not-is_delegation-clause-holds c seen t0 entry filtered h =
-    c.advance.ensures.holds seen t0 h.way
-    (leaves-told seen c.args.question.now.query c.args.self.now c.requires h.way t0 entry (Pos c.args.kept.now) h.stands
+returns-then-not-is_delegation-clause-holds c seen t0 entry question filtered h =
+    c.advance.ensures.holds seen t0 question h.way
+    (leaves-told seen question.query c.args.self.now h.way t0 entry (Pos c.args.kept.now) h.stands
     (sym c.is_delegation.ensures ∙ c.if-not-is_delegation.true))
 
 pub returns-clause-holds : goal.returns-clause-holds
-returns-clause-holds c seen t0 entry filtered h =
+returns-clause-holds c seen t0 entry question filtered h =
     let w = c.args.self.now in
+    let q = question.query in
+    let kept = c.args.kept.now in
+    let name = w.asking.lookup.query.name in
+    let zone = c.in_ok-self.field-0 in
     let filled = sym c.is_empty.ensures ∙ c.if-is_empty.false in
-    c.advance-2.ensures.holds seen t0
-    (cut-way seen t0 c.args.question.now.query w c.args.kept.now entry c.in_ok-self.field-0 c.new.result c.requires h.way h.stands
+    c.advance-2.ensures.holds seen t0 question
+    (cut-way seen t0 q w kept entry zone c.new.result h.way h.stands
     (sym c.is_delegation.ensures ∙ c.if-not-is_delegation.false) c.in_ok-self.ensures
     (subst (λ (xs : List IpAddr). 0 < length xs) (sym c.new.ensures) (grind (arith, nat_tests)))
-    (λ ip. subst (λ (xs : List IpAddr). Contains xs ip ↔ Contains (allowed (denies seen.setting.server_filter) (glue c.args.kept.now w.lookup.query.name)) ip) (sym c.new.ensures)
-    (subst (λ (f : Access). Contains c.in_ok-ips.ips.items ip ↔ Contains (allowed (denies f) (glue c.args.kept.now w.lookup.query.name)) ip) (sym filtered) (c.in_ok-ips.ensures ip))))
-    (cut-leaves seen w c.in_ok-self.field-0 c.new.result c.in_ok-self.ensures)
+    (λ ip. subst (λ (xs : List IpAddr). Contains xs ip ↔ Contains (allowed (denies seen.setting.server_filter) (glue kept name)) ip) (sym c.new.ensures)
+    (subst (λ (f : Access). Contains c.in_ok-ips.ips.items ip ↔ Contains (allowed (denies f) (glue kept name)) ip) (sym filtered) (c.in_ok-ips.ensures ip))))
+    (cut-leaves seen q w zone c.new.result h.way c.in_ok-self.ensures)
 
 pub returns-then-is_empty-clause-holds : goal.returns-then-is_empty-clause-holds
-returns-then-is_empty-clause-holds c seen t0 entry filtered h =
+returns-then-is_empty-clause-holds c seen t0 entry question filtered h =
     let w = c.args.self.now in
-    let asked = c.args.question.now in
-    let name = w.lookup.query.name in
+    let q = question.query in
+    let kept = c.args.kept.now in
+    let asks = w.asking.lookup.query in
     let empty = sym c.is_empty.ensures ∙ c.if-is_empty.true in
-    stops seen t0 asked _ c.no_server.result (record { outcome = Err (NoNameServer w.name NoAddress); grounds = [] }) c.no_server.ensures (
+    stops seen t0 question _ c.no_server.result (record { outcome = Err (NoNameServer w.name NoAddress); grounds = [] }) c.no_server.ensures (
       h.way.name,
       refl,
-      glueless-of seen t0 asked.query name w.lookup.query entry c.args.kept.now (candidate-on-the-way seen asked.query w c.requires h.way) h.stands
-          (candidate-asked seen asked.query w c.requires h.way)
+      glueless-of seen t0 q asks.name asks entry kept (candidate-on-the-way seen q w h.way) h.stands
+          (candidate-asked seen q w h.way)
           (sym c.is_delegation.ensures ∙ c.if-not-is_delegation.false)
-          (λ ip has. let place = (c.in_ok-ips.ensures ip).1 (subst (λ (f : Access). Contains (allowed (denies f) (glue c.args.kept.now name)) ip) filtered has) in let less = place.1 in grind (arith, nat_tests)),
+          (λ ip has. let place = (c.in_ok-ips.ensures ip).1 (subst (λ (f : Access). Contains (allowed (denies f) (glue kept asks.name)) ip) filtered has) in let less = place.1 in grind (arith, nat_tests)),
     )

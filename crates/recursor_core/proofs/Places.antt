@@ -1,0 +1,17 @@
+-- A list in which one place is set.
+use Rattle.std.proofs.Common.{◌≡◌, ◌≢◌, ◌<◌, ℕ, zero, suc, List, [], ◌∷◌, length, slice_get, Some, refl, ap, arith}
+use Rattle.std.proofs.Math.ListN.{set}
+
+-- what is set at a place stands there
+pub slice_get-set_same : {X : Type 0} (xs : List X) (i : ℕ) (x : X) → i < length xs → slice_get (set xs i x) i ≡ Some x
+slice_get-set_same [] i x h = absurd (omega arith)
+slice_get-set_same (y ∷ xs) zero x h = refl
+slice_get-set_same (y ∷ xs) (suc i) x h = slice_get-set_same xs i x (omega arith)
+
+-- and the other places stay
+pub slice_get-set_other : {X : Type 0} (xs : List X) (i k : ℕ) (x : X) → k ≢ i → slice_get (set xs i x) k ≡ slice_get xs k
+slice_get-set_other [] i k x h = refl
+slice_get-set_other (y ∷ xs) zero zero x h = absurd (h refl)
+slice_get-set_other (y ∷ xs) zero (suc k) x h = refl
+slice_get-set_other (y ∷ xs) (suc i) zero x h = refl
+slice_get-set_other (y ∷ xs) (suc i) (suc k) x h = slice_get-set_other xs i k x (λ e. h (ap suc e))

@@ -1,0 +1,23 @@
+use Rattle.std.proofs.Common.{sym, subst, ◌∙◌}
+use Rattle.dns_core.specs.declared.message.Query.{Query}
+use Rattle.walk_tables.specs.Pools.{AreFor}
+use Rattle.recursor_walk.proofs.Recalling.{recalled-for, recalled-answers}
+use Rattle.recursor_walk.proofs.asking.Asking.recall.Goals as goal
+
+pub returns-in_ok-answer_with-in-Some-clause-holds : goal.returns-in_ok-answer_with-in-Some-clause-holds
+returns-in_ok-answer_with-in-Some-clause-holds c seen t0 reads h =
+    let p = c.args.self.now.lookup.query in
+    let found = recalled-for seen t0 c.args.cache.now p c.in_ok-counted.counted (rw reads.at at reads.since) reads.holds (rw reads.at at c.in_ok-counted.ensures) in
+    c.in_ok-answer_with-in-Some.ensures.holds seen t0
+    (recalled-answers seen t0 p c.args.question.now.query c.in_ok-counted.counted c.in-Some.counted h.asks found (sym c.answerable.ensures ∙ c.in-Some.is))
+
+pub returns-in-None-clause-holds : goal.returns-in-None-clause-holds
+returns-in-None-clause-holds c seen t0 reads h =
+    let a = c.args.self.now in
+    record {
+      asks = c.begin.ensures.query ∙ h.asks;
+      holds = record {
+        site = subst (λ (p : Query). AreFor seen p a.zone a.servers) (sym c.begin.ensures.query) h.holds.site;
+        lookup = c.begin.ensures.holds seen t0 a.zone h.holds.lookup;
+      };
+    }

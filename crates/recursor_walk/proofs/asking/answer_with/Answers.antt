@@ -1,0 +1,17 @@
+use Rattle.std.proofs.Common.{sym, subst, [], ◌∷◌}
+use Rattle.walk_tables.specs.View.{given_of}
+use Rattle.recursor_walk.specs.Replies.{OutcomeHolds}
+use Rattle.walk_tables.specs.Tried.{machine_timer}
+use Rattle.recursor_walk.proofs.Denials.{answered-by, replies}
+use Rattle.recursor_walk.proofs.asking.answer_with.Goals as goal
+
+pub returns-clause-gives : goal.returns-clause-gives
+returns-clause-gives c = rw c.in_ok-outcome.ensures at c.reply_by.ensures
+
+pub returns-clause-holds : goal.returns-clause-holds
+returns-clause-holds c seen t0 h =
+    let asked = c.args.question.now in
+    let entry = c.args.counted.entry in
+    replies seen t0 asked c.reply_by.result c.in_ok-outcome.outcome (entry ∷ []) c.reply_by.ensures
+    (subst (OutcomeHolds (given_of seen.setting) (machine_timer seen.moment seen.log t0) seen.log t0 asked (entry ∷ [])) (sym c.in_ok-outcome.ensures)
+    (answered-by seen t0 asked entry c.args.counted.verdict h))

@@ -1,0 +1,30 @@
+use Rattle.std.proofs.lemmas.Result.{on_err_weaker}
+use Rattle.recursor_walk.proofs.Resolved.{same-walk, same-asking, walk-holds, asking-holds}
+use Rattle.recursor_walk.proofs.Walks.{walk-asks}
+use Rattle.recursor_walk.proofs.resolving.Resolution.send.Goals as goal
+
+pub returns-in-Walking-clause-err : goal.returns-in-Walking-clause-err
+returns-in-Walking-clause-err c =
+    rw c.deref_mut.ensures.value (on_err_weaker c.send.result (λ same. same-walk c.args.self.now c.in-Walking.walk c.send.new.self c.in-Walking.is same)
+    (rw c.deref_mut.ensures.value at c.send.ensures.err))
+
+pub returns-in-Asking-clause-err : goal.returns-in-Asking-clause-err
+returns-in-Asking-clause-err c =
+    on_err_weaker c.send-in-Asking.result (λ same. same-asking c.args.self.now c.in-Asking.asking c.send-in-Asking.new.self c.in-Asking.is same)
+    (rw c.deref_mut-in-Asking.ensures.value at c.send-in-Asking.ensures.err)
+
+pub returns-in-Walking-clause-holds : goal.returns-in-Walking-clause-holds
+returns-in-Walking-clause-holds c seen at-now pools h =
+    let r = c.args.self.now in
+    let b = c.in-Walking.walk in
+    let held = rw c.in-Walking.is at h.state in
+    let sent = c.send.ensures.holds seen r.begun at-now pools (rw c.deref_mut.ensures.value (walk-asks seen r.begun r.question.query b.value held)) in
+    (rw c.deref_mut.ensures.value (walk-holds seen r b c.send.new.self h.begun held (rw c.deref_mut.ensures.value at c.send.ensures.same) sent.0), sent.1)
+
+pub returns-in-Asking-clause-holds : goal.returns-in-Asking-clause-holds
+returns-in-Asking-clause-holds c seen at-now pools h =
+    let r = c.args.self.now in
+    let b = c.in-Asking.asking in
+    let held = rw c.in-Asking.is at h.state in
+    let sent = c.send-in-Asking.ensures.holds seen r.begun at-now pools (rw c.deref_mut-in-Asking.ensures.value held.holds) in
+    (asking-holds seen r b c.send-in-Asking.new.self h.begun held (rw c.deref_mut-in-Asking.ensures.value at c.send-in-Asking.ensures.same) sent.0, sent.1)

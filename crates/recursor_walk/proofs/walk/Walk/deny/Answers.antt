@@ -1,0 +1,33 @@
+use Rattle.std.proofs.Common.{sym, subst, ◌∙◌, [], ◌∷◌, refl, ◌≡◌, true, false}
+use Rattle.dns_core.specs.declared.message.Query.{Query}
+use Rattle.resolution.specs.declared.verdict.Verdict.TheVariants.{Neg}
+use Rattle.walk_base.specs.Answer.{ends_walk}
+use Rattle.recursor_walk.specs.Counted.{Stands}
+use Rattle.recursor_walk.specs.Replies.{HasCause}
+use Rattle.recursor_walk.proofs.Denials.{answers-on-the-way, denied}
+use Rattle.recursor_walk.proofs.Walks.{candidate-asked, candidate-on-the-way, leaves-told}
+use Rattle.recursor_walk.proofs.walk.Walk.deny.Goals as goal
+
+pub returns-then-ends_walk-clause-holds : goal.returns-then-ends_walk-clause-holds
+returns-then-ends_walk-clause-holds c seen t0 question h =
+    let way = h.way in
+    let w = c.args.self.now in
+    let q = question.query in
+    let n = c.args.found in
+    let entry = c.args.entry in
+    let here = subst (λ (p : Query). Stands seen t0 p entry (Neg n)) (candidate-asked seen q w way) h.stands in
+    let cause = answers-on-the-way seen t0 q entry w.asking.lookup.query.name n (candidate-on-the-way seen q w way) here
+    (sym c.ends_walk.ensures ∙ c.if-ends_walk.true) in
+    denied seen t0 question c.in_ok-reply.reply.value c.told_negative.result (entry ∷ []) c.in_ok-reply.ensures
+    (subst (HasCause seen t0 q (entry ∷ [])) (sym c.told_negative.ensures) cause)
+
+pub returns-clause-holds : goal.returns-clause-holds
+returns-clause-holds c seen t0 question h =
+    c.advance.ensures.holds seen t0 question h.way
+    (leaves-told seen question.query c.args.self.now h.way t0 c.args.entry (Neg c.args.found) h.stands refl)
+
+pub returns-clause-ends : goal.returns-clause-ends
+returns-clause-ends c ends =
+    let no : ends_walk c.args.found ≡ false = sym c.ends_walk.ensures ∙ c.if-ends_walk.false in
+    let yes : ends_walk c.args.found ≡ true = ends in
+    cc

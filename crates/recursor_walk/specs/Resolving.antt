@@ -1,0 +1,112 @@
+-- What a resolution needs, and how much of it is left.
+use Rattle.std.specs.Prelude.{◌≡◌, ◌≤◌, ℕ, Option, Some, None, Result, Ok, Err, option_and_then}
+use Rattle.std.specs.Option.{option_map}
+use Rattle.std.specs.Global.{Box}
+use Rattle.dns_core.specs.declared.errors.NoMemory.{NoMemory}
+use Rattle.dns_core.specs.declared.message.Query.{Query}
+use Rattle.dns_core.specs.declared.request.DnsRequest.{DnsRequest}
+use Rattle.dns_core.specs.declared.request.Question.{Question}
+use Rattle.walk_tables.specs.Lookup as lookup
+use Rattle.walk_tables.specs.Taking.{awaited_by}
+use Rattle.walk_tables.specs.declared.pools.Pools.{Pools}
+use Rattle.recursor_types.specs.declared.reply.Reply.{Reply}
+use Rattle.recursor_walk.specs.Asking as asking
+use Rattle.recursor_walk.specs.Replies.{reply_with}
+use Rattle.recursor_walk.specs.Walk as walk
+use Rattle.recursor_walk.specs.declared.asking.Asking.{Asking as AtServers}
+use Rattle.recursor_walk.specs.declared.counted.Counted.{Counted}
+use Rattle.recursor_walk.specs.declared.walk.Course.{Course}
+use Rattle.recursor_walk.specs.declared.walk.Course.TheVariants as course
+use Rattle.recursor_walk.specs.declared.resolving.Need.{Need}
+use Rattle.recursor_walk.specs.declared.resolving.Need.TheVariants as need
+use Rattle.recursor_walk.specs.declared.resolving.State.{State}
+use Rattle.recursor_walk.specs.declared.resolving.State.TheVariants.{New, Walking, Asking, Done, Ended}
+use Rattle.recursor_walk.specs.declared.resolving.Resolution.{Resolution}
+
+abbrev pub state_want : State → Need
+state_want New = need.SetOut
+state_want (Walking w) = need.Send (lookup.want_of w.value.asking.lookup.ask)
+state_want (Asking a) = need.Send (lookup.want_of a.value.lookup.ask)
+state_want (Done reply) = need.Reply
+state_want Ended = need.Nothing
+
+abbrev pub want_of : Resolution → Need
+want_of r = state_want r.state
+
+abbrev pub state_steps : Query → State → ℕ
+state_steps q New = walk.begin_steps q
+state_steps q (Walking w) = walk.steps w.value
+state_steps q (Asking a) = asking.steps a.value
+state_steps q (Done reply) = 1
+state_steps q Ended = 0
+
+-- how many steps it has before it
+abbrev pub steps : Resolution → ℕ
+steps r = state_steps r.question.query r.state
+
+-- what it asks now, and where
+abbrev pub asking_of : State → Option AtServers
+asking_of New = None
+asking_of (Walking w) = Some w.value.asking
+asking_of (Asking a) = Some a.value
+asking_of (Done reply) = None
+asking_of Ended = None
+
+-- the order that it waits for
+abbrev pub open_of : Pools → Resolution → Option ℕ
+open_of pools r = option_and_then (λ (a : AtServers). awaited_by pools a.lookup) (asking_of r.state)
+
+-- the question that it asks now
+abbrev pub asked_of : State → Option Query
+asked_of s = option_map (λ (a : AtServers). a.lookup.query) (asking_of s)
+
+-- the request asks what it asks now
+abbrev pub AsksFor : DnsRequest → State → Type 0
+AsksFor request state = asked_of state ≡ Some request.query
+
+-- It is still of the same question, which began when it began.
+abbrev pub SameBegun : Resolution → Resolution → Type 0
+SameBegun old new = (new.question ≡ old.question) × (new.begun ≡ old.begun)
+
+-- ---- a step
+
+abbrev pub IsWalking : State → Type 0
+IsWalking New = ⊥
+IsWalking (Walking w) = Unit {0}
+IsWalking (Asking a) = ⊥
+IsWalking (Done reply) = ⊥
+IsWalking Ended = ⊥
+
+-- It is as it was where the walk goes further; else it has at most to ask, has its reply, or has ended for want of memory.
+abbrev pub IsWalked : Query → Result Course NoMemory → State → State → Type 0
+IsWalked q (Ok course.Further) old new = new ≡ old
+IsWalked q (Ok course.Arrived) old new = state_steps q new ≤ 6
+IsWalked q (Ok (course.Reply reply)) old new = new ≡ Done reply
+IsWalked q (Err e) old new = new ≡ Ended
+
+-- it is as it was where it goes on; it has its reply, or has ended for want of memory
+abbrev pub IsSettled : Result (Option (Box Reply)) NoMemory → State → State → Type 0
+IsSettled (Ok None) old new = new ≡ old
+IsSettled (Ok (Some reply)) old new = new ≡ Done reply
+IsSettled (Err e) old new = new ≡ Ended
+
+-- ---- how it begins
+
+abbrev pub IsUnder : State → Type 0
+IsUnder New = ⊥
+IsUnder (Walking w) = Unit {0}
+IsUnder (Asking a) = Unit {0}
+IsUnder (Done reply) = ⊥
+IsUnder Ended = ⊥
+
+abbrev pub IsDoneWith : Reply → State → Type 0
+IsDoneWith reply New = ⊥
+IsDoneWith reply (Walking w) = ⊥
+IsDoneWith reply (Asking a) = ⊥
+IsDoneWith reply (Done given) = given.value ≡ reply
+IsDoneWith reply Ended = ⊥
+
+-- Where the cache has for a question what may be answered, the reply is the one with that; else its walk begins.
+abbrev pub IsAnswered : Question → Option Counted → State → Type 0
+IsAnswered question None state = IsUnder state
+IsAnswered question (Some c) state = IsDoneWith (reply_with question c) state
