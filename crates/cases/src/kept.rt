@@ -4,8 +4,8 @@
 use crate::cache_steps::{Asked, Seen, Step, Told, Writing, put_both, step_of};
 use crate::plain_cache::PlainCache;
 use dns_core::{
-    DnsClass, DnsError, Message, Name, NameError, NetError, NoMemory, NoRecords, Query, RData,
-    Record, RecordType, Records, ResponseCode, Soa, TryClone,
+    Boxed, DnsClass, DnsError, Message, Name, NameError, NetError, NoMemory, NoRecords, Query,
+    RData, Record, RecordType, Records, ResponseCode, Soa, TryClone,
 };
 use resolver_cache::{CachedResponse, ResponseCache};
 use resolver_settings::TtlConfig;
@@ -69,7 +69,7 @@ fn soa(alloc: Global, ttl: u32, minimum: u32) -> Result<Record, NameError> {
         ttl,
         dns_class: DnsClass::IN,
         record_type: RecordType::SOA,
-        rdata: RData::SOA(data),
+        rdata: RData::SOA(Boxed::new(alloc, data)?),
     })
 }
 
@@ -78,7 +78,7 @@ fn denial(alloc: Global, asked: Asked<'_>, ttl: u32, minimum: u32) -> Result<NoR
     let soa = soa(alloc, ttl, minimum)?;
     Ok(NoRecords {
         query,
-        soa: Some(soa),
+        soa: Some(Boxed::new(alloc, soa)?),
         ns: None,
         response_code: ResponseCode::NXDomain,
         authorities: Records::empty(alloc),
@@ -129,7 +129,10 @@ fn seen_of(response: &Result<Message, NetError>, line: u64) -> Seen {
             _ => Seen::Bad,
         },
         Err(NetError::Dns(DnsError::NoRecordsFound(found))) => match &found.soa {
-            Some(soa) => Seen::Denial { ttl: soa.ttl, line },
+            Some(soa) => Seen::Denial {
+                ttl: soa.get().ttl,
+                line,
+            },
             None => Seen::Bad,
         },
         Err(_) => Seen::Bad,

@@ -53,7 +53,7 @@ fn put_data(alloc: Global, out: &mut String, data: &RData) -> Result<(), NoMemor
         RData::AAAA(ip) => put_wide(out, *ip),
         RData::NS(name) => put_name(alloc, out, name),
         RData::CNAME(name) => put_name(alloc, out, name),
-        RData::SOA(soa) => put_soa(alloc, out, soa),
+        RData::SOA(soa) => put_soa(alloc, out, soa.get()),
         RData::RRSIG { covered, rest } => put_signature(out, *covered, rest.items()),
         RData::Opaque(bytes) => put_bytes(out, bytes.items()),
     }

@@ -3,6 +3,7 @@ ghost use Rattle.std.specs.Prelude.{◌≡◌, filter, find, IfOk};
 ghost use Rattle.std.specs.List.{list_any};
 ghost use Rattle.dns_core.specs.Classifying.{is_asked, is_ns, is_soa, is_glue_for, glue_of, delegations, has_no_data, no_records, classify_of};
 
+use crate::boxed::Boxed;
 use crate::copies::TryClone;
 use crate::errors::NoMemory;
 use crate::items::Items;
@@ -59,13 +60,13 @@ fn is_glue_for(r: &Record, target: &Name) -> bool
     }
 }
 
-fn first_soa(alloc: Global, records: &[Record]) -> Result<Option<Record>, NoMemory>
+fn first_soa(alloc: Global, records: &[Record]) -> Result<Option<Boxed<Record>>, NoMemory>
     ensures { IfOk result (λ found. found ≡ find is_soa records.now) }
 {
     for r in records {
         if is_soa(r) {
             let copy = r.try_clone(alloc)?;
-            return Ok(Some(copy));
+            return Ok(Some(Boxed::new(alloc, copy)?));
         }
     }
     Ok(None)

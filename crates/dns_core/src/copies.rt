@@ -1,6 +1,7 @@
 //! Copies, which may want memory.
 ghost use Rattle.std.specs.Prelude.{◌≡◌, IfOk};
 
+use crate::boxed::Boxed;
 use crate::connection::{ConnectOptions, ConnectionConfig, ProtocolConfig};
 use crate::errors::NoMemory;
 use crate::items::{Items, Text};
@@ -78,6 +79,13 @@ impl<T: TryClone> TryClone for Items<T> {
     fn try_clone(&self, alloc: Global) -> Result<Self, NoMemory> {
         let items = try_clone_all(alloc, self.items())?;
         Ok(Items::new(items))
+    }
+}
+
+impl<T: TryClone> TryClone for Boxed<T> {
+    fn try_clone(&self, alloc: Global) -> Result<Self, NoMemory> {
+        let copy = self.get().try_clone(alloc)?;
+        Boxed::new(alloc, copy)
     }
 }
 

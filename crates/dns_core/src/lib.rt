@@ -4,6 +4,7 @@
 //! A contract sees each type as its value: a list type as the list, a name as its labels.
 #![tactic(auto)]
 
+mod boxed;
 mod classifying;
 mod code_text;
 mod codes;
@@ -29,6 +30,7 @@ mod stripping;
 mod threads;
 mod whole_streams;
 
+pub use boxed::Boxed;
 pub use classifying::classify;
 pub use codes::{DnsClass, RecordType, ResponseCode};
 pub use connection::{ConnectOptions, ConnectionConfig, Protocol, ProtocolConfig};

@@ -2,6 +2,7 @@
 ghost use Rattle.std.specs.Prelude.{◌≡◌};
 ghost use Rattle.dns_core.specs.NetError.{is_memory, is_closed, is_no_records, is_nx_domain, soa_of};
 
+use crate::boxed::Boxed;
 use crate::codes::{DnsClass, RecordType, ResponseCode};
 use crate::items::{Items, Text};
 use crate::message::Query;
@@ -28,7 +29,7 @@ pub struct ForwardNsData {
 #[derive(Drop, Debug, PartialEq, Eq)]
 pub struct NoRecords {
     pub query: Query,
-    pub soa: Option<Record>,
+    pub soa: Option<Boxed<Record>>,
     pub ns: Option<Items<ForwardNsData>>,
     pub response_code: ResponseCode,
     pub authorities: Records,
@@ -97,7 +98,7 @@ impl NetError {
         ensures { result ≡ soa_of self }
     {
         match self {
-            NetError::Dns(DnsError::NoRecordsFound(found)) => found.soa,
+            NetError::Dns(DnsError::NoRecordsFound(found)) => found.soa.map(Boxed::into_inner),
             _ => None,
         }
     }

@@ -2,6 +2,7 @@
 ghost use Rattle.std.specs.Prelude.{IsTrue};
 ghost use Rattle.dns_core.specs.Record.{is_typed};
 
+use crate::boxed::Boxed;
 use crate::codes::{DnsClass, RecordType};
 use crate::items::{Bytes, Items};
 use crate::name::Name;
@@ -29,7 +30,7 @@ pub enum RData {
     AAAA(Ipv6Addr),
     NS(Name),
     CNAME(Name),
-    SOA(Soa),
+    SOA(Boxed<Soa>),
     RRSIG { covered: RecordType, rest: Bytes },
     Opaque(Bytes),
 }

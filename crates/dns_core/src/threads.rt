@@ -1,6 +1,7 @@
 //! Each type of this crate that holds values may go to another thread, and be shared among threads,
 //! where its parameters may.
 
+use crate::boxed::Boxed;
 use crate::codes::{DnsClass, RecordType, ResponseCode};
 use crate::connection::{ConnectOptions, ConnectionConfig, Protocol, ProtocolConfig};
 use crate::errors::{Failed, NoMemory};
@@ -60,9 +61,10 @@ fn errors_cross_threads() {
     crosses::<Failed>();
 }
 
-/// A list crosses threads with its items, and a poll with what it answers.
+/// A list crosses threads with its items, a box with its value, and a poll with what it answers.
 pub fn lists_cross_threads<T: Send + Sync>() {
     crosses::<Items<T>>();
+    crosses::<Boxed<T>>();
     crosses::<Poll<T>>();
 }
 

@@ -10,7 +10,7 @@ ghost use Rattle.text_words.specs.Numbers.{ipv4_of};
 ghost use Rattle.text_words.specs.Fields.{wide_field};
 ghost use Rattle.line_forms.specs.RecordLines.{record_head, soa_lives, soa_numbers, soa_of, signature_of, data_of, record_from, record_of_data, record_of};
 
-use dns_core::{DnsClass, Name, RData, Record, RecordType, Soa};
+use dns_core::{Boxed, DnsClass, Name, RData, Record, RecordType, Soa};
 use std::alloc::Global;
 use text_words::{LineError, Words};
 
@@ -97,7 +97,7 @@ fn soa_data(alloc: Global, words: &mut Words) -> Result<RData, LineError>
     let rname = words.full_name(alloc)?;
     let (serial, (refresh, (retry, (expire, minimum)))) = soa_numbers(words)?;
     words.end()?;
-    Ok(RData::SOA(Soa {
+    let soa = Soa {
         mname,
         rname,
         serial,
@@ -105,7 +105,8 @@ fn soa_data(alloc: Global, words: &mut Words) -> Result<RData, LineError>
         retry,
         expire,
         minimum,
-    }))
+    };
+    Ok(RData::SOA(Boxed::new(alloc, soa)?))
 }
 
 /// The type that is covered, and the rest as bytes.

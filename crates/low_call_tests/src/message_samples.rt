@@ -3,10 +3,10 @@ ghost use Rattle.std.specs.Prelude.{◌≡◌, IsTrue};
 ghost use Rattle.dns_core.specs.Record.{is_typed};
 
 use dns_core::{
-    Bytes, ConnectOptions, ConnectionConfig, DnsClass, DnsError, DnsRequest, DnsRequestOptions,
-    ForwardNsData, Items, LogEntry, Message, Name, NameError, NetError, NoMemory, NoRecords,
-    Protocol, ProtocolConfig, Query, RData, Record, RecordType, Records, ResponseCode, Soa, Text,
-    ToldOutcome,
+    Boxed, Bytes, ConnectOptions, ConnectionConfig, DnsClass, DnsError, DnsRequest,
+    DnsRequestOptions, ForwardNsData, Items, LogEntry, Message, Name, NameError, NetError,
+    NoMemory, NoRecords, Protocol, ProtocolConfig, Query, RData, Record, RecordType, Records,
+    ResponseCode, Soa, Text, ToldOutcome,
 };
 use std::alloc::Global;
 use std::net::{IpAddr, Ipv4Addr, Ipv6Addr};
@@ -124,7 +124,7 @@ pub fn soa(alloc: Global) -> Result<Soa, NameError> {
 
 fn authority(alloc: Global) -> Result<Record, NameError> {
     let soa = soa(alloc)?;
-    record(alloc, RecordType::SOA, RData::SOA(soa))
+    record(alloc, RecordType::SOA, RData::SOA(Boxed::new(alloc, soa)?))
 }
 
 /// Adds a value, as it was made or not made. What is made piece by piece is lent to functions that add to
@@ -204,7 +204,7 @@ pub fn no_records(alloc: Global) -> Result<NoRecords, NameError> {
     let ((soa, query), (ns, authorities)) = both(told, more)?;
     Ok(NoRecords {
         query,
-        soa: Some(soa),
+        soa: Some(Boxed::new(alloc, soa)?),
         ns: Some(ns),
         response_code: ResponseCode::NXDomain,
         authorities,

@@ -1,7 +1,7 @@
 //! What a question is answered with where it is no message.
 
 use dns_core::{
-    ForwardNsData, IoKind, Items, Name, NetError, Query, Record, RecordType, Records, Text,
+    Boxed, ForwardNsData, IoKind, Items, Name, NetError, Query, Record, RecordType, Records, Text,
 };
 use thiserror::Error;
 
@@ -40,7 +40,7 @@ pub enum WalkCause {
 #[derive(Drop, Debug, PartialEq, Eq)]
 pub struct AuthorityData {
     pub query: Query,
-    pub soa: Option<Record>,
+    pub soa: Option<Boxed<Record>>,
     pub no_records_found: bool,
     pub nx_domain: bool,
     pub authorities: Records,

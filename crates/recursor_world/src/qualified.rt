@@ -7,7 +7,7 @@ ghost use Rattle.dns_core.specs.NetError.{is_qualified_option as qualified_optio
 ghost use Rattle.recursor_world.specs.Script.{is_plain as plain, is_qualified_line as qualified_line, is_qualified_script};
 
 use crate::script::{Script, ScriptLine};
-use dns_core::{DnsError, ForwardNsData, Items, Message, NetError, RData, Record, Records};
+use dns_core::{Boxed, DnsError, ForwardNsData, Items, Message, NetError, RData, Record, Records};
 
 impl Script {
     /// Whether the name of each line, and every name in the records that it tells, is fully
@@ -52,7 +52,7 @@ fn is_qualified_data(rdata: &RData) -> bool
 {
     match rdata {
         RData::NS(target) | RData::CNAME(target) => target.is_fqdn(),
-        RData::SOA(soa) => soa.mname.is_fqdn() && soa.rname.is_fqdn(),
+        RData::SOA(soa) => soa.get().mname.is_fqdn() && soa.get().rname.is_fqdn(),
         RData::A(_) | RData::AAAA(_) | RData::RRSIG { .. } | RData::Opaque(_) => true,
     }
 }
@@ -98,12 +98,12 @@ fn all_qualified(forwards: &Items<ForwardNsData>) -> bool
     forwards.items().iter().all(|f| is_qualified_forward(f))
 }
 
-fn is_qualified_option(found: &Option<Record>) -> bool
+fn is_qualified_option(found: &Option<Boxed<Record>>) -> bool
     ensures { result ≡ qualified_option found.now }
 {
     match found {
         None => true,
-        Some(record) => is_qualified_record(record),
+        Some(record) => is_qualified_record(record.get()),
     }
 }
 

@@ -3,7 +3,7 @@ ghost use Rattle.std.specs.Prelude.{◌≡◌, fold};
 ghost use Rattle.resolver_cache.specs.Life.{lesser, least_ttl, records, soa_life, negative_life, life_of, moment_after};
 ghost use Rattle.resolver_settings.specs.Ttl.{bounds_of};
 
-use dns_core::{DnsError, Message, NetError, RData, Record, RecordType};
+use dns_core::{Boxed, DnsError, Message, NetError, RData, Record, RecordType};
 use resolver_settings::TtlConfig;
 
 /// The least TTL so far, with one record more.
@@ -36,17 +36,17 @@ fn soa_life(r: &Record) -> u32
     ensures { result ≡ soa_life r.now }
 {
     match &r.rdata {
-        RData::SOA(soa) => r.ttl.min(soa.minimum),
+        RData::SOA(soa) => r.ttl.min(soa.get().minimum),
         _ => r.ttl,
     }
 }
 
-fn negative_life(config: &TtlConfig, query_type: RecordType, soa: &Option<Record>) -> u64
+fn negative_life(config: &TtlConfig, query_type: RecordType, soa: &Option<Boxed<Record>>) -> u64
     ensures { result ≡ negative_life (bounds_of config.now query_type) soa.now }
 {
     let (least, most) = config.negative_response_ttl_bounds(query_type);
     match soa {
-        Some(soa) => least.max(most.min(u64::from(soa_life(soa)))),
+        Some(soa) => least.max(most.min(u64::from(soa_life(soa.get())))),
         None => least,
     }
 }

@@ -4,7 +4,7 @@ ghost use Rattle.std.specs.Option.{option_map};
 ghost use Rattle.resolver_cache.specs.Lowering.{seconds_between, lowered_record, lowered_message, lowered_delegation, lowered_denial, lowered_error, lowered};
 
 use dns_core::{
-    DnsError, ForwardNsData, Items, Message, NetError, NoMemory, NoRecords, Record, Records,
+    Boxed, DnsError, ForwardNsData, Items, Message, NetError, NoMemory, NoRecords, Record, Records,
     TryClone,
 };
 use std::alloc::Global;
@@ -65,13 +65,16 @@ pub(crate) fn lowered_message(alloc: Global, m: &Message, seconds: u64) -> Resul
 
 fn lowered_soa(
     alloc: Global,
-    soa: &Option<Record>,
+    soa: &Option<Boxed<Record>>,
     seconds: u64,
-) -> Result<Option<Record>, NoMemory>
+) -> Result<Option<Boxed<Record>>, NoMemory>
     ensures { IfOk result (λ copy. copy ≡ option_map (lowered_record seconds) soa.now) }
 {
     match soa {
-        Some(soa) => Ok(Some(lowered_record(alloc, soa, seconds)?)),
+        Some(soa) => {
+            let lowered = lowered_record(alloc, soa.get(), seconds)?;
+            Ok(Some(Boxed::new(alloc, lowered)?))
+        }
         None => Ok(None),
     }
 }

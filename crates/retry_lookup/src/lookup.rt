@@ -8,7 +8,7 @@ ghost use Rattle.retry_lookup.specs.Lookup.{fresh, is_asking, is_decided, decide
 ghost use Rattle.retry_lookup.specs.Rounds.{begun};
 
 use crate::attempt::Attempt;
-use dns_core::{DnsRequest, Message, NetError, NoMemory, Query};
+use dns_core::{Boxed, DnsRequest, Message, NetError, NoMemory, Query};
 use retry_rules::{Agenda, Candidate};
 use std::alloc::Global;
 use std::collections::VecDeque;
@@ -66,30 +66,34 @@ impl Lookup {
     fn unbegun(
         alloc: Global,
         request: DnsRequest,
-        servers: &[Candidate],
+        servers: Vec<Candidate>,
         together: usize,
         timeout: u64,
         now: u64,
-    ) -> Result<Self, NoMemory>
-        requires { length servers.now < 2 ^ 32 }
-        ensures { IfOk result (λ l. l ≡ fresh request servers.now together timeout now) }
+    ) -> Result<Boxed<Self>, NoMemory>
+        requires { length servers.items < 2 ^ 32 }
+        ensures { IfOk result (λ l. l ≡ fresh request servers.items together timeout now) }
     {
         let places = servers.len();
-        Ok(Lookup {
-            request,
-            servers: Vec::from_slice(alloc, servers)?,
-            together,
-            timeout,
-            start: now,
-            queue: Agenda::new(alloc, servers)?,
-            ready: VecDeque::with_capacity(alloc, places)?,
-            attempts: Vec::with_capacity(alloc, places)?,
-            round_start: now,
-            round_off: false,
-            ended: Vec::with_capacity(alloc, places)?,
-            closed_by: Vec::with_capacity(alloc, 5 * places + 1)?,
-            state: State::Asking,
-        })
+        let queue = Agenda::new(alloc, servers.as_slice())?;
+        Boxed::new(
+            alloc,
+            Lookup {
+                request,
+                servers,
+                together,
+                timeout,
+                start: now,
+                queue,
+                ready: VecDeque::with_capacity(alloc, places)?,
+                attempts: Vec::with_capacity(alloc, places)?,
+                round_start: now,
+                round_off: false,
+                ended: Vec::with_capacity(alloc, places)?,
+                closed_by: Vec::with_capacity(alloc, 5 * places + 1)?,
+                state: State::Asking,
+            },
+        )
     }
 
     /// A lookup of a request at the servers of a pool, some of which are asked side by side. Its first
@@ -97,18 +101,18 @@ impl Lookup {
     pub fn begin(
         alloc: Global,
         request: DnsRequest,
-        servers: &[Candidate],
+        servers: Vec<Candidate>,
         together: usize,
         timeout: u64,
         now: u64,
-    ) -> Result<Self, NoMemory>
-        requires few { length servers.now < 2 ^ 32 }
+    ) -> Result<Boxed<Self>, NoMemory>
+        requires few { length servers.items < 2 ^ 32 }
         requires some { 1 ≤ together }
-        ensures begun { IfOk result (λ l. l ≡ begun request servers.now together timeout now) }
+        ensures begun { IfOk result (λ l. l ≡ begun request servers.items together timeout now) }
         ensures holds { (denied : IpAddr → Bool) → IfOk result (λ l. Holds denied l) }
     {
         let mut lookup = Lookup::unbegun(alloc, request, servers, together, timeout, now)?;
-        lookup.begin_round(now);
+        lookup.get_mut().begin_round(now);
         Ok(lookup)
     }
 

@@ -14,7 +14,7 @@ ghost use Rattle.server_pool.specs.Stepping.{IsStepAt, IsHaltedAt, put_lookup, p
 ghost use Rattle.server_pool.specs.declared.open_lookup.OpenLookup.{OpenLookup as Seen};
 
 use crate::key::same_key;
-use dns_core::{DnsRequest, NetError, NoMemory};
+use dns_core::{Boxed, DnsRequest, NetError, NoMemory};
 use retry_lookup::{Lookup, LookupStep};
 use server_core::{After, Outcome, PoolContext, ServerTable, Tick};
 use std::alloc::Global;
@@ -25,7 +25,7 @@ use std::collections::BTreeMap;
 pub struct OpenLookup {
     pub(crate) pool: u64,
     pub(crate) waiters: u64,
-    pub(crate) lookup: Lookup,
+    pub(crate) lookup: Boxed<Lookup>,
 }
 
 impl OpenLookup {
@@ -33,7 +33,8 @@ impl OpenLookup {
     fn is_for(&self, pool: u64, request: &DnsRequest) -> bool
         ensures { result ≡ is_for pool request.now self.now }
     {
-        !self.lookup.is_decided() && self.pool == pool && same_key(self.lookup.request(), request)
+        let lookup = self.lookup.get();
+        !lookup.is_decided() && self.pool == pool && same_key(lookup.request(), request)
     }
 }
 
@@ -97,7 +98,7 @@ pub(crate) fn is_open_in(lookups: &BTreeMap<u64, OpenLookup>, lookup: u64, numbe
     ensures { result ≡ is_open_in number lookups.now.entries lookup }
 {
     match lookups.get(&lookup) {
-        Some(open) => open.lookup.has_order(number),
+        Some(open) => open.lookup.get().has_order(number),
         None => false,
     }
 }
@@ -124,7 +125,7 @@ pub(crate) fn step_at(
     ensures context { cx.new ≡ cx.old }
 {
     match lookups.get_mut(&lookup) {
-        Some(open) => open.lookup.next(alloc, table, cx, number, tick),
+        Some(open) => open.lookup.get_mut().next(alloc, table, cx, number, tick),
         None => Ok(LookupStep::Done(Err(NetError::NoConnections))),
     }
 }
@@ -150,7 +151,10 @@ pub(crate) fn put_at(
     ensures context { cx.new ≡ cx.old }
 {
     match lookups.get_mut(&lookup) {
-        Some(open) => open.lookup.put(alloc, table, cx, number, outcome, tick),
+        Some(open) => open
+            .lookup
+            .get_mut()
+            .put(alloc, table, cx, number, outcome, tick),
         None => Ok(After::Late),
     }
 }

@@ -19,7 +19,7 @@ use crate::open_lookup::{
     OpenLookup, is_last, is_open_in, join_at, leave_at, open_for, put_at, step_at, take_lookup,
 };
 use crate::orders::{drop_closed, keep_order, take_out};
-use dns_core::{DnsRequest, Message, NetError, NoMemory, Numbers, TryClone};
+use dns_core::{Boxed, DnsRequest, Message, NetError, NoMemory, Numbers, TryClone};
 use retry_lookup::{Lookup, LookupStep};
 use retry_rules::{ordered, side_by_side};
 use server_core::{After, NameServer, Order, Outcome, PoolContext, ServerTable, Tick};
@@ -191,7 +191,7 @@ impl PoolShared {
         turn: &mut usize,
         request: DnsRequest,
         tick: Tick,
-    ) -> Result<Lookup, NoMemory>
+    ) -> Result<Boxed<Lookup>, NoMemory>
         ensures begins { IfOk result (Begins self.now.context.options self.now.table servers.now turn.old request tick.now) }
         ensures holds { (denied : IpAddr → Bool) → IfOk result (Holds denied) }
         ensures turn { OnOk result (turn.new ≡ next_turn self.now.context.options turn.old (length servers.now)) }
@@ -204,14 +204,7 @@ impl PoolShared {
             return Err(NoMemory);
         }
         let together = side_by_side(options);
-        Lookup::begin(
-            alloc,
-            request,
-            found.as_slice(),
-            together,
-            options.timeout,
-            tick.now,
-        )
+        Lookup::begin(alloc, request, found, together, options.timeout, tick.now)
     }
 
     /// Begins a lookup of a request at the servers of the pool of a number. Where memory is wanting,
@@ -437,7 +430,7 @@ impl PoolShared {
         ensures { IfOk result (λ told. told ≡ option_and_then (λ l. answer_of l.lookup) (lookup_at self.now lookup)) }
     {
         match self.lookups.get(&lookup) {
-            Some(open) => open.lookup.answer(alloc),
+            Some(open) => open.lookup.get().answer(alloc),
             None => Ok(None),
         }
     }
@@ -448,7 +441,7 @@ impl PoolShared {
         ensures fair { (l : Seen) → lookup_at self.now lookup ≡ Some l → IsFairly l.lookup }
     {
         match self.lookups.get(&lookup) {
-            Some(open) => open.lookup.closed_by(),
+            Some(open) => open.lookup.get().closed_by(),
             None => &[],
         }
     }

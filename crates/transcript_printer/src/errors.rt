@@ -9,7 +9,7 @@ use crate::records::{
     put_record, put_records, put_spaced_class, put_spaced_code, put_spaced_name, put_spaced_type,
 };
 use crate::words::{put_bytes, put_count};
-use dns_core::{DnsError, ForwardNsData, NetError, NoMemory, Record};
+use dns_core::{Boxed, DnsError, ForwardNsData, NetError, NoMemory, Record};
 use recursor_types::{AuthorityData, MessageKind, RecursorError, WalkCause};
 use std::alloc::Global;
 
@@ -184,13 +184,13 @@ fn put_forwards(
 
 fn put_optional_record(
     alloc: Global,
-    entry: &Option<Record>,
+    entry: &Option<Boxed<Record>>,
     out: &mut Vec<u8>,
 ) -> Result<(), NoMemory>
     ensures { Appends result out.old.items out.new.items (record_lines (option_to_list entry.now)) }
 {
     match entry {
-        Some(entry) => put_record(alloc, entry, out),
+        Some(entry) => put_record(alloc, entry.get(), out),
         None => Ok(()),
     }
 }

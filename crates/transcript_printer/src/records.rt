@@ -97,7 +97,7 @@ fn put_data(alloc: Global, rdata: &RData, out: &mut Vec<u8>) -> Result<(), NoMem
         RData::A(ip) => put_spaced_ipv4(*ip, out),
         RData::AAAA(ip) => put_spaced_ipv6(alloc, *ip, out),
         RData::NS(target) | RData::CNAME(target) => put_spaced_name(target, out),
-        RData::SOA(soa) => put_soa(soa, out),
+        RData::SOA(soa) => put_soa(soa.get(), out),
         RData::RRSIG { covered, rest } => put_signature(*covered, rest.items(), out),
         RData::Opaque(bytes) => put_spaced_hex(bytes.items(), out),
     }

@@ -10,7 +10,7 @@ use crate::log::{has_log_words, put_log};
 use crate::records::put_message;
 use crate::transcript::Transcript;
 use crate::words::{put_bytes, put_count};
-use dns_core::{Message, NoMemory};
+use dns_core::NoMemory;
 use recursor_types::{RecursorError, Reply};
 use std::alloc::Global;
 
@@ -20,14 +20,6 @@ fn put_reply_number(number: u64, out: &mut Vec<u8>) -> Result<(), NoMemory>
     put_bytes(b"reply", out)?;
     put_count(number, out)?;
     put_bytes(b" ", out)
-}
-
-#[tactic(auto, unfolding(text_words::specs::Texts::message_text, crate::specs::Transcript::answer_text))]
-fn put_answer(alloc: Global, number: u64, m: &Message, out: &mut Vec<u8>) -> Result<(), NoMemory>
-    ensures { Appends result out.old.items out.new.items (answer_text number m.now) }
-{
-    put_reply_number(number, out)?;
-    put_message(alloc, m, out)
 }
 
 #[tactic(auto, unfolding(crate::specs::Errors::error_text, crate::specs::Transcript::failure_text))]
@@ -44,12 +36,15 @@ fn put_failure(
     put_error(alloc, error, out)
 }
 
-#[tactic(auto, unfolding(crate::specs::Transcript::reply_text))]
+#[tactic(auto, unfolding(text_words::specs::Texts::message_text, crate::specs::Transcript::answer_text, crate::specs::Transcript::reply_text))]
 fn put_reply(alloc: Global, number: u64, reply: &Reply, out: &mut Vec<u8>) -> Result<(), NoMemory>
     ensures { Appends result out.old.items out.new.items (reply_text number reply.now) }
 {
     match &reply.outcome {
-        Ok(m) => put_answer(alloc, number, m, out),
+        Ok(m) => {
+            put_reply_number(number, out)?;
+            put_message(alloc, m, out)
+        }
         Err(error) => put_failure(alloc, number, error, out),
     }
 }

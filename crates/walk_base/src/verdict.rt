@@ -4,7 +4,7 @@ ghost use Rattle.std.specs.Prelude.{◌≡◌, ◌&&◌, ◌||◌, filter};
 ghost use Rattle.resolution.specs.Given.{allows_all};
 ghost use Rattle.resolution.specs.Verdict.{in_zone, within, negative_within, verdict_of_message, if_in_zone};
 
-use dns_core::{Items, Message, Name, NoRecords, Record, Records, is_subzone};
+use dns_core::{Boxed, Items, Message, Name, NoRecords, Record, Records, is_subzone};
 use resolution::{Cause, Verdict};
 
 fn is_in_zone(zone: &Name, r: &Record) -> bool
@@ -42,11 +42,17 @@ fn within(message: Message, zone: &Name) -> Message
     }
 }
 
-fn soa_within(soa: Option<Record>, zone: &Name) -> Option<Record>
+fn soa_within(soa: Option<Boxed<Record>>, zone: &Name) -> Option<Boxed<Record>>
     ensures { result ≡ if_in_zone zone.now soa }
 {
     match soa {
-        Some(r) => { if is_in_zone(zone, &r) { Some(r) } else { None } }
+        Some(r) => {
+            if is_in_zone(zone, r.get()) {
+                Some(r)
+            } else {
+                None
+            }
+        }
         None => None,
     }
 }

@@ -151,7 +151,7 @@ fn is_soundly_held(world: Sight, owner: &Name, rdata: &RData) -> bool
     match rdata {
         RData::NS(target) => !is_aliased(world, target) && !has_star(target),
         RData::CNAME(target) => owns_one(world, owner) && !has_star(target),
-        RData::SOA(soa) => !has_star(&soa.mname) && !has_star(&soa.rname),
+        RData::SOA(soa) => !has_star(&soa.get().mname) && !has_star(&soa.get().rname),
         _ => true,
     }
 }

@@ -3,7 +3,8 @@ ghost use Rattle.std.specs.Prelude.{IsTrue};
 ghost use Rattle.dns_core.specs.Record.{is_typed};
 
 use dns_core::{
-    DnsClass, Items, Name, NameError, NoMemory, Query, RData, Record, RecordType, Records, Soa,
+    Boxed, DnsClass, Items, Name, NameError, NoMemory, Query, RData, Record, RecordType, Records,
+    Soa,
 };
 use std::alloc::Global;
 use std::net::{IpAddr, Ipv4Addr};
@@ -81,7 +82,12 @@ fn soa(alloc: Global, server: &str) -> Result<Soa, NameError> {
 
 fn authority(alloc: Global, apex: &str, server: &str) -> Result<Record, NameError> {
     let soa = soa(alloc, server)?;
-    record(alloc, apex, RecordType::SOA, RData::SOA(soa))
+    record(
+        alloc,
+        apex,
+        RecordType::SOA,
+        RData::SOA(Boxed::new(alloc, soa)?),
+    )
 }
 
 // ---- the world

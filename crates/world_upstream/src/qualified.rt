@@ -13,7 +13,7 @@ fn is_qualified_data(rdata: &RData) -> bool
 {
     match rdata {
         RData::NS(target) | RData::CNAME(target) => target.is_fqdn(),
-        RData::SOA(soa) => soa.mname.is_fqdn() && soa.rname.is_fqdn(),
+        RData::SOA(soa) => soa.get().mname.is_fqdn() && soa.get().rname.is_fqdn(),
         RData::A(_) | RData::AAAA(_) | RData::RRSIG { .. } | RData::Opaque(_) => true,
     }
 }

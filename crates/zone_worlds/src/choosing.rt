@@ -14,16 +14,10 @@ use dns_core::{Items, Name, NoMemory, RData, Record, RecordType, Records, TryClo
 use std::alloc::Global;
 
 /// Whether a record is of the type, for which ANY stands for all.
-fn is_of(r: &Record, asked: RecordType) -> bool
-    ensures { result ≡ is_of asked r.now }
-{
-    asked.code == 255 || r.record_type.code == asked.code
-}
-
 fn is_owned(r: &Record, name: &Name, asked: RecordType) -> bool
     ensures { result ≡ (same_names r.now.name name.now && is_of asked r.now) }
 {
-    r.name == *name && is_of(r, asked)
+    r.name == *name && (asked.code == 255 || r.record_type.code == asked.code)
 }
 
 /// The records of the type at a name.
