@@ -1,12 +1,10 @@
 -- What the reply of a walk rests on.
-use Rattle.std.proofs.Common.{◌≡◌, ℕ, Bool, true, false, cond, List, [], ◌∷◌, ◌++◌, Option, Some, None, Contains, refl, sym, ap, subst, ◌∙◌, ◌≤◌, arith, inl, inr, Result, Ok, Err, IfOk}
+use Rattle.std.proofs.Common.{◌≡◌, ℕ, Bool, true, false, cond, List, [], ◌∷◌, ◌++◌, Option, Some, None, Contains, refl, sym, ap, subst, ◌∙◌, ◌≤◌, arith, inl, inr, Result, Ok, Err, IfOk, ◌&&◌, ◌==◌, not, find, filter, if◌then◌else◌, is_none}
+use Rattle.std.specs.Global.{Box}
 use Rattle.std.proofs.lemmas.Result.{IfOk-weaker}
 use Rattle.std.proofs.lemmas.Option.{same_Some, none-some}
-use Rattle.std.specs.Prelude.{◌&&◌, ◌==◌, not, find, filter, if◌then◌else◌}
 use Rattle.std.proofs.lemmas.List.Elements.{filter-append}
-use Rattle.std.specs.Option.{is_none}
 use Rattle.std.specs.Cmp.{second_so}
-use Rattle.std.specs.Global.{Box}
 use Rattle.std.specs.declared.net.ip_addr.IpAddr.{IpAddr}
 use Rattle.dns_core.specs.Name.{DomainName}
 use Rattle.dns_core.specs.Log.{Log}
@@ -40,13 +38,14 @@ use Rattle.resolution.specs.declared.verdict.Cause.TheVariants.{Filter, Zone}
 use Rattle.resolution.proofs.SameDelegations.{Same-is_delegation, Same-glue, Same-strip}
 use Rattle.resolution.specs.Same.{Same}
 use Rattle.walk_base.specs.Response.{error_of}
+use Rattle.walk_tables.specs.Lookup.{IsToldAs}
 use Rattle.walk_tables.specs.View.{View, given_of}
-use Rattle.recursor_walk.specs.Replies.{IsToldAnswer, OutcomeHolds, Replied, HasCause}
+use Rattle.recursor_walk.specs.Replies.{IsToldAnswer, OutcomeCame, CameTo, HasCause, RepliesSo}
 use Rattle.recursor_walk.specs.Walk.{IsCourseOf}
 use Rattle.recursor_walk.specs.declared.walk.Course.{Course}
 use Rattle.recursor_walk.specs.declared.walk.Course.TheVariants as course
 use Rattle.walk_tables.specs.Tried.{Concluded, machine_timer}
-use Rattle.recursor_walk.specs.Causes.{HasFailed, HasNoAddress}
+use Rattle.recursor_walk.specs.Causes.{IsDenied, HasFailed, HasNoAddress}
 use Rattle.resolution.specs.Walking.{Walked}
 use Rattle.resolution.proofs.Sameness.{Same-refl}
 use Rattle.dns_core.specs.declared.log.ToldOutcome.{ToldOutcome}
@@ -56,7 +55,7 @@ use Rattle.recursor_walk.specs.Counted.{Stands, Answers, IsCurrentVerdict}
 use Rattle.walk_tables.specs.Asked.{AskedAs}
 use Rattle.recursor_walk.specs.SameTold.{SameIfAny, SameReferrals, SameNegative, SameVerdict, ShowsAsked, IsMadeFor}
 use Rattle.walk_base.specs.Shown.{IsShown, nothing_left_for, left_of_class}
-use Rattle.walk_base.specs.Answer.{told_data, told_negative, made_negative, ends_walk, outcome_of}
+use Rattle.walk_base.specs.Answer.{told_data, made_data, told_negative, made_negative, ends_walk, outcome_of}
 use Rattle.recursor_walk.specs.Way.{WalkComes}
 use Rattle.recursor_types.specs.declared.error.RecursorError.{RecursorError}
 use Rattle.recursor_types.specs.declared.error.RecursorError.TheVariants.{Negative, ForwardNS}
@@ -65,7 +64,6 @@ use Rattle.recursor_walk.specs.declared.walk.Walk.{Walk}
 use Rattle.walk_tables.proofs.Sends.{same_query-refl}
 use Rattle.walk_base.proofs.Runs.{answer_whole}
 use Rattle.walk_tables.proofs.Counting.{Counts, counts-of}
-use Rattle.recursor_walk.specs.Told.{IsToldAs}
 use Rattle.recursor_walk.proofs.Lowered.{negative_same, data_same}
 
 -- ---- what counts
@@ -85,25 +83,17 @@ current-of t0 moment (Made cause) late = tt
 -- what is shown so is the same
 shown-same : (q : Query) (v whole : Verdict) → IsShown q v whole → SameVerdict q v whole
 shown-same q (Pos a) (Pos b) h = subst (Same a) h (Same-refl a)
-shown-same q (Pos a) (Neg b) h = absurd h
-shown-same q (Pos a) (Made Filter) h = absurd h
-shown-same q (Pos a) (Made Zone) h = absurd h
-shown-same q (Neg a) (Pos b) h = absurd h
 shown-same q (Neg a) (Neg b) h = subst (SameNegative a) h (negative_same a)
 shown-same q (Neg a) (Made Filter) h = record { first = q; same = same_query-refl q; is = h }
-shown-same q (Neg a) (Made Zone) h = absurd h
-shown-same q (Made a) (Pos b) h = absurd h
-shown-same q (Made a) (Neg b) h = absurd h
 shown-same q (Made a) (Made b) h = h
+shown-same q _ _ h = absurd h
 
 -- what is shown so for the question as it was asked shows that
 shown-asked : (log : Log) (i : ℕ) (q : Query) (v whole : Verdict) → AskedAs log i q → IsShown q v whole → ShowsAsked log i q v whole
-shown-asked log i q (Pos a) whole asked h = tt
-shown-asked log i q (Neg a) (Pos b) asked h = tt
-shown-asked log i q (Neg a) (Neg b) asked h = tt
 shown-asked log i q (Neg a) (Made Filter) asked h = subst (λ (n : NoRecords). AskedAs log i n.query) (sym h) asked
 shown-asked log i q (Neg a) (Made Zone) asked h = absurd h
 shown-asked log i q (Made a) whole asked h = asked
+shown-asked log i q _ _ asked h = tt
 
 -- what counts, of a server of the zone to which a walk went down, stands
 abbrev stands-of : (seen : View) (t0 : ℕ) (zone : DomainName) (q : Query) (entry at : ℕ) (v : Verdict)
@@ -201,47 +191,28 @@ told-by seen t0 q entry zone kept dnssec (Pos before) base current walked same =
       same = stripped;
       answer = λ done. record { answers = direct base current done stripped; few = omega arith };
     }
-told-by seen t0 q entry zone kept dnssec (Neg n) base current walked same = absurd same
-told-by seen t0 q entry zone kept dnssec (Made Filter) base current walked same = absurd same
-told-by seen t0 q entry zone kept dnssec (Made Zone) base current walked same = absurd same
+told-by seen t0 q entry zone kept dnssec _ base current walked same = absurd same
 
 pub told-answer : (seen : View) (t0 : ℕ) (q : Query) (entry : ℕ) (kept : Message) (dnssec : Bool)
     → Answers seen t0 q entry (Pos kept) → IsToldAnswer (given_of seen.setting) seen.log t0 q dnssec (entry ∷ []) (strip_of kept dnssec)
 told-answer seen t0 q entry kept dnssec h =
     told-by seen t0 q entry h.stands.zone kept dnssec h.stands.whole h.stands.base h.current h.stands.walked h.stands.same
 
--- a reply with what has its cause
+-- a reply with what a question has come to
 pub replies : (seen : View) (t0 : ℕ) (asked : Question) (r : Result (Box Reply) NoMemory) (outcome : Result Message RecursorError) (g : List ℕ)
-    → IfOk r (λ reply. reply.value ≡ record { outcome = outcome; grounds = g })
-    → OutcomeHolds (given_of seen.setting) (machine_timer seen.moment seen.log t0) seen.log t0 asked g outcome
-    → IfOk r (λ reply. Replied seen t0 asked reply.value)
-replies seen t0 asked r outcome g is holds =
-    IfOk-weaker r _ (λ reply. Replied seen t0 asked reply.value) (λ reply e. subst (Replied seen t0 asked) (sym e) holds) is
-
--- one reply with an error that has its cause
-pub denied : (seen : View) (t0 : ℕ) (asked : Question) (reply : Reply) (error : RecursorError) (g : List ℕ)
-    → reply ≡ record { outcome = Err error; grounds = g } → HasCause seen t0 asked.query g error
-    → Replied seen t0 asked reply
-denied seen t0 asked reply error g is cause = subst (Replied seen t0 asked) (sym is) cause
-
--- a reply with an error that has its cause
-pub denies : (seen : View) (t0 : ℕ) (asked : Question) (r : Result (Box Reply) NoMemory) (error : RecursorError) (g : List ℕ)
-    → IfOk r (λ reply. reply.value ≡ record { outcome = Err error; grounds = g })
-    → HasCause seen t0 asked.query g error
-    → IfOk r (λ reply. Replied seen t0 asked reply.value)
-denies seen t0 asked r error g is cause =
-    IfOk-weaker r _ (λ reply. Replied seen t0 asked reply.value) (λ reply e. denied seen t0 asked reply.value error g e cause) is
+    → IfOk r (λ reply. reply.value ≡ record { outcome = outcome; grounds = g }) → OutcomeCame seen t0 asked g outcome → RepliesSo seen t0 asked r
+replies seen t0 asked r outcome g is came =
+    IfOk-weaker r _ (λ reply. CameTo seen t0 asked reply.value) (λ reply e. subst (CameTo seen t0 asked) (sym e) came) is
 
 -- it is the reply of a walk
 stopped : (seen : View) (t0 : ℕ) (asked : Question) (w : Walk) (reply : Reply) (came : Course)
-    → IsCourseOf reply came → Replied seen t0 asked reply → WalkComes seen t0 asked w came
-stopped seen t0 asked w reply course.Further is h = absurd is
-stopped seen t0 asked w reply course.Arrived is h = absurd is
-stopped seen t0 asked w reply (course.Reply b) is h = subst (Replied seen t0 asked) (sym is) h
+    → IsCourseOf reply came → CameTo seen t0 asked reply → WalkComes seen t0 asked w came
+stopped seen t0 asked w reply (course.Reply b) is h = subst (CameTo seen t0 asked) (sym is) h
+stopped seen t0 asked w reply _ is h = absurd is
 
 -- a walk that stops with a reply
 pub stops : (seen : View) (t0 : ℕ) (asked : Question) (w : Walk) (r : Result Course NoMemory) (reply : Reply)
-    → IfOk r (IsCourseOf reply) → Replied seen t0 asked reply → IfOk r (WalkComes seen t0 asked w)
+    → IfOk r (IsCourseOf reply) → CameTo seen t0 asked reply → IfOk r (WalkComes seen t0 asked w)
 stops seen t0 asked w r reply is h =
     IfOk-weaker r _ (WalkComes seen t0 asked w) (λ came e. stopped seen t0 asked w reply came e h) is
 
@@ -265,19 +236,17 @@ first-asked log i n first is a = subst (AskedAs log i) (ap (λ (m : NoRecords). 
 negative-by : (seen : View) (t0 : ℕ) (q : Query) (entry : ℕ) (zone : DomainName) (n : NoRecords) (whole : Verdict)
     → Base (given_of seen.setting) seen.log t0 q entry zone whole → Walked (given_of seen.setting) seen.log q zone → SameVerdict q (Neg n) whole → ShowsAsked seen.log entry q (Neg n) whole
     → HasCause seen t0 q (entry ∷ []) (told_negative n)
-negative-by seen t0 q entry zone n (Pos kept) base walked same asked = absurd same
-negative-by seen t0 q entry zone n (Made Zone) base walked same asked = absurd same
 negative-by seen t0 q entry zone n (Made Filter) base walked same asked =
     subst (λ (m : NoRecords). HasCause seen t0 q (entry ∷ []) (told_negative m)) (sym same.is)
-    (denial_made {p = same.first} base walked same.same (first-asked seen.log entry n same.first same.is asked))
+    (denial_made {p = same.first} base walked same.same (first-asked seen.log entry n same.first same.is asked), tt)
 negative-by seen t0 q entry zone n (Neg before) base walked same asked = by n.ns before.ns refl same.ns
   where
     by : (o p : Option (List ForwardNsData)) → before.ns ≡ p → SameIfAny SameReferrals o p
         → HasCause seen t0 q (entry ∷ []) (elim o [ Some forward ↦ ForwardNS forward | None ↦ Negative (told_data n) ])
-    by None None e alike = denial_told base walked e (data_same n before same)
-    by (Some forward) (Some servers) e alike = referred base walked e alike
-    by None (Some servers) e alike = absurd alike
-    by (Some forward) None e alike = absurd alike
+    by None None e alike = (denial_told base walked e (data_same n before same), tt)
+    by (Some forward) (Some servers) e alike = (referred base walked e alike, tt)
+    by _ _ e alike = absurd alike
+negative-by seen t0 q entry zone n _ base walked same asked = absurd same
 
 answers-negative : (seen : View) (t0 : ℕ) (q : Query) (entry : ℕ) (n : NoRecords)
     → Stands seen t0 q entry (Neg n)
@@ -289,25 +258,25 @@ made-for : (cause : Cause) (q : Query) → IsMadeFor cause q q
 made-for Filter q = same_query-refl q
 made-for Zone q = refl
 
--- a negative that the recursor makes is answered at last
-made-by : (seen : View) (t0 : ℕ) (q : Query) (entry : ℕ) (zone : DomainName) (cause : Cause) (whole : Verdict)
-    → Base (given_of seen.setting) seen.log t0 q entry zone whole → Walked (given_of seen.setting) seen.log q zone → SameVerdict q (Made cause) whole → AskedAs seen.log entry q
-    → HasCause seen t0 q (entry ∷ []) (made_negative q cause)
-made-by seen t0 q entry zone cause (Pos kept) base walked same asked = absurd same
-made-by seen t0 q entry zone cause (Neg n) base walked same asked = absurd same
-made-by seen t0 q entry zone cause (Made before) base walked same asked =
-    subst (λ (x : Cause). HasCause seen t0 q (entry ∷ []) (made_negative q x)) (sym same) (denial_made base walked (made-for before q) asked)
+-- a negative that the recursor makes, where one that it made before is a denial
+made-by : (seen : View) (t0 : ℕ) (q p : Query) (entry : ℕ) (zone : DomainName) (cause : Cause) (whole : Verdict)
+    → ((before : Cause) → Base (given_of seen.setting) seen.log t0 p entry zone (Made before) → IsMadeFor before p p → IsDenied (given_of seen.setting) seen.log t0 q (entry ∷ []) (made_data p before))
+    → Base (given_of seen.setting) seen.log t0 p entry zone whole → SameVerdict p (Made cause) whole → HasCause seen t0 q (entry ∷ []) (made_negative p cause)
+made-by seen t0 q p entry zone cause (Made before) denies base same =
+    subst (λ (x : Cause). HasCause seen t0 q (entry ∷ []) (made_negative p x)) (sym same) (denies before base (made-for before p), tt)
+made-by seen t0 q p entry zone cause _ denies base same = absurd same
 
 answers-made : (seen : View) (t0 : ℕ) (q : Query) (entry : ℕ) (cause : Cause)
     → Stands seen t0 q entry (Made cause)
     → HasCause seen t0 q (entry ∷ []) (made_negative q cause)
-answers-made seen t0 q entry cause h = made-by seen t0 q entry h.zone cause h.whole h.base h.walked h.same h.asked
+answers-made seen t0 q entry cause h =
+    made-by seen t0 q q entry h.zone cause h.whole (λ before base same. denial_made base h.walked same h.asked) h.base h.same
 
 -- what counts for the question and may be answered is the cause of what is answered with it
 pub answered-by : (seen : View) (t0 : ℕ) (asked : Question) (entry : ℕ) (v : Verdict)
     → Answers seen t0 asked.query entry v
-    → OutcomeHolds (given_of seen.setting) (machine_timer seen.moment seen.log t0) seen.log t0 asked (entry ∷ []) (outcome_of asked v)
-answered-by seen t0 asked entry (Pos kept) h = told-answer seen t0 asked.query entry kept asked.dnssec_ok h
+    → OutcomeCame seen t0 asked (entry ∷ []) (outcome_of asked v)
+answered-by seen t0 asked entry (Pos kept) h = (told-answer seen t0 asked.query entry kept asked.dnssec_ok h, tt)
 answered-by seen t0 asked entry (Neg n) h = answers-negative seen t0 asked.query entry n h.stands
 answered-by seen t0 asked entry (Made cause) h = answers-made seen t0 asked.query entry cause h.stands
 
@@ -328,26 +297,19 @@ ends-verdict n before same e =
     both-none : (o p : Option (List ForwardNsData)) → SameIfAny SameReferrals o p → is_none o ≡ is_none p
     both-none None None alike = refl
     both-none (Some forward) (Some servers) alike = refl
-    both-none None (Some servers) alike = absurd alike
-    both-none (Some forward) None alike = absurd alike
+    both-none _ _ alike = absurd alike
 
 -- a negative that ends a walk at a candidate
 way-negative-by : (seen : View) (t0 : ℕ) (q : Query) (entry : ℕ) (zone c : DomainName) (n : NoRecords) (whole : Verdict)
     → Contains (candidates (walk q)) c → Base (given_of seen.setting) seen.log t0 (question c 2) entry zone whole
     → Walked (given_of seen.setting) seen.log (question c 2) zone → SameVerdict (question c 2) (Neg n) whole → ShowsAsked seen.log entry (question c 2) (Neg n) whole → ends_walk n ≡ true
     → HasCause seen t0 q (entry ∷ []) (told_negative n)
-way-negative-by seen t0 q entry zone c n (Pos kept) has base walked same asked ends = absurd same
-way-negative-by seen t0 q entry zone c n (Made Zone) has base walked same asked ends = absurd same
 way-negative-by seen t0 q entry zone c n (Made Filter) has base walked same asked ends =
     subst (λ (m : NoRecords). HasCause seen t0 q (entry ∷ []) (told_negative m)) (sym same.is)
-    (made_on_the_way {p = same.first} refl has base walked same.same (first-asked seen.log entry n same.first same.is asked))
+    (made_on_the_way {p = same.first} refl has base walked same.same (first-asked seen.log entry n same.first same.is asked), tt)
 way-negative-by seen t0 q entry zone c n (Neg before) has base walked same asked ends =
-    let none = ends-none n ends in
-    subst (HasCause seen t0 q (entry ∷ [])) (sym (ap (λ (o : Option (List ForwardNsData)). negative-of n o) none))
-    (told_on_the_way refl has base walked (ends-verdict n before same ends) (data_same n before same))
-  where
-    negative-of : NoRecords → Option (List ForwardNsData) → RecursorError
-    negative-of m o = elim o [ Some forward ↦ ForwardNS forward | None ↦ Negative (told_data m) ]
+    rw (ends-none n ends) (told_on_the_way refl has base walked (ends-verdict n before same ends) (data_same n before same), tt)
+way-negative-by seen t0 q entry zone c n _ has base walked same asked ends = absurd same
 
 pub answers-on-the-way : (seen : View) (t0 : ℕ) (q : Query) (entry : ℕ) (c : DomainName) (n : NoRecords)
     → Contains (candidates (walk q)) c → Stands seen t0 (question c 2) entry (Neg n) → ends_walk n ≡ true
@@ -355,21 +317,12 @@ pub answers-on-the-way : (seen : View) (t0 : ℕ) (q : Query) (entry : ℕ) (c :
 answers-on-the-way seen t0 q entry c n has h ends =
     way-negative-by seen t0 q entry h.zone c n h.whole has h.base h.walked h.same h.asked ends
 
--- a negative that the recursor makes at a candidate
-way-made-by : (seen : View) (t0 : ℕ) (q : Query) (entry : ℕ) (zone c : DomainName) (cause : Cause) (whole : Verdict)
-    → Contains (candidates (walk q)) c → Base (given_of seen.setting) seen.log t0 (question c 2) entry zone whole
-    → Walked (given_of seen.setting) seen.log (question c 2) zone → SameVerdict (question c 2) (Made cause) whole → AskedAs seen.log entry (question c 2)
-    → HasCause seen t0 q (entry ∷ []) (made_negative (question c 2) cause)
-way-made-by seen t0 q entry zone c cause (Pos kept) has base walked same asked = absurd same
-way-made-by seen t0 q entry zone c cause (Neg n) has base walked same asked = absurd same
-way-made-by seen t0 q entry zone c cause (Made before) has base walked same asked =
-    subst (λ (x : Cause). HasCause seen t0 q (entry ∷ []) (made_negative (question c 2) x)) (sym same)
-    (made_on_the_way refl has base walked (made-for before (question c 2)) asked)
-
+-- one that it makes at a candidate
 pub made-on-the-way : (seen : View) (t0 : ℕ) (q : Query) (entry : ℕ) (c : DomainName) (cause : Cause)
     → Contains (candidates (walk q)) c → Stands seen t0 (question c 2) entry (Made cause)
     → HasCause seen t0 q (entry ∷ []) (made_negative (question c 2) cause)
-made-on-the-way seen t0 q entry c cause has h = way-made-by seen t0 q entry h.zone c cause h.whole has h.base h.walked h.same h.asked
+made-on-the-way seen t0 q entry c cause has h =
+    made-by seen t0 q (question c 2) entry h.zone cause h.whole (λ before base same. made_on_the_way refl has base h.walked same h.asked) h.base h.same
 
 -- ---- delegations without addresses
 
@@ -382,9 +335,6 @@ none-in (x ∷ xs) h = absurd (h x (0, omega arith, refl))
 glueless-by : (seen : View) (t0 : ℕ) (q : Query) (zone c : DomainName) (entry : ℕ) (kept : Message) (whole : Verdict)
     → Contains (candidates (walk q)) c → Base (given_of seen.setting) seen.log t0 (question c 2) entry zone whole → SameVerdict (question c 2) (Pos kept) whole
     → is_delegation kept c ≡ true → allowed (access_denies seen.setting.server_filter) (glue kept c) ≡ [] → HasNoAddress (given_of seen.setting) seen.log t0 q
-glueless-by seen t0 q zone c entry kept (Neg n) has base same delegates none = absurd same
-glueless-by seen t0 q zone c entry kept (Made Filter) has base same delegates none = absurd same
-glueless-by seen t0 q zone c entry kept (Made Zone) has base same delegates none = absurd same
 glueless-by seen t0 q zone c entry kept (Pos before) has base same delegates none = record {
   candidate = c;
   told = before;
@@ -397,6 +347,7 @@ glueless-by seen t0 q zone c entry kept (Pos before) has base same delegates non
     none = subst (λ (ips : List IpAddr). allowed (access_denies seen.setting.server_filter) ips ≡ []) (Same-glue kept before c same) none;
   };
 }
+glueless-by seen t0 q zone c entry kept _ has base same delegates none = absurd same
 
 pub glueless-of : (seen : View) (t0 : ℕ) (q : Query) (c : DomainName) (asked : Query) (entry : ℕ) (kept : Message)
     → Contains (candidates (walk q)) c → Stands seen t0 asked entry (Pos kept) → asked ≡ question c 2 → is_delegation kept c ≡ true

@@ -31,24 +31,19 @@ use Rattle.recursor_walk.specs.Replies.{IsToldAnswer, OutcomeHolds, Replied}
 use Rattle.walk_tables.specs.Tried.{machine_timer}
 use Rattle.recursor_types.specs.declared.reply.Reply.{Reply}
 
--- a life that lasts until late lasts until early
-lives : (o : Option ℕ) (early late moment : ℕ) → early ≤ late → IsSomeAnd o (λ life. late ≤ moment + 1000000 * life)
-    → IsSomeAnd o (λ life. early ≤ moment + 1000000 * life)
-lives None early late moment le h = h
-lives (Some life) early late moment le h = omega arith
+-- what holds of what is there, where one follows from the other
+pub some-weaker : {A : Type 0} (P Q : A → Type 0) → ((x : A) → P x → Q x) → (o : Option A) → IsSomeAnd o P → IsSomeAnd o Q
+some-weaker P Q f None h = h
+some-weaker P Q f (Some x) h = f x h
 
 -- what is fresh late is fresh early
 Fresh-earlier : (given : Given) (early late moment : ℕ) (q : Query) (v : Verdict) → early ≤ late → Fresh given late moment q v → Fresh given early moment q v
-Fresh-earlier given early late moment q v le = ⊎_elim (λ h. inl (omega arith)) (λ h. inr (lives (life_in_seconds given q.query_type v) early late moment le h))
+Fresh-earlier given early late moment q v le = ⊎_elim (λ h. inl (omega arith))
+    (λ h. inr (some-weaker (λ life. late ≤ moment + 1000000 * life) (λ life. early ≤ moment + 1000000 * life) (λ life l. omega arith) (life_in_seconds given q.query_type v) h))
 
 -- what is current late is current early
 IsCurrent-earlier : (early late moment : ℕ) (k : Message) → early ≤ late → IsCurrent late moment k → IsCurrent early moment k
 IsCurrent-earlier early late moment k le = ⊎_elim (λ h. inl h) (λ h. inr (omega arith))
-
--- what is not before late is not before early
-last_earlier : (o : Option ℕ) (early late : ℕ) → early ≤ late → IsSomeAnd o (λ m. late ≤ m) → IsSomeAnd o (λ m. early ≤ m)
-last_earlier None early late le h = h
-last_earlier (Some m) early late le h = omega arith
 
 -- The late moment may be the early one: then a reply holds by what else is known of moments.
 module _ (given : Given) (log : Log) (early late : ℕ) (le : early ≤ late) (known wider : Known)
@@ -101,7 +96,7 @@ module _ (given : Given) (log : Log) (early late : ℕ) (le : early ≤ late) (k
   referred-earlier q _ servers (referred b w n s) = referred (Base-earlier b) w n s
 
   -- a lookup that was finished in time for the late moment was so for the early one
-  abbrev Finished-earlier : {q : Query} {z : DomainName} {g : List ℕ} {result : Answered} → Finished given known log late q z g result
+  abbrev pub Finished-earlier : {q : Query} {z : DomainName} {g : List ℕ} {result : Answered} → Finished given known log late q z g result
       → Finished given wider log early q z g result
   Finished-earlier f =
       let t = timed _ _ _ _ _ _ _ f.logged f.asked f.timed in
@@ -121,7 +116,7 @@ module _ (given : Given) (log : Log) (early late : ℕ) (le : early ≤ late) (k
         till = below-greater f.now t.0 t.1 f.moments f.till;
         asked = let a = f.asked in let l = t.1 in omega arith;
         timed = t.2;
-        fresh = ⊎_elim (λ h. inl (last_earlier (last_or None f.moments) early late le h)) (λ h. inr (h.0, let r = h.1 in let l = t.1 in omega arith)) f.fresh;
+        fresh = ⊎_elim (λ h. inl (some-weaker (λ m. late ≤ m) (λ m. early ≤ m) (λ m l. omega arith) (last_or None f.moments) h)) (λ h. inr (h.0, let r = h.1 in let l = t.1 in omega arith)) f.fresh;
       }
 
   -- a failure at late is one at early
@@ -138,25 +133,15 @@ module _ (given : Given) (log : Log) (early late : ℕ) (le : early ≤ late) (k
   }
   server-earlier q why.Timeout h =
       record { candidate = h.candidate; on_the_way = h.on_the_way; g = h.g; failed = failed-earlier _ _ _ h.failed }
-  server-earlier q why.DepthLimit h = h
-  server-earlier q why.Budget h = h
-  server-earlier q why.ZoneEntries h = h
-  server-earlier q why.Collision h = h
+  server-earlier q _ h = h
 
   -- an error that holds at late holds at early
   error-earlier : (q : Query) (g : List ℕ) (e : RecursorError) → ErrorHolds given known log late q g e → ErrorHolds given wider log early q g e
-  error-earlier q g (error.Message kind) h = h
   error-earlier q g (error.Negative d) h = denied-earlier q g d h
   error-earlier q g (error.ForwardNS servers) h = referred-earlier q g servers h
   error-earlier q g (error.Net e) h = (h.0, failed-earlier q g e h.1)
   error-earlier q g (error.NoNameServer zone cause) h = (h.0, h.1, server-earlier q cause h.2)
-  error-earlier q g error.NoMemory h = h
-  error-earlier q g (error.MaxRecordLimitExceeded count kind) h = h
-  error-earlier q g (error.Msg text) h = h
-  error-earlier q g (error.Io kind) h = h
-  error-earlier q g error.Timeout h = h
-  error-earlier q g (error.RecursionLimitExceeded count) h = h
-  error-earlier q g error.QueryBudgetExceeded h = h
+  error-earlier q g _ h = h
 
   -- what is answered at the late moment is so at the early one
   pub outcome-earlier : (question : Question) (g : List ℕ) (o : Result Message RecursorError) → OutcomeHolds given known log late question g o

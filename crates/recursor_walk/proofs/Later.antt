@@ -1,12 +1,11 @@
 -- What holds of a walk, and of a reply, goes on holding as a machine comes further.
-use Rattle.std.proofs.Common.{subst, ℕ, List, Result, Ok, Err, arith}
+use Rattle.std.proofs.Common.{subst, ℕ, List, Result, Ok, Err, arith, Bool}
 use Rattle.dns_core.specs.Name.{DomainName}
 use Rattle.dns_core.specs.declared.message.Query.{Query}
 use Rattle.dns_core.specs.declared.message.Message.{Message}
 use Rattle.dns_core.specs.declared.net_error.NetError.{NetError}
 use Rattle.dns_core.specs.declared.net_error.ForwardNsData.{ForwardNsData}
 use Rattle.dns_core.specs.declared.request.Question.{Question}
-use Rattle.std.specs.Prelude.{Bool}
 use Rattle.resolution.specs.Names.{last_name, question as question_for}
 use Rattle.resolution.specs.Answering.{Base}
 use Rattle.resolution.specs.declared.verdict.Verdict.{Verdict}
@@ -30,9 +29,9 @@ use Rattle.recursor_walk.specs.Asking.{LastHolds}
 use Rattle.recursor_walk.specs.Resolved.{StateHolds, ResolutionHolds}
 use Rattle.recursor_walk.specs.declared.asking.Asking.{Asking as AtServers}
 use Rattle.recursor_walk.specs.declared.resolving.State.{State}
-use Rattle.recursor_walk.specs.declared.resolving.State.TheVariants.{New, Walking, Asking, Done, Ended}
+use Rattle.recursor_walk.specs.declared.resolving.State.TheVariants.{Walking, Asking, Done}
 use Rattle.recursor_walk.specs.declared.resolving.Resolution.{Resolution}
-use Rattle.walk_tables.proofs.Later.{given-is, walked-on, pool-on, concluded-later, lookup-later, asked-kept}
+use Rattle.walk_tables.proofs.Later.{given-is, walked-on, pool-on, for-on, concluded-later, lookup-later, asked-kept}
 use Rattle.resolution.specs.Given.{Given, with_patience}
 use Rattle.resolution.specs.Walking.{NoCut}
 use Rattle.resolution.specs.Ending.{Known}
@@ -76,15 +75,13 @@ module _ (old new : View) (later : Later old new) where
 
   -- the question itself at the servers of its name
   last-later : (t0 : ℕ) (q : Query) (a : AtServers) → LastHolds old t0 q a → LastHolds new t0 q a
-  last-later t0 q a h =
-      let site = h.holds.site in
-      record {
-        asks = h.asks;
-        holds = record {
-          site = record { above = site.above; walked = walked-on old new later a.lookup.query a.zone site.walked; pool = pool-on old new later a.zone a.servers site.pool };
-          lookup = lookup-later old new later t0 a.zone a.lookup h.holds.lookup;
-        };
-      }
+  last-later t0 q a h = record {
+    asks = h.asks;
+    holds = record {
+      site = for-on old new later a.lookup.query a.zone a.servers h.holds.site;
+      lookup = lookup-later old new later t0 a.zone a.lookup h.holds.lookup;
+    };
+  }
 
   -- what counts of one entry
   based : {t0 : ℕ} {q : Query} {i : ℕ} {z : DomainName} {v : Verdict} → Base before old.log t0 q i z v → Base after new.log t0 q i z v
@@ -137,25 +134,15 @@ module _ (old new : View) (later : Later old new) where
     glueless = as-given (λ (g : Given). Glueless g new.log t0 h.candidate h.told) (Glueless-extend before less later.patience old.log new.log later.extends h.glueless);
   }
   server-later t0 q why.Timeout h = record { candidate = h.candidate; on_the_way = h.on_the_way; g = h.g; failed = failed-later t0 _ h.g _ h.failed }
-  server-later t0 q why.DepthLimit h = h
-  server-later t0 q why.Budget h = h
-  server-later t0 q why.ZoneEntries h = h
-  server-later t0 q why.Collision h = h
+  server-later t0 q _ h = h
 
   -- an error and its cause
   error-later : (t0 : ℕ) (q : Query) (g : List ℕ) (e : RecursorError) → ErrorHolds before (knew t0) old.log t0 q g e → ErrorHolds after (knows t0) new.log t0 q g e
-  error-later t0 q g (error.Message kind) h = h
   error-later t0 q g (error.Negative d) h = denied-later t0 q g d h
   error-later t0 q g (error.ForwardNS servers) h = referred-later t0 q g servers h
   error-later t0 q g (error.Net e) h = (h.0, failed-later t0 q g e h.1)
   error-later t0 q g (error.NoNameServer zone cause) h = (h.0, h.1, server-later t0 q cause h.2)
-  error-later t0 q g error.NoMemory h = h
-  error-later t0 q g (error.MaxRecordLimitExceeded count kind) h = h
-  error-later t0 q g (error.Msg text) h = h
-  error-later t0 q g (error.Io kind) h = h
-  error-later t0 q g error.Timeout h = h
-  error-later t0 q g (error.RecursionLimitExceeded count) h = h
-  error-later t0 q g error.QueryBudgetExceeded h = h
+  error-later t0 q g _ h = h
 
   -- what is answered
   outcome-later : (t0 : ℕ) (question : Question) (g : List ℕ) (o : Result Message RecursorError) → OutcomeHolds before (knew t0) old.log t0 question g o
@@ -169,11 +156,10 @@ module _ (old new : View) (later : Later old new) where
 
   -- where a resolution stands
   state-later : (t0 : ℕ) (question : Question) (s : State) → StateHolds old t0 question s → StateHolds new t0 question s
-  state-later t0 question New h = h
   state-later t0 question (Walking w) h = walk-later t0 question.query w.value h
   state-later t0 question (Asking a) h = last-later t0 question.query a.value h
-  state-later t0 question (Done reply) h = reply-later t0 question reply.value h
-  state-later t0 question Ended h = tt
+  state-later t0 question (Done reply) h = (reply-later t0 question reply.value h.0, h.1)
+  state-later t0 question _ h = h
 
   pub resolution-later : (r : Resolution) → ResolutionHolds old r → ResolutionHolds new r
   resolution-later r h = record { begun = let b = h.begun in let m = later.moment in omega (arith, b, m); state = state-later r.begun r.question r.state h.state }

@@ -1,6 +1,5 @@
 pub mod Lowered
 pub mod Denials
-pub mod Told
 pub mod Recalling
 pub mod Walks
 pub mod Resolved

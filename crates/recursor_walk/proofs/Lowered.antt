@@ -1,7 +1,6 @@
 -- What reads later is the same but for TTLs.
-use Rattle.std.proofs.Common.{◌≡◌, ℕ, List, [], ◌∷◌, Option, Some, None, refl, ap, arith}
-use Rattle.std.specs.Prelude.{map}
-use Rattle.std.specs.Option.{option_map}
+use Rattle.std.proofs.Common.{◌≡◌, ℕ, List, [], ◌∷◌, Option, Some, None, refl, ap, arith, map, option_map}
+use Rattle.std.specs.List.{AllZip}
 use Rattle.dns_core.specs.declared.record.Record.{Record}
 use Rattle.dns_core.specs.declared.message.Message.{Message}
 use Rattle.dns_core.specs.declared.net_error.ForwardNsData.{ForwardNsData}
@@ -9,7 +8,7 @@ use Rattle.dns_core.specs.declared.net_error.NoRecords.{NoRecords}
 use Rattle.resolver_cache.specs.Lowering.{lowered_record, lowered_message, lowered_delegation, lowered_denial}
 use Rattle.resolution.specs.Same.{SameRecord, SameRecords, Same}
 use Rattle.resolution.proofs.Sameness.{SameRecords-refl}
-use Rattle.recursor_walk.specs.SameTold.{SameIfAny, SameReferrals, SameNegative, SameDenial}
+use Rattle.recursor_walk.specs.SameTold.{SameIfAny, SameReferral, SameReferrals, SameNegative, SameDenial}
 use Rattle.walk_base.specs.Answer.{told_data}
 
 -- ---- itself
@@ -17,29 +16,32 @@ use Rattle.walk_base.specs.Answer.{told_data}
 record_same : (r : Record) → SameRecord r r
 record_same r = record { life = omega arith; rest = refl }
 
-soa_same : (o : Option Record) → SameIfAny SameRecord o o
-soa_same None = tt
-soa_same (Some r) = record_same r
+any_same : {X : Type 0} (Alike : X → X → Type 0) → ((x : X) → Alike x x) → (o : Option X) → SameIfAny Alike o o
+any_same Alike itself None = tt
+any_same Alike itself (Some x) = itself x
 
 referrals_same : (xs : List ForwardNsData) → SameReferrals xs xs
 referrals_same [] = tt
 referrals_same (x ∷ xs) = (record { ns = record_same x.ns; glue = SameRecords-refl x.glue }, referrals_same xs)
 
-ns_same : (o : Option (List ForwardNsData)) → SameIfAny SameReferrals o o
-ns_same None = tt
-ns_same (Some xs) = referrals_same xs
-
 pub negative_same : (n : NoRecords) → SameNegative n n
-negative_same n = record { soa = soa_same n.soa; ns = ns_same n.ns; authorities = SameRecords-refl n.authorities; rest = refl }
+negative_same n = record { soa = any_same SameRecord record_same n.soa; ns = any_same SameReferrals referrals_same n.ns; authorities = SameRecords-refl n.authorities; rest = refl }
 
 -- ---- lowered
 
 lower_record : (n : ℕ) (r : Record) → SameRecord (lowered_record n r) r
 lower_record n r = record { life = omega arith; rest = refl }
 
+lower_all : {X : Type 0} (Alike : X → X → Type 0) (f : X → X) → ((x : X) → Alike (f x) x) → (xs : List X) → AllZip Alike (map f xs) xs
+lower_all Alike f each [] = tt
+lower_all Alike f each (x ∷ xs) = (each x, lower_all Alike f each xs)
+
+lower_any : {X : Type 0} (Alike : X → X → Type 0) (f : X → X) → ((x : X) → Alike (f x) x) → (o : Option X) → SameIfAny Alike (option_map f o) o
+lower_any Alike f each None = tt
+lower_any Alike f each (Some x) = each x
+
 lower_records : (n : ℕ) (rs : List Record) → SameRecords (map (lowered_record n) rs) rs
-lower_records n [] = tt
-lower_records n (r ∷ rs) = (lower_record n r, lower_records n rs)
+lower_records n = lower_all SameRecord (lowered_record n) (lower_record n)
 
 pub lower_message : (n : ℕ) (m : Message) → Same (lowered_message n m) m
 lower_message n m = record {
@@ -49,22 +51,13 @@ lower_message n m = record {
   rest = refl;
 }
 
-lower_soa : (n : ℕ) (o : Option Record) → SameIfAny SameRecord (option_map (lowered_record n) o) o
-lower_soa n None = tt
-lower_soa n (Some r) = lower_record n r
-
 lower_referrals : (n : ℕ) (xs : List ForwardNsData) → SameReferrals (map (lowered_delegation n) xs) xs
-lower_referrals n [] = tt
-lower_referrals n (x ∷ xs) = (record { ns = lower_record n x.ns; glue = lower_records n x.glue }, lower_referrals n xs)
-
-lower_ns : (n : ℕ) (o : Option (List ForwardNsData)) → SameIfAny SameReferrals (option_map (map (lowered_delegation n)) o) o
-lower_ns n None = tt
-lower_ns n (Some xs) = lower_referrals n xs
+lower_referrals n = lower_all SameReferral (lowered_delegation n) (λ x. record { ns = lower_record n x.ns; glue = lower_records n x.glue })
 
 pub lower_denial : (n : ℕ) (d : NoRecords) → SameNegative (lowered_denial n d) d
 lower_denial n d = record {
-  soa = lower_soa n d.soa;
-  ns = lower_ns n d.ns;
+  soa = lower_any SameRecord (lowered_record n) (lower_record n) d.soa;
+  ns = lower_any SameReferrals (map (lowered_delegation n)) (lower_referrals n) d.ns;
   authorities = lower_records n d.authorities;
   rest = refl;
 }

@@ -1,7 +1,5 @@
 -- What is read from the cache stands for the question that reads it.
-use Rattle.std.proofs.Common.{◌≡◌, ℕ, ◌+◌, ◌*◌, ◌≤◌, Bool, true, false, cond, ◌&&◌, Option, Some, None, Result, Ok, Err, IsTrue, IfSome, refl, sym, ap, subst, inl, inr, arith}
-use Rattle.std.specs.Prelude.{◌==◌, IsSomeAnd, option_and_then}
-use Rattle.std.specs.Option.{option_map}
+use Rattle.std.proofs.Common.{◌≡◌, ℕ, ◌+◌, ◌*◌, ◌≤◌, Bool, true, false, cond, ◌&&◌, Option, Some, None, Result, Ok, IsTrue, IfSome, refl, sym, ap, subst, inl, inr, arith, ◌==◌, IsSomeAnd, option_and_then, option_map}
 use Rattle.std.specs.Cmp.{first_so, second_so}
 use Rattle.std.proofs.lemmas.Option.{same_Some}
 use Rattle.std.proofs.lemmas.List.Elements.{All-contains}
@@ -10,8 +8,6 @@ use Rattle.dns_core.specs.Log.{Log}
 use Rattle.dns_core.specs.declared.message.Query.{Query}
 use Rattle.dns_core.specs.declared.message.Message.{Message}
 use Rattle.dns_core.specs.declared.net_error.NetError.{NetError}
-use Rattle.dns_core.specs.declared.net_error.NetError.TheVariants as net
-use Rattle.dns_core.specs.declared.net_error.DnsError.TheVariants as dns
 use Rattle.resolver_cache.specs.Cached.{Cached}
 use Rattle.resolver_cache.specs.Cache.{found_for}
 use Rattle.resolver_cache.specs.Entry.{is_same_question, current_for}
@@ -25,7 +21,7 @@ use Rattle.resolution.specs.Life.{Fresh, life_in_seconds}
 use Rattle.resolution.specs.Answering.{Base}
 use Rattle.resolution.specs.declared.verdict.Verdict.{Verdict}
 use Rattle.resolution.specs.declared.verdict.Verdict.TheVariants.{Pos, Neg, Made}
-use Rattle.resolution.specs.declared.verdict.Cause.TheVariants.{Filter, Zone}
+use Rattle.resolution.specs.declared.verdict.Cause.TheVariants.{Filter}
 use Rattle.dns_core.specs.declared.net_error.NoRecords.{NoRecords}
 use Rattle.resolution.proofs.Caseless.{Base-same, both, same_through}
 use Rattle.resolution.proofs.WalksCaseless.{Walked-same}
@@ -37,21 +33,19 @@ use Rattle.walk_tables.specs.Asked.{AskedAs}
 use Rattle.walk_base.specs.Shown.{IsShown}
 use Rattle.recursor_walk.specs.SameTold.{SameVerdict, ShowsAsked}
 use Rattle.recursor_walk.specs.declared.counted.Counted.{Counted}
+use Rattle.recursor_walk.proofs.Earlier.{some-weaker}
 use Rattle.recursor_walk.proofs.Lowered.{lower_message, lower_denial}
 use Rattle.walk_tables.proofs.Sends.{same_query-refl}
 
 -- the same question for the cache is the same question
 same_question : (a b : Query) → is_same_question a b ≡ true → same_query a b ≡ true
 same_question a b h =
-    let first = first_so (a.query_type.code == b.query_type.code && a.query_class.code == b.query_class.code) _ (regroup a b h) in
-    let names = second_so (a.query_type.code == b.query_type.code && a.query_class.code == b.query_class.code) _ (regroup a b h) in
+    let grouped : ((a.query_type.code == b.query_type.code && a.query_class.code == b.query_class.code) && same_names a.name b.name) ≡ true = h in
+    let first = first_so (a.query_type.code == b.query_type.code && a.query_class.code == b.query_class.code) _ grouped in
+    let names = second_so (a.query_type.code == b.query_type.code && a.query_class.code == b.query_class.code) _ grouped in
     let types = first_so (a.query_type.code == b.query_type.code) _ first in
     let classes = second_so (a.query_type.code == b.query_type.code) _ first in
     both (same_names a.name b.name && a.query_type.code == b.query_type.code) _ (both (same_names a.name b.name) _ names types) classes
-  where
-    regroup : (a b : Query) → is_same_question a b ≡ true
-        → ((a.query_type.code == b.query_type.code && a.query_class.code == b.query_class.code) && same_names a.name b.name) ≡ true
-    regroup a b h = h
 
 -- what is read of a verdict that was kept as it is shown is the same but for TTLs, and answers only where that one may
 record ReadsAs (q : Query) (whole v : Verdict) : Type 0 where
@@ -59,60 +53,37 @@ record ReadsAs (q : Query) (whole v : Verdict) : Type 0 where
   current : (t0 moment : ℕ) → IsTrue (may_answer v) → IsCurrentVerdict t0 moment whole
   asked : (log : Log) (i : ℕ) (p : Query) → AskedAs log i q → ShowsAsked log i p v whole
 
-reads_pos : (q : Query) (n : ℕ) (k : Message) (whole v : Verdict) → IsShown q (Pos k) whole → verdict_kept (lowered n (Ok k)) ≡ Some v → ReadsAs q whole v
-reads_pos q n k (Pos l) v shown h =
-    subst (ReadsAs q (Pos l)) (same_Some _ _ h)
+reads_as : (q : Query) (n : ℕ) (whole shown v : Verdict) (response : Result Message NetError) → IsShown q shown whole → kept_of shown ≡ Some response
+    → verdict_kept (lowered n response) ≡ Some v → ReadsAs q whole v
+reads_as q n (Pos l) (Pos k) v response shown kept h =
+    subst (ReadsAs q (Pos l)) (same_Some _ _ (rw (← same_Some _ _ kept) at h))
     (subst (λ (m : Message). ReadsAs q (Pos m) (Pos (lowered_message n k))) shown (record { same = lower_message n k; current = λ t0 moment may. inl may; asked = λ log i p asked. tt }))
-reads_pos q n k (Neg d) v shown h = absurd shown
-reads_pos q n k (Made Filter) v shown h = absurd shown
-reads_pos q n k (Made Zone) v shown h = absurd shown
-
-reads_neg : (q : Query) (n : ℕ) (d : NoRecords) (whole v : Verdict) → IsShown q (Neg d) whole → verdict_kept (lowered n (Err (net.Dns (dns.NoRecordsFound d)))) ≡ Some v → ReadsAs q whole v
-reads_neg q n d (Pos l) v shown h = absurd shown
-reads_neg q n d (Neg e) v shown h =
-    subst (ReadsAs q (Neg e)) (same_Some _ _ h)
+reads_as q n (Neg e) (Neg d) v response shown kept h =
+    subst (ReadsAs q (Neg e)) (same_Some _ _ (rw (← same_Some _ _ kept) at h))
     (subst (λ (x : NoRecords). ReadsAs q (Neg x) (Neg (lowered_denial n d))) shown (record { same = lower_denial n d; current = λ t0 moment may. tt; asked = λ log i p asked. tt }))
-reads_neg q n d (Made Filter) v shown h =
-    subst (ReadsAs q (Made Filter)) (same_Some _ _ h)
+reads_as q n (Made Filter) (Neg d) v response shown kept h =
+    subst (ReadsAs q (Made Filter)) (same_Some _ _ (rw (← same_Some _ _ kept) at h))
     (record {
       same = record { first = q; same = same_query-refl q; is = ap (lowered_denial n) shown };
       current = λ t0 moment may. tt;
       asked = λ log i p asked. subst (λ (x : NoRecords). AskedAs log i x.query) (sym shown) asked;
     })
-reads_neg q n d (Made Zone) v shown h = absurd shown
-
-reads_as : (q : Query) (n : ℕ) (whole shown v : Verdict) (response : Result Message NetError) → IsShown q shown whole → kept_of shown ≡ Some response
-    → verdict_kept (lowered n response) ≡ Some v → ReadsAs q whole v
-reads_as q n whole (Pos k) v response shown kept h =
-    reads_pos q n k whole v shown (subst (λ (r : Result Message NetError). verdict_kept (lowered n r) ≡ Some v) (sym (same_Some _ _ kept)) h)
-reads_as q n whole (Neg d) v response shown kept h =
-    reads_neg q n d whole v shown (subst (λ (r : Result Message NetError). verdict_kept (lowered n r) ≡ Some v) (sym (same_Some _ _ kept)) h)
 reads_as q n whole (Made cause) v response shown kept h = cc
+reads_as q n _ _ v response shown kept h = absurd shown
 
 -- what is the same for one spelling of a question is so for another
 respelled : (a b : Query) (v whole : Verdict) → same_query a b ≡ true → SameVerdict a v whole → SameVerdict b v whole
-respelled a b (Pos k) (Pos l) same h = h
-respelled a b (Pos k) (Neg n) same h = absurd h
-respelled a b (Pos k) (Made Filter) same h = absurd h
-respelled a b (Pos k) (Made Zone) same h = absurd h
-respelled a b (Neg n) (Pos k) same h = absurd h
-respelled a b (Neg n) (Neg m) same h = h
 respelled a b (Neg n) (Made Filter) same h = record { first = h.first; same = same_through a b same h.first h.same; is = h.is }
-respelled a b (Neg n) (Made Zone) same h = absurd h
-respelled a b (Made cause) (Pos k) same h = absurd h
-respelled a b (Made cause) (Neg n) same h = absurd h
-respelled a b (Made cause) (Made other) same h = h
+respelled a b _ _ same h = h
 
 module _ (seen : View) (t0 : ℕ) (cache : Cached) (q : Query) (begun : t0 ≤ seen.moment) (holds : CacheHolds seen cache) where
   -- an entry that is current was told within its life
   fresh-of : (e : Entry) (moment : ℕ) (whole : Verdict) → seen.moment ≤ e.expiry
       → IsSomeAnd (life_in_seconds (given_of seen.setting) e.query.query_type whole) (λ life. e.expiry ≤ moment + 1000000 * life)
       → Fresh (given_of seen.setting) t0 moment e.query whole
-  fresh-of e moment whole current expires = inr (later (life_in_seconds (given_of seen.setting) e.query.query_type whole) expires)
-    where
-      later : (o : Option ℕ) → IsSomeAnd o (λ life. e.expiry ≤ moment + 1000000 * life) → IsSomeAnd o (λ life. t0 ≤ moment + 1000000 * life)
-      later (Some life) h = omega (arith, begun, current, h)
-      later None h = absurd h
+  fresh-of e moment whole current expires =
+      inr (some-weaker (λ life. e.expiry ≤ moment + 1000000 * life) (λ life. t0 ≤ moment + 1000000 * life) (λ life h. omega (arith, begun, current, h))
+      (life_in_seconds (given_of seen.setting) e.query.query_type whole) expires)
 
   -- what an entry for the question tells
   by-entry : (f : CachedResponse) (v : Verdict) → IsFoundIn cache q seen.moment f → verdict_kept f.response ≡ Some v

@@ -1,5 +1,5 @@
 -- A resolution after a step.
-use Rattle.std.proofs.Common.{◌≡◌, ◌≤◌, ◌<◌, ◌∙◌, ℕ, true, Option, Some, None, Result, Ok, Err, IfOk, sym, ap, subst, arith}
+use Rattle.std.proofs.Common.{◌≡◌, ◌≤◌, ◌<◌, ◌∙◌, ◌↔◌, ℕ, true, Option, Some, None, Result, Ok, Err, IfOk, IsErr, OnErr, IfSome, IsTrue, refl, sym, ap, subst, arith}
 use Rattle.std.specs.Global.{Box}
 use Rattle.dns_core.specs.declared.message.Query.{Query}
 use Rattle.dns_core.specs.declared.request.Question.{Question}
@@ -8,10 +8,13 @@ use Rattle.walk_tables.specs.View.{View}
 use Rattle.recursor_types.specs.declared.reply.Reply.{Reply}
 use Rattle.recursor_walk.specs.Asking.{AskingHolds, LastHolds, SameSite, LeavesFewer}
 use Rattle.recursor_walk.specs.Asking as asking
-use Rattle.recursor_walk.specs.Walk.{Goes}
+use Rattle.recursor_walk.specs.Walk.{Goes, Recalls}
+use Rattle.recursor_walk.specs.Replies.{RepliesWith, reply_with}
+use Rattle.recursor_walk.specs.declared.counted.Counted.{Counted}
+use Rattle.resolution.specs.Failing.{ends_walk}
 use Rattle.recursor_walk.specs.Walk as walk
 use Rattle.recursor_walk.specs.Way.{WalkHolds}
-use Rattle.recursor_walk.specs.Resolving.{state_want, state_steps, steps, IsWalked, IsSettled, SameBegun}
+use Rattle.recursor_walk.specs.Resolving.{state_want, state_steps, steps, asked_of, IsWalked, IsSettled, IsOpen, StaysOpen, AsksOn, SameBegun, IsUnder, IsDone, IsDoneWith, IsAnswered}
 use Rattle.recursor_walk.specs.Resolved.{StateHolds, ResolutionHolds}
 use Rattle.recursor_walk.specs.declared.asking.Asking.{Asking as AtServers}
 use Rattle.recursor_walk.specs.declared.walk.Course.{Course}
@@ -19,7 +22,7 @@ use Rattle.recursor_walk.specs.declared.walk.Course.TheVariants as course
 use Rattle.recursor_walk.specs.declared.walk.Walk.{Walk}
 use Rattle.recursor_walk.specs.declared.resolving.Need.TheVariants as need
 use Rattle.recursor_walk.specs.declared.resolving.State.{State}
-use Rattle.recursor_walk.specs.declared.resolving.State.TheVariants.{New, Walking, Asking, Done, Ended}
+use Rattle.recursor_walk.specs.declared.resolving.State.TheVariants.{New, Walking, Asking}
 use Rattle.recursor_walk.specs.declared.resolving.Resolution.{Resolution}
 use Rattle.recursor_walk.proofs.Walks.{walk-asked}
 
@@ -29,16 +32,18 @@ use Rattle.recursor_walk.proofs.Walks.{walk-asked}
 abbrev pub with-state : Resolution → State → Resolution
 with-state r s = record r { state = s }
 
--- it is as it was where its walk asks as it did
-pub same-walk : (r : Resolution) (b : Box Walk) (a : AtServers) → r.state ≡ Walking b → a ≡ b.value.asking
-    → with-state r (Walking (record b { value = record b.value { asking = a } })) ≡ r
-same-walk r b a is same =
+-- its walk asks the same, and as it did where memory was wanting
+pub same-walk : {X : Type 0} (r : Resolution) (b : Box Walk) (a : AtServers) (result : Result X NoMemory) → r.state ≡ Walking b → SameSite b.value.asking a
+    → OnErr result (a ≡ b.value.asking) → AsksOn result r (with-state r (Walking (record b { value = record b.value { asking = a } })))
+same-walk r b a (Ok x) is site same = ap (λ (q : Query). Some q) site.2 ∙ sym (ap asked_of is)
+same-walk r b a (Err e) is site same =
     ap (with-state r) (ap (λ (x : AtServers). Walking (record b { value = record b.value { asking = x } })) same ∙ sym is)
 
--- so it is where the question itself is asked as it was
-pub same-asking : (r : Resolution) (b : Box AtServers) (a : AtServers) → r.state ≡ Asking b → a ≡ b.value
-    → with-state r (Asking (record b { value = a })) ≡ r
-same-asking r b a is same = ap (with-state r) (ap (λ (x : AtServers). Asking (record b { value = x })) same ∙ sym is)
+-- so it is where the question itself is asked
+pub same-asking : {X : Type 0} (r : Resolution) (b : Box AtServers) (a : AtServers) (result : Result X NoMemory) → r.state ≡ Asking b → SameSite b.value a
+    → OnErr result (a ≡ b.value) → AsksOn result r (with-state r (Asking (record b { value = a })))
+same-asking r b a (Ok x) is site same = ap (λ (q : Query). Some q) site.2 ∙ sym (ap asked_of is)
+same-asking r b a (Err e) is site same = ap (with-state r) (ap (λ (x : AtServers). Asking (record b { value = x })) same ∙ sym is)
 
 -- a resolution whose walk asks on
 pub walk-holds : (seen : View) (r : Resolution) (b : Box Walk) (a : AtServers) → r.begun ≤ seen.moment
@@ -59,15 +64,41 @@ pub follow-falls : (q : Query) (old : Walk) (w : Box Walk) (came : Result Course
     → IsWalked q came (Walking w) state → Goes old w.value came → state_steps q state < walk.steps old
 follow-falls q old w (Ok course.Further) state is h = let left = ap (state_steps q) is in omega (arith, left, h)
 follow-falls q old w (Ok course.Arrived) state is h = omega (arith, is)
-follow-falls q old w (Ok (course.Reply reply)) state is h = let left = ap (state_steps q) is in omega (arith, left)
-follow-falls q old w (Err e) state is h = let left = ap (state_steps q) is in omega (arith, left)
+follow-falls q old w _ state is h = let left = ap (state_steps q) is in omega (arith, left)
 
 -- and where it is answered, or not yet
 pub settle-falls : (q : Query) (old : AtServers) (a : Box AtServers) (came : Result (Option (Box Reply)) NoMemory) (state : State)
     → IsSettled came (Asking a) state → IfOk came (LeavesFewer old a.value) → state_steps q state < asking.steps old
 settle-falls q old a (Ok None) state is h = let left = ap (state_steps q) is in omega (arith, left, h)
-settle-falls q old a (Ok (Some reply)) state is h = let left = ap (state_steps q) is in omega (arith, left)
-settle-falls q old a (Err e) state is h = let left = ap (state_steps q) is in omega (arith, left)
+settle-falls q old a _ state is h = let left = ap (state_steps q) is in omega (arith, left)
+
+-- it has ended where memory was wanting
+pub settle-ends : {X : Type 0} (a : Box AtServers) (came : Result (Option (Box Reply)) NoMemory) (result : Result X NoMemory) (state : State)
+    → IsSettled came (Asking a) state → (IsErr result ↔ IsErr came) → StaysOpen result state
+settle-ends a (Ok None) (Ok x) state is errs = subst IsOpen (sym is) tt
+settle-ends a (Ok (Some reply)) (Ok x) state is errs = subst IsOpen (sym is) tt
+settle-ends a (Ok o) (Err e) state is errs = let no = errs.0 refl in cc
+settle-ends a (Err d) (Ok x) state is errs = let no = errs.1 refl in cc
+settle-ends a (Err d) (Err e) state is errs = is
+
+-- what the cache has is heeded for the question itself
+pub settle-heeds : {X : Type 0} (question : Question) (a : Box AtServers) (counted : Option Counted) (came : Result (Option (Box Reply)) NoMemory) (result : Result X NoMemory) (state : State)
+    → IsSettled came (Asking a) state → (IsErr result ↔ IsErr came) → IfOk came (RepliesWith question counted) → IfOk result (λ x. IsAnswered question counted state)
+settle-heeds question a None (Ok None) (Ok x) state is errs replies = subst IsUnder (sym is) tt
+settle-heeds question a (Some c) (Ok (Some reply)) (Ok x) state is errs replies = subst (IsDoneWith (reply_with question c)) (sym is) replies
+settle-heeds question a None (Ok (Some reply)) (Ok x) state is errs replies = cc
+settle-heeds question a (Some c) (Ok None) (Ok x) state is errs replies = absurd replies
+settle-heeds question a counted (Err d) (Ok x) state is errs replies = let no = errs.1 refl in cc
+settle-heeds question a counted came (Err e) state is errs replies = tt
+
+-- and for a candidate of its walk
+pub follow-heeds : {X : Type 0} (q : Query) (old : State) (counted : Option Counted) (came : Result Course NoMemory) (result : Result X NoMemory) (state : State)
+    → IsWalked q came old state → StaysOpen result state → Recalls counted came → IfOk result (λ x. IfSome counted (λ c. IsTrue (ends_walk c.verdict) → IsDone state))
+follow-heeds q old None came (Ok x) state is stays ends = tt
+follow-heeds q old (Some c) (Ok (course.Reply reply)) (Ok x) state is stays ends = λ it. subst IsDone (sym is) tt
+follow-heeds q old (Some c) (Ok _) (Ok x) state is stays ends = λ it. absurd (ends it)
+follow-heeds q old (Some c) (Err e) (Ok x) state is stays ends = λ it. absurd (subst IsOpen is stays)
+follow-heeds q old counted came (Err e) state is stays ends = tt
 
 -- so much less is left of its resolution
 pub falls-from : (old new : Resolution) (was : State) → old.state ≡ was → SameBegun old new
@@ -80,16 +111,10 @@ falls-from old new was is same less =
 -- and it holds where its state does
 pub holds-on : (seen : View) (old new : Resolution) → SameBegun old new → old.begun ≤ seen.moment → StateHolds seen old.begun old.question new.state
     → ResolutionHolds seen new
-holds-on seen old new same early h = record {
-  begun = subst (λ (t : ℕ). t ≤ seen.moment) (sym same.1) early;
-  state = subst (λ (t : ℕ). StateHolds seen t new.question new.state) (sym same.1) (subst (λ (q : Question). StateHolds seen old.begun q new.state) (sym same.0) h);
-}
+holds-on seen old new same early h = record { begun = rw same.1 early; state = rw (same.1, same.0) h }
 
 -- the name of a question that is to set out is fully qualified
 pub new-qualified : (seen : View) (t0 : ℕ) (question : Question) (s : State) → state_want s ≡ need.SetOut
     → StateHolds seen t0 question s → question.query.name.fqdn ≡ true
 new-qualified seen t0 question New is h = h
-new-qualified seen t0 question (Walking w) is h = cc
-new-qualified seen t0 question (Asking a) is h = cc
-new-qualified seen t0 question (Done reply) is h = cc
-new-qualified seen t0 question Ended is h = cc
+new-qualified seen t0 question _ is h = cc

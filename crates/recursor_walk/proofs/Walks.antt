@@ -1,11 +1,10 @@
 -- How a walk goes on.
-use Rattle.std.proofs.Common.{◌≡◌, ◌≤◌, ◌<◌, ◌+◌, ◌-◌, ◌↔◌, ℕ, Bool, true, false, cond, List, length, Option, Some, None, Contains, refl, sym, ◌∙◌, ap, subst, arith, inl, inr, Err}
+use Rattle.std.proofs.Common.{◌≡◌, ◌≤◌, ◌<◌, ◌+◌, ◌-◌, ◌↔◌, ℕ, Bool, true, false, cond, List, length, Contains, refl, sym, ◌∙◌, ap, subst, arith, Err, nat_lt, ◌&&◌, ◌==◌, not, IsTrue}
 use Rattle.std.proofs.lemmas.List.Elements.{All-weaker, All-contains_itself, recursion_from_All}
 use Rattle.std.proofs.lemmas.List.FromFn.{get_or-map-range_with_len, length-map-range_with_len}
+use Rattle.std.proofs.lemmas.Bool.{not-true}
 use Rattle.std.proofs.lemmas.Bool.Decides.{nat_tests}
-use Rattle.std.specs.Prelude.{nat_lt, ◌&&◌, ◌==◌, not, IsTrue, IsSomeAnd}
 use Rattle.std.specs.Cmp.{first_so, second_so}
-use Rattle.std.specs.List.{last_or}
 use Rattle.std.specs.declared.net.ip_addr.IpAddr.{IpAddr}
 use Rattle.dns_core.specs.Name.{DomainName}
 use Rattle.dns_core.specs.declared.message.Query.{Query}
@@ -22,8 +21,7 @@ use Rattle.resolution.specs.Ending.Listed.{of_roots, of_told}
 use Rattle.resolution.specs.Walking.{NoCut, Walked, at_any_time, is_cut}
 use Rattle.resolution.specs.Walking.NoCut.{told_otherwise, not_told}
 use Rattle.resolution.specs.Answering.{Base}
-use Rattle.resolution.specs.declared.verdict.Verdict.TheVariants.{Pos, Neg, Made}
-use Rattle.resolution.specs.declared.verdict.Cause.TheVariants.{Filter, Zone}
+use Rattle.resolution.specs.declared.verdict.Verdict.TheVariants.{Pos}
 use Rattle.resolution.specs.declared.verdict.Verdict.{Verdict}
 use Rattle.resolution.proofs.SameDelegations.{Same-is_delegation, Same-glue}
 use Rattle.resolution.proofs.Members.{Has-from_Contains, Contains-from_Has, Has-filter, Has-passes}
@@ -43,6 +41,7 @@ use Rattle.walk_tables.specs.declared.lookup.Lookup.{Lookup}
 use Rattle.recursor_walk.specs.declared.walk.Walk.{Walk}
 use Rattle.resolution.proofs.WayDown.{above-last, last-above, last-length, root-above, walked-from-passed, walked-at-candidate}
 use Rattle.recursor_walk.proofs.Denials.{has-failed}
+use Rattle.recursor_walk.proofs.Earlier.{Finished-earlier}
 
 -- ---- at a candidate
 
@@ -56,16 +55,9 @@ among n k low high =
 -- a verdict shows a cut where one does that is the same but for TTLs
 cut-same : (q : Query) (v w : Verdict) (c : DomainName) → SameVerdict q v w → is_cut v c ≡ is_cut w c
 cut-same q (Pos a) (Pos b) c same = Same-is_delegation a b c same
-cut-same q (Pos a) (Neg n) c same = absurd same
-cut-same q (Pos a) (Made Filter) c same = absurd same
-cut-same q (Pos a) (Made Zone) c same = absurd same
-cut-same q (Neg n) (Pos b) c same = absurd same
-cut-same q (Neg n) (Neg m) c same = refl
-cut-same q (Neg n) (Made Filter) c same = refl
-cut-same q (Neg n) (Made Zone) c same = refl
-cut-same q (Made cause) (Pos b) c same = absurd same
-cut-same q (Made cause) (Neg m) c same = absurd same
-cut-same q (Made cause) (Made other) c same = refl
+cut-same q (Pos a) _ c same = absurd same
+cut-same q _ (Pos b) c same = absurd same
+cut-same q _ _ c same = refl
 
 module _ (seen : View) (q : Query) (w : Walk) (way : WayHolds seen q w) where
   -- it has the last labels of the name
@@ -109,32 +101,8 @@ module _ (seen : View) (q : Query) (w : Walk) (way : WayHolds seen q w) where
       → LeavesBehind seen w
   leaves-failed t0 e ended otherwise far =
       let f = subst (λ (p : Query). Finished (given_of seen.setting) (machine_timer seen.moment seen.log t0) seen.log t0 p w.asking.zone w.asking.lookup.ends (Err e)) candidate-asked ended in
-      not_told (at-any-time f) otherwise
-    where
-      from-start : (o : Option ℕ) → IsSomeAnd o (λ m. t0 ≤ m) → IsSomeAnd o (λ m. 0 ≤ m)
-      from-start (Some m) h = omega arith
-      from-start None h = absurd h
-
-      at-any-time : Finished (given_of seen.setting) (machine_timer seen.moment seen.log t0) seen.log t0 (question w.asking.lookup.query.name 2) w.asking.zone w.asking.lookup.ends (Err e)
-          → Finished (given_of seen.setting) at_any_time seen.log 0 (question w.asking.lookup.query.name 2) w.asking.zone w.asking.lookup.ends (Err e)
-      at-any-time f = record {
-        ips = f.ips;
-        ends = f.ends;
-        moments = f.moments;
-        start = f.start;
-        now = f.now;
-        above = f.above;
-        listed = f.listed;
-        rises = f.rises;
-        logged = f.logged;
-        run = f.run;
-        bounded = f.bounded;
-        since = f.since;
-        till = f.till;
-        asked = omega arith;
-        timed = tt;
-        fresh = elim (f.fresh) [ inl h ↦ inl (from-start (last_or None f.moments) h) | inr h ↦ inr h ];
-      }
+      not_told (Finished-earlier (given_of seen.setting) seen.log 0 t0 (omega arith) (machine_timer seen.moment seen.log t0) at_any_time
+      (λ p ips g moments ends start now sends asked t. (now, omega arith, tt)) f) otherwise
 
   -- the servers stayed silent for the candidate
   pub timed-out : (t0 : ℕ) → Concluded seen t0 w.asking.zone w.asking.lookup.query w.asking.lookup.ends (Err net.Timeout)
@@ -227,7 +195,6 @@ at-start seen t0 q name a asked some f n low z s query ask made =
           (walked-at-candidate (given_of seen.setting) seen.log a.zone name 1 above (omega (arith, short)) low passed);
       pool = pool;
     } in
-    let held = made site in
     record {
       way = record {
         name = n;
@@ -239,7 +206,7 @@ at-start seen t0 q name a asked some f n low z s query ask made =
         asks = query ∙ ask;
         passed = passed;
       };
-      lookup = held.lookup;
+      lookup = (made site).lookup;
     }
 
 -- the servers of the root are for a question that is walked to the root
@@ -271,14 +238,12 @@ record Cut (seen : View) (c : DomainName) (kept : Message) : Type 0 where
 cut-by : (seen : View) (t0 : ℕ) (zone c : DomainName) (entry : ℕ) (kept : Message) (whole : Verdict)
     → entry ≤ seen.greatest → Base (given_of seen.setting) seen.log t0 (question c 2) entry zone whole → SameVerdict (question c 2) (Pos kept) whole
     → is_delegation kept c ≡ true → 1 ≤ length c.labels → Cut seen c kept
-cut-by seen t0 zone c entry kept (Neg n) early base same d long = absurd same
-cut-by seen t0 zone c entry kept (Made Filter) early base same d long = absurd same
-cut-by seen t0 zone c entry kept (Made Zone) early base same d long = absurd same
 cut-by seen t0 zone c entry kept (Pos before) early base same d long = record {
   told = before;
   delegates = delegates (omega (arith, early)) base.heard base.counts (sym (Same-is_delegation kept before c same) ∙ d) (not-root c long);
   beside = Same-glue kept before c same;
 }
+cut-by seen t0 zone c entry kept _ early base same d long = absurd same
 
 -- a delegation that stands delegates
 cut-delegates : (seen : View) (t0 : ℕ) (c : DomainName) (asked : Query) (entry : ℕ) (kept : Message)
@@ -293,11 +258,7 @@ may-ask : (denied : IpAddr → Bool) (ips : List IpAddr) (ip : IpAddr) → Conta
 may-ask denied ips ip h =
     let may : IpAddr → Bool = λ x. not (denied x) in
     let there = Has-from_Contains (allowed denied ips) ip h in
-    (not-so (denied ip) (Has-passes may ips ip there), Contains-from_Has ips ip (Has-filter may ips ip there))
-  where
-    not-so : (b : Bool) → not b ≡ true → b ≡ false
-    not-so true e = cc
-    not-so false e = refl
+    (not-true (denied ip) (Has-passes may ips ip there), Contains-from_Has ips ip (Has-filter may ips ip there))
 
 -- the addresses beside a delegation that may be asked are the servers of the delegated zone
 cut-pool : (seen : View) (c : DomainName) (kept : Message) (ips : List IpAddr)

@@ -1,18 +1,15 @@
 -- A question at the servers of a zone, as derived from a log.
-use Rattle.std.specs.Prelude.{◌≡◌, ℕ, ◌+◌, ◌<◌, Option, Some, None, Result, IfNone}
+use Rattle.std.specs.Prelude.{◌≡◌, ℕ, ◌+◌, ◌<◌, Option, Some, None, IfNone}
 use Rattle.std.specs.Global.{Box}
 use Rattle.dns_core.specs.declared.message.Query.{Query}
 use Rattle.dns_core.specs.declared.request.Question.{Question}
-use Rattle.dns_core.specs.declared.net_error.NetError.{NetError}
 use Rattle.resolution.specs.Walking.{Walked}
-use Rattle.resolution.specs.declared.verdict.Verdict.{Verdict}
 use Rattle.walk_tables.specs.Lookup as lookup
 use Rattle.walk_tables.specs.Lookup.{LookupHolds, FoundHolds}
 use Rattle.walk_tables.specs.Pools.{AreFor}
 use Rattle.walk_tables.specs.View.{View, given_of}
 use Rattle.walk_tables.specs.declared.lookup.Found.{Found}
-use Rattle.recursor_walk.specs.Replies.{Replied}
-use Rattle.recursor_walk.specs.Told.{IsToldAs}
+use Rattle.recursor_walk.specs.Replies.{CameTo}
 use Rattle.recursor_walk.specs.declared.asking.Asking.{Asking}
 use Rattle.recursor_types.specs.declared.reply.Reply.{Reply}
 
@@ -41,16 +38,10 @@ pub record LastHolds (seen : View) (t0 : ℕ) (q : Query) (a : Asking) : Type 0 
 -- it goes on, or has its reply
 abbrev pub LastComes : View → ℕ → Question → Asking → Option (Box Reply) → Type 0
 LastComes seen t0 question a None = LastHolds seen t0 question.query a
-LastComes seen t0 question a (Some reply) = Replied seen t0 question reply.value
+LastComes seen t0 question a (Some reply) = CameTo seen t0 question reply.value
 
 -- The question itself was asked at servers of a zone to which the walk went down, and its lookup came to this.
 pub record HasFound (seen : View) (t0 : ℕ) (q : Query) (a : Asking) (found : Found) : Type 0 where
   pub asks : a.lookup.query ≡ q
   pub walked : Walked (given_of seen.setting) seen.log a.lookup.query a.zone
   pub came : FoundHolds seen t0 a.zone a.lookup.query a.lookup.ends found
-
--- or a message was told to it that counts as this
-pub record HasTold (seen : View) (t0 : ℕ) (q : Query) (a : Asking) (entry : ℕ) (verdict : Result Verdict NetError) : Type 0 where
-  pub asks : a.lookup.query ≡ q
-  pub walked : Walked (given_of seen.setting) seen.log a.lookup.query a.zone
-  pub told : IsToldAs seen t0 a.zone a.lookup.query entry verdict

@@ -2,7 +2,6 @@ pub mod SameTold
 pub mod Causes
 pub mod Replies
 pub mod Counted
-pub mod Told
 pub mod Asking
 pub mod Walk
 pub mod Way

@@ -16,6 +16,7 @@ use Rattle.resolution.specs.Ending.{Known}
 use Rattle.resolution.specs.declared.verdict.Verdict.TheVariants.{Pos}
 use Rattle.resolution.specs.declared.following.Follow.TheVariants.{Done}
 use Rattle.recursor_types.specs.declared.error.RecursorError.{RecursorError}
+use Rattle.recursor_types.specs.declared.error.RecursorError.TheVariants as error
 use Rattle.recursor_types.specs.declared.reply.Reply.{Reply}
 use Rattle.resolution.specs.Walking.{Walked}
 use Rattle.recursor_setting.specs.declared.setting.Setting.{Setting}
@@ -52,22 +53,40 @@ ReplyHolds setting timer log t0 question reply = OutcomeHolds (given_of setting)
 abbrev pub Replied : View → ℕ → Question → Reply → Type 0
 Replied seen t0 question reply = ReplyHolds seen.setting (machine_timer seen.moment) seen.log t0 question reply
 
+-- Memory was not wanting.
+abbrev pub HadMemory : Result Message RecursorError → Type 0
+HadMemory (Err error.NoMemory) = ⊥
+HadMemory _ = Unit {0}
+
+-- What is answered holds by what a machine sees, and memory was not wanting for it.
+abbrev pub OutcomeCame : View → ℕ → Question → List ℕ → Result Message RecursorError → Type 0
+OutcomeCame seen t0 question g o = OutcomeHolds (given_of seen.setting) (machine_timer seen.moment seen.log t0) seen.log t0 question g o × HadMemory o
+
+-- A question has come to this reply.
+abbrev pub CameTo : View → ℕ → Question → Reply → Type 0
+CameTo seen t0 question reply = OutcomeCame seen t0 question reply.grounds reply.outcome
+
 -- it is given in a box
 abbrev pub IsReply : Reply → Option (Box Reply) → Type 0
 IsReply reply None = ⊥
 IsReply reply (Some given) = given.value ≡ reply
 
--- and so is what is given where memory was not wanting
+-- what is given is such a reply
 abbrev pub RepliesSo : View → ℕ → Question → Result (Box Reply) NoMemory → Type 0
-RepliesSo seen t0 question result = IfOk result (λ reply. Replied seen t0 question reply.value)
+RepliesSo seen t0 question result = IfOk result (λ reply. CameTo seen t0 question reply.value)
 
--- and so has an error its cause
+-- an error to which a question has come has its cause
 abbrev pub HasCause : View → ℕ → Query → List ℕ → RecursorError → Type 0
-HasCause seen t0 q g e = ErrorHolds (given_of seen.setting) (machine_timer seen.moment seen.log t0) seen.log t0 q g e
+HasCause seen t0 q g e = ErrorHolds (given_of seen.setting) (machine_timer seen.moment seen.log t0) seen.log t0 q g e × HadMemory (Err e)
 
 -- the reply to a question with what counts for it, by the entry that told it
 abbrev pub reply_with : Question → Counted → Reply
 reply_with question c = record { outcome = outcome_of question c.verdict; grounds = c.entry ∷ [] }
+
+-- Where there is what may be answered, the reply is the one with that; else there is none.
+abbrev pub RepliesWith : Question → Option Counted → Option (Box Reply) → Type 0
+RepliesWith question None reply = reply ≡ None
+RepliesWith question (Some c) reply = IsReply (reply_with question c) reply
 
 -- The reply is the one with what the cache has for the question that is current at the moment, and it may be answered.
 pub record IsReplyKept (cache : Cached) (question : Question) (now : ℕ) (reply : Reply) : Type 0 where

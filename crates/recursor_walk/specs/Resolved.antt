@@ -6,7 +6,7 @@ use Rattle.dns_core.specs.declared.request.Question.{Question}
 use Rattle.walk_tables.specs.View.{View}
 use Rattle.recursor_types.specs.declared.reply.Reply.{Reply}
 use Rattle.recursor_walk.specs.Asking.{LastHolds, LastComes}
-use Rattle.recursor_walk.specs.Replies.{Replied}
+use Rattle.recursor_walk.specs.Replies.{CameTo}
 use Rattle.recursor_walk.specs.Way.{WalkHolds, WalkComes}
 use Rattle.recursor_walk.specs.declared.walk.Course.{Course}
 use Rattle.recursor_walk.specs.declared.resolving.State.{State}
@@ -17,7 +17,7 @@ abbrev pub StateHolds : View → ℕ → Question → State → Type 0
 StateHolds seen t0 question New = question.query.name.fqdn ≡ true
 StateHolds seen t0 question (Walking w) = WalkHolds seen t0 question.query w.value
 StateHolds seen t0 question (Asking a) = LastHolds seen t0 question.query a.value
-StateHolds seen t0 question (Done reply) = Replied seen t0 question reply.value
+StateHolds seen t0 question (Done reply) = CameTo seen t0 question reply.value
 StateHolds seen t0 question Ended = Unit {0}
 
 -- so it stands where memory was not wanting

@@ -1,5 +1,5 @@
 -- What a resolution needs, and how much of it is left.
-use Rattle.std.specs.Prelude.{◌≡◌, ◌≤◌, ℕ, Option, Some, None, Result, Ok, Err, option_and_then}
+use Rattle.std.specs.Prelude.{◌≡◌, ◌≤◌, ℕ, IsTrue, IfSome, Option, Some, None, Result, Ok, Err, MatchResult, option_and_then}
 use Rattle.std.specs.Option.{option_map}
 use Rattle.std.specs.Global.{Box}
 use Rattle.dns_core.specs.declared.errors.NoMemory.{NoMemory}
@@ -10,7 +10,10 @@ use Rattle.walk_tables.specs.Lookup as lookup
 use Rattle.walk_tables.specs.Taking.{awaited_by}
 use Rattle.walk_tables.specs.declared.pools.Pools.{Pools}
 use Rattle.recursor_types.specs.declared.reply.Reply.{Reply}
+use Rattle.resolution.specs.Failing.{ends_walk}
+use Rattle.resolver_cache.specs.Cached.{Cached}
 use Rattle.recursor_walk.specs.Asking as asking
+use Rattle.recursor_walk.specs.Counted.{recalled, answerable}
 use Rattle.recursor_walk.specs.Replies.{reply_with}
 use Rattle.recursor_walk.specs.Walk as walk
 use Rattle.recursor_walk.specs.declared.asking.Asking.{Asking as AtServers}
@@ -90,6 +93,19 @@ IsSettled (Ok None) old new = new ≡ old
 IsSettled (Ok (Some reply)) old new = new ≡ Done reply
 IsSettled (Err e) old new = new ≡ Ended
 
+-- it has not ended
+abbrev pub IsOpen : State → Type 0
+IsOpen Ended = ⊥
+IsOpen _ = Unit {0}
+
+-- It has ended where memory was wanting, and nowhere else.
+abbrev pub StaysOpen : {X : Type 0} → Result X NoMemory → State → Type 0
+StaysOpen result state = MatchResult result (λ x. IsOpen state) (λ e. state ≡ Ended)
+
+-- It asks the same; where memory was wanting it is as it was.
+abbrev pub AsksOn : {X : Type 0} → Result X NoMemory → Resolution → Resolution → Type 0
+AsksOn result old new = MatchResult result (λ x. asked_of new.state ≡ asked_of old.state) (λ e. new ≡ old)
+
 -- ---- how it begins
 
 abbrev pub IsUnder : State → Type 0
@@ -110,3 +126,16 @@ IsDoneWith reply Ended = ⊥
 abbrev pub IsAnswered : Question → Option Counted → State → Type 0
 IsAnswered question None state = IsUnder state
 IsAnswered question (Some c) state = IsDoneWith (reply_with question c) state
+
+-- ---- what the cache has
+
+abbrev pub IsDone : State → Type 0
+IsDone (Done reply) = Unit {0}
+IsDone _ = ⊥
+
+-- What the cache has for what is asked is heeded: the question itself is answered with it where it may be, and else goes on; one whose walk
+-- it ends is answered.
+abbrev pub IsHeeded : Cached → ℕ → Question → State → State → Type 0
+IsHeeded cache now question (Asking a) new = IsAnswered question (answerable (recalled cache a.value.lookup.query now)) new
+IsHeeded cache now question (Walking w) new = IfSome (recalled cache w.value.asking.lookup.query now) (λ c. IsTrue (ends_walk c.verdict) → IsDone new)
+IsHeeded cache now question _ new = Unit {0}

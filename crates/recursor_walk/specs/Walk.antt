@@ -1,12 +1,6 @@
 -- Where a walk stands, and how many steps it has before it.
 use Rattle.std.specs.Prelude.{◌≡◌, ℕ, ◌+◌, ◌-◌, ◌*◌, ◌<◌, length, Option, Some, None, Result, Ok, Err, IfOk, IsTrue, option_and_then}
-use Rattle.dns_core.specs.Name.{DomainName}
 use Rattle.dns_core.specs.declared.message.Query.{Query}
-use Rattle.dns_core.specs.declared.message.Message.{Message}
-use Rattle.dns_core.specs.declared.net_error.DnsError.{DnsError}
-use Rattle.resolution.specs.Class.{class_of_classified}
-use Rattle.resolution.specs.Given.{allows_all}
-use Rattle.resolution.specs.Verdict.{verdict_of_told}
 use Rattle.dns_core.specs.declared.errors.NoMemory.{NoMemory}
 use Rattle.dns_core.specs.declared.net_error.NetError.{NetError}
 use Rattle.resolution.specs.Failing.{ends_walk}
@@ -41,6 +35,12 @@ Goes old new result = IfOk result (IsFurther old new)
 
 -- ---- replies
 
+-- It goes further, or has come to the servers.
+abbrev pub IsOnward : Course → Type 0
+IsOnward course.Further = Unit {0}
+IsOnward course.Arrived = Unit {0}
+IsOnward (course.Reply reply) = ⊥
+
 abbrev pub IsReplied : Course → Type 0
 IsReplied course.Further = ⊥
 IsReplied course.Arrived = ⊥
@@ -63,20 +63,16 @@ abbrev pub counting : Result Verdict NetError → Option Verdict
 counting (Ok v) = Some v
 counting (Err e) = None
 
--- what a response to the question counts for that a server of the zone told
-abbrev pub verdict_told : DomainName → Query → Result Message DnsError → Option Verdict
-verdict_told zone q class = verdict_of_told allows_all (Some (class_of_classified q class)) zone
-
--- what a lookup of the question came to counts for, if that was a response
-abbrev pub verdict_found : DomainName → Query → Found → Option Verdict
-verdict_found zone q (found.Told entry at class) = verdict_told zone q class
-verdict_found zone q (found.Error error) = None
+-- what a lookup came to counts for, if that was a response
+abbrev pub verdict_found : Found → Option Verdict
+verdict_found (found.Told entry verdict) = counting verdict
+verdict_found (found.Error error) = None
 
 -- what is to be heard counts for, if it is a response
 abbrev pub verdict_heard : Walk → Option Verdict
-verdict_heard w = option_and_then (verdict_found w.asking.zone w.asking.lookup.query) (lookup.found_in w.asking.lookup.ask)
+verdict_heard w = option_and_then verdict_found (lookup.found_in w.asking.lookup.ask)
 
--- What the cache has for a candidate is the reply, where it ends the walk.
+-- What the cache has for a candidate is the reply, where it ends the walk; where it has nothing, the walk goes further.
 abbrev pub Recalls : Option Counted → Result Course NoMemory → Type 0
-Recalls None result = Unit {0}
+Recalls None result = IfOk result (λ came. came ≡ course.Further)
 Recalls (Some c) result = Ends c.verdict result

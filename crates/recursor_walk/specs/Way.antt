@@ -16,8 +16,7 @@ use Rattle.walk_tables.specs.Pools.{ArePool, AreFor}
 use Rattle.walk_tables.specs.View.{View, given_of}
 use Rattle.walk_tables.specs.declared.lookup.Found.{Found}
 use Rattle.recursor_walk.specs.Counted.{Stands}
-use Rattle.recursor_walk.specs.Replies.{Replied}
-use Rattle.recursor_walk.specs.Told.{IsToldAs}
+use Rattle.recursor_walk.specs.Replies.{CameTo}
 use Rattle.recursor_walk.specs.declared.walk.Course.{Course}
 use Rattle.recursor_walk.specs.declared.walk.Course.TheVariants as course
 use Rattle.recursor_walk.specs.declared.walk.Walk.{Walk}
@@ -50,7 +49,7 @@ pub record WalkHolds (seen : View) (t0 : ℕ) (q : Query) (w : Walk) : Type 0 wh
 abbrev pub WalkComes : View → ℕ → Question → Walk → Course → Type 0
 WalkComes seen t0 question w course.Further = WalkHolds seen t0 question.query w
 WalkComes seen t0 question w course.Arrived = AreFor seen question.query w.asking.zone w.asking.servers
-WalkComes seen t0 question w (course.Reply reply) = Replied seen t0 question reply.value
+WalkComes seen t0 question w (course.Reply reply) = CameTo seen t0 question reply.value
 
 -- So it does, where memory was not wanting.
 abbrev pub Comes : View → ℕ → Question → Walk → Result Course NoMemory → Type 0
@@ -60,11 +59,6 @@ Comes seen t0 question w result = IfOk result (WalkComes seen t0 question w)
 pub record HasFound (seen : View) (t0 : ℕ) (q : Query) (w : Walk) (found : Found) : Type 0 where
   pub way : WayHolds seen q w
   pub came : FoundHolds seen t0 w.asking.zone w.asking.lookup.query w.asking.lookup.ends found
-
--- its lookup was told a response that counts so
-pub record HasToldAt (seen : View) (t0 : ℕ) (q : Query) (w : Walk) (entry : ℕ) (verdict : Result Verdict NetError) : Type 0 where
-  pub way : WayHolds seen q w
-  pub told : IsToldAs seen t0 w.asking.zone w.asking.lookup.query entry verdict
 
 -- or it failed with this error
 pub record HasFailedAt (seen : View) (t0 : ℕ) (q : Query) (w : Walk) (error : NetError) : Type 0 where

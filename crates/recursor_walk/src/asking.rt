@@ -1,26 +1,24 @@
 //! A question at the servers of a zone: what the cache has for it comes first, then it is asked at all of
 //! them.
-ghost use Rattle.std.specs.Prelude.{◌≡◌, ◌<◌, ℕ, Err, IfOk, IfSome, IsSome, OnOk, OnErr};
+ghost use Rattle.std.specs.Prelude.{◌≡◌, ◌<◌, ℕ, Err, IfOk, IsSome, OnOk, OnErr};
 ghost use Rattle.walk_tables.specs.View.{View};
 ghost use Rattle.walk_tables.specs.Lookup.{want_of, LeavesLess};
 ghost use Rattle.walk_tables.specs.Taking.{awaited_by, IfAwaits};
 ghost use Rattle.walk_tables.specs.Pools.{AreFor, PoolsHold, StepGoes, IsStepAt, given_so_far, GivesNext};
 ghost use Rattle.walk_tables.specs.declared.lookup.Want.TheVariants as want;
-ghost use Rattle.recursor_walk.specs.Asking.{AskingHolds, LastHolds, LastComes, HasFound, HasTold, SameSite, steps, LeavesFewer};
+ghost use Rattle.recursor_walk.specs.Asking.{AskingHolds, LastHolds, LastComes, HasFound, SameSite, steps, LeavesFewer};
 ghost use Rattle.recursor_walk.specs.Counted.{Answers, ReadsAt, recalled, answerable};
-ghost use Rattle.recursor_walk.specs.Replies.{RepliesSo, IsReply, reply_with};
+ghost use Rattle.recursor_walk.specs.Replies.{RepliesSo, RepliesWith, reply_with};
 
 use crate::counted::{Counted, answerable, recalled};
-use dns_core::{
-    DnsError, DnsRequest, Ips, Message, Name, NetError, NoMemory, Numbers, Query, Question,
-};
+use dns_core::{DnsRequest, Ips, Name, NetError, NoMemory, Numbers, Query, Question};
 use recursor_types::{RecursorError, Reply};
 use resolution::Verdict;
 use resolver_cache::ResponseCache;
 use server_core::Tick;
 use std::alloc::Global;
 use std::mem;
-use walk_base::{outcome_of, reply_by, verdict_of_class};
+use walk_base::{outcome_of, reply_by};
 use walk_tables::{Found, Lookup, Pools, Stepped};
 
 /// A lookup at the servers of a zone.
@@ -117,7 +115,7 @@ impl Asking {
         ensures falls { IfOk result (LeavesFewer self.old self.new) }
         ensures holds { (seen : View) (t0 : ℕ) → ReadsAt seen t0 now cache.now
             → LastHolds seen t0 question.now.query self.old → IfOk result (LastComes seen t0 question.now self.new) }
-        ensures answers { IfSome (answerable (recalled cache.now self.old.lookup.query now)) (λ c. IfOk result (IsReply (reply_with question.now c))) }
+        ensures answers { IfOk result (RepliesWith question.now (answerable (recalled cache.now self.old.lookup.query now))) }
     {
         let counted = recalled(alloc, cache, &self.lookup.query, now)?;
         match answerable(counted) {
@@ -155,24 +153,9 @@ impl Asking {
         ensures { (seen : View) (t0 : ℕ) → HasFound seen t0 question.now.query self.old found → RepliesSo seen t0 question.now result }
     {
         match found {
-            Found::Told { entry, at, class } => self.weigh(alloc, question, entry, at, class),
+            Found::Told { entry, verdict } => self.answer(alloc, question, entry, verdict),
             Found::Error(error) => self.failed(alloc, error),
         }
-    }
-
-    /// The reply by what a response counts for that was told by an entry.
-    fn weigh(
-        &mut self,
-        alloc: Global,
-        question: &Question,
-        entry: u64,
-        _at: u64,
-        class: Result<Message, DnsError>,
-    ) -> Result<Box<Reply>, NoMemory>
-        ensures { (seen : View) (t0 : ℕ) → HasFound seen t0 question.now.query self.old (Found.Told entry _at class) → RepliesSo seen t0 question.now result }
-    {
-        let verdict = verdict_of_class(class, &self.lookup.query, &self.zone);
-        self.answer(alloc, question, entry, verdict)
     }
 
     /// The reply by a verdict, told by an entry.
@@ -183,7 +166,7 @@ impl Asking {
         entry: u64,
         verdict: Result<Verdict, NetError>,
     ) -> Result<Box<Reply>, NoMemory>
-        ensures { (seen : View) (t0 : ℕ) → HasTold seen t0 question.now.query self.old entry verdict → RepliesSo seen t0 question.now result }
+        ensures { (seen : View) (t0 : ℕ) → HasFound seen t0 question.now.query self.old (Found.Told entry verdict) → RepliesSo seen t0 question.now result }
     {
         match verdict {
             Ok(verdict) => answer_with(alloc, question, Counted { entry, verdict }),

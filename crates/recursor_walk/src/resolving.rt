@@ -1,5 +1,5 @@
 //! One question under way, answered, or ended.
-ghost use Rattle.std.specs.Prelude.{◌≡◌, ◌≤◌, ◌<◌, ℕ, true, Some, IfOk, IfSome, IsSome, OnOk, OnErr, option_copied};
+ghost use Rattle.std.specs.Prelude.{◌≡◌, ◌≤◌, ◌<◌, ◌↔◌, ℕ, true, Some, IfOk, IfSome, IsSome, IsErr, OnOk, OnErr, option_copied};
 ghost use Rattle.walk_tables.specs.View.{View};
 ghost use Rattle.walk_tables.specs.Remembered.{CacheHolds};
 ghost use Rattle.walk_tables.specs.Taking.{IfAwaits};
@@ -8,7 +8,7 @@ ghost use Rattle.walk_tables.specs.Pools.{PoolsHold, StepGoes, IsStepAt, given_s
 ghost use Rattle.walk_tables.specs.declared.lookup.Want.TheVariants as want;
 ghost use Rattle.recursor_walk.specs.Replies.{Replied};
 ghost use Rattle.recursor_walk.specs.Counted.{ReadsAt, recalled, answerable};
-ghost use Rattle.recursor_walk.specs.Resolving.{want_of, state_steps, steps, open_of, asking_of, asked_of, IsWalking, IsUnder, IsWalked, IsSettled, SameBegun, AsksFor, IsAnswered};
+ghost use Rattle.recursor_walk.specs.Resolving.{want_of, state_steps, steps, open_of, asking_of, asked_of, IsWalking, IsUnder, IsWalked, IsSettled, StaysOpen, AsksOn, SameBegun, AsksFor, IsAnswered, IsHeeded};
 ghost use Rattle.recursor_walk.specs.Resolved.{StandsSo, StateHolds, StateComes, AnswerComes, ResolutionHolds};
 ghost use Rattle.recursor_walk.specs.Walk.{begin_steps};
 ghost use Rattle.recursor_walk.specs.Way.{HasRoots, FiltersBy};
@@ -115,6 +115,7 @@ impl Resolution {
         requires { question.query.name.fqdn ≡ true }
         ensures holds { (seen : View) → now ≤ seen.moment → ResolutionHolds seen result }
         ensures begun { (result.question ≡ question) × (result.begun ≡ now) }
+        ensures new { result.state ≡ State.New }
     {
         Resolution {
             question,
@@ -170,6 +171,7 @@ impl Resolution {
         ensures holds { (seen : View) → now ≡ seen.moment → HasRoots seen roots.now → CacheHolds seen cache.now
             → ResolutionHolds seen self.old → ResolutionHolds seen self.new }
         ensures answers { IfOk result (λ x. IsAnswered self.old.question (answerable (recalled cache.now self.old.question.query now)) self.new.state) }
+        ensures err { OnErr result (self.new.state ≡ State.Ended) }
     {
         self.state = State::Ended;
         let state = begun(alloc, &self.question, roots, cache, now)?;
@@ -181,6 +183,7 @@ impl Resolution {
     fn arrive(&mut self, alloc: Global) -> Result<(), NoMemory>
         requires { IsWalking self.old.state }
         ensures falls { state_steps self.old.question.query self.new.state ≤ 6 }
+        ensures ended { StaysOpen result self.new.state }
         ensures begun { SameBegun self.old self.new }
         ensures holds { (seen : View) (t0 : ℕ) → StateComes seen t0 self.old.question self.old.state Course.Arrived
             → StateHolds seen t0 self.old.question self.new.state }
@@ -198,6 +201,7 @@ impl Resolution {
     fn follow(&mut self, alloc: Global, came: Result<Course, NoMemory>) -> Result<(), NoMemory>
         requires { IsWalking self.old.state }
         ensures steps { IsWalked self.old.question.query came self.old.state self.new.state }
+        ensures ended { StaysOpen result self.new.state }
         ensures begun { SameBegun self.old self.new }
         ensures holds { (seen : View) (t0 : ℕ) → IfOk came (StateComes seen t0 self.old.question self.old.state)
             → StateHolds seen t0 self.old.question self.new.state }
@@ -219,6 +223,7 @@ impl Resolution {
     /// Goes on, or has this reply; on want of memory it has ended.
     fn settle(&mut self, came: Result<Option<Box<Reply>>, NoMemory>) -> Result<(), NoMemory>
         ensures state { IsSettled came self.old.state self.new.state }
+        ensures result { IsErr result ↔ IsErr came }
         ensures begun { SameBegun self.old self.new }
         ensures holds { (seen : View) (t0 : ℕ) → IfOk came (AnswerComes seen t0 self.old.question self.old.state)
             → StateHolds seen t0 self.old.question self.new.state }
@@ -246,9 +251,11 @@ impl Resolution {
     ) -> Result<(), NoMemory>
         requires { want_of self.old ≡ Need.Send want.Recall }
         ensures falls { steps self.new < steps self.old }
+        ensures ended { StaysOpen result self.new.state }
         ensures begun { SameBegun self.old self.new }
         ensures holds { (seen : View) → now ≡ seen.moment → FiltersBy seen filter.now → CacheHolds seen cache.now
             → ResolutionHolds seen self.old → ResolutionHolds seen self.new }
+        ensures heeds { IfOk result (λ x. IsHeeded cache.now now self.old.question self.old.state self.new.state) }
     {
         match &mut self.state {
             State::Walking(walk) => {
@@ -267,6 +274,7 @@ impl Resolution {
     pub fn hear(&mut self, alloc: Global, filter: &AccessControlSet) -> Result<(), NoMemory>
         requires { want_of self.old ≡ Need.Send want.Hear }
         ensures falls { steps self.new < steps self.old }
+        ensures ended { StaysOpen result self.new.state }
         ensures begun { SameBegun self.old self.new }
         ensures holds { (seen : View) → FiltersBy seen filter.now
             → ResolutionHolds seen self.old → ResolutionHolds seen self.new }
@@ -295,7 +303,7 @@ impl Resolution {
         requires want { want_of self.old ≡ Need.Send want.Begin }
         requires asks { AsksFor request self.old.state }
         ensures falls { OnOk result (steps self.new < steps self.old) }
-        ensures err { OnErr result (self.new ≡ self.old) }
+        ensures same { AsksOn result self.old self.new }
         ensures given { given_so_far pools.new ≡ given_so_far pools.old }
         ensures begun { SameBegun self.old self.new }
         ensures holds { (seen : View) → tick.now ≡ seen.moment → PoolsHold seen pools.old
@@ -337,6 +345,7 @@ impl Resolution {
     pub fn into_reply(self) -> Option<Box<Reply>>
         requires { want_of self ≡ Need.Reply }
         ensures some { IsSome result }
+        ensures is { IfSome result (λ reply. self.state ≡ State.Done reply) }
         ensures holds { (seen : View) → ResolutionHolds seen self → IfSome result (λ reply. Replied seen self.begun self.question reply.value) }
     {
         let Resolution {

@@ -2,7 +2,7 @@
 //! into the reply.
 ghost use Rattle.std.specs.Prelude.{ℕ, IfOk, IfSome};
 ghost use Rattle.walk_tables.specs.View.{View};
-ghost use Rattle.recursor_walk.specs.Replies.{Replied, IsReplyKept};
+ghost use Rattle.recursor_walk.specs.Replies.{CameTo, IsReplyKept};
 ghost use Rattle.recursor_walk.specs.Counted.{ReadsAt};
 
 use dns_core::{NoMemory, Question};
@@ -21,7 +21,7 @@ pub(crate) fn kept_answer(
 ) -> Result<Option<Box<Reply>>, NoMemory>
     ensures kept { IfOk result (λ reply. IfSome reply (λ given. IsReplyKept cache.now question.now now given.value)) }
     ensures holds { (seen : View) (t0 : ℕ) → ReadsAt seen t0 now cache.now
-        → IfOk result (λ reply. IfSome reply (λ given. Replied seen t0 question.now given.value)) }
+        → IfOk result (λ reply. IfSome reply (λ given. CameTo seen t0 question.now given.value)) }
 {
     let Some(entry) = cache.current(&question.query, now) else {
         return Ok(None);

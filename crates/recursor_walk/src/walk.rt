@@ -11,14 +11,12 @@ ghost use Rattle.walk_tables.specs.declared.lookup.Want.TheVariants as want;
 ghost use Rattle.recursor_walk.specs.Asking.{LastHolds};
 ghost use Rattle.recursor_walk.specs.Asking as asking;
 ghost use Rattle.recursor_walk.specs.Counted.{ReadsAt, recalled};
-ghost use Rattle.recursor_walk.specs.Walk.{steps, Goes, Ends, EndsIf, Recalls, counting, verdict_told, verdict_found, verdict_heard, IsCourseOf};
-ghost use Rattle.recursor_walk.specs.Way.{WayHolds, WalkHolds, LeavesBehind, Comes, HasFailedAt, HasHeard, HasToldAt, HasFound, HasRoots, FiltersBy};
+ghost use Rattle.recursor_walk.specs.Walk.{steps, Goes, Ends, EndsIf, IsOnward, Recalls, counting, verdict_found, verdict_heard, IsCourseOf};
+ghost use Rattle.recursor_walk.specs.Way.{WayHolds, WalkHolds, LeavesBehind, Comes, HasFailedAt, HasHeard, HasFound, HasRoots, FiltersBy};
 
 use crate::asking::Asking;
 use crate::counted::{Counted, recalled};
-use dns_core::{
-    DnsError, Ips, Message, Name, NetError, NoMemory, NoRecords, Numbers, Query, TryClone,
-};
+use dns_core::{Ips, Message, Name, NetError, NoMemory, NoRecords, Numbers, Query, TryClone};
 use recursor_types::{RecursorError, Reply, WalkCause};
 use resolution::Verdict;
 use resolver_cache::ResponseCache;
@@ -26,7 +24,6 @@ use resolver_settings::AccessControlSet;
 use std::alloc::Global;
 use walk_base::{
     addresses, candidate_query, ends_walk, is_delegation, made_negative, reply_by, told_negative,
-    verdict_of_class,
 };
 use walk_tables::{Found, Lookup};
 
@@ -76,8 +73,8 @@ impl Walk {
     ) -> Result<Course, NoMemory>
         requires { want_of self.old.asking.lookup.ask ≡ want.Recall }
         ensures falls { Goes self.old self.new result }
-        ensures holds { (seen : View) (t0 : ℕ) (question : Question) → FiltersBy seen filter.now → ReadsAt seen t0 now cache.now
-            → WalkHolds seen t0 question.query self.old → Comes seen t0 question self.new result }
+        ensures holds { (seen : View) (t0 : ℕ) (asked : Question) → FiltersBy seen filter.now → ReadsAt seen t0 now cache.now
+            → WalkHolds seen t0 asked.query self.old → Comes seen t0 asked self.new result }
         ensures ends { Recalls (recalled cache.now self.old.asking.lookup.query now) result }
     {
         let counted = recalled(alloc, cache, &self.asking.lookup.query, now)?;
@@ -95,8 +92,8 @@ impl Walk {
         requires { want_of self.old.asking.lookup.ask ≡ want.Hear }
         ensures falls { Goes self.old self.new result }
         ensures ends { EndsIf (verdict_heard self.old) result }
-        ensures holds { (seen : View) (t0 : ℕ) (question : Question) → FiltersBy seen filter.now
-            → WalkHolds seen t0 question.query self.old → Comes seen t0 question self.new result }
+        ensures holds { (seen : View) (t0 : ℕ) (asked : Question) → FiltersBy seen filter.now
+            → WalkHolds seen t0 asked.query self.old → Comes seen t0 asked self.new result }
     {
         match self.asking.lookup.hear() {
             Some(found) => self.conclude(alloc, filter, found),
@@ -112,39 +109,21 @@ impl Walk {
         found: Found,
     ) -> Result<Course, NoMemory>
         ensures falls { Goes self.old self.new result }
-        ensures ends { EndsIf (verdict_found self.old.asking.zone self.old.asking.lookup.query found) result }
-        ensures holds { (seen : View) (t0 : ℕ) (question : Question) → FiltersBy seen filter.now
-            → HasFound seen t0 question.query self.old found → Comes seen t0 question self.new result }
+        ensures ends { EndsIf (verdict_found found) result }
+        ensures holds { (seen : View) (t0 : ℕ) (asked : Question) → FiltersBy seen filter.now
+            → HasFound seen t0 asked.query self.old found → Comes seen t0 asked self.new result }
     {
         match found {
-            Found::Told { entry, at, class } => self.weigh(alloc, filter, entry, at, class),
+            Found::Told { entry, verdict } => self.hear_told(alloc, filter, entry, verdict),
             Found::Error(error) => self.pass_over(alloc, error),
         }
-    }
-
-    /// Goes by what a response counts for that was told by an entry.
-    fn weigh(
-        &mut self,
-        alloc: Global,
-        filter: &AccessControlSet,
-        entry: u64,
-        _at: u64,
-        class: Result<Message, DnsError>,
-    ) -> Result<Course, NoMemory>
-        ensures falls { Goes self.old self.new result }
-        ensures ends { EndsIf (verdict_told self.old.asking.zone self.old.asking.lookup.query class) result }
-        ensures holds { (seen : View) (t0 : ℕ) (question : Question) → FiltersBy seen filter.now
-            → HasFound seen t0 question.query self.old (Found.Told entry _at class) → Comes seen t0 question self.new result }
-    {
-        let verdict = verdict_of_class(class, &self.asking.lookup.query, &self.asking.zone);
-        self.hear_told(alloc, filter, entry, verdict)
     }
 
     /// Goes on without the candidate whose lookup failed, unless its servers stayed silent.
     fn pass_over(&mut self, alloc: Global, error: NetError) -> Result<Course, NoMemory>
         ensures falls { Goes self.old self.new result }
-        ensures holds { (seen : View) (t0 : ℕ) (question : Question) → HasFailedAt seen t0 question.query self.old error
-            → Comes seen t0 question self.new result }
+        ensures holds { (seen : View) (t0 : ℕ) (asked : Question) → HasFailedAt seen t0 asked.query self.old error
+            → Comes seen t0 asked self.new result }
     {
         match error {
             NetError::Timeout => self.no_server(alloc, WalkCause::Timeout),
@@ -162,8 +141,8 @@ impl Walk {
     ) -> Result<Course, NoMemory>
         ensures falls { Goes self.old self.new result }
         ensures ends { EndsIf (counting verdict) result }
-        ensures holds { (seen : View) (t0 : ℕ) (question : Question) → FiltersBy seen filter.now
-            → HasToldAt seen t0 question.query self.old entry verdict → Comes seen t0 question self.new result }
+        ensures holds { (seen : View) (t0 : ℕ) (asked : Question) → FiltersBy seen filter.now
+            → HasFound seen t0 asked.query self.old (Found.Told entry verdict) → Comes seen t0 asked self.new result }
     {
         match verdict {
             Ok(verdict) => self.heed(alloc, filter, Counted { entry, verdict }),
@@ -180,8 +159,8 @@ impl Walk {
     ) -> Result<Course, NoMemory>
         ensures falls { Goes self.old self.new result }
         ensures ends { Ends counted.verdict result }
-        ensures holds { (seen : View) (t0 : ℕ) (question : Question) → FiltersBy seen filter.now
-            → HasHeard seen t0 question.query self.old counted.entry counted.verdict → Comes seen t0 question self.new result }
+        ensures holds { (seen : View) (t0 : ℕ) (asked : Question) → FiltersBy seen filter.now
+            → HasHeard seen t0 asked.query self.old counted.entry counted.verdict → Comes seen t0 asked self.new result }
     {
         let Counted { entry, verdict } = counted;
         match verdict {
@@ -198,8 +177,8 @@ impl Walk {
     fn deny(&mut self, alloc: Global, entry: u64, found: NoRecords) -> Result<Course, NoMemory>
         ensures falls { Goes self.old self.new result }
         ensures ends { Ends (Verdict.Neg found) result }
-        ensures holds { (seen : View) (t0 : ℕ) (question : Question) → HasHeard seen t0 question.query self.old entry (Verdict.Neg found)
-            → Comes seen t0 question self.new result }
+        ensures holds { (seen : View) (t0 : ℕ) (asked : Question) → HasHeard seen t0 asked.query self.old entry (Verdict.Neg found)
+            → Comes seen t0 asked self.new result }
     {
         if ends_walk(&found) {
             let reply = reply_by(alloc, entry, Err(told_negative(found)))?;
@@ -216,8 +195,8 @@ impl Walk {
         kept: &Message,
     ) -> Result<Course, NoMemory>
         ensures falls { Goes self.old self.new result }
-        ensures holds { (seen : View) (t0 entry : ℕ) (question : Question) → FiltersBy seen filter.now
-            → HasHeard seen t0 question.query self.old entry (Verdict.Pos kept.now) → Comes seen t0 question self.new result }
+        ensures holds { (seen : View) (t0 entry : ℕ) (asked : Question) → FiltersBy seen filter.now
+            → HasHeard seen t0 asked.query self.old entry (Verdict.Pos kept.now) → Comes seen t0 asked self.new result }
     {
         if !is_delegation(kept, &self.asking.lookup.query.name) {
             return self.advance(alloc);
@@ -235,8 +214,9 @@ impl Walk {
     /// the name.
     fn advance(&mut self, alloc: Global) -> Result<Course, NoMemory>
         ensures falls { Goes self.old self.new result }
-        ensures holds { (seen : View) (t0 : ℕ) (question : Question) → WayHolds seen question.query self.old → LeavesBehind seen self.old
-            → Comes seen t0 question self.new result }
+        ensures none { IfOk result IsOnward }
+        ensures holds { (seen : View) (t0 : ℕ) (asked : Question) → WayHolds seen asked.query self.old → LeavesBehind seen self.old
+            → Comes seen t0 asked self.new result }
     {
         if self.labels >= self.name.labels().len() {
             return Ok(Course::Arrived);

@@ -33,7 +33,7 @@ use Rattle.retry_lookup.specs.Hearing.{left_of}
 use Rattle.retry_lookup.specs.Holds.{HeardEnd, ends_of, entries_of, IsRun, IsAt as IsAt_state, out_of_memory}
 use Rattle.retry_lookup.specs.Lookup.{LookupState, question_of}
 use Rattle.retry_lookup.specs.declared.lookup.State.{State}
-use Rattle.retry_lookup.specs.declared.lookup.State.TheVariants.{Asking, BackingOff, Decided}
+use Rattle.retry_lookup.specs.declared.lookup.State.TheVariants.{Decided}
 use Rattle.server_pool.specs.Lookups.{closed_by}
 use Rattle.server_pool.specs.Shared.{lookup_at}
 use Rattle.server_pool.specs.declared.open_lookup.OpenLookup.{OpenLookup}
@@ -42,11 +42,14 @@ use Rattle.server_pool.specs.ByAddress.{at_address}
 use Rattle.server_pool.proofs.ByAddress.{IsTrustedBeyondUdp, run_by_address}
 use Rattle.walk_base.specs.Shown.{nothing_left_for, left_of_class}
 use Rattle.walk_base.proofs.Runs.{PoolRun-permuted, answer_whole, run_later, sends_length}
-use Rattle.walk_tables.specs.Lookup.{is_lookup_error, last_of, failed_by, answered_by, IsTold, AskHolds}
+use Rattle.walk_tables.specs.Lookup.{is_lookup_error, last_of, class_of_failure, classified, IsTold, HasFailedBy, FoundHolds, ComesTo}
 use Rattle.walk_tables.specs.View.{View, given_of}
 use Rattle.walk_tables.specs.Tried.{Began, is_response, told_of, AreHeard, Concluded}
-use Rattle.walk_tables.specs.Pools.{IsAt, SoughtHolds, PoolsHold, Seeks}
+use Rattle.walk_tables.specs.Pools.{IsAt, SoughtHolds, PoolsHold, Seeks, sought_at}
+use Rattle.walk_tables.specs.Taking.{answer_at, ComesBy, Comes}
 use Rattle.walk_tables.specs.Asked.{AskedAs}
+use Rattle.walk_tables.specs.declared.lookup.Found.{Found}
+use Rattle.walk_tables.specs.declared.lookup.Found.TheVariants as found
 use Rattle.walk_tables.specs.declared.pools.Pools.{Pools}
 use Rattle.walk_tables.specs.declared.pools.Sought.{Sought}
 use Rattle.server_pool.proofs.Bounding.{bounded_images, bounded_permuted}
@@ -59,13 +62,7 @@ lookup-error : (e : NetError) → IsLeft e → IsTrue (is_lookup_error e)
 lookup-error net.Timeout h = refl
 lookup-error net.Truncated h = refl
 lookup-error net.NoConnections h = refl
-lookup-error net.Busy h = absurd h
-lookup-error (net.Io kind) h = absurd h
-lookup-error (net.Dns error) h = absurd h
-lookup-error net.QueryCaseMismatch h = absurd h
-lookup-error (net.ForeignClassRecord n c t) h = absurd h
-lookup-error (net.Msg text) h = absurd h
-lookup-error net.NoMemory h = absurd h
+lookup-error _ h = absurd h
 
 -- an error that ends a lookup: it is none by which another server is asked, and no denial
 final-error : (q : Query) (o : Answered) (e : NetError) → class_of_answer q o ≡ Error e → is_retryable true (Error e) ≡ false → IsTrue (is_lookup_error e)
@@ -73,13 +70,8 @@ final-error q o net.Busy is final = cc
 final-error q o (net.Io kind) is final = cc
 final-error q o net.NoConnections is final = cc
 final-error q o net.Timeout is final = cc
-final-error q o net.Truncated is final = refl
-final-error q o net.QueryCaseMismatch is final = refl
-final-error q o (net.ForeignClassRecord n c t) is final = refl
-final-error q o (net.Msg text) is final = refl
-final-error q o net.NoMemory is final = refl
-final-error q o (net.Dns (dns.ResponseCode code)) is final = refl
 final-error q o (net.Dns (dns.NoRecordsFound n)) is final = absurd (no_denial_error q o n is)
+final-error q o _ is final = refl
 
 -- what was told is of the class of the answer
 class-told : (q : Query) (o : Answered) → class_of (told_of o) q ≡ Some (class_of_answer q o)
@@ -164,6 +156,11 @@ not_false false h = refl
 
 -- ---- a lookup that was answered
 
+-- an answer of the class by these entries, the last of them at the moment: a response was told by the last one, or the lookup failed
+abbrev pub ClassHolds : View → ℕ → DomainName → Query → List ℕ → ℕ → Result (Result Message DnsError) NetError → Type 0
+ClassHolds seen t0 zone q g at (Ok class) = IsTold seen t0 zone q (last_of g) at class
+ClassHolds seen t0 zone q g at (Err error) = HasFailedBy seen t0 zone q g error
+
 -- each address has few ends, as each candidate has
 bounded-of : (seen : View) (pools : Pools) (n : ℕ) (s : Sought) (h : SoughtHolds seen pools n s) → IsBounded (by_address 5000000) (class_of_answer s.query) h.ips h.ends
 bounded-of seen pools n s h =
@@ -226,18 +223,9 @@ module _ (seen : View) (pools : Pools) (n : ℕ) (s : Sought) (h : SoughtHolds s
 
   -- it failed
   failed : (error : NetError) → IsTrue (is_lookup_error error) → Concluded seen begun s.zone s.query g (Err error)
-      → AskHolds seen begun s.zone s.query g (failed_by (last_of g) s.at error)
+      → ClassHolds seen begun s.zone s.query g s.at (class_of_failure error)
   failed (net.Dns (dns.NoRecordsFound found)) is c = cc
-  failed (net.Dns (dns.ResponseCode code)) is c = record { is = is; concluded = c }
-  failed net.Busy is c = cc
-  failed (net.Io kind) is c = cc
-  failed net.NoConnections is c = record { is = is; concluded = c }
-  failed net.Timeout is c = record { is = is; concluded = c }
-  failed net.Truncated is c = record { is = is; concluded = c }
-  failed net.QueryCaseMismatch is c = record { is = is; concluded = c }
-  failed (net.ForeignClassRecord name class kind) is c = record { is = is; concluded = c }
-  failed (net.Msg text) is c = record { is = is; concluded = c }
-  failed net.NoMemory is c = record { is = is; concluded = c }
+  failed _ is c = record { is = is; concluded = c }
 
   -- the last end told a response
   told : (earlier : List (End IpAddr)) (last : End IpAddr) (response : Class) (class : Result Message DnsError) → h.ends ≡ earlier ++ last ∷ [] → class_of_answer s.query last.outcome ≡ response
@@ -263,20 +251,20 @@ module _ (seen : View) (pools : Pools) (n : ℕ) (s : Sought) (h : SoughtHolds s
       }
 
   -- where a lookup stands that was answered so
-  abbrev Comes : Answered → Type 0
-  Comes a = AskHolds seen begun s.zone s.query g (answered_by (last_of g) s.at (left_of s.query denied a))
+  abbrev Stands : Answered → Type 0
+  Stands a = ClassHolds seen begun s.zone s.query g s.at (classified (left_of s.query denied a))
 
   abbrev Run : Answered → Type 0
   Run a = PoolRun (by_address 5000000) (class_of_answer s.query) h.ips h.ends a s.start seen.moment
 
   -- it was answered with an error that is no denial
-  ended : (answer : Answered) (error : NetError) → answer ≡ Err error → IsTrue (is_lookup_error error) → 0 < length h.ends → Run answer → Comes answer
-  ended answer error is fails some run = subst Comes (sym is) (failed error fails (concluded (Err error) some (subst Run is run)))
+  ended : (answer : Answered) (error : NetError) → answer ≡ Err error → IsTrue (is_lookup_error error) → 0 < length h.ends → Run answer → Stands answer
+  ended answer error is fails some run = subst Stands (sym is) (failed error fails (concluded (Err error) some (subst Run is run)))
 
   -- an answer, where the filter leaves something of it or nothing
   positive : (earlier : List (End IpAddr)) (last : End IpAddr) (m : Message) → h.ends ≡ earlier ++ last ∷ [] → class_of_answer s.query last.outcome ≡ Positive m
       → (all : Bool) → is_all_denied denied m ≡ all
-      → AskHolds seen begun s.zone s.query g (answered_by (last_of g) s.at (if all then Err (nothing_left s.query) else Ok (without_denied denied m)))
+      → ClassHolds seen begun s.zone s.query g s.at (classified (if all then Err (nothing_left s.query) else Ok (without_denied denied m)))
   positive earlier last m whole is true left =
       told earlier last (Positive m) (Err (dns.NoRecordsFound (nothing_left_for s.query))) whole is refl
       (ap (λ (b : Bool). Some (if b then Err (dns.NoRecordsFound (nothing_left_for s.query)) else Ok (without_denied denied m))) left)
@@ -285,17 +273,17 @@ module _ (seen : View) (pools : Pools) (n : ℕ) (s : Sought) (h : SoughtHolds s
       (ap (λ (b : Bool). Some (if b then Err (dns.NoRecordsFound (nothing_left_for s.query)) else Ok (without_denied denied m))) left)
 
   decided-by : (answer : Answered) (d : IsDecided (by_address 5000000) (class_of_answer s.query) h.ends answer) (c : Class) → class_of_answer s.query d.last.outcome ≡ c
-      → is_retryable true c ≡ false → Comes answer
+      → is_retryable true c ≡ false → Stands answer
   decided-by answer d (Positive m) is final =
       let whole = answer_whole (told_of d.last.outcome) s.query m (class-told s.query d.last.outcome ∙ ap Some is) in
       let left = positive d.earlier d.last m d.whole is (is_all_denied denied m) refl in
-      subst Comes (sym (d.answers ∙ ap answer_of is))
-      (subst (λ (o : Option Record). AskHolds seen begun s.zone s.query g (answered_by (last_of g) s.at (elim o [
+      subst Stands (sym (d.answers ∙ ap answer_of is))
+      (subst (λ (o : Option Record). ClassHolds seen begun s.zone s.query g s.at (classified (elim o [
         | Some r ↦ Err (foreign_class r)
         | None ↦ if is_all_denied denied m then Err (nothing_left s.query) else Ok (without_denied denied m)
       ]))) (sym whole.1) left)
   decided-by answer d (Negative n) is final =
-      subst Comes (sym (d.answers ∙ ap answer_of is)) (told d.earlier d.last (Negative n) (Err (dns.NoRecordsFound n)) d.whole is refl refl)
+      subst Stands (sym (d.answers ∙ ap answer_of is)) (told d.earlier d.last (Negative n) (Err (dns.NoRecordsFound n)) d.whole is refl refl)
   decided-by answer d (Error e) is final =
       ended answer e (d.answers ∙ ap answer_of is) (final-error s.query d.last.outcome e is final) (some-last h.ends d.earlier d.last d.whole) (decided d)
   decided-by answer d (Code c) is final =
@@ -304,18 +292,15 @@ module _ (seen : View) (pools : Pools) (n : ℕ) (s : Sought) (h : SoughtHolds s
   decided-by answer d (Foreign r) is final =
       ended answer (net.ForeignClassRecord r.name r.dns_class r.record_type) (d.answers ∙ ap answer_of is) refl (some-last h.ends d.earlier d.last d.whole) (decided d)
 
-  answered-by : (answer : Answered) → Run answer → Comes answer
-  answered-by answer (decided d) =
+  -- What a lookup came to that was answered.
+  pub answered : (answer : Answered) → Run answer → Stands answer
+  answered answer (decided d) =
       let c = class_of_answer s.query d.last.outcome in
       decided-by answer d c refl (not_false (is_retryable true c) (and_parts (not (is_retryable true c)) _ d.final).0)
-  answered-by answer (spent e) =
+  answered answer (spent e) =
       ended answer (what_is_left (by_address 5000000) (class_of_answer s.query) h.ends) e.answers (lookup-error (what_is_left (by_address 5000000) (class_of_answer s.query) h.ends) (left_error 5000000 s.query h.ends e.none))
       (spent_some 5000000 s.query h.ips h.ends h.served.pool.some e.tried) (spent e)
-  answered-by answer (late l) = ended answer net.Timeout l.answers refl (late-some h.ends l.some) (late l)
-
-  -- What a lookup came to that was answered.
-  pub answered : (answer : Answered) → Run answer → Comes answer
-  answered answer run = answered-by answer run
+  answered answer (late l) = ended answer net.Timeout l.answers refl (late-some h.ends l.some) (late l)
 
 -- ---- as it is read
 
@@ -334,25 +319,39 @@ was-answered denied heard moment told l is kept at decided_at = by l.state refl 
     run-so answer at was same (inr out) = let wrong : true ≡ false = sym out ∙ ap out_of_memory same ∙ kept in cc
 
     by : (s : State) → l.state ≡ s → answer_in s ≡ Some told → IsAt_state denied heard s l → WasAnswered denied heard moment told l
-    by Asking was e k = cc
-    by (BackingOff until order polls) was e k = cc
     by (Decided answer at) was e k = run-so answer at was (same_Some _ _ e) k
+    by _ was e k = cc
 
--- What a lookup came to, as it is read for a question at the servers of a zone.
-pub answer-holds : (seen : View) (pools : Pools) (n : ℕ) (q : Query) (zone : DomainName) (begun at : ℕ) (told : Answered) (ends : List ℕ)
-    → PoolsHold seen pools → Seeks pools n q zone begun at → Some told ≡ option_and_then (λ (l : OpenLookup). answer_of_state l.lookup) (lookup_at pools.shared n) → out_of_memory told ≡ false
-    → ends ≡ closed_by (lookup_at pools.shared n) → AskHolds seen begun zone q ends (answered_by (last_of ends) at told)
-answer-holds seen pools n q zone begun at told ends holds k answers kept entries =
-    let s = k.sought in
-    let h = holds.lookups n s k.is in
+-- What a lookup was answered, as it is read, since any moment no later than its start.
+pub class-holds : (seen : View) (pools : Pools) (n : ℕ) (s : Sought) (begun : ℕ) (told : Answered)
+    → PoolsHold seen pools → sought_at pools n ≡ Some s → begun ≤ s.start → answer_at pools.shared n ≡ Some told
+    → out_of_memory told ≡ false → ClassHolds seen begun s.zone s.query (closed_by (lookup_at pools.shared n)) s.at (classified told)
+class-holds seen pools n s begun told holds there since answers kept =
+    let h = holds.lookups n s there in
     let l = h.shared_by.lookup in
-    let is : answer_in l.state ≡ Some told = sym (answers ∙ ap (option_and_then (λ (l : OpenLookup). answer_of_state l.lookup)) h.there) in
+    let is : answer_in l.state ≡ Some told = sym (ap (option_and_then (λ (l : OpenLookup). answer_of_state l.lookup)) h.there) ∙ answers in
     let a = was-answered (denies seen.setting.answer_filter) h.heard seen.moment told l is kept h.stands.at h.decided in
-    let came = answered seen pools n s h begun k.since a.run.whole (run-of seen pools n s h a.run.whole a.at a.early a.run.run) in
+    let came = answered seen pools n s h begun since a.run.whole (run-of seen pools n s h a.run.whole a.at a.early a.run.run) in
     let read : left_of s.query (denies seen.setting.answer_filter) a.run.whole ≡ told = ap (λ (p : Query). left_of p (denies seen.setting.answer_filter) a.run.whole) (sym h.asks) ∙ sym a.run.left in
-    let by : entries_of h.heard ≡ ends = sym (entries ∙ ap closed_by h.there ∙ h.stands.keeps.entries) in
-    let as_told = subst (λ (t : Answered). AskHolds seen begun s.zone s.query (entries_of h.heard) (answered_by (last_of (entries_of h.heard)) s.at t)) read came in
-    let as_read = subst (λ (g : List ℕ). AskHolds seen begun s.zone s.query g (answered_by (last_of g) s.at told)) by as_told in
-    let at_last = subst (λ (m : ℕ). AskHolds seen begun s.zone s.query ends (answered_by (last_of ends) m told)) k.last as_read in
-    let for_query = subst (λ (p : Query). AskHolds seen begun s.zone p ends (answered_by (last_of ends) at told)) k.query at_last in
-    subst (λ (z : DomainName). AskHolds seen begun z q ends (answered_by (last_of ends) at told)) k.zone_is for_query
+    let by : entries_of h.heard ≡ closed_by (lookup_at pools.shared n) = sym (ap closed_by h.there ∙ h.stands.keeps.entries) in
+    subst (λ (g : List ℕ). ClassHolds seen begun s.zone s.query g s.at (classified told)) by
+    (subst (λ (t : Answered). ClassHolds seen begun s.zone s.query (entries_of h.heard) s.at (classified t)) read came)
+
+-- what it comes to holds as its answer does
+found-holds : (seen : View) (t0 : ℕ) (zone : DomainName) (q : Query) (g : List ℕ) (at : ℕ) (class : Result (Result Message DnsError) NetError) (came : Found)
+    → ComesTo zone q (last_of g) class came → ClassHolds seen t0 zone q g at class → FoundHolds seen t0 zone q g came
+found-holds seen t0 zone q g at (Ok class) (found.Told entry verdict) comes h = record { at = at; class = class; told = rw comes.0 h; counts = comes.1 }
+found-holds seen t0 zone q g at (Err error) (found.Error failed) comes h = rw comes h
+found-holds seen t0 zone q g at _ _ comes h = absurd comes
+
+-- What a lookup came to that is for a question at the servers of a zone.
+pub came-holds : (seen : View) (pools : Pools) (n : ℕ) (q : Query) (zone : DomainName) (begun : ℕ) (came : Found) (ends : List ℕ)
+    → PoolsHold seen pools → Seeks pools n q zone begun → Comes pools n (Some came) → ends ≡ closed_by (lookup_at pools.shared n) → FoundHolds seen begun zone q ends came
+came-holds seen pools n q zone begun came ends h k comes entries =
+    let s = k.sought in
+    let has = subst (λ (o : Option Sought). IfSome o (ComesBy pools.shared n (Some came))) k.is comes in
+    let class = class-holds seen pools n s begun has.told h k.is k.since has.answered has.enough in
+    let by_ends = subst (λ (g : List ℕ). FoundHolds seen begun s.zone s.query g came) (sym entries)
+    (found-holds seen begun s.zone s.query (closed_by (lookup_at pools.shared n)) s.at (classified has.told) came has.comes class) in
+    let for_query = subst (λ (p : Query). FoundHolds seen begun s.zone p ends came) k.query by_ends in
+    subst (λ (z : DomainName). FoundHolds seen begun z q ends came) k.zone_is for_query

@@ -91,11 +91,10 @@ module _ (table : List Server) where
     -- so are they all, in the order of their addresses
     all-met : (ips : List IpAddr) (ks : List ℕ) → AllZip (λ ip k. config_at table k ≡ Some (server_at ip)) ips ks → (map address-of ks ≡ ips) × AllByRecursion IsThere ks
     all-met [] [] met = (refl, tt)
-    all-met [] (k ∷ ks) met = absurd met
-    all-met (ip ∷ ips) [] met = absurd met
     all-met (ip ∷ ips) (k ∷ ks) met =
         let rest = all-met ips ks met.1 in
         (ap (λ (x : IpAddr). x ∷ map address-of ks) (met-at ip k met.0) ∙ ap (λ (xs : List IpAddr). ip ∷ xs) rest.0, (there-met ip k met.0, rest.1))
+    all-met _ _ met = absurd met
 
     -- none of them is left out
     all-reached : (ks : List ℕ) → AllByRecursion IsThere ks → filter (is_reached (record { disable_udp = false }) table) ks ≡ ks
@@ -143,7 +142,7 @@ pub begun-holds : (seen : View) (zone : DomainName) (ips : List IpAddr) (numbers
     → AreFor seen request.query zone ips → ServersHold seen.setting old → AllZip (IsMet old) ips numbers
     → (b : HasBegun pool numbers request seen.moment old.shared new.shared n) → (l : OpenLookup) → lookup_at new.shared n ≡ Some l → l.lookup ≡ b.lookup
     → configs new.shared.table ≡ configs old.shared.table
-    → SoughtHolds seen new n (record { query = request.query; zone = zone; start = seen.moment; given = None; first = None; at = seen.moment })
+    → SoughtHolds seen new n (record { query = request.query; zone = zone; start = seen.moment; given = None; first = None; at = seen.moment; came = None })
 begun-holds seen zone ips numbers request old new pool n served holds met b l there is same =
     let table = old.shared.table in
     let options = old.shared.context.options in
@@ -185,6 +184,7 @@ begun-holds seen zone ips numbers request old new pool n served holds met b l th
       beside = no_more;
       tried = record { moments = []; logged = no_send; heard = tt; rises = tt; early = refl; began = tt; since = refl; till = refl; last = λ m is. absurd (none-some m is) };
       given = tt;
+      came = tt;
     }
   where
     decided-now : (answer : Answered) (at : ℕ) → (at ≡ seen.moment) ⊎ (Asking ≡ Decided answer at) → at ≤ seen.moment

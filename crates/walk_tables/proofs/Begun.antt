@@ -18,8 +18,7 @@ use Rattle.walk_tables.specs.Pools.{AreNumbered, PoolsHold, SoughtHolds, IsMet, 
 use Rattle.walk_tables.specs.declared.pools.Pools.{Pools}
 use Rattle.walk_tables.specs.declared.pools.Sought.{Sought}
 use Rattle.walk_tables.proofs.Sharing.{numbered-same, left-rest, left-numbered}
-use Rattle.walk_tables.proofs.Pooling.{IsCarried, carried-same, sought-carried, servers-with}
-use Rattle.walk_tables.proofs.Giving.{pools-given}
+use Rattle.walk_tables.proofs.Pooling.{IsCarried, carried-same, sought-carried, servers-with, pools-given}
 
 -- ---- one more pool
 

@@ -1,9 +1,11 @@
 -- What a response that was told to a lookup counts for.
-use Rattle.std.proofs.Common.{◌≡◌, ℕ, Option, Some, ap, ◌∙◌, ◌≤◌, Result}
+use Rattle.std.proofs.Common.{◌≡◌, ℕ, Option, Some, ap, ◌∙◌, ◌≤◌, Result, Ok, Err, IfOk}
+use Rattle.std.specs.Prelude.{IfErr}
 use Rattle.dns_core.specs.Name.{DomainName}
 use Rattle.dns_core.specs.declared.message.Query.{Query}
 use Rattle.dns_core.specs.declared.message.Message.{Message}
 use Rattle.dns_core.specs.declared.net_error.DnsError.{DnsError}
+use Rattle.dns_core.specs.declared.net_error.NetError.{NetError}
 use Rattle.dns_core.specs.declared.log.ToldOutcome.{ToldOutcome}
 use Rattle.resolver_settings.specs.Access.{denies as access_denies}
 use Rattle.resolution.specs.Class.{class_of_classified}
@@ -12,10 +14,11 @@ use Rattle.resolution.specs.Verdict.{verdict, verdict_of_told}
 use Rattle.resolution.specs.Serving.{Heard}
 use Rattle.resolution.specs.declared.class.Class.{Class}
 use Rattle.resolution.specs.declared.verdict.Verdict.{Verdict}
+use Rattle.walk_base.specs.Response.{error_of}
 use Rattle.walk_base.specs.Shown.{IsShown}
 use Rattle.walk_base.proofs.Shown.{left_shown}
 use Rattle.walk_tables.specs.Asked.{AskedAs}
-use Rattle.walk_tables.specs.Lookup.{IsTold}
+use Rattle.walk_tables.specs.Lookup.{IsTold, CountsAs}
 use Rattle.walk_tables.specs.View.{View, given_of}
 
 -- ---- what counts
@@ -47,3 +50,9 @@ counts-of seen t0 zone q entry at class v h is =
       counts = ap (λ (c : Option Class). verdict_of_told (access_denies seen.setting.answer_filter) c zone) h.is ∙ shown.1;
       shown = shown.2;
     }
+
+-- it counts as what is computed of it
+pub counts-as : (zone : DomainName) (q : Query) (class : Result Message DnsError) (r : Result Verdict NetError)
+    → IfOk r (λ v. verdict_of_told allows_all (Some (class_of_classified q class)) zone ≡ Some v) → IfErr r (λ e. error_of (class_of_classified q class) ≡ Some e) → CountsAs zone q class r
+counts-as zone q class (Ok v) ok err = ok
+counts-as zone q class (Err e) ok err = err

@@ -24,7 +24,7 @@ use Rattle.resolution.specs.Ending.EndsSend.{answered}
 use Rattle.resolution.specs.Serving.{Serves, Heard}
 use Rattle.resolution.specs.Serving.Heard.{heard}
 use Rattle.resolution.proofs.Keeping.{Serves-later}
-use Rattle.server_core.specs.Sending.{is_open, asked_of, pendings, end_of, is_last_poll, after_put, response_end, result_of, lost, taken, come_to}
+use Rattle.server_core.specs.Sending.{is_open, asked_of, pendings, end_of, is_last_poll, after_put, response_end, result_of, taken, come_to}
 use Rattle.server_core.specs.declared.order.After.{After}
 use Rattle.server_core.specs.declared.order.After.TheVariants as after
 use Rattle.server_core.specs.declared.order.Sent.{Sent}
@@ -64,16 +64,7 @@ sent-to true ip q since sent over = over.0
 -- an error that is a response is a denial
 error-denial : (e : NetError) → is_response (class_of_error e) ≡ true → is_denial e ≡ true
 error-denial (net.Dns (dns.NoRecordsFound n)) h = refl
-error-denial (net.Dns (dns.ResponseCode code)) h = cc
-error-denial net.Busy h = cc
-error-denial (net.Io kind) h = cc
-error-denial net.Timeout h = cc
-error-denial net.NoConnections h = cc
-error-denial net.Truncated h = cc
-error-denial net.QueryCaseMismatch h = cc
-error-denial (net.ForeignClassRecord n c t) h = cc
-error-denial (net.Msg text) h = cc
-error-denial net.NoMemory h = cc
+error-denial _ h = cc
 
 -- ---- what the order of it came to
 

@@ -1,8 +1,7 @@
 -- What is sought by a lookup that gave an order, and to whom the order goes.
-use Rattle.std.proofs.Common.{◌≡◌, ◌≢◌, ℕ, ◌+◌, ⊎_elim, Bool, true, false, List, map, find, All, Contains, Option, Some, None, refl, sym, ap, subst, ◌∙◌, arith}
+use Rattle.std.proofs.Common.{◌≡◌, ℕ, ◌+◌, ⊎_elim, Bool, true, false, List, map, find, All, Contains, Option, Some, None, refl, sym, ap, subst, ◌∙◌, arith}
 use Rattle.std.specs.List.Sorted.{IsPermutation}
 use Rattle.std.specs.Prelude.{IsTrue, IfSome, option_map, is_some}
-use Rattle.std.proofs.lemmas.Bool.{cases_eq}
 use Rattle.std.proofs.lemmas.Option.{same_Some}
 use Rattle.std.proofs.lemmas.List.Elements.{All-weaker, All-contains}
 use Rattle.std.proofs.lemmas.List.Sorted.{Contains-permutation, IsPermutation-sym}
@@ -49,7 +48,7 @@ use Rattle.walk_tables.specs.declared.pools.Aim.TheVariants as aim
 use Rattle.walk_tables.specs.declared.pools.Given.{Given}
 use Rattle.walk_tables.specs.declared.pools.Pools.{Pools}
 use Rattle.walk_tables.specs.declared.pools.Sought.{Sought}
-use Rattle.walk_tables.proofs.Pooling.{config-same, servers-with, carried-beside, carried-same, sought-carried}
+use Rattle.walk_tables.proofs.Pooling.{config-same, carried-same, sought-carried, noted-of, pools-given}
 use Rattle.retry_lookup.proofs.Orders.{no_polls}
 use Rattle.walk_tables.proofs.Sharing.{stepped-numbered}
 
@@ -97,7 +96,7 @@ module _ (seen : View) (old new : Pools) (n : ℕ) (s : Sought) (told : PoolStep
   same-servers = ap (λ (b : BegunWith). b.servers) step-runs.same
 
   -- What is sought by it, with this order.
-  step-holds : (given : Option Given) → IfSome given (λ g. GivenHolds seen new n s.zone next.servers next g g.aim) → SoughtHolds seen new n (record s { given = given })
+  step-holds : (given : Option Given) → IfSome given (λ g. GivenHolds seen new n s.zone next.servers next g g.aim) → SoughtHolds seen new n (record s { given = given; came = None })
   step-holds given gave = record {
     shared_by = step-runs.next;
     there = step-runs.there;
@@ -117,6 +116,7 @@ module _ (seen : View) (old new : Pools) (n : ℕ) (s : Sought) (told : PoolStep
     beside = h.beside;
     tried = h.tried;
     given = gave;
+    came = tt;
   }
 
   -- ---- with an order
@@ -213,7 +213,7 @@ module _ (seen : View) (old new : Pools) (n : ℕ) (s : Sought) (told : PoolStep
     goes-as (order.Sleep until) under = tt
 
     -- What is sought by a lookup that gave it.
-    pub ordered-holds : SoughtHolds seen new n (record s { given = Some (ordered-given (aim_of o)) })
+    pub ordered-holds : SoughtHolds seen new n (record s { given = Some (ordered-given (aim_of o)); came = None })
     ordered-holds = step-holds (Some (ordered-given (aim_of o))) (kept-as o goes-to)
 
     -- And where it goes.
@@ -221,40 +221,22 @@ module _ (seen : View) (old new : Pools) (n : ℕ) (s : Sought) (told : PoolStep
     order-goes = goes-as o goes-to
 
   -- What is sought by one that has its answer, or waits.
-  pub done-holds : SoughtHolds seen new n (record s { given = None })
+  pub done-holds : SoughtHolds seen new n (record s { given = None; came = None })
   done-holds = step-holds None tt
 
 -- ---- all of them
-
--- One lookup has come on, or is forgotten.
-pub pools-given : (seen : View) (n : ℕ) (old new : Pools) → SameBut n old.shared new.shared → AreNumbered new.shared → new.numbers ≡ old.numbers
-    → ((m : ℕ) → m ≢ n → sought_at new m ≡ sought_at old m) → ((t : Sought) → sought_at new n ≡ Some t → SoughtHolds seen new n t)
-    → PoolsHold seen old → PoolsHold seen new
-pools-given seen n old new rest numbered numbers others holds h = record {
-  servers = servers-with seen.setting old new numbers rest.servers.context (λ k config at. config-same old.shared.table new.shared.table k config rest.servers.configs at) h.servers;
-  numbered = numbered;
-  lookups = λ m t there. ⊎_elim
-      (λ at. subst (λ (k : ℕ). SoughtHolds seen new k t) (sym at) (holds t (subst (λ (k : ℕ). sought_at new k ≡ Some t) at there)))
-      (λ other. sought-carried seen m old new t (carried-beside m n old new other rest) (h.lookups m t (sym (others m other) ∙ there)))
-      (cases_eq m n);
-}
-
--- what is sought after a note is what was sought, noted
-noted-of : (f : Sought → Sought) (o : Option Sought) (t : Sought) → option_map f o ≡ Some t → (s : Sought) × (o ≡ Some s) × (f s ≡ t)
-noted-of f None t is = cc
-noted-of f (Some s) t is = (s, refl, same_Some _ _ is)
 
 -- what was there is sought
 pub sought-there : (o : Option Sought) → is_some o ≡ true → (s : Sought) × (o ≡ Some s)
 sought-there None there = cc
 sought-there (Some s) there = (s, refl)
 
--- with this order, where the first address stays
+-- with this order, where the first address stays and nothing is known yet of what it comes to
 abbrev ordered : Option Given → Sought → Sought
-ordered given s = record s { given = given }
+ordered given s = record s { given = given; came = None }
 
 ordered-noted : (given : Option Given) (s : Sought) → ordered given s ≡ noted given None None s
-ordered-noted given s = ap (λ (first : Option IpAddr). let t : Sought = record s { given = given; first = first } in t) (either-none s.first)
+ordered-noted given s = ap (λ (first : Option IpAddr). let t : Sought = record s { given = given; first = first; came = None } in t) (either-none s.first)
   where
     either-none : (first : Option IpAddr) → first ≡ either first None
     either-none None = refl

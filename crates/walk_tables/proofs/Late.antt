@@ -7,7 +7,7 @@ use Rattle.server_core.specs.Sending.{is_open, after_put, after_outcome, is_last
 use Rattle.server_core.specs.declared.order.After.{After}
 use Rattle.server_core.specs.declared.order.After.TheVariants.{Late, GiveUp, Kept}
 use Rattle.server_core.specs.declared.order.Outcome.{Outcome}
-use Rattle.server_core.specs.declared.order.Outcome.TheVariants.{Pending, Connected, Told, Failed, Slept}
+use Rattle.server_core.specs.declared.order.Outcome.TheVariants.{Pending}
 use Rattle.server_core.specs.declared.order.Sent.{Sent}
 use Rattle.server_core.specs.declared.server_send.Stage.{Stage}
 use Rattle.retry_lookup.specs.Asked.{has_in, has_order}
@@ -36,17 +36,11 @@ poll-late false e = cc
 
 outcome-late : (patience : ℕ) (at : Stage) (o : Outcome) → after_outcome patience at o ≡ Late → ⊥
 outcome-late patience at (Pending entry of) e = poll-late (is_last_poll patience at) e
-outcome-late patience at (Connected entry sent) e = cc
-outcome-late patience at (Told entry sent message) e = cc
-outcome-late patience at (Failed entry sent refused error) e = cc
-outcome-late patience at Slept e = cc
+outcome-late patience at _ e = cc
 
 backoff-late : (patience polls : ℕ) (o : Outcome) → after_backoff patience polls o ≡ Late → ⊥
 backoff-late patience polls (Pending entry of) e = poll-late (nat_le patience (polls + 1)) e
-backoff-late patience polls (Connected entry sent) e = cc
-backoff-late patience polls (Told entry sent message) e = cc
-backoff-late patience polls (Failed entry sent refused error) e = cc
-backoff-late patience polls Slept e = cc
+backoff-late patience polls _ e = cc
 
 second-so : (a b : Bool) → (a && b) ≡ true → b ≡ true
 second-so true b so = so

@@ -33,8 +33,10 @@ use Rattle.walk_tables.specs.Tried.{BeganBy, Began, AreHeard, Tried, IsTimed, ma
 use Rattle.walk_tables.specs.Pools.{AreServers, IsWaitedFor, IsSentTo, GivenHolds, SoughtHolds, PoolsHold, ArePool, AreFor}
 use Rattle.walk_tables.specs.Remembered.{EntryHolds, CacheHolds}
 use Rattle.walk_base.specs.Shown.{left_of_class}
-use Rattle.walk_tables.specs.Lookup.{AskHolds, LookupHolds}
+use Rattle.walk_tables.specs.Lookup.{FoundHolds, AskHolds, LookupHolds}
 use Rattle.walk_tables.specs.Taking.{TablesHold}
+use Rattle.walk_tables.specs.declared.lookup.Found.{Found}
+use Rattle.walk_tables.specs.declared.lookup.Found.TheVariants as found
 use Rattle.walk_tables.specs.declared.pools.Aim.{Aim}
 use Rattle.walk_tables.specs.declared.pools.Aim.TheVariants as aim
 use Rattle.walk_tables.specs.declared.pools.Given.{Given}
@@ -160,13 +162,11 @@ module _ (old new : View) (later : Later old new) where
 
   -- what was heard was heard
   are-heard-on : (zone : DomainName) (q : Query) (g : List ℕ) (ends : List (End IpAddr)) (moments : List ℕ) → AreHeard old zone q g ends moments → AreHeard new zone q g ends moments
-  are-heard-on zone q [] ends moments h = tt
-  are-heard-on zone q (n ∷ g) [] moments h = tt
-  are-heard-on zone q (n ∷ g) (e ∷ ends) [] h = tt
   are-heard-on zone q (n ∷ g) (e ∷ ends) (m ∷ moments) h = (
     λ is. let told = h.0 is in (heard-on told.0, asked-kept old.log new.log later.extends n q told.1),
     are-heard-on zone q g ends moments h.1,
   )
+  are-heard-on zone q _ _ _ h = tt
 
   -- what a lookup has behind it
   pub tried-later : (zone : DomainName) (q : Query) (ips : List IpAddr) (start : ℕ) (first : Option IpAddr) (ns : List ℕ) (ends : List (End IpAddr)) (at : ℕ)
@@ -233,6 +233,7 @@ module _ (old new : View) (later : Later old new) where
     beside = h.beside;
     tried = tried-later s.zone s.query h.ips s.start s.first _ h.ends s.at h.tried;
     given = given_some pools n s.zone h.shared_by.lookup.servers h.shared_by.lookup s.given h.given;
+    came = h.came;
   }
 
   -- the pools
@@ -287,22 +288,30 @@ module _ (old new : View) (later : Later old new) where
       subst (λ (r : Resolver). Finished r (machine_timer new.moment new.log t0) new.log t0 q zone g result) given-is
       (Finished-extend (given_of old.setting) less fewer old.log new.log later.extends (machine_timer old.moment old.log t0) (machine_timer new.moment new.log t0) (timed-on t0) (λ e. e) f)
 
+  -- what it came to
+  found-later : (t0 : ℕ) (zone : DomainName) (q : Query) (ends : List ℕ) (came : Found) → FoundHolds old t0 zone q ends came → FoundHolds new t0 zone q ends came
+  found-later t0 zone q ends (found.Error error) h = record { is = h.is; concluded = concluded-later t0 q zone ends (Err error) h.concluded }
+  found-later t0 zone q ends (found.Told entry verdict) h =
+      let t = h.told in
+      record {
+        at = h.at;
+        class = h.class;
+        told = record {
+          outcome = t.outcome;
+          response = t.response;
+          early = let e = t.early in let le = later.greatest in omega arith;
+          heard = heard-on t.heard;
+          asked = asked-kept old.log new.log later.extends entry q t.asked;
+          late = t.late;
+          is = t.is;
+          left = subst (λ (access : Access). left_of_class (denies access) q t.response ≡ Some h.class) (sym answers-same) t.left;
+        };
+        counts = h.counts;
+      }
+
   ask-later : (t0 : ℕ) (zone : DomainName) (q : Query) (ends : List ℕ) (a : Ask) → AskHolds old t0 zone q ends a → AskHolds new t0 zone q ends a
-  ask-later t0 zone q ends ask.Fresh h = tt
-  ask-later t0 zone q ends ask.Ready h = tt
-  ask-later t0 zone q ends (ask.Under u) h = tt
-  ask-later t0 zone q ends (ask.Told entry at class) h = record {
-    outcome = h.outcome;
-    response = h.response;
-    early = let e = h.early in let le = later.greatest in omega arith;
-    heard = heard-on h.heard;
-    asked = asked-kept old.log new.log later.extends entry q h.asked;
-    late = h.late;
-    is = h.is;
-    left = subst (λ (access : Access). left_of_class (denies access) q h.response ≡ Some class) (sym answers-same) h.left;
-  }
-  ask-later t0 zone q ends ask.Heard h = tt
-  ask-later t0 zone q ends (ask.Failed error) h = record { is = h.is; concluded = concluded-later t0 q zone ends (Err error) h.concluded }
+  ask-later t0 zone q ends (ask.Came came) h = found-later t0 zone q ends came h
+  ask-later t0 zone q ends _ h = tt
 
   -- a lookup
   pub lookup-later : (t0 : ℕ) (zone : DomainName) (l : Lookup) → LookupHolds old t0 zone l → LookupHolds new t0 zone l

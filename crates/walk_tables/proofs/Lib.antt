@@ -1,5 +1,4 @@
 pub mod Later
-pub mod Heard
 pub mod Sends
 pub mod Sharing
 pub mod Waited

@@ -1,5 +1,5 @@
 -- The pools where a lookup is forgotten: what is sought by the others stays.
-use Rattle.std.proofs.Common.{◌≡◌, ℕ, true, Some, Result, Ok, Err, IfOk, OnErr, ◌⊎◌, inl, inr, refl, sym, ap, subst, ◌∙◌}
+use Rattle.std.proofs.Common.{◌≡◌, ℕ, true, Some, Result, Ok, Err, IfOk, OnErr, ◌⊎◌, inl, inr, sym, ap, subst, ◌∙◌}
 use Rattle.std.specs.Prelude.{is_some as is_there}
 use Rattle.std.proofs.lemmas.Option.{none-some}
 use Rattle.dns_core.specs.declared.errors.NoMemory.{NoMemory}
@@ -11,7 +11,8 @@ use Rattle.server_pool.proofs.Running.{next_rest}
 use Rattle.walk_tables.specs.View.{View}
 use Rattle.walk_tables.specs.Pools.{AreNumbered, PoolsHold, HasForgotten, sought_at}
 use Rattle.walk_tables.specs.declared.pools.Pools.{Pools}
-use Rattle.walk_tables.proofs.Giving.{sought-there, pools-given}
+use Rattle.walk_tables.proofs.Giving.{sought-there}
+use Rattle.walk_tables.proofs.Pooling.{same-rest, pools-given}
 use Rattle.walk_tables.proofs.Sharing.{stepped-numbered, halted-rest, halted-numbered}
 
 -- a step of one lookup leaves what is sought by the others, and forgets its own
@@ -24,10 +25,6 @@ pools-lost seen n old mid new rest numbered numbers sought lost h =
     (λ t there. absurd (none-some t (sym lost.none ∙ there))) h
 
 -- ---- a step that gave nothing
-
--- nothing has changed
-same-rest : (n : ℕ) (shared : Shared) → SameBut n shared shared
-same-rest n shared = record { servers = record { context = refl; configs = refl }; lookups = λ m other. refl; orders = λ number m other is. is }
 
 -- Where memory is wanting, or the lookup waits, it is forgotten.
 pub pools-waits : (seen : View) (n : ℕ) (old mid new : Pools) (result : Result PoolStep NoMemory) → mid.numbers ≡ old.numbers → mid.sought ≡ old.sought → is_there (sought_at old n) ≡ true
@@ -43,7 +40,7 @@ pools-waits seen n old mid new result numbers sought there steps halts lost h =
     forgotten rest numbered = pools-lost seen n old mid new rest numbered numbers sought lost h
 
     halted : (l : OpenLookup) → ((mid.shared ≡ old.shared) ⊎ HasHalted n seen.moment l old.shared mid.shared) → PoolsHold seen new
-    halted l (inl same) = forgotten (subst (λ (shared : Shared). SameBut n old.shared shared) (sym same) (same-rest n old.shared)) (subst AreNumbered (sym same) h.numbered)
+    halted l (inl same) = forgotten (same-rest n old.shared mid.shared same) (subst AreNumbered (sym same) h.numbered)
     halted l (inr halt) = forgotten (halted-rest n seen.moment l old.shared mid.shared halt) (halted-numbered n seen.moment l old.shared mid.shared halt h.numbered)
 
     by : (l : OpenLookup) (r : Result PoolStep NoMemory) → IfOk r (λ told. HasStepped n seen.moment l old.shared told mid.shared) → OnErr r ((mid.shared ≡ old.shared) ⊎ HasHalted n seen.moment l old.shared mid.shared)

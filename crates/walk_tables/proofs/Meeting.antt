@@ -6,7 +6,7 @@ use Rattle.std.specs.BTreeMap as tree
 use Rattle.std.specs.FinMap.{nat_cmp-IsAntisymmetric, slice_cmp-IsAntisymmetric}
 use Rattle.std.specs.Ordering.{is_eq}
 use Rattle.std.specs.declared.cmp.Ordering.{Ordering}
-use Rattle.std.specs.declared.cmp.Ordering.TheVariants.{Less, Equal, Greater}
+use Rattle.std.specs.declared.cmp.Ordering.TheVariants.{Equal}
 use Rattle.std.specs.declared.net.ip_addr.IpAddr.{IpAddr}
 use Rattle.std.specs.declared.net.ip_addr.IpAddr.TheVariants.{V4, V6}
 use Rattle.std.specs.contracts.net.ip_addr.IpAddrOrd.TheImpl as address
@@ -24,14 +24,12 @@ use Rattle.walk_tables.proofs.Pooling.{config-before}
 
 equal-address : (a b : IpAddr) → address.ghosts.cmp a b ≡ Equal → a ≡ b
 equal-address (V4 a) (V4 b) h = ap (λ (o : List ℕ). V4 (record { octets = o })) (slice_cmp-IsAntisymmetric nat_cmp-IsAntisymmetric a.octets b.octets h)
-equal-address (V4 a) (V6 b) h = cc
-equal-address (V6 a) (V4 b) h = cc
 equal-address (V6 a) (V6 b) h = ap (λ (o : List ℕ). V6 (record { segments = o })) (slice_cmp-IsAntisymmetric nat_cmp-IsAntisymmetric a.segments b.segments h)
+equal-address _ _ h = cc
 
 equal-at : (o : Ordering) → is_eq o ≡ true → o ≡ Equal
-equal-at Less h = cc
 equal-at Equal h = refl
-equal-at Greater h = cc
+equal-at _ h = cc
 
 -- ---- one more server
 
@@ -111,16 +109,13 @@ pub met-grown : (old new : Pools) (ip : IpAddr) (k : ℕ) → IsGrown old new �
 met-grown old new ip k g met = ap (λ (table : List Server). config_at table k) g.table ∙ config-before old.shared.table g.more k (server_at ip) met
 
 pub all-met-grown : (old new : Pools) → IsGrown old new → (ips : List IpAddr) (ks : List ℕ) → AllZip (IsMet old) ips ks → AllZip (IsMet new) ips ks
-all-met-grown old new g [] [] met = met
-all-met-grown old new g [] (k ∷ ks) met = met
-all-met-grown old new g (ip ∷ ips) [] met = met
 all-met-grown old new g (ip ∷ ips) (k ∷ ks) met = (met-grown old new ip k g met.0, all-met-grown old new g ips ks met.1)
+all-met-grown old new g _ _ met = met
 
 zip-push : {X Y : Type 0} (R : X → Y → Type 0) (xs : List X) (ys : List Y) (x : X) (y : Y) → AllZip R xs ys → R x y → AllZip R (xs ++ x ∷ []) (ys ++ y ∷ [])
 zip-push R [] [] x y h here = (here, tt)
-zip-push R [] (z ∷ ys) x y h here = absurd h
-zip-push R (z ∷ xs) [] x y h here = absurd h
 zip-push R (z ∷ xs) (w ∷ ys) x y h here = (h.0, zip-push R xs ys x y h.1 here)
+zip-push R _ _ x y h here = absurd h
 
 -- one more of the first of some addresses is met
 pub more-met : (pools : Pools) (ips : List IpAddr) (i : ℕ) (d : IpAddr) (ks js : List ℕ) (k : ℕ) → i < length ips → js ≡ ks ++ k ∷ [] → AllZip (IsMet pools) (take i ips) ks

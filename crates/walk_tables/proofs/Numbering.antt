@@ -34,8 +34,7 @@ stepped-count n now l old new told s = by s.made s.is s.given
   where
     by : (made : LookupStep) → told ≡ told_as (old.given + 1) made → new.given ≡ orders_by made (old.given + 1) old.given → GivesAs old.given new.given (Ok told)
     by (step.Order o) is count = subst (λ (t : PoolStep). GivesAs old.given new.given (Ok t)) (sym is) (refl, count)
-    by step.Waiting is count = subst (λ (t : PoolStep). GivesAs old.given new.given (Ok t)) (sym is) count
-    by (step.Done answer) is count = subst (λ (t : PoolStep). GivesAs old.given new.given (Ok t)) (sym is) count
+    by _ is count = subst (λ (t : PoolStep). GivesAs old.given new.given (Ok t)) (sym is) count
 
 -- An order has the next number, and else none was given.
 pub step-count : (n now : ℕ) (old new : Shared) (result : Result PoolStep NoMemory)

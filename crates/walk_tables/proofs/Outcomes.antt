@@ -189,7 +189,7 @@ module _ (seen : View) (longer : Log) (old mid new : Pools) (n : ℕ) (tick : Ti
 
   -- what is sought, with another first address and moment
   abbrev with_both : Option IpAddr → ℕ → Sought
-  with_both first at = record its { given = given_after again did; first = either its.first first; at = at }
+  with_both first at = record its { given = given_after again did; first = either its.first first; at = at; came = None }
 
   -- an order to open or to ask
   sent-after : (asks : Bool) (ip : IpAddr) (to : IsSentTo seen old n its.zone state.servers state g asks ip) → entry_of o ≢ 0

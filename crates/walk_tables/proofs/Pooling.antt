@@ -1,8 +1,8 @@
 -- What holds of the lookups after a step of one of them.
-use Rattle.std.proofs.Common.{◌≡◌, ◌≢◌, ℕ, zero, suc, Bool, true, false, List, [], ◌∷◌, ◌++◌, Option, Some, None, IfSome, sym, ap, subst, ◌∙◌, ⊎_elim, arith}
+use Rattle.std.proofs.Common.{◌≡◌, ◌≢◌, ℕ, zero, suc, Bool, true, false, List, [], ◌∷◌, ◌++◌, Option, Some, None, IfSome, refl, sym, ap, subst, ◌∙◌, ⊎_elim, arith}
 use Rattle.std.specs.Prelude.{slice_get, option_map}
 use Rattle.std.proofs.lemmas.Bool.{cases_eq}
-use Rattle.std.proofs.lemmas.Option.{slice_get-map, none-some}
+use Rattle.std.proofs.lemmas.Option.{slice_get-map, same_Some, none-some}
 use Rattle.std.proofs.lemmas.List.Elements.{All-weaker}
 use Rattle.std.specs.declared.net.ip_addr.IpAddr.{IpAddr}
 use Rattle.dns_core.specs.Name.{DomainName}
@@ -15,7 +15,9 @@ use Rattle.retry_rules.specs.declared.candidate.Candidate.{Candidate}
 use Rattle.server_pool.specs.declared.open_lookup.OpenLookup.{OpenLookup}
 use Rattle.recursor_setting.specs.declared.setting.Setting.{Setting}
 use Rattle.walk_tables.specs.View.{View}
-use Rattle.walk_tables.specs.Pools.{config_at, number_of, sought_at, server_at, IsAt, IsSentTo, GivenHolds, ServersHold, SoughtHolds, AreNumbered, PoolsHold, IsGrown, SamePools, HasForgotten, HasKept, HasLeft}
+use Rattle.walk_tables.specs.Lookup.{HasCome}
+use Rattle.walk_tables.specs.Pools.{config_at, number_of, sought_at, server_at, IsAt, IsSentTo, GivenHolds, ServersHold, SoughtHolds, AreNumbered, PoolsHold, IsGrown, SamePools, HasForgotten, HasNoted, HasLeft, with_came}
+use Rattle.walk_tables.specs.declared.lookup.Found.{Found}
 use Rattle.walk_tables.specs.declared.pools.Aim.{Aim}
 use Rattle.walk_tables.specs.declared.pools.Aim.TheVariants as aim
 use Rattle.walk_tables.specs.declared.pools.Given.{Given}
@@ -100,9 +102,10 @@ module _ (seen : View) where
   given-some n old new x zone pool l None h = tt
   given-some n old new x zone pool l (Some g) h = given-carried n old new x zone pool l g g.aim h
 
-  -- what is sought by a lookup that is as it was
-  pub sought-carried : (n : ℕ) (old new : Pools) (s : Sought) → IsCarried n old new → SoughtHolds seen old n s → SoughtHolds seen new n s
-  sought-carried n old new s x h = record {
+  -- what is sought by a lookup that is as it was, and came to this
+  sought-with : (n : ℕ) (old new : Pools) (came : Option Found) (s : Sought) → IsCarried n old new → IfSome came (HasCome s.zone s.query (lookup_at old.shared n))
+      → SoughtHolds seen old n s → SoughtHolds seen new n (with_came came s)
+  sought-with n old new came s x has h = record {
     shared_by = h.shared_by;
     there = x.there h.shared_by h.there;
     asks = h.asks;
@@ -121,7 +124,11 @@ module _ (seen : View) where
     beside = h.beside;
     tried = h.tried;
     given = given-some n old new x s.zone h.shared_by.lookup.servers h.shared_by.lookup s.given h.given;
+    came = subst (λ (l : Option OpenLookup). IfSome came (HasCome s.zone s.query l)) (h.there ∙ sym (x.there h.shared_by h.there)) has;
   }
+
+  pub sought-carried : (n : ℕ) (old new : Pools) (s : Sought) → IsCarried n old new → SoughtHolds seen old n s → SoughtHolds seen new n s
+  sought-carried n old new s x h = sought-with n old new s.came s x h.came h
 
 -- ---- the servers
 
@@ -141,46 +148,54 @@ servers-with setting old new numbers = servers-by setting old new (λ ip. ap (λ
 pub servers-same : (setting : Setting) (old new : Pools) → SamePools old new → ServersHold setting old → ServersHold setting new
 servers-same setting old new s = servers-with setting old new s.numbers (ap (λ (shared : Shared). shared.context) s.shared) (λ k config is. (carried-same k old new s).reached k config is)
 
-servers-left : (setting : Setting) (n : ℕ) (old new : Pools) → HasLeft n old new → ServersHold setting old → ServersHold setting new
-servers-left setting n old new left =
-    let rest = left-rest n old.shared new.shared left.left in
-    servers-with setting old new left.numbers rest.servers.context (λ k config is. config-same old.shared.table new.shared.table k config rest.servers.configs is)
-
 -- ---- all of them
+
+-- what is sought after a note is what was sought, noted
+pub noted-of : (f : Sought → Sought) (o : Option Sought) (t : Sought) → option_map f o ≡ Some t → (s : Sought) × (o ≡ Some s) × (f s ≡ t)
+noted-of f None t is = cc
+noted-of f (Some s) t is = (s, refl, same_Some _ _ is)
+
+-- nothing has changed
+pub same-rest : (n : ℕ) (old new : Shared) → new ≡ old → SameBut n old new
+same-rest n old new is = subst (SameBut n old) (sym is) (record { servers = record { context = refl; configs = refl }; lookups = λ m other. refl; orders = λ number m other is. is })
+
+-- One lookup has come on, or is forgotten.
+pub pools-given : (seen : View) (n : ℕ) (old new : Pools) → SameBut n old.shared new.shared → AreNumbered new.shared → new.numbers ≡ old.numbers
+    → ((m : ℕ) → m ≢ n → sought_at new m ≡ sought_at old m) → ((t : Sought) → sought_at new n ≡ Some t → SoughtHolds seen new n t)
+    → PoolsHold seen old → PoolsHold seen new
+pools-given seen n old new rest numbered numbers others holds h = record {
+  servers = servers-with seen.setting old new numbers rest.servers.context (λ k config at. config-same old.shared.table new.shared.table k config rest.servers.configs at) h.servers;
+  numbered = numbered;
+  lookups = λ m t there. ⊎_elim
+      (λ at. subst (λ (k : ℕ). SoughtHolds seen new k t) (sym at) (holds t (subst (λ (k : ℕ). sought_at new k ≡ Some t) at there)))
+      (λ other. sought-carried seen m old new t (carried-beside m n old new other rest) (h.lookups m t (sym (others m other) ∙ there)))
+      (cases_eq m n);
+}
 
 module _ (seen : View) where
   -- where only what is sought by one lookup has changed, and that holds
   pools-one : (n : ℕ) (old new : Pools) → SamePools old new → ((m : ℕ) → m ≢ n → sought_at new m ≡ sought_at old m)
       → ((s : Sought) → sought_at new n ≡ Some s → SoughtHolds seen new n s) → PoolsHold seen old → PoolsHold seen new
-  pools-one n old new same others one h = record {
-    servers = servers-same seen.setting old new same h.servers;
-    numbered = subst AreNumbered (sym same.shared) h.numbered;
-    lookups = λ m s is. ⊎_elim
-        (λ at. subst (λ (k : ℕ). SoughtHolds seen new k s) (sym at) (one s (subst (λ (k : ℕ). sought_at new k ≡ Some s) at is)))
-        (λ other. sought-carried seen m old new s (carried-same m old new same) (h.lookups m s (sym (others m other) ∙ is)))
-        (cases_eq m n);
-  }
+  pools-one n old new same others one h =
+      pools-given seen n old new (same-rest n old.shared new.shared same.shared) (subst AreNumbered (sym same.shared) h.numbered) same.numbers others one h
 
   -- one is forgotten
   pub pools-forgotten : (n : ℕ) (old new : Pools) → HasForgotten n old new → PoolsHold seen old → PoolsHold seen new
   pools-forgotten n old new f = pools-one n old new f.same f.others (λ s is. absurd (none-some s (sym f.none ∙ is)))
 
-  -- one is kept that holds
-  pub pools-kept_with : (n : ℕ) (s : Sought) (old new : Pools) → HasKept n s old new → SoughtHolds seen new n s
-      → PoolsHold seen old → PoolsHold seen new
-  pools-kept_with n s old new k holds = pools-one n old new k.same k.others
-      (λ t is. subst (λ (o : Option Sought). IfSome o (SoughtHolds seen new n)) (sym k.is ∙ is) holds)
+  -- what one came to is kept, if it is known
+  pub pools-came : (n : ℕ) (came : Option Found) (old new : Pools) → HasNoted n (with_came came) old new
+      → ((s : Sought) → sought_at old n ≡ Some s → IfSome came (HasCome s.zone s.query (lookup_at old.shared n))) → PoolsHold seen old → PoolsHold seen new
+  pools-came n came old new note has h = pools-one n old new note.same note.others
+      (λ t is.
+      let s = noted-of (with_came came) (sought_at old n) t (sym note.is ∙ is) in
+      subst (SoughtHolds seen new n) s.2 (sought-with seen n old new came s.0 (carried-same n old new note.same) (has s.0 s.1) (h.lookups n s.0 s.1))) h
 
   -- nothing is sought by the lookup that is left
   pub pools-left : (n : ℕ) (old new : Pools) → HasLeft n old new → sought_at old n ≡ None → PoolsHold seen old → PoolsHold seen new
-  pools-left n old new left none h = record {
-    servers = servers-left seen.setting n old new left h.servers;
-    numbered = left-numbered n old.shared new.shared left.left left.last h.numbered;
-    lookups = λ m s is.
-        let before : sought_at old m ≡ Some s = sym (left.sought m) ∙ is in
-        let other : m ≢ n = λ at. none-some s (sym none ∙ subst (λ (k : ℕ). sought_at old k ≡ Some s) at before) in
-        sought-carried seen m old new s (carried-beside m n old new other (left-rest n old.shared new.shared left.left)) (h.lookups m s before);
-  }
+  pools-left n old new left none h =
+      pools-given seen n old new (left-rest n old.shared new.shared left.left) (left-numbered n old.shared new.shared left.left left.last h.numbered) left.numbers (λ m other. left.sought m)
+      (λ s is. absurd (none-some s (sym none ∙ sym (left.sought n) ∙ is))) h
 
   -- servers came behind the others
   pub pools-grown : (old new : Pools) → IsGrown old new → ServersHold seen.setting new → PoolsHold seen old → PoolsHold seen new

@@ -1,12 +1,12 @@
 -- What a log has once an outcome was put.
-use Rattle.std.proofs.Common.{◌≡◌, ℕ, ◌≤◌, ◌<◌, Bool, true, false, Option, Some, None, Result, Ok, Err, IsErr, refl, sym, ap, subst, ◌∙◌, arith}
+use Rattle.std.proofs.Common.{◌≡◌, ℕ, ◌≤◌, ◌<◌, Bool, true, false, Option, Some, Result, Ok, Err, IsErr, refl, sym, ap, subst, ◌∙◌, arith}
 use Rattle.std.specs.Prelude.{if◌then◌else◌}
 use Rattle.dns_core.specs.Log.{Log, Extends}
 use Rattle.dns_core.specs.declared.errors.NoMemory.{NoMemory}
 use Rattle.server_core.specs.Order.{entry_of}
 use Rattle.server_core.specs.declared.order.After.{After}
 use Rattle.server_core.specs.declared.order.Outcome.{Outcome}
-use Rattle.server_core.specs.declared.order.Outcome.TheVariants.{Pending, Connected, Told, Failed, Slept}
+use Rattle.server_core.specs.declared.order.Outcome.TheVariants.{Pending}
 use Rattle.server_core.specs.declared.order.Sent.{Sent}
 use Rattle.server_core.specs.declared.order.Tick.{Tick}
 use Rattle.order_carrier.proofs.Growing.{Extends-refl, Extends-trans}
@@ -20,12 +20,7 @@ same-extends told longer is = subst (Extends told) (sym is) (Extends-refl told)
 -- the log goes on from what was told
 goes-extends : (b : Bool) (now : ℕ) (waits : Option Sent) (o : Outcome) (told longer : Log) → LogGoesOnIf b now waits o told longer → Extends told longer
 goes-extends true now (Some s) (Pending entry of) told longer on = on.extends
-goes-extends true now (Some s) (Connected entry sent) told longer on = same-extends told longer on
-goes-extends true now (Some s) (Told entry sent message) told longer on = same-extends told longer on
-goes-extends true now (Some s) (Failed entry sent refused error) told longer on = same-extends told longer on
-goes-extends true now (Some s) Slept told longer on = same-extends told longer on
-goes-extends true now None o told longer on = same-extends told longer on
-goes-extends false now waits o told longer on = same-extends told longer on
+goes-extends _ now _ _ told longer on = same-extends told longer on
 
 -- after the outcome
 pub goes-on : {E : Type 0} (now : ℕ) (waits : Option Sent) (o : Outcome) (result : Result After E) (told longer : Log) → LogGoesOn now waits o result told longer → Extends told longer
@@ -46,12 +41,7 @@ later-put seen tick waits o result longer put =
 -- the last entry that is put is in the log
 last-in : (b : Bool) (now : ℕ) (waits : Option Sent) (o : Outcome) (told longer : Log) → entry_of o < told.next → LogGoesOnIf b now waits o told longer → last_if b waits o < longer.next
 last-in true now (Some s) (Pending entry of) told longer within on = let below = on.logged.below in let fits = on.numbered in omega (arith, below, fits)
-last-in true now (Some s) (Connected entry sent) told longer within on = subst (λ (l : Log). entry < l.next) (sym on) within
-last-in true now (Some s) (Told entry sent message) told longer within on = subst (λ (l : Log). entry < l.next) (sym on) within
-last-in true now (Some s) (Failed entry sent refused error) told longer within on = subst (λ (l : Log). entry < l.next) (sym on) within
-last-in true now (Some s) Slept told longer within on = subst (λ (l : Log). 0 < l.next) (sym on) within
-last-in true now None o told longer within on = subst (λ (l : Log). entry_of o < l.next) (sym on) within
-last-in false now waits o told longer within on = subst (λ (l : Log). entry_of o < l.next) (sym on) within
+last-in _ now _ o told longer within on = subst (λ (l : Log). entry_of o < l.next) (sym on) within
 
 pub last-within : (seen : View) (tick : Tick) (waits : Option Sent) (o : Outcome) (result : Result After NoMemory) (longer : Log)
     → IsPut seen tick waits o result longer → (seen_with seen tick waits o result longer).greatest < longer.next
@@ -65,12 +55,7 @@ last-within seen tick waits o result longer put =
 -- it is no earlier than the outcome's
 last-later : (b : Bool) (now : ℕ) (waits : Option Sent) (o : Outcome) (told longer : Log) → LogGoesOnIf b now waits o told longer → entry_of o ≤ last_if b waits o
 last-later true now (Some s) (Pending entry of) told longer on = let fits = on.numbered in omega (arith, fits)
-last-later true now (Some s) (Connected entry sent) told longer on = omega arith
-last-later true now (Some s) (Told entry sent message) told longer on = omega arith
-last-later true now (Some s) (Failed entry sent refused error) told longer on = omega arith
-last-later true now (Some s) Slept told longer on = omega arith
-last-later true now None o told longer on = omega arith
-last-later false now waits o told longer on = omega arith
+last-later _ now _ _ told longer on = omega arith
 
 pub put-later : (seen : View) (tick : Tick) (waits : Option Sent) (o : Outcome) (result : Result After NoMemory) (longer : Log)
     → IsPut seen tick waits o result longer → entry_of o ≤ last_entry result waits o

@@ -48,8 +48,8 @@ use Rattle.walk_tables.specs.declared.pools.Given.{Given}
 use Rattle.walk_tables.specs.declared.pools.Pools.{Pools}
 use Rattle.walk_tables.specs.declared.pools.Sought.{Sought}
 use Rattle.walk_tables.proofs.Later.{serves-on, for-on, began-kept, pools-later}
-use Rattle.walk_tables.proofs.Pooling.{config-same}
-use Rattle.walk_tables.proofs.Giving.{known-still, pools-given}
+use Rattle.walk_tables.proofs.Pooling.{config-same, pools-given}
+use Rattle.walk_tables.proofs.Giving.{known-still}
 use Rattle.walk_tables.proofs.Sends.{outcome-extend, waits-extend_by}
 use Rattle.walk_tables.proofs.Ends.{IsEndedBy, done-so, ended-by, ended-last}
 use Rattle.retry_lookup.proofs.Taken.{open_did, heard_none, heard_some, keeps, kept_open, kept_has, heard_sleep, rests_under, rests_has}
@@ -113,7 +113,7 @@ module _ (seen : View) (last : ℕ) (told longer : Log) (x : Extends seen.log to
       → SameEnds (at_address h.ip_of) (class_of_sent s.query) (class_of_answer s.query) (ends_of heard) ends
       → Tried next s.zone s.query h.ips s.start first (entries_of heard) ends at
       → IfSome given (λ g. GivenHolds next new n s.zone come.servers come g g.aim)
-      → SoughtHolds next new n (record s { given = given; first = first; at = at })
+      → SoughtHolds next new n (record s { given = given; first = first; at = at; came = None })
   come-holds heard is ends given first at beside tried gave =
       let past = h.past in
       record {
@@ -136,6 +136,7 @@ module _ (seen : View) (last : ℕ) (told longer : Log) (x : Extends seen.log to
         beside = beside;
         tried = tried;
         given = gave;
+        came = tt;
       }
 
   -- ---- of a send
@@ -248,13 +249,11 @@ module _ (seen : View) (last : ℕ) (told longer : Log) (x : Extends seen.log to
     module _ (as-given : IsSentTo next new n s.zone come.servers come again asks ip → GivenHolds next new n s.zone come.servers come again again.aim) where
       given-still : (d : After) → did ≡ d → IfSome (given_after again d) (λ k. GivenHolds next new n s.zone come.servers come k k.aim)
       given-still after.Kept is = as-given (sent-still is)
-      given-still after.GiveUp is = tt
-      given-still after.Ended is = tt
-      given-still after.Late is = tt
+      given-still _ is = tt
 
       -- by whether the send ended
       taken-by : (result : Option Answered) → end_by tick.patience o sent.open_to.attempt ≡ result
-          → SoughtHolds next new n (record s { given = given_after again did; first = either s.first (sent_to w o); at = elim result [ None ↦ s.at | Some r ↦ tick.now ] })
+          → SoughtHolds next new n (record s { given = given_after again did; first = either s.first (sent_to w o); at = elim result [ None ↦ s.at | Some r ↦ tick.now ]; came = None })
       taken-by None is =
           come-holds h.heard (heard_none denied tick number o h.heard l c asks sent.open_to is) h.ends (given_after again did) (either s.first (sent_to w o)) s.at h.beside
           (tried-on seen next ahead s.zone s.query h.ips s.start s.first (sent_to w o) ns h.ends s.at h.tried first-began) (given-still did refl)
@@ -284,7 +283,7 @@ module _ (seen : View) (last : ℕ) (told longer : Log) (x : Extends seen.log to
 
       -- What is sought after the outcome.
       pub taken-holds : SoughtHolds next new n
-          (record s { given = given_after again did; first = either s.first (sent_to w o); at = elim (end_by tick.patience o sent.open_to.attempt) [ None ↦ s.at | Some r ↦ tick.now ] })
+          (record s { given = given_after again did; first = either s.first (sent_to w o); at = elim (end_by tick.patience o sent.open_to.attempt) [ None ↦ s.at | Some r ↦ tick.now ]; came = None })
       taken-holds = taken-by (end_by tick.patience o sent.open_to.attempt) refl
 
   -- ---- of a sleep
@@ -303,11 +302,9 @@ module _ (seen : View) (last : ℕ) (told longer : Log) (x : Extends seen.log to
 
     rested-by : (d : After) → did ≡ d → IfSome (given_after rested d) (λ k. GivenHolds next new n s.zone come.servers come k k.aim)
     rested-by after.Kept is = resting is
-    rested-by after.GiveUp is = tt
-    rested-by after.Ended is = tt
-    rested-by after.Late is = tt
+    rested-by _ is = tt
 
-    pub slept-holds : SoughtHolds next new n (record s { given = given_after rested did; first = either s.first None; at = s.at })
+    pub slept-holds : SoughtHolds next new n (record s { given = given_after rested did; first = either s.first None; at = s.at; came = None })
     slept-holds =
         come-holds h.heard (heard_sleep denied tick g.number o h.heard l under) h.ends (given_after rested did) (either s.first None) s.at h.beside
         (tried-on seen next ahead s.zone s.query h.ips s.start s.first None (entries_of h.heard) h.ends s.at h.tried (λ none known. tt)) (rested-by did refl)

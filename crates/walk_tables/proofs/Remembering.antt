@@ -18,7 +18,7 @@ use Rattle.resolution.specs.Verdict.{verdict_of_told}
 use Rattle.resolution.specs.Life.{life_in_seconds}
 use Rattle.resolution.specs.declared.verdict.Verdict.{Verdict}
 use Rattle.resolution.specs.declared.verdict.Verdict.TheVariants.{Pos, Neg, Made}
-use Rattle.resolution.specs.declared.verdict.Cause.TheVariants.{Filter, Zone}
+use Rattle.resolution.specs.declared.verdict.Cause.TheVariants.{Filter}
 use Rattle.dns_core.specs.declared.net_error.NoRecords.{NoRecords}
 use Rattle.dns_core.specs.declared.net_error.NetError.TheVariants as net
 use Rattle.dns_core.specs.declared.net_error.DnsError.TheVariants as dns
@@ -43,16 +43,12 @@ pub record TellingHolds (seen : View) (t : Telling) : Type 0 where
 same-life : (setting : Setting) (q : Query) (v whole : Verdict) (response : Result Message NetError) → IsShown q v whole → kept_of v ≡ Some response
     → life_of setting.lives q.query_type response ≡ life_in_seconds (given_of setting) q.query_type whole
 same-life setting q (Pos k) (Pos l) response shown h = sym (ap (λ (m : Message). life_in_seconds (given_of setting) q.query_type (Pos m)) (sym shown) ∙ ap (life_of setting.lives q.query_type) (same_Some _ _ h))
-same-life setting q (Pos k) (Neg n) response shown h = absurd shown
-same-life setting q (Pos k) (Made Filter) response shown h = absurd shown
-same-life setting q (Pos k) (Made Zone) response shown h = absurd shown
-same-life setting q (Neg n) (Pos k) response shown h = absurd shown
 same-life setting q (Neg n) (Neg m) response shown h = sym (ap (λ (d : NoRecords). life_in_seconds (given_of setting) q.query_type (Neg d)) (sym shown) ∙ ap (life_of setting.lives q.query_type) (same_Some _ _ h))
 same-life setting q (Neg n) (Made Filter) response shown h =
     sym (ap (life_of setting.lives q.query_type) (same_Some _ _ h))
     ∙ ap (λ (d : NoRecords). life_of setting.lives q.query_type (Err (net.Dns (dns.NoRecordsFound d)))) shown
-same-life setting q (Neg n) (Made Zone) response shown h = absurd shown
 same-life setting q (Made cause) whole response shown h = cc
+same-life setting q _ _ response shown h = absurd shown
 
 module _ (seen : View) (cache : Cached) (t : Telling) (holds : CacheHolds seen cache)
     (told : TellingHolds seen t) where

@@ -158,9 +158,5 @@ outcome-extend old new x now outcome.Slept h = tt
 
 -- and a poll is in it
 pub waits-extend_by : (old new : Log) → Extends old new → (w : Option Sent) (o : Outcome) → WaitsBy old w o → WaitsBy new w o
-waits-extend_by old new x None o h = tt
 waits-extend_by old new x (Some s) (outcome.Pending entry of) h = λ is. closes-extend old new x s entry (line.Waited of) (h is)
-waits-extend_by old new x (Some s) (outcome.Connected entry sent) h = tt
-waits-extend_by old new x (Some s) (outcome.Told entry sent message) h = tt
-waits-extend_by old new x (Some s) (outcome.Failed entry sent refused error) h = tt
-waits-extend_by old new x (Some s) outcome.Slept h = tt
+waits-extend_by old new x _ _ h = tt

@@ -1,15 +1,19 @@
 -- What an outcome leaves of the pools and of the cache.
-use Rattle.std.proofs.Common.{◌≡◌, ℕ, Bool, true, false, List, Option, Some, None, Result, Ok, Err, OnOk, OnErr, refl, sym, ap, subst, ◌∙◌, arith}
+use Rattle.std.proofs.Common.{◌≡◌, ℕ, Bool, true, false, List, Option, Some, None, IfSome, Result, Ok, Err, refl, sym, ap, subst, ◌∙◌, arith}
 use Rattle.std.specs.Prelude.{length, nat_lt, unwrap_or, if◌then◌else◌, option_and_then}
 use Rattle.std.specs.Option.{option_map}
-use Rattle.std.proofs.lemmas.Option.{same_Some}
+use Rattle.std.proofs.lemmas.Bool.{false_from_ne_true}
+use Rattle.std.proofs.lemmas.Option.{same_Some, none-some}
 use Rattle.std.specs.declared.net.ip_addr.IpAddr.{IpAddr}
 use Rattle.dns_core.specs.Name.{DomainName}
-use Rattle.dns_core.specs.declared.errors.NoMemory.{NoMemory}
 use Rattle.dns_core.specs.declared.message.Query.{Query}
+use Rattle.dns_core.specs.declared.message.Message.{Message}
+use Rattle.dns_core.specs.declared.net_error.DnsError.{DnsError}
+use Rattle.dns_core.specs.declared.net_error.NetError.{NetError}
 use Rattle.dns_core.specs.declared.net_error.NetError.TheVariants as net
 use Rattle.resolver_cache.specs.Cached.{Cached}
 use Rattle.resolution.specs.Lookups.{Answered}
+use Rattle.resolution.specs.declared.verdict.Verdict.{Verdict}
 use Rattle.resolution.specs.Walking.{Walked}
 use Rattle.server_core.specs.declared.order.After.{After}
 use Rattle.server_core.specs.declared.order.Outcome.{Outcome}
@@ -22,17 +26,19 @@ use Rattle.server_pool.specs.Shared.{Shared, lookup_at}
 use Rattle.server_pool.specs.Stepping.{HasPut}
 use Rattle.server_pool.specs.declared.open_lookup.OpenLookup.{OpenLookup}
 use Rattle.server_pool.proofs.Listed.{opened}
-use Rattle.walk_tables.specs.Lookup.{last_of, answered_by, AskHolds}
-use Rattle.walk_tables.specs.Pools.{IsGivenFor, NotesOutcome, PoolsHold, Seeks, sought_at, noted, given_after}
-use Rattle.walk_tables.specs.Remembered.{CacheHolds, Telling, telling, remembered}
-use Rattle.walk_tables.specs.Taking.{answer_at, telling_by, telling_at, has_more_ends, Took}
+use Rattle.walk_base.specs.Kept.{kept_of}
+use Rattle.walk_base.proofs.NotKept.{not-kept}
+use Rattle.walk_tables.specs.Lookup.{last_of, classified, ComesTo, HasCome}
+use Rattle.walk_tables.specs.Pools.{IsGivenFor, NotesOutcome, HasNoted, PoolsHold, sought_at, noted, with_came, given_after}
+use Rattle.walk_tables.specs.Remembered.{CacheHolds, Telling, telling, with_response, remembered}
+use Rattle.walk_tables.specs.Taking.{answer_at, telling_by, telling_at, has_more_ends, Took, Comes, ComesBy, with_found, with_sought}
 use Rattle.walk_tables.specs.View.{View, given_of}
-use Rattle.walk_tables.specs.declared.lookup.Ask.{Ask}
-use Rattle.walk_tables.specs.declared.lookup.Ask.TheVariants as ask
+use Rattle.walk_tables.specs.declared.lookup.Found.{Found}
+use Rattle.walk_tables.specs.declared.lookup.Found.TheVariants as found
 use Rattle.walk_tables.specs.declared.pools.Given.{Given}
 use Rattle.walk_tables.specs.declared.pools.Pools.{Pools}
 use Rattle.walk_tables.specs.declared.pools.Sought.{Sought}
-use Rattle.walk_tables.proofs.Answering.{answer-holds}
+use Rattle.walk_tables.proofs.Answering.{ClassHolds, class-holds}
 use Rattle.walk_tables.proofs.Remembering.{TellingHolds, remembered-holds}
 
 -- ---- what was taken
@@ -66,43 +72,44 @@ took-by old mid new n g w o tick again first before did given open_there sought 
       at = at-more note.ended (has_more_ends old.shared new.shared n) tick.now given.sought.at ended;
     }
 
+-- So it has, with what it came to.
+pub took-came : (first old new : Pools) (n number : ℕ) (o : Outcome) (tick : Tick) (did : After) (came : Option Found) → HasNoted n (with_came came) old new
+    → Took first old n number o tick did → Took first new n number o tick did
+took-came first old new n number o tick did came note took = record {
+  lookup = took.lookup;
+  opens = took.opens;
+  put = subst (λ (shared : Shared). HasPut number n took.lookup o tick first.shared (Ok did) shared) (sym note.same.shared) took.put;
+  before = took.before;
+  was = took.was;
+  after = with_came came took.after;
+  is = note.is ∙ ap (option_map (with_came came)) took.is;
+  still = took.still;
+  at = took.at ∙ sym (ap (λ (shared : Shared). if has_more_ends first.shared shared n then tick.now else took.before.at) note.same.shared);
+}
+
 -- ---- what is written
 
 -- what a lookup was told
-ask-tells : (seen : View) (t0 : ℕ) (zone : DomainName) (q : Query) (g : List ℕ) (a : Ask) (t : Telling)
-    → Walked (given_of seen.setting) seen.log q zone → telling zone q a ≡ Some t → AskHolds seen t0 zone q g a → TellingHolds seen t
-ask-tells seen t0 zone q g ask.Fresh t walked is h = cc
-ask-tells seen t0 zone q g ask.Ready t walked is h = cc
-ask-tells seen t0 zone q g (ask.Under u) t walked is h = cc
-ask-tells seen t0 zone q g (ask.Failed error) t walked is h = cc
-ask-tells seen t0 zone q g ask.Heard t walked is h = cc
-ask-tells seen t0 zone q g (ask.Told entry at class) t walked is h =
+class-tells : (seen : View) (t0 : ℕ) (zone : DomainName) (q : Query) (g : List ℕ) (at : ℕ) (class : Result (Result Message DnsError) NetError) (t : Telling)
+    → Walked (given_of seen.setting) seen.log q zone → telling zone q (last_of g) at class ≡ Some t → ClassHolds seen t0 zone q g at class → TellingHolds seen t
+class-tells seen t0 zone q g at (Err error) t walked is h = cc
+class-tells seen t0 zone q g at (Ok class) t walked is h =
     subst (TellingHolds seen) (same_Some _ _ is) (record { t0 = t0; told = h; walked = walked })
 
--- want of memory is no response
-memory-tells : (zone : DomainName) (q : Query) (entry at : ℕ) (told : Answered) (t : Telling) → telling zone q (answered_by entry at told) ≡ Some t → out_of_memory told ≡ false
-memory-tells zone q entry at (Ok m) t is = refl
-memory-tells zone q entry at (Err net.NoMemory) t is = cc
-memory-tells zone q entry at (Err net.Busy) t is = refl
-memory-tells zone q entry at (Err (net.Io kind)) t is = refl
-memory-tells zone q entry at (Err net.Timeout) t is = refl
-memory-tells zone q entry at (Err net.NoConnections) t is = refl
-memory-tells zone q entry at (Err net.Truncated) t is = refl
-memory-tells zone q entry at (Err net.QueryCaseMismatch) t is = refl
-memory-tells zone q entry at (Err (net.ForeignClassRecord name dns_class record_type)) t is = refl
-memory-tells zone q entry at (Err (net.Dns e)) t is = refl
-memory-tells zone q entry at (Err (net.Msg text)) t is = refl
+-- want of memory tells no response
+pub memory-none : (zone : DomainName) (q : Query) (entry at : ℕ) (told : Answered) → out_of_memory told ≡ true → telling zone q entry at (classified told) ≡ None
+memory-none zone q entry at (Err net.NoMemory) out = refl
+memory-none zone q entry at _ out = cc
 
 module _ (seen : View) (pools : Pools) (n : ℕ) (h : PoolsHold seen pools) where
   sought-tells : (s : Sought) → sought_at pools n ≡ Some s → (told : Option Answered) → answer_at pools.shared n ≡ told → (t : Telling)
-      → option_and_then (λ told. telling s.zone s.query (answered_by (last_of (closed_by (lookup_at pools.shared n))) s.at told)) told ≡ Some t → TellingHolds seen t
+      → option_and_then (λ told. telling s.zone s.query (last_of (closed_by (lookup_at pools.shared n))) s.at (classified told)) told ≡ Some t → TellingHolds seen t
   sought-tells s there None answers t is = cc
   sought-tells s there (Some told) answers t is =
       let ends = closed_by (lookup_at pools.shared n) in
-      let kept = memory-tells s.zone s.query (last_of ends) s.at told t is in
-      let seeks : Seeks pools n s.query s.zone s.start s.at = record { sought = s; is = there; query = refl; zone_is = refl; since = omega arith; last = refl } in
-      ask-tells seen s.start s.zone s.query ends (answered_by (last_of ends) s.at told) t (h.lookups n s there).served.walked is
-      (answer-holds seen pools n s.query s.zone s.start s.at told ends h seeks (sym answers) kept refl)
+      let kept = false_from_ne_true (out_of_memory told) (λ out. none-some t (sym (memory-none s.zone s.query (last_of ends) s.at told out) ∙ is)) in
+      class-tells seen s.start s.zone s.query ends s.at (classified told) t (h.lookups n s there).served.walked is
+      (class-holds seen pools n s s.start told h there (omega arith) answers kept)
 
   by-sought : (o : Option Sought) → sought_at pools n ≡ o → (t : Telling) → option_and_then (telling_by pools.shared n) o ≡ Some t → TellingHolds seen t
   by-sought None there t is = cc
@@ -112,13 +119,51 @@ module _ (seen : View) (pools : Pools) (n : ℕ) (h : PoolsHold seen pools) wher
   pub tells-holds : (t : Telling) → telling_at pools n ≡ Some t → TellingHolds seen t
   tells-holds t is = by-sought (sought_at pools n) refl t is
 
-  -- the cache with what a lookup came to
-  told-kept : (cache : Cached) (o : Option Telling) → telling_at pools n ≡ o → CacheHolds seen cache → CacheHolds seen (remembered cache o)
+  -- The cache with what a lookup came to.
+  pub told-kept : (cache : Cached) (o : Option Telling) → telling_at pools n ≡ o → CacheHolds seen cache → CacheHolds seen (remembered cache o)
   told-kept cache None is holds = holds
   told-kept cache (Some t) is holds = remembered-holds seen cache t holds (tells-holds t is)
 
-  -- the same where memory may want
-  pub remembered-kept : (old new : Cached) (result : Result (Unit {0}) NoMemory) → OnOk result (new ≡ remembered old (telling_at pools n)) → OnErr result (new ≡ old)
-      → CacheHolds seen old → CacheHolds seen new
-  remembered-kept old new (Ok x) ok err holds = subst (CacheHolds seen) (sym ok) (told-kept old (telling_at pools n) refl holds)
-  remembered-kept old new (Err e) ok err holds = subst (CacheHolds seen) (sym err) holds
+-- ---- what it comes to
+
+-- what is known of it holds
+pub comes-has : (pools : Pools) (n : ℕ) (came : Option Found) → Comes pools n came → (s : Sought) → sought_at pools n ≡ Some s → IfSome came (HasCome s.zone s.query (lookup_at pools.shared n))
+comes-has pools n None comes s is = tt
+comes-has pools n (Some came) comes s is = subst (λ (o : Option Sought). IfSome o (ComesBy pools.shared n (Some came))) is comes
+
+-- what it tells does not rest on what is known of it
+telling-came : (shared : Shared) (n : ℕ) (came : Option Found) (o : Option Sought) → option_and_then (telling_by shared n) (option_map (with_came came) o) ≡ option_and_then (telling_by shared n) o
+telling-came shared n came None = refl
+telling-came shared n came (Some s) = refl
+
+pub telling-noted : (n : ℕ) (came : Option Found) (old new : Pools) → HasNoted n (with_came came) old new → telling_at old n ≡ telling_at new n
+telling-noted n came old new note =
+    sym (rw (note.is, note.same.shared) (telling-came old.shared n came (sought_at old n)))
+
+-- what is written of it is what it tells
+found-writes : (cache : Cached) (s : Sought) (entry : ℕ) (class : Result (Result Message DnsError) NetError) (came : Found)
+    → ComesTo s.zone s.query entry class came → with_found cache (Some came) s ≡ remembered cache (telling s.zone s.query entry s.at class)
+found-writes cache s entry (Ok class) (found.Told told (Ok v)) comes =
+    ap (λ (k : ℕ). with_response cache s.query k s.at (kept_of v)) comes.0
+    ∙ sym (ap (λ (o : Option Verdict). with_response cache s.query entry s.at (option_and_then kept_of o)) comes.1)
+found-writes cache s entry (Ok class) (found.Told told (Err e)) comes = ap (with_response cache s.query entry s.at) (not-kept s.query class s.zone e comes.1)
+found-writes cache s entry (Err error) (found.Error failed) comes = refl
+found-writes cache s entry _ _ comes = absurd comes
+
+pub comes-writes : (cache : Cached) (shared : Shared) (n : ℕ) (came : Option Found) (o : Option Sought)
+    → IfSome o (ComesBy shared n came) → with_sought cache o came ≡ remembered cache (option_and_then (telling_by shared n) o)
+comes-writes cache shared n came None comes = refl
+comes-writes cache shared n None (Some s) comes = sym (ap (remembered cache) comes)
+comes-writes cache shared n (Some came) (Some s) has =
+    let entry = last_of (closed_by (lookup_at shared n)) in
+    found-writes cache s entry (classified has.told) came has.comes
+    ∙ sym (ap (λ (o : Option Answered). remembered cache (option_and_then (λ told. telling s.zone s.query entry s.at (classified told)) o)) has.answered)
+
+-- what is kept of one is what it comes to, also where it is taken
+pub kept-comes : (seen : View) (old new : Pools) (n : ℕ) (came : Found) → PoolsHold seen old → HasNoted n (with_came None) old new
+    → Some came ≡ option_and_then (λ (s : Sought). s.came) (sought_at old n) → Comes new n (Some came)
+kept-comes seen old new n came h note kept = rw (note.is, note.same.shared) (by (sought_at old n) refl kept)
+  where
+    by : (o : Option Sought) → sought_at old n ≡ o → Some came ≡ option_and_then (λ (s : Sought). s.came) o → IfSome (option_map (with_came None) o) (ComesBy old.shared n (Some came))
+    by None is kept = tt
+    by (Some s) is kept = subst (λ (o : Option Found). IfSome o (HasCome s.zone s.query (lookup_at old.shared n))) (sym kept) (h.lookups n s is).came

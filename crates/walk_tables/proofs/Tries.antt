@@ -130,5 +130,4 @@ tried-on seen next later zone q ips start first other g ends at tried here =
     by : (g : List ℕ) (ends : List (End IpAddr)) → (g ≡ [] → IfSome first (λ to. BeganBy next.log q to next.greatest start) → IfSome other (λ to. BeganBy next.log q to next.greatest start))
         → Began next.log q next.greatest first g ends start → Began next.log q next.greatest (either first other) g ends start
     by [] ends more b = first-known next.log q start next.greatest next.greatest first other (omega arith) b (more refl b)
-    by (n ∷ g) [] more b = b
-    by (n ∷ g) (e ∷ ends) more b = b
+    by (n ∷ g) _ more b = b

@@ -1,5 +1,5 @@
 -- Where a lookup stands, how many steps it has before it, and what it came to.
-use Rattle.std.specs.Prelude.{◌≡◌, ℕ, ◌≤◌, ◌<◌, Bool, true, false, IsTrue, List, Option, Some, None, Result, Ok, Err}
+use Rattle.std.specs.Prelude.{◌≡◌, ℕ, ◌≤◌, ◌<◌, Bool, true, false, IsTrue, List, Option, Some, None, Result, Ok, Err, option_and_then}
 use Rattle.std.specs.List.{last_or}
 use Rattle.dns_core.specs.Name.{DomainName}
 use Rattle.dns_core.specs.declared.message.Query.{Query}
@@ -8,14 +8,21 @@ use Rattle.dns_core.specs.declared.net_error.DnsError.{DnsError}
 use Rattle.dns_core.specs.declared.log.ToldOutcome.{ToldOutcome}
 use Rattle.resolver_settings.specs.Access.{denies}
 use Rattle.resolution.specs.Names.{is_above, walk}
-use Rattle.resolution.specs.Class.{class_of}
+use Rattle.resolution.specs.Class.{class_of, class_of_classified}
+use Rattle.resolution.specs.Given.{allows_all}
+use Rattle.resolution.specs.Verdict.{verdict_of_told}
 use Rattle.resolution.specs.Serving.{Heard}
 use Rattle.resolution.specs.declared.class.Class.{Class}
-use Rattle.resolution.specs.declared.class.Class.TheVariants.{Error}
+use Rattle.resolution.specs.declared.verdict.Verdict.{Verdict}
 use Rattle.dns_core.specs.declared.net_error.NetError.{NetError}
 use Rattle.dns_core.specs.declared.net_error.NetError.TheVariants as net
 use Rattle.dns_core.specs.declared.net_error.DnsError.TheVariants as dns
 use Rattle.resolution.specs.Lookups.{Answered}
+use Rattle.retry_lookup.specs.Asked.{answer_of}
+use Rattle.retry_lookup.specs.Holds.{out_of_memory}
+use Rattle.server_pool.specs.Lookups.{closed_by}
+use Rattle.server_pool.specs.declared.open_lookup.OpenLookup.{OpenLookup}
+use Rattle.walk_base.specs.Response.{error_of}
 use Rattle.walk_base.specs.Shown.{left_of_class}
 use Rattle.walk_tables.specs.Asked.{AskedAs}
 use Rattle.walk_tables.specs.View.{View, given_of}
@@ -35,31 +42,29 @@ abbrev pub want_of : Ask → Want
 want_of ask.Fresh = Recall
 want_of ask.Ready = Begin
 want_of (ask.Under under) = Step
-want_of (ask.Told entry at class) = Hear
-want_of (ask.Failed error) = Hear
+want_of (ask.Came came) = Hear
 want_of ask.Heard = Step
 
 -- the last of the entries, 0 where there is none
 abbrev pub last_of : List ℕ → ℕ
 last_of g = elim (last_or None g) [ Some entry ↦ entry | None ↦ 0 ]
 
--- where a lookup stands that failed, whose last end was by an entry, at a moment: a denial is told by it
-abbrev pub failed_by : ℕ → ℕ → NetError → Ask
-failed_by entry at (net.Dns (dns.NoRecordsFound found)) = ask.Told entry at (Err (dns.NoRecordsFound found))
-failed_by entry at error = ask.Failed error
+-- of which class an error is that a lookup was answered with: a denial was told, else it failed
+abbrev pub class_of_failure : NetError → Result (Result Response DnsError) NetError
+class_of_failure (net.Dns (dns.NoRecordsFound found)) = Ok (Err (dns.NoRecordsFound found))
+class_of_failure error = Err error
 
--- where one stands that was answered so
-abbrev pub answered_by : ℕ → ℕ → Answered → Ask
-answered_by entry at (Ok message) = ask.Told entry at (Ok message)
-answered_by entry at (Err error) = failed_by entry at error
+-- of which class an answer is
+abbrev pub classified : Answered → Result (Result Response DnsError) NetError
+classified (Ok message) = Ok (Ok message)
+classified (Err error) = class_of_failure error
 
 -- how many steps it has before it, beside those by which it gives orders and waits for them
 abbrev pub ask_steps : Ask → ℕ
 ask_steps ask.Fresh = 4
 ask_steps ask.Ready = 3
 ask_steps (ask.Under under) = 2
-ask_steps (ask.Told entry at class) = 1
-ask_steps (ask.Failed error) = 1
+ask_steps (ask.Came came) = 1
 ask_steps ask.Heard = 0
 
 abbrev pub steps : Lookup → ℕ
@@ -78,8 +83,7 @@ abbrev pub found_in : Ask → Option Found
 found_in ask.Fresh = None
 found_in ask.Ready = None
 found_in (ask.Under under) = None
-found_in (ask.Told entry at class) = Some (found.Told entry at class)
-found_in (ask.Failed error) = Some (found.Error error)
+found_in (ask.Came came) = Some came
 found_in ask.Heard = None
 
 -- what a failed lookup is answered with: another server is asked where one is busy or not reached
@@ -101,30 +105,57 @@ pub record IsTold (seen : View) (t0 : ℕ) (zone : DomainName) (q : Query) (entr
   pub is : class_of outcome q ≡ Some response
   pub left : left_of_class (denies seen.setting.answer_filter) q response ≡ Some class
 
+-- as what a classified message counts for its question, told by a server of the zone: a verdict, or the error that it is
+abbrev pub CountsAs : DomainName → Query → Result Response DnsError → Result Verdict NetError → Type 0
+CountsAs zone q class (Ok v) = verdict_of_told allows_all (Some (class_of_classified q class)) zone ≡ Some v
+CountsAs zone q class (Err e) = error_of (class_of_classified q class) ≡ Some e
+
+-- So it was told, and counts as this.
+pub record IsToldAs (seen : View) (t0 : ℕ) (zone : DomainName) (q : Query) (entry : ℕ) (verdict : Result Verdict NetError) : Type 0 where
+  pub at : ℕ
+  pub class : Result Response DnsError
+  pub told : IsTold seen t0 zone q entry at class
+  pub counts : CountsAs zone q class verdict
+
 -- A lookup failed with the error, which is none of a server that is busy or not reached, and no denial.
 pub record HasFailedBy (seen : View) (t0 : ℕ) (zone : DomainName) (q : Query) (g : List ℕ) (error : NetError) : Type 0 where
   pub is : IsTrue (is_lookup_error error)
   pub concluded : Concluded seen t0 zone q g (Err error)
+
+-- A response was told by a server of the zone; or the lookup failed by these entries.
+abbrev pub FoundHolds : View → ℕ → DomainName → Query → List ℕ → Found → Type 0
+FoundHolds seen t0 zone q g (found.Told entry verdict) = IsToldAs seen t0 zone q entry verdict
+FoundHolds seen t0 zone q g (found.Error error) = HasFailedBy seen t0 zone q g error
 
 -- Nothing is known here of a lookup before it was answered: what its pool does for it is known of the pool.
 abbrev pub AskHolds : View → ℕ → DomainName → Query → List ℕ → Ask → Type 0
 AskHolds seen t0 zone q g ask.Fresh = Unit {0}
 AskHolds seen t0 zone q g ask.Ready = Unit {0}
 AskHolds seen t0 zone q g (ask.Under under) = Unit {0}
-AskHolds seen t0 zone q g (ask.Told entry at class) = IsTold seen t0 zone q entry at class
-AskHolds seen t0 zone q g (ask.Failed error) = HasFailedBy seen t0 zone q g error
+AskHolds seen t0 zone q g (ask.Came came) = FoundHolds seen t0 zone q g came
 AskHolds seen t0 zone q g ask.Heard = Unit {0}
 
 -- what a lookup came to at its pool
 abbrev pub AnswerHolds : View → ℕ → DomainName → Query → Answer → Type 0
-AnswerHolds seen t0 zone q a = AskHolds seen t0 zone q a.ends (answered_by (last_of a.ends) a.at a.told)
+AnswerHolds seen t0 zone q a = FoundHolds seen t0 zone q a.ends a.came
 
 -- The zone is at or above the name of the question.
 pub record LookupHolds (seen : View) (t0 : ℕ) (zone : DomainName) (l : Lookup) : Type 0 where
   pub above : IsTrue (is_above zone (walk l.query))
   pub ask : AskHolds seen t0 zone l.query l.ends l.ask
 
--- A response was told by a server of the zone; or the lookup failed by these entries.
-abbrev pub FoundHolds : View → ℕ → DomainName → Query → List ℕ → Found → Type 0
-FoundHolds seen t0 zone q g (found.Told entry at class) = IsTold seen t0 zone q entry at class
-FoundHolds seen t0 zone q g (found.Error error) = HasFailedBy seen t0 zone q g error
+-- ---- by what it was answered
+
+-- What a lookup comes to that the entry answers so, classified, for a question at servers of a zone.
+abbrev pub ComesTo : DomainName → Query → ℕ → Result (Result Response DnsError) NetError → Found → Type 0
+ComesTo zone q entry (Ok class) (found.Told told verdict) = (told ≡ entry) × CountsAs zone q class verdict
+ComesTo zone q entry (Ok class) (found.Error error) = ⊥
+ComesTo zone q entry (Err error) (found.Told told verdict) = ⊥
+ComesTo zone q entry (Err error) (found.Error failed) = failed ≡ error
+
+-- It came to this by its answer, for which memory sufficed.
+pub record HasCome (zone : DomainName) (q : Query) (l : Option OpenLookup) (came : Found) : Type 0 where
+  pub told : Answered
+  pub answered : option_and_then (λ (l : OpenLookup). answer_of l.lookup) l ≡ Some told
+  pub enough : out_of_memory told ≡ false
+  pub comes : ComesTo zone q (last_of (closed_by l)) (classified told) came

@@ -44,6 +44,8 @@ use Rattle.server_pool.specs.declared.open_lookup.OpenLookup.{OpenLookup}
 use Rattle.recursor_setting.specs.declared.setting.Setting.{Setting}
 use Rattle.walk_tables.specs.View.{View, given_of}
 use Rattle.walk_tables.specs.Tried.{Tried}
+use Rattle.walk_tables.specs.Lookup.{HasCome}
+use Rattle.walk_tables.specs.declared.lookup.Found.{Found}
 use Rattle.walk_tables.specs.declared.pools.Aim.{Aim}
 use Rattle.walk_tables.specs.declared.pools.Aim.TheVariants as aim
 use Rattle.walk_tables.specs.declared.pools.Given.{Given}
@@ -155,6 +157,7 @@ pub record SoughtHolds (seen : View) (pools : Pools) (n : ℕ) (s : Sought) : Ty
   pub beside : SameEnds (at_address ip_of) (class_of_sent s.query) (class_of_answer s.query) (ends_of heard) ends
   pub tried : Tried seen s.zone s.query ips s.start s.first (entries_of heard) ends s.at
   pub given : IfSome s.given (λ g. GivenHolds seen pools n s.zone shared_by.lookup.servers shared_by.lookup g g.aim)
+  pub came : IfSome s.came (HasCome s.zone s.query (lookup_at pools.shared n))
 
 -- It has one of so many numbers, and is at a pool of one of so many.
 pub record IsNumbered (sent pools n : ℕ) (l : OpenLookup) : Type 0 where
@@ -271,9 +274,13 @@ abbrev pub either : Option IpAddr → Option IpAddr → Option IpAddr
 either None other = other
 either (Some ip) other = Some ip
 
--- with this open order, and this first address and last moment, where they are other ones
+-- with this open order, and this first address and last moment, where they are other ones; what it comes to is not known yet
 abbrev pub noted : Option Given → Option IpAddr → Option ℕ → Sought → Sought
-noted given first at s = record s { given = given; first = either s.first first; at = unwrap_or at s.at }
+noted given first at s = record s { given = given; first = either s.first first; at = unwrap_or at s.at; came = None }
+
+-- with what it came to
+abbrev pub with_came : Option Found → Sought → Sought
+with_came came s = record s { came = came }
 
 -- what an order does
 abbrev pub aim_of : Order → Aim
@@ -352,14 +359,13 @@ pub record NotesOutcome (n : ℕ) (g : Given) (first : Option IpAddr) (before : 
   pub more : ended ≡ nat_lt before (length (closed_by (lookup_at old.shared n)))
   pub noted : HasNoted n (noted (given_after g did) first (if ended then Some now else None)) old new
 
--- The lookup is for the question at servers of the zone, since no earlier than the moment; its last end was at the other.
-pub record Seeks (pools : Pools) (n : ℕ) (q : Query) (zone : DomainName) (begun at : ℕ) : Type 0 where
+-- The lookup is for the question at servers of the zone, since no earlier than the moment.
+pub record Seeks (pools : Pools) (n : ℕ) (q : Query) (zone : DomainName) (begun : ℕ) : Type 0 where
   pub sought : Sought
   pub is : sought_at pools n ≡ Some sought
   pub query : sought.query ≡ q
   pub zone_is : sought.zone ≡ zone
   pub since : begun ≤ sought.start
-  pub last : sought.at ≡ at
 
 -- A step at the moment that has come, no entry after the one that was put last.
 pub record IsStepAt (seen : View) (since : ℕ) (tick : Tick) : Type 0 where

@@ -1,5 +1,5 @@
 -- What is kept of finished lookups in the cache of responses (RFC 1034 section 5.3.3, step 4).
-use Rattle.std.specs.Prelude.{◌≡◌, ℕ, ◌+◌, ◌*◌, ◌≤◌, ◌==◌, Option, Some, None, Result, All, IsSomeAnd}
+use Rattle.std.specs.Prelude.{◌≡◌, ℕ, ◌+◌, ◌*◌, ◌≤◌, ◌==◌, Option, Some, None, Result, Ok, Err, All, IsSomeAnd}
 use Rattle.dns_core.specs.Name.{DomainName}
 use Rattle.dns_core.specs.declared.message.Query.{Query}
 use Rattle.dns_core.specs.declared.message.Message.{Message}
@@ -18,8 +18,6 @@ use Rattle.walk_base.specs.Kept.{kept_of, response_in}
 use Rattle.walk_base.specs.Shown.{IsShown}
 use Rattle.walk_tables.specs.Asked.{AskedAs}
 use Rattle.walk_tables.specs.View.{View, given_of}
-use Rattle.walk_tables.specs.declared.lookup.Ask.{Ask}
-use Rattle.walk_tables.specs.declared.lookup.Ask.TheVariants as ask
 
 -- ---- what holds of the cache
 
@@ -55,13 +53,17 @@ pub record Telling : Type 0 where
   pub at : ℕ
   pub class : Result Message DnsError
 
-abbrev pub telling : DomainName → Query → Ask → Option Telling
-telling zone q (ask.Told entry at class) = Some (record { zone = zone; query = q; entry = entry; at = at; class = class })
-telling zone q _ = None
+abbrev pub telling : DomainName → Query → ℕ → ℕ → Result (Result Message DnsError) NetError → Option Telling
+telling zone q entry at (Ok class) = Some (record { zone = zone; query = q; entry = entry; at = at; class = class })
+telling zone q entry at (Err error) = None
+
+-- the cache with the response to the question, where there is one, by the entry, since the moment
+abbrev pub with_response : Cached → Query → ℕ → ℕ → Option (Result Message NetError) → Cached
+with_response cache q entry at None = cache
+with_response cache q entry at (Some response) = upserted cache q response entry at (q.query_type.code == 2)
 
 abbrev pub written : Cached → Telling → Option (Result Message NetError) → Cached
-written cache t None = cache
-written cache t (Some response) = upserted cache t.query response t.entry t.at (t.query.query_type.code == 2)
+written cache t response = with_response cache t.query t.entry t.at response
 
 -- The cache with what was told: as it counts, under its question, by its entry, since its moment; a repeated answer for NS records does not
 -- move the expiry of a current one to a later moment. Errors, and denials that are made where the zone leaves nothing, are not written.

@@ -1,5 +1,5 @@
 -- What the outcome of an order leaves of the pools, and what it writes into the cache.
-use Rattle.std.specs.Prelude.{◌≡◌, ◌⊎◌, ◌==◌, ℕ, Bool, false, nat_lt, length, if◌then◌else◌, Option, Some, None, Ok, option_and_then}
+use Rattle.std.specs.Prelude.{◌≡◌, ◌⊎◌, ◌==◌, ℕ, Bool, false, nat_lt, length, if◌then◌else◌, Option, Some, None, Ok, Err, IfSome, option_and_then}
 use Rattle.server_core.specs.declared.order.After.{After}
 use Rattle.server_core.specs.declared.order.After.TheVariants as after
 use Rattle.server_core.specs.declared.order.Outcome.{Outcome}
@@ -12,10 +12,13 @@ use Rattle.server_pool.specs.Orders.{IsOpenOrder, open_at}
 use Rattle.server_pool.specs.Shared.{Shared, lookup_at}
 use Rattle.server_pool.specs.Stepping.{HasPut}
 use Rattle.server_pool.specs.declared.open_lookup.OpenLookup.{OpenLookup}
-use Rattle.walk_tables.specs.Lookup.{last_of, answered_by}
+use Rattle.walk_base.specs.Kept.{kept_of}
+use Rattle.walk_tables.specs.Lookup.{last_of, classified, HasCome}
 use Rattle.walk_tables.specs.Pools.{sought_at, PoolsHold}
-use Rattle.walk_tables.specs.Remembered.{CacheHolds, Telling, telling, remembered}
+use Rattle.walk_tables.specs.Remembered.{CacheHolds, Telling, telling, with_response, remembered}
 use Rattle.walk_tables.specs.View.{View}
+use Rattle.walk_tables.specs.declared.lookup.Found.{Found}
+use Rattle.walk_tables.specs.declared.lookup.Found.TheVariants as found
 use Rattle.walk_tables.specs.declared.lookup.Ask.{Ask}
 use Rattle.walk_tables.specs.declared.lookup.Ask.TheVariants as ask
 use Rattle.walk_tables.specs.declared.lookup.Lookup.{Lookup}
@@ -31,11 +34,32 @@ answer_at shared n = option_and_then (λ (l : OpenLookup). answer_of l.lookup) (
 
 -- that answer as it was told for what is sought, by the last of the entries by which its sends ended
 abbrev pub telling_by : Shared → ℕ → Sought → Option Telling
-telling_by shared n s = option_and_then (λ told. telling s.zone s.query (answered_by (last_of (closed_by (lookup_at shared n))) s.at told)) (answer_at shared n)
+telling_by shared n s = option_and_then (λ told. telling s.zone s.query (last_of (closed_by (lookup_at shared n))) s.at (classified told)) (answer_at shared n)
 
 -- what the lookup of the number came to, where it came to a response
 abbrev pub telling_at : Pools → ℕ → Option Telling
 telling_at pools n = option_and_then (telling_by pools.shared n) (sought_at pools n)
+
+-- One that is sought so came to this by its answer; or to no response.
+abbrev pub ComesBy : Shared → ℕ → Option Found → Sought → Type 0
+ComesBy shared n (Some came) s = HasCome s.zone s.query (lookup_at shared n) came
+ComesBy shared n None s = telling_by shared n s ≡ None
+
+abbrev pub Comes : Pools → ℕ → Option Found → Type 0
+Comes pools n came = IfSome (sought_at pools n) (ComesBy pools.shared n came)
+
+-- the cache with what one that is sought so came to, where that is kept
+abbrev pub with_found : Cached → Option Found → Sought → Cached
+with_found cache None s = cache
+with_found cache (Some (found.Error error)) s = cache
+with_found cache (Some (found.Told entry (Err error))) s = cache
+with_found cache (Some (found.Told entry (Ok verdict))) s = with_response cache s.query entry s.at (kept_of verdict)
+
+abbrev pub with_sought : Cached → Option Sought → Option Found → Cached
+with_sought cache None came = cache
+with_sought cache (Some s) came = with_found cache came s
+
+-- ---- an outcome
 
 -- one more send of the lookup has ended
 abbrev pub has_more_ends : Shared → Shared → ℕ → Bool
@@ -89,8 +113,7 @@ abbrev pub awaited_when : Pools → Ask → Option ℕ
 awaited_when pools ask.Fresh = None
 awaited_when pools ask.Ready = None
 awaited_when pools (ask.Under under) = awaited_in pools under.number
-awaited_when pools (ask.Told entry at class) = None
-awaited_when pools (ask.Failed error) = None
+awaited_when pools (ask.Came came) = None
 awaited_when pools ask.Heard = None
 
 abbrev pub awaited_by : Pools → Lookup → Option ℕ

@@ -1,27 +1,43 @@
 //! What a finished lookup leaves in the cache of responses.
-ghost use Rattle.std.specs.Prelude.{◌≡◌, OnOk, OnErr};
-ghost use Rattle.walk_tables.specs.Remembered.{remembered};
+ghost use Rattle.std.specs.Prelude.{◌≡◌, OnOk, OnErr, IfOk};
+ghost use Rattle.walk_base.specs.Kept.{kept_of};
+ghost use Rattle.walk_tables.specs.Remembered.{with_response};
 
-use dns_core::{DnsError, Message, Name, NoMemory, Query, RecordType, TryClone};
+use dns_core::{DnsError, Message, NetError, NoMemory, Query, RecordType, TryClone};
+use resolution::Verdict;
 use resolver_cache::ResponseCache;
 use std::alloc::Global;
-use walk_base::response_in;
 
-/// Writes what was told for a question by a server of the zone, by an entry, at a moment, where it is
-/// kept.
+/// As what a verdict is kept, copied.
+fn kept_copy(
+    alloc: Global,
+    verdict: &Verdict,
+) -> Result<Option<Result<Message, NetError>>, NoMemory>
+    ensures { IfOk result (λ kept. kept ≡ kept_of verdict.now) }
+{
+    match verdict {
+        Verdict::Pos(kept) => Ok(Some(Ok(kept.try_clone(alloc)?))),
+        Verdict::Neg(found) => {
+            let found = found.try_clone(alloc)?;
+            Ok(Some(Err(NetError::Dns(DnsError::NoRecordsFound(found)))))
+        }
+        Verdict::Made(_) => Ok(None),
+    }
+}
+
+/// Writes what was told for a question, by an entry, at a moment, as its verdict is kept, if it is.
 pub(crate) fn write(
     alloc: Global,
     cache: &mut ResponseCache,
     query: &Query,
-    zone: &Name,
     entry: u64,
     at: u64,
-    class: Result<Message, DnsError>,
+    verdict: &Verdict,
 ) -> Result<(), NoMemory>
-    ensures ok { OnOk result (cache.new ≡ remembered cache.old (Some (record { zone = zone.now; query = query.now; entry = entry; at = at; class = class }))) }
+    ensures ok { OnOk result (cache.new ≡ with_response cache.old query.now entry at (kept_of verdict.now)) }
     ensures err { OnErr result (cache.new ≡ cache.old) }
 {
-    let Some(response) = response_in(class, query, zone) else {
+    let Some(response) = kept_copy(alloc, verdict)? else {
         return Ok(());
     };
     let query = query.try_clone(alloc)?;

@@ -2,6 +2,7 @@
 //! lookups that are under way at these.
 #![tactic(auto)]
 
+mod answered;
 mod keeping;
 mod lookup;
 mod pools;

@@ -5,10 +5,11 @@ ghost use Rattle.resolution.specs.Names.{is_above, walk};
 ghost use Rattle.walk_tables.specs.Taking.{awaited_by, IfAwaits};
 ghost use Rattle.walk_tables.specs.View.{View};
 ghost use Rattle.walk_tables.specs.Pools.{PoolsHold, StepGoes, AreFor, IsStepAt, given_so_far, GivesNext};
-ghost use Rattle.walk_tables.specs.Lookup.{want_of, answered_by, failed_by, last_of, steps, LeavesLess, found_in, LookupHolds, FoundHolds};
+ghost use Rattle.walk_tables.specs.Lookup.{want_of, steps, LeavesLess, found_in, LookupHolds, FoundHolds};
 
 use crate::pools::{Answer, Pools, Stepped};
-use dns_core::{DnsError, DnsRequest, Message, Name, NetError, NoMemory, Numbers, Query};
+use dns_core::{DnsRequest, Name, NetError, NoMemory, Numbers, Query};
+use resolution::Verdict;
 use server_core::Tick;
 use server_pool::PoolLookup;
 use std::alloc::Global;
@@ -16,18 +17,13 @@ use std::mem;
 use std::net::IpAddr;
 
 /// Where a lookup stands. At first the cache was not looked at; then it is to begin, or is under way at
-/// a pool; at last a response was told by an entry, at a moment, or it failed, and that was heard.
+/// a pool; at last it came to something, and that was heard.
 #[derive(Drop, Debug)]
 pub enum Ask {
     Fresh,
     Ready,
     Under(PoolLookup),
-    Told {
-        entry: u64,
-        at: u64,
-        class: Result<Message, DnsError>,
-    },
-    Failed(NetError),
+    Came(Found),
     Heard,
 }
 
@@ -49,53 +45,15 @@ pub struct Lookup {
     pub ends: Numbers,
 }
 
-/// What a lookup came to.
+/// What a lookup came to: a response was told by an entry, which counts so for its question or is the
+/// error; or it failed.
 #[derive(Drop, Debug)]
 pub enum Found {
     Told {
         entry: u64,
-        at: u64,
-        class: Result<Message, DnsError>,
+        verdict: Result<Verdict, NetError>,
     },
     Error(NetError),
-}
-
-/// The last of these numbers, 0 where there is none.
-pub(crate) fn last_of(numbers: &[u64]) -> u64
-    ensures { result ≡ last_of numbers.now }
-{
-    match numbers.last() {
-        Some(number) => *number,
-        None => 0,
-    }
-}
-
-/// Where a lookup stands that failed so, whose last end was by an entry, at a moment.
-fn failed_by(entry: u64, at: u64, error: NetError) -> Ask
-    ensures { result ≡ failed_by entry at error }
-{
-    match error {
-        NetError::Dns(DnsError::NoRecordsFound(found)) => Ask::Told {
-            entry,
-            at,
-            class: Err(DnsError::NoRecordsFound(found)),
-        },
-        error => Ask::Failed(error),
-    }
-}
-
-/// Where a lookup stands that was answered so.
-pub(crate) fn answered_by(entry: u64, at: u64, told: Result<Message, NetError>) -> Ask
-    ensures { result ≡ answered_by entry at told }
-{
-    match told {
-        Ok(message) => Ask::Told {
-            entry,
-            at,
-            class: Ok(message),
-        },
-        Err(error) => failed_by(entry, at, error),
-    }
 }
 
 impl Lookup {
@@ -120,7 +78,7 @@ impl Lookup {
             Ask::Fresh => Want::Recall,
             Ask::Ready => Want::Begin,
             Ask::Under(_) => Want::Step,
-            Ask::Told { .. } | Ask::Failed(_) => Want::Hear,
+            Ask::Came(_) => Want::Hear,
             Ask::Heard => Want::Step,
         }
     }
@@ -168,9 +126,10 @@ impl Lookup {
         zone: &Name,
         begun: u64,
     ) -> Result<bool, NoMemory>
-        ensures falls { IfOk result (λ settled. MatchBool settled (steps self.new < steps self.old) ((self.new ≡ self.old) × (pools.new ≡ pools.old))) }
+        ensures falls { IfOk result (λ settled. MatchBool settled (steps self.new < steps self.old) (self.new ≡ self.old)) }
         ensures err { OnErr result (self.new ≡ self.old) }
         ensures given { given_so_far pools.new ≡ given_so_far pools.old }
+        ensures pools { (seen : View) → PoolsHold seen pools.old → PoolsHold seen pools.new }
         ensures holds { (seen : View) → PoolsHold seen pools.old
             → LookupHolds seen begun zone.now self.old → LookupHolds seen begun zone.now self.new × PoolsHold seen pools.new }
         ensures query { self.new.query ≡ self.old.query }
@@ -179,13 +138,12 @@ impl Lookup {
             return Ok(false);
         };
         let answer = pools.answer(alloc, lookup, &self.query, zone, begun)?;
-        let Some(Answer { told, ends, at }) = answer else {
+        let Some(Answer { came, ends }) = answer else {
             return Ok(false);
         };
-        let entry = last_of(ends.items());
         self.ends = ends;
         self.leave(pools);
-        self.ask = answered_by(entry, at, told);
+        self.ask = Ask::Came(came);
         Ok(true)
     }
 
@@ -277,8 +235,7 @@ impl Lookup {
         ensures query { self.new.query ≡ self.old.query }
     {
         match mem::replace(&mut self.ask, Ask::Heard) {
-            Ask::Told { entry, at, class } => Some(Found::Told { entry, at, class }),
-            Ask::Failed(error) => Some(Found::Error(error)),
+            Ask::Came(found) => Some(found),
             other => {
                 self.ask = other;
                 None

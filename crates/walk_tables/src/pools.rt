@@ -1,6 +1,6 @@
 //! The servers that were met, each under its address, the pools of them, and the lookups that are under
 //! way at these.
-ghost use Rattle.std.specs.Prelude.{◌≡◌, ◌↔◌, ◌≤◌, ◌<◌, ◌+◌, ◌==◌, ℕ, true, false, length, Some, None, Ok, Err, IfOk, IfSome, OnOk, OnErr, IsTrue, option_copied};
+ghost use Rattle.std.specs.Prelude.{◌≡◌, ◌↔◌, ◌≤◌, ◌<◌, ◌+◌, ◌==◌, ℕ, true, false, length, Some, None, Ok, Err, IfOk, IfSome, OnOk, OnErr, IsTrue, option_copied, option_and_then};
 ghost use Rattle.std.specs.List.{AllZip};
 ghost use Rattle.std.specs.declared.net.ip_addr.IpAddr.{IpAddr};
 ghost use Rattle.dns_core.specs.declared.message.Query.{Query};
@@ -12,15 +12,16 @@ ghost use Rattle.recursor_types.specs.Options.{answer_filter_of};
 ghost use Rattle.recursor_setting.specs.Setting.{context_of};
 ghost use Rattle.recursor_setting.specs.declared.setting.Setting.{Setting};
 ghost use Rattle.recursor_setting.specs.Delays.{turn_at, delay_at};
-ghost use Rattle.walk_tables.specs.Pools.{number_of, first_delay_at, sought_at, ServersHold, PoolsHold, IsSentOver, IsFirst, IsOf, IsStill, MayWait, MayTake, MayTakeBy, IsOutcomeOf, is_denial, IsMet, IsGrown, HasForgotten, HasNoted, HasKept, HasLeft, noted, aim_of, sent_to, first_of, polled_by, StepGoes, IsGivenFor, NotesOutcome, Seeks, AreFor, IsStepAt, given_so_far, GivesNext};
+ghost use Rattle.walk_tables.specs.Pools.{number_of, first_delay_at, sought_at, ServersHold, PoolsHold, IsSentOver, IsFirst, IsOf, IsStill, MayWait, MayTake, MayTakeBy, IsOutcomeOf, is_denial, IsMet, IsGrown, HasForgotten, HasNoted, HasKept, HasLeft, noted, with_came, aim_of, sent_to, first_of, polled_by, StepGoes, IsGivenFor, NotesOutcome, Seeks, AreFor, IsStepAt, given_so_far, GivesNext};
 ghost use Rattle.walk_tables.specs.Lookup.{AnswerHolds};
 ghost use Rattle.walk_tables.specs.Remembered.{remembered};
-ghost use Rattle.walk_tables.specs.Taking.{telling_at, Took, Takes, TablesHold, is_open_at, awaited_in, IfAwaits};
+ghost use Rattle.walk_tables.specs.Taking.{telling_at, Took, Takes, Comes, with_sought, TablesHold, is_open_at, awaited_in, IfAwaits};
 ghost use Rattle.server_pool.specs.Orders.{open_at};
 ghost use Rattle.walk_tables.specs.declared.pools.Given.{Given};
 
+use crate::answered::{found_by, last_of};
 use crate::keeping::write;
-use crate::lookup::{Ask, answered_by, last_of};
+use crate::lookup::Found;
 use dns_core::{
     Delays, DnsError, DnsRequest, Message, Name, NetError, NoMemory, Numbers, Query, TryClone,
 };
@@ -32,6 +33,7 @@ use server_core::{After, NameServer, Order, Outcome, Sent, Tick};
 use server_pool::{NameServerPool, PoolLookup, PoolShared, PoolStep};
 use std::alloc::Global;
 use std::collections::BTreeMap;
+use std::mem;
 use std::net::IpAddr;
 
 /// What an order does: it opens a connection to an address, asks there, or sleeps.
@@ -53,8 +55,8 @@ pub struct Given {
 }
 
 /// What a lookup is for: a question at the servers of a zone, since a moment. `given` is its open order,
-/// `first` the address to which its first send goes, where that is known, and `at` the moment of the
-/// last end of a send.
+/// `first` the address to which its first send goes, where that is known, `at` the moment of the last
+/// end of a send, and `came` what it came to, where that is known.
 #[derive(Drop, Debug)]
 pub struct Sought {
     pub query: Query,
@@ -63,15 +65,14 @@ pub struct Sought {
     pub given: Option<Given>,
     pub first: Option<IpAddr>,
     pub at: u64,
+    pub came: Option<Found>,
 }
 
-/// What a lookup came to: what its pool answered, by the entries of its ends, and the moment of the last
-/// of them.
+/// What a lookup came to, and the entries of its ends.
 #[derive(Drop, Debug)]
 pub struct Answer {
-    pub told: Result<Message, NetError>,
+    pub came: Found,
     pub ends: Numbers,
-    pub at: u64,
 }
 
 /// What a lookup has next: an order with its number, one that it waits for, or its answer.
@@ -403,6 +404,7 @@ impl Pools {
             given: None,
             first: None,
             at: tick.now,
+            came: None,
         };
         let servers = self.meet_all(alloc, ips)?;
         let pool = NameServerPool::from_nameservers(alloc, servers, &mut self.shared)?;
@@ -418,7 +420,7 @@ impl Pools {
     }
 
     /// Keeps which order of a lookup is open, to which address its first send goes, where that was not
-    /// known, and when its last end came, where it is another.
+    /// known, and when its last end came, where it is another. What it comes to is not known then.
     fn note(&mut self, lookup: u64, given: Option<Given>, first: Option<IpAddr>, at: Option<u64>)
         ensures { HasNoted lookup (noted given first at) self.old self.new }
     {
@@ -427,6 +429,7 @@ impl Pools {
                 sought.given = given;
                 sought.first = sought.first.or(first);
                 sought.at = at.unwrap_or(sought.at);
+                sought.came = None;
             }
             None => {}
         }
@@ -597,28 +600,80 @@ impl Pools {
         }
     }
 
-    /// Writes what a lookup came to into the cache, where it came to a response that is kept.
+    /// What a lookup came to by its answer, where it was answered. Want of memory is nothing that it came
+    /// to.
+    fn comes(&self, alloc: Global, lookup: u64) -> Result<Option<Found>, NoMemory>
+        ensures { IfOk result (Comes self.now lookup) }
+    {
+        let Some(sought) = self.sought.get(&lookup) else {
+            return Ok(None);
+        };
+        let Some(told) = self.shared.answer(alloc, lookup)? else {
+            return Ok(None);
+        };
+        if is_memory(&told) {
+            return Ok(None);
+        }
+        let entry = last_of(self.shared.ends(lookup));
+        Ok(Some(found_by(entry, told, &sought.query, &sought.zone)))
+    }
+
+    /// Writes what a lookup came to into the cache, where it is a response that is kept.
     fn remember(
         &self,
         alloc: Global,
         cache: &mut ResponseCache,
         lookup: u64,
+        came: &Option<Found>,
     ) -> Result<(), NoMemory>
-        ensures ok { OnOk result (cache.new ≡ remembered cache.old (telling_at self.now lookup)) }
+        ensures ok { OnOk result (cache.new ≡ with_sought cache.old (sought_at self.now lookup) came.now) }
         ensures err { OnErr result (cache.new ≡ cache.old) }
     {
         let Some(sought) = self.sought.get(&lookup) else {
             return Ok(());
         };
-        let Some(told) = self.shared.answer(alloc, lookup)? else {
-            return Ok(());
-        };
-        let entry = last_of(self.shared.ends(lookup));
-        match answered_by(entry, sought.at, told) {
-            Ask::Told { entry, at, class } => {
-                write(alloc, cache, &sought.query, &sought.zone, entry, at, class)
-            }
-            _ => Ok(()),
+        match came {
+            Some(
+                Found::Told {
+                    entry,
+                    verdict: Ok(verdict),
+                },
+            ) => write(alloc, cache, &sought.query, *entry, sought.at, verdict),
+            Some(
+                Found::Told {
+                    verdict: Err(_),
+                    ..
+                },
+            ) => Ok(()),
+            Some(Found::Error(_)) => Ok(()),
+            None => Ok(()),
+        }
+    }
+
+    /// What a lookup came to by its answer, which is written into the cache where it is a response that
+    /// is kept.
+    fn conclude(
+        &self,
+        alloc: Global,
+        cache: &mut ResponseCache,
+        lookup: u64,
+    ) -> Result<Option<Found>, NoMemory>
+        ensures ok { OnOk result (cache.new ≡ remembered cache.old (telling_at self.now lookup)) }
+        ensures comes { IfOk result (Comes self.now lookup) }
+        ensures err { OnErr result (cache.new ≡ cache.old) }
+    {
+        let came = self.comes(alloc, lookup)?;
+        self.remember(alloc, cache, lookup, &came)?;
+        Ok(came)
+    }
+
+    /// Keeps what a lookup came to, or that nothing is known of it.
+    fn keep_came(&mut self, lookup: u64, came: Option<Found>)
+        ensures { HasNoted lookup (with_came came) self.old self.new }
+    {
+        match self.sought.get_mut(&lookup) {
+            Some(sought) => sought.came = came,
+            None => {}
         }
     }
 
@@ -649,47 +704,68 @@ impl Pools {
             return Ok(After::Late);
         };
         let after = self.take(alloc, lookup, given, outcome, waits, tick)?;
-        self.remember(alloc, cache, lookup)?;
+        let came = self.conclude(alloc, cache, lookup)?;
+        self.keep_came(lookup, came);
         Ok(after)
     }
 
     /// Whether a lookup is for this question at the servers of this zone, since no earlier than the
     /// moment.
-    fn seeks(&self, lookup: u64, query: &Query, zone: &Name, begun: u64) -> Option<u64>
-        ensures { IfSome result (λ at. Seeks self.now lookup query.now zone.now begun at) }
+    fn seeks(&self, lookup: u64, query: &Query, zone: &Name, begun: u64) -> bool
+        ensures { IsTrue result → Seeks self.now lookup query.now zone.now begun }
     {
-        let sought = self.sought.get(&lookup)?;
-        if sought.is_for(query, zone, begun) {
-            Some(sought.at)
-        } else {
-            None
+        match self.sought.get(&lookup) {
+            Some(sought) => sought.is_for(query, zone, begun),
+            None => false,
         }
     }
 
-    /// What a lookup for a question at the servers of a zone, since no earlier than a moment, came to;
-    /// none where it goes on. One for which memory was wanting has no answer.
+    /// Takes what is kept of what a lookup came to.
+    fn take_kept(&mut self, lookup: u64) -> Option<Found>
+        ensures noted { HasNoted lookup (with_came None) self.old self.new }
+        ensures kept { result ≡ option_and_then (λ s. s.came) (sought_at self.old lookup) }
+    {
+        match self.sought.get_mut(&lookup) {
+            Some(sought) => mem::replace(&mut sought.came, None),
+            None => None,
+        }
+    }
+
+    /// Takes what a lookup came to: what is kept of it, else what it comes to by its answer.
+    fn take_came(&mut self, alloc: Global, lookup: u64) -> Result<Option<Found>, NoMemory>
+        ensures noted { HasNoted lookup (with_came None) self.old self.new }
+        ensures came { (seen : View) → PoolsHold seen self.old → IfOk result (Comes self.new lookup) }
+    {
+        match self.take_kept(lookup) {
+            Some(found) => Ok(Some(found)),
+            None => self.comes(alloc, lookup),
+        }
+    }
+
+    /// Takes what a lookup for a question at the servers of a zone, since no earlier than a moment, came
+    /// to; none where it goes on. One for which memory was wanting comes to nothing.
     pub fn answer(
-        &self,
+        &mut self,
         alloc: Global,
         lookup: &PoolLookup,
         query: &Query,
         zone: &Name,
         begun: u64,
     ) -> Result<Option<Answer>, NoMemory>
-        ensures { (seen : View) → PoolsHold seen self.now
+        ensures answer { (seen : View) → PoolsHold seen self.old
             → IfOk result (λ answer. IfSome answer (AnswerHolds seen begun zone.now query.now)) }
+        ensures holds { (seen : View) → PoolsHold seen self.old → PoolsHold seen self.new }
+        ensures given { given_so_far self.new ≡ given_so_far self.old }
     {
-        let Some(at) = self.seeks(lookup.number(), query, zone, begun) else {
-            return Err(NoMemory);
-        };
-        let Some(told) = lookup.answer(alloc, &self.shared)? else {
+        let n = lookup.number();
+        let Some(came) = self.take_came(alloc, n)? else {
             return Ok(None);
         };
-        if is_memory(&told) {
+        if !self.seeks(n, query, zone, begun) {
             return Err(NoMemory);
         }
         let ends = copy_of(alloc, lookup.ends(&self.shared))?;
-        Ok(Some(Answer { told, ends, at }))
+        Ok(Some(Answer { came, ends }))
     }
 
     /// Ends the interest in a lookup.

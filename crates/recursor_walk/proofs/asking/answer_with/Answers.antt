@@ -1,7 +1,5 @@
 use Rattle.std.proofs.Common.{sym, subst, [], ◌∷◌}
-use Rattle.walk_tables.specs.View.{given_of}
-use Rattle.recursor_walk.specs.Replies.{OutcomeHolds}
-use Rattle.walk_tables.specs.Tried.{machine_timer}
+use Rattle.recursor_walk.specs.Replies.{OutcomeCame}
 use Rattle.recursor_walk.proofs.Denials.{answered-by, replies}
 use Rattle.recursor_walk.proofs.asking.answer_with.Goals as goal
 
@@ -13,5 +11,4 @@ returns-clause-holds c seen t0 h =
     let asked = c.args.question.now in
     let entry = c.args.counted.entry in
     replies seen t0 asked c.reply_by.result c.in_ok-outcome.outcome (entry ∷ []) c.reply_by.ensures
-    (subst (OutcomeHolds (given_of seen.setting) (machine_timer seen.moment seen.log t0) seen.log t0 asked (entry ∷ [])) (sym c.in_ok-outcome.ensures)
-    (answered-by seen t0 asked entry c.args.counted.verdict h))
+    (subst (OutcomeCame seen t0 asked (entry ∷ [])) (sym c.in_ok-outcome.ensures) (answered-by seen t0 asked entry c.args.counted.verdict h))

@@ -1,19 +1,15 @@
-use Rattle.std.proofs.Common.{◌≡◌, Bool, cond, refl, sym, subst, ap, ◌∙◌, Option, Some, None, IfSome}
-use Rattle.std.specs.Global.{Box}
+use Rattle.std.proofs.Common.{◌≡◌, Bool, cond, refl, sym, subst, ap, ◌∙◌, Option, Some, None}
 use Rattle.recursor_walk.specs.Counted.{answerable, recalled}
-use Rattle.recursor_walk.specs.Replies.{Replied, IsReplyKept}
+use Rattle.recursor_walk.specs.Replies.{IsReplyKept}
 use Rattle.recursor_walk.specs.Resolving.{IsAnswered}
 use Rattle.recursor_walk.specs.declared.counted.Counted.{Counted}
 use Rattle.recursor_walk.specs.declared.resolving.State.TheVariants.{Done}
-use Rattle.recursor_types.specs.declared.reply.Reply.{Reply}
 use Rattle.recursor_walk.proofs.Recalling.{recalled-for, recalled-answers}
 use Rattle.recursor_walk.proofs.resolving.begun.Goals as goal
 
 pub returns-in-Some-clause-holds : goal.returns-in-Some-clause-holds
 returns-in-Some-clause-holds c seen t0 qualified roots reads =
-    let asked = c.args.question.now in
-    subst (λ (o : Option (Box Reply)). IfSome o (λ given. Replied seen t0 asked given.value)) c.in-Some.is
-    (c.in_ok-reply.ensures.holds seen t0 reads)
+    rw c.in-Some.is at c.in_ok-reply.ensures.holds seen t0 reads
 
 pub returns-in-Some-clause-answers : goal.returns-in-Some-clause-answers
 returns-in-Some-clause-answers c =

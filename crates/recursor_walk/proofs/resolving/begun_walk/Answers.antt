@@ -1,10 +1,7 @@
-use Rattle.std.proofs.Common.{◌∙◌, ◌<◌, ◌≡◌, ℕ, List, length, sym, subst, ap, arith}
+use Rattle.std.proofs.Common.{◌∙◌, ◌≡◌, ℕ, List, length, sym, ap, arith}
 use Rattle.std.proofs.lemmas.Bool.Decides.{nat_tests}
-use Rattle.std.specs.declared.net.ip_addr.IpAddr.{IpAddr}
 use Rattle.dns_core.specs.Name.{DomainName}
-use Rattle.dns_core.specs.declared.message.Query.{Query}
 use Rattle.resolution.specs.Names.{walk}
-use Rattle.walk_tables.specs.Pools.{AreFor}
 use Rattle.recursor_walk.proofs.Walks.{at-root}
 use Rattle.recursor_walk.proofs.resolving.begun_walk.Goals as goal
 
@@ -13,15 +10,14 @@ returns-then-is_empty-clause-holds c seen t0 qualified roots =
     let q = c.args.question.now.query in
     let a = c.new-asking in
     let servers = c.in_ok-servers.servers in
-    let some = subst (λ (ips : List IpAddr). 0 < length ips) (sym roots.are) roots.some in
     let empty = sym c.is_empty.ensures ∙ c.if-is_empty.true in
     let short : length c.labels.result.now ≡ 0 = grind (arith, nat_tests) in
     let none : length (walk q).labels ≡ 0 =
     sym (ap (λ (ls : List (List ℕ)). length ls) c.labels.ensures.labels ∙ ap (λ (d : DomainName). length d.labels) c.in_ok-name.ensures) ∙ short in
-    let site = at-root seen q c.root.result servers some qualified none c.root.ensures (c.in_ok-servers.ensures ∙ sym roots.are) in
+    let site = at-root seen q c.root.result servers (rw roots.are roots.some) qualified none c.root.ensures (c.in_ok-servers.ensures ∙ sym roots.are) in
     rw c.in_ok-new.ensures.ok (record {
       asks = a.ensures.is.2 ∙ c.in_ok-query.ensures;
-      holds = a.ensures.holds seen t0 (subst (λ (p : Query). AreFor seen p c.root.result servers) (sym c.in_ok-query.ensures) site);
+      holds = a.ensures.holds seen t0 (rw c.in_ok-query.ensures site);
     })
 
 pub returns-clause-holds : goal.returns-clause-holds

@@ -1,5 +1,4 @@
-use Rattle.std.proofs.Common.{◌≡◌, ◌∙◌, refl, sym, ap, Some, Ok}
-use Rattle.std.specs.Option.{option_copied}
+use Rattle.std.proofs.Common.{◌≡◌, ◌∙◌, refl, sym, ap, Some, Ok, option_copied}
 use Rattle.resolver_cache.specs.Entry.{current_for}
 use Rattle.resolver_cache.specs.Lowering.{seconds_between, lowered_message}
 use Rattle.recursor_walk.proofs.Denials.{told-answer}
@@ -30,4 +29,4 @@ returns-clause-holds c seen t0 reads =
     let here : current_for asked.query now c.args.cache.now.entries ≡ Some e = rw reads.at at (sym c.current.ensures ∙ ap option_copied c.in-Some.is) in
     let answers = kept-answers seen t0 c.args.cache.now asked.query (rw reads.at at reads.since) reads.holds e m here is c.if-not-message.false in
     let told = told-answer seen t0 asked.query e.source (lowered_message (seconds_between e.written now) m) asked.dnssec_ok answers in
-    rw (c.in_ok-reply.ensures.ok, c.in_ok-grounds.ensures, c.in_ok-answer.ensures, c.seconds_between-seconds.ensures, c.written.ensures, c.source.ensures, reads.at) told
+    rw (c.in_ok-reply.ensures.ok, c.in_ok-grounds.ensures, c.in_ok-answer.ensures, c.seconds_between-seconds.ensures, c.written.ensures, c.source.ensures, reads.at) (told, tt)

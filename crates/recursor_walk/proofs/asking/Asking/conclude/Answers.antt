@@ -1,13 +1,13 @@
-use Rattle.std.proofs.Common.{subst}
+use Rattle.std.proofs.Common.{subst, Err}
 use Rattle.dns_core.specs.declared.message.Query.{Query}
 use Rattle.resolution.specs.Walking.{Walked}
 use Rattle.recursor_types.specs.declared.error.RecursorError.TheVariants.{Net}
 use Rattle.walk_tables.specs.View.{given_of}
-use Rattle.recursor_walk.proofs.Denials.{denies, has-failed}
+use Rattle.recursor_walk.proofs.Denials.{replies, has-failed}
 use Rattle.recursor_walk.proofs.asking.Asking.conclude.Goals as goal
 
 pub returns-in-Told : goal.returns-in-Told
-returns-in-Told c seen t0 h = c.weigh.ensures seen t0 (record { asks = h.asks; walked = h.walked; came = rw c.in-Told.is at h.came })
+returns-in-Told c seen t0 h = c.answer.ensures seen t0 (record { asks = h.asks; walked = h.walked; came = rw c.in-Told.is at h.came })
 
 pub returns-in-Error : goal.returns-in-Error
 returns-in-Error c seen t0 h =
@@ -15,8 +15,6 @@ returns-in-Error c seen t0 h =
     let q = c.args.question.now.query in
     let e = c.in-Error.error in
     let ended = rw c.in-Error.is at h.came in
-    denies seen t0 c.args.question.now c.failed.result (Net e) a.lookup.ends c.failed.ensures (
-      ended.is,
-      has-failed seen t0 a.zone a.lookup.query q a.lookup.ends e h.asks ended.concluded
-          (subst (λ (p : Query). Walked (given_of seen.setting) seen.log p a.zone) h.asks h.walked),
-    )
+    let walked = subst (λ (p : Query). Walked (given_of seen.setting) seen.log p a.zone) h.asks h.walked in
+    replies seen t0 c.args.question.now c.failed.result (Err (Net e)) a.lookup.ends c.failed.ensures
+    ((ended.is, has-failed seen t0 a.zone a.lookup.query q a.lookup.ends e h.asks ended.concluded walked), tt)

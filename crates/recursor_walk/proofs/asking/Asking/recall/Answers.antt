@@ -1,6 +1,4 @@
-use Rattle.std.proofs.Common.{sym, subst, ◌∙◌}
-use Rattle.dns_core.specs.declared.message.Query.{Query}
-use Rattle.walk_tables.specs.Pools.{AreFor}
+use Rattle.std.proofs.Common.{sym, ◌∙◌}
 use Rattle.recursor_walk.proofs.Recalling.{recalled-for, recalled-answers}
 use Rattle.recursor_walk.proofs.asking.Asking.recall.Goals as goal
 
@@ -13,11 +11,10 @@ returns-in_ok-answer_with-in-Some-clause-holds c seen t0 reads h =
 
 pub returns-in-None-clause-holds : goal.returns-in-None-clause-holds
 returns-in-None-clause-holds c seen t0 reads h =
-    let a = c.args.self.now in
     record {
       asks = c.begin.ensures.query ∙ h.asks;
       holds = record {
-        site = subst (λ (p : Query). AreFor seen p a.zone a.servers) (sym c.begin.ensures.query) h.holds.site;
-        lookup = c.begin.ensures.holds seen t0 a.zone h.holds.lookup;
+        site = rw c.begin.ensures.query h.holds.site;
+        lookup = c.begin.ensures.holds seen t0 c.args.self.now.zone h.holds.lookup;
       };
     }

@@ -1,4 +1,4 @@
-use Rattle.recursor_walk.proofs.Resolved.{follow-falls, falls-from, holds-on}
+use Rattle.recursor_walk.proofs.Resolved.{follow-falls, settle-ends, falls-from, holds-on}
 use Rattle.recursor_walk.proofs.resolving.Resolution.hear.Goals as goal
 
 pub returns-in-Walking-clause-falls : goal.returns-in-Walking-clause-falls
@@ -22,3 +22,7 @@ returns-in-Asking-clause-holds c seen filtered h =
     holds-on seen r c.settle.new.self c.settle.ensures.begun h.begun
     (c.settle.ensures.holds seen r.begun
     (c.hear-came-in-Asking.ensures.holds seen r.begun (rw c.deref_mut-in-Asking.ensures.value (rw c.in-Asking.is at h.state))))
+
+pub returns-in-Asking-clause-ended : goal.returns-in-Asking-clause-ended
+returns-in-Asking-clause-ended c =
+    settle-ends (record c.in-Asking.asking { value = c.hear-came-in-Asking.new.self }) c.hear-came-in-Asking.result c.settle.result c.settle.new.self.state c.settle.ensures.state c.settle.ensures.result

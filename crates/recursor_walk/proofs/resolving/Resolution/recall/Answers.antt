@@ -1,5 +1,6 @@
-use Rattle.recursor_walk.specs.Counted.{ReadsAt}
-use Rattle.recursor_walk.proofs.Resolved.{follow-falls, settle-falls, falls-from, holds-on}
+use Rattle.recursor_walk.specs.Counted.{ReadsAt, recalled, answerable}
+use Rattle.recursor_walk.specs.declared.resolving.State.TheVariants.{Walking}
+use Rattle.recursor_walk.proofs.Resolved.{follow-falls, settle-falls, settle-ends, settle-heeds, follow-heeds, falls-from, holds-on}
 use Rattle.recursor_walk.proofs.resolving.Resolution.recall.Goals as goal
 
 pub returns-in-Walking-clause-falls : goal.returns-in-Walking-clause-falls
@@ -33,3 +34,21 @@ returns-in-Asking-clause-holds c seen at-now filtered cached h =
     holds-on seen r c.settle.new.self c.settle.ensures.begun h.begun
     (c.settle.ensures.holds seen r.begun
     (c.recall-came-in-Asking.ensures.holds seen r.begun reads (rw c.deref_mut-in-Asking.ensures.value (rw c.in-Asking.is at h.state))))
+
+pub returns-in-Asking-clause-ended : goal.returns-in-Asking-clause-ended
+returns-in-Asking-clause-ended c =
+    settle-ends (record c.in-Asking.asking { value = c.recall-came-in-Asking.new.self }) c.recall-came-in-Asking.result c.settle.result c.settle.new.self.state c.settle.ensures.state c.settle.ensures.result
+
+pub returns-in-Walking-clause-heeds : goal.returns-in-Walking-clause-heeds
+returns-in-Walking-clause-heeds c =
+    let r = c.args.self.now in
+    let b = c.in-Walking.walk in
+    rw c.in-Walking.is (follow-heeds r.question.query (Walking (record b { value = c.recall-came.new.self })) (recalled c.args.cache.now b.value.asking.lookup.query c.args.now) c.recall-came.result
+    c.follow.result c.follow.new.self.state c.follow.ensures.steps c.follow.ensures.ended (rw c.deref_mut.ensures.value at c.recall-came.ensures.ends))
+
+pub returns-in-Asking-clause-heeds : goal.returns-in-Asking-clause-heeds
+returns-in-Asking-clause-heeds c =
+    let r = c.args.self.now in
+    let b = c.in-Asking.asking in
+    rw c.in-Asking.is (settle-heeds r.question (record b { value = c.recall-came-in-Asking.new.self }) (answerable (recalled c.args.cache.now b.value.lookup.query c.args.now)) c.recall-came-in-Asking.result
+    c.settle.result c.settle.new.self.state c.settle.ensures.state c.settle.ensures.result (rw c.deref_mut-in-Asking.ensures.value at c.recall-came-in-Asking.ensures.answers))

@@ -1,17 +1,16 @@
-use Rattle.std.proofs.lemmas.Result.{on_err_weaker}
 use Rattle.recursor_walk.proofs.Resolved.{same-walk, same-asking, walk-holds, asking-holds}
 use Rattle.recursor_walk.proofs.Walks.{walk-asks}
 use Rattle.recursor_walk.proofs.resolving.Resolution.send.Goals as goal
 
-pub returns-in-Walking-clause-err : goal.returns-in-Walking-clause-err
-returns-in-Walking-clause-err c =
-    rw c.deref_mut.ensures.value (on_err_weaker c.send.result (λ same. same-walk c.args.self.now c.in-Walking.walk c.send.new.self c.in-Walking.is same)
-    (rw c.deref_mut.ensures.value at c.send.ensures.err))
+pub returns-in-Walking-clause-same : goal.returns-in-Walking-clause-same
+returns-in-Walking-clause-same c =
+    rw c.deref_mut.ensures.value (same-walk c.args.self.now c.in-Walking.walk c.send.new.self c.send.result c.in-Walking.is
+    (rw c.deref_mut.ensures.value at c.send.ensures.same) (rw c.deref_mut.ensures.value at c.send.ensures.err))
 
-pub returns-in-Asking-clause-err : goal.returns-in-Asking-clause-err
-returns-in-Asking-clause-err c =
-    on_err_weaker c.send-in-Asking.result (λ same. same-asking c.args.self.now c.in-Asking.asking c.send-in-Asking.new.self c.in-Asking.is same)
-    (rw c.deref_mut-in-Asking.ensures.value at c.send-in-Asking.ensures.err)
+pub returns-in-Asking-clause-same : goal.returns-in-Asking-clause-same
+returns-in-Asking-clause-same c =
+    same-asking c.args.self.now c.in-Asking.asking c.send-in-Asking.new.self c.send-in-Asking.result c.in-Asking.is
+    (rw c.deref_mut-in-Asking.ensures.value at c.send-in-Asking.ensures.same) (rw c.deref_mut-in-Asking.ensures.value at c.send-in-Asking.ensures.err)
 
 pub returns-in-Walking-clause-holds : goal.returns-in-Walking-clause-holds
 returns-in-Walking-clause-holds c seen at-now pools h =

@@ -5,7 +5,7 @@ use Rattle.recursor_walk.proofs.walk.Walk.conclude.Goals as goal
 
 pub returns-in-Told-clause-holds : goal.returns-in-Told-clause-holds
 returns-in-Told-clause-holds c seen t0 question filtered h =
-    c.weigh.ensures.holds seen t0 question filtered (record { way = h.way; came = rw c.in-Told.is at h.came })
+    c.hear_told.ensures.holds seen t0 question filtered (record { way = h.way; came = rw c.in-Told.is at h.came })
 
 pub returns-in-Error-clause-holds : goal.returns-in-Error-clause-holds
 returns-in-Error-clause-holds c seen t0 question filtered h =
@@ -13,10 +13,8 @@ returns-in-Error-clause-holds c seen t0 question filtered h =
 
 pub returns-in-Told-clause-ends : goal.returns-in-Told-clause-ends
 returns-in-Told-clause-ends c =
-    let w = c.args.self.now in
-    subst (λ (f : Found). EndsIf (verdict_found w.asking.zone w.asking.lookup.query f) c.weigh.result) (sym c.in-Told.is) c.weigh.ensures.ends
+    subst (λ (f : Found). EndsIf (verdict_found f) c.hear_told.result) (sym c.in-Told.is) c.hear_told.ensures.ends
 
 pub returns-in-Error-clause-ends : goal.returns-in-Error-clause-ends
 returns-in-Error-clause-ends c =
-    let w = c.args.self.now in
-    subst (λ (f : Found). EndsIf (verdict_found w.asking.zone w.asking.lookup.query f) c.pass_over.result) (sym c.in-Error.is) tt
+    subst (λ (f : Found). EndsIf (verdict_found f) c.pass_over.result) (sym c.in-Error.is) tt

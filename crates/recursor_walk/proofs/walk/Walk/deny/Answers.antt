@@ -3,8 +3,8 @@ use Rattle.dns_core.specs.declared.message.Query.{Query}
 use Rattle.resolution.specs.declared.verdict.Verdict.TheVariants.{Neg}
 use Rattle.walk_base.specs.Answer.{ends_walk}
 use Rattle.recursor_walk.specs.Counted.{Stands}
-use Rattle.recursor_walk.specs.Replies.{HasCause}
-use Rattle.recursor_walk.proofs.Denials.{answers-on-the-way, denied}
+use Rattle.recursor_walk.specs.Replies.{CameTo, HasCause}
+use Rattle.recursor_walk.proofs.Denials.{answers-on-the-way}
 use Rattle.recursor_walk.proofs.Walks.{candidate-asked, candidate-on-the-way, leaves-told}
 use Rattle.recursor_walk.proofs.walk.Walk.deny.Goals as goal
 
@@ -18,7 +18,7 @@ returns-then-ends_walk-clause-holds c seen t0 question h =
     let here = subst (λ (p : Query). Stands seen t0 p entry (Neg n)) (candidate-asked seen q w way) h.stands in
     let cause = answers-on-the-way seen t0 q entry w.asking.lookup.query.name n (candidate-on-the-way seen q w way) here
     (sym c.ends_walk.ensures ∙ c.if-ends_walk.true) in
-    denied seen t0 question c.in_ok-reply.reply.value c.told_negative.result (entry ∷ []) c.in_ok-reply.ensures
+    subst (CameTo seen t0 question) (sym c.in_ok-reply.ensures)
     (subst (HasCause seen t0 q (entry ∷ [])) (sym c.told_negative.ensures) cause)
 
 pub returns-clause-holds : goal.returns-clause-holds

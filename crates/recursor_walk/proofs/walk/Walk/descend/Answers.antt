@@ -1,11 +1,8 @@
-use Rattle.std.proofs.Common.{◌∙◌, sym, subst, refl, List, [], length, ◌<◌, ◌↔◌, Contains, Err, arith}
+use Rattle.std.proofs.Common.{◌∙◌, sym, refl, [], Err, arith}
 use Rattle.std.proofs.lemmas.Bool.Decides.{nat_tests}
-use Rattle.std.specs.declared.net.ip_addr.IpAddr.{IpAddr}
 use Rattle.recursor_types.specs.declared.error.RecursorError.TheVariants.{NoNameServer}
 use Rattle.recursor_types.specs.declared.error.WalkCause.TheVariants.{NoAddress}
-use Rattle.resolution.specs.Serving.{allowed, glue}
 use Rattle.resolution.specs.declared.verdict.Verdict.TheVariants.{Pos}
-use Rattle.resolver_settings.specs.Access.{Access, denies}
 use Rattle.recursor_walk.proofs.Denials.{glueless-of, stops}
 use Rattle.recursor_walk.proofs.Walks.{cut-way, cut-leaves, candidate-asked, candidate-on-the-way, leaves-told}
 use Rattle.recursor_walk.proofs.walk.Walk.descend.Goals as goal
@@ -21,15 +18,12 @@ returns-clause-holds c seen t0 entry question filtered h =
     let w = c.args.self.now in
     let q = question.query in
     let kept = c.args.kept.now in
-    let name = w.asking.lookup.query.name in
     let zone = c.in_ok-self.field-0 in
     let filled = sym c.is_empty.ensures ∙ c.if-is_empty.false in
     c.advance-2.ensures.holds seen t0 question
     (cut-way seen t0 q w kept entry zone c.new.result h.way h.stands
     (sym c.is_delegation.ensures ∙ c.if-not-is_delegation.false) c.in_ok-self.ensures
-    (subst (λ (xs : List IpAddr). 0 < length xs) (sym c.new.ensures) (grind (arith, nat_tests)))
-    (λ ip. subst (λ (xs : List IpAddr). Contains xs ip ↔ Contains (allowed (denies seen.setting.server_filter) (glue kept name)) ip) (sym c.new.ensures)
-    (subst (λ (f : Access). Contains c.in_ok-ips.ips.items ip ↔ Contains (allowed (denies f) (glue kept name)) ip) (sym filtered) (c.in_ok-ips.ensures ip))))
+    (rw c.new.ensures (grind (arith, nat_tests))) (λ ip. rw (c.new.ensures, filtered) (c.in_ok-ips.ensures ip)))
     (cut-leaves seen q w zone c.new.result h.way c.in_ok-self.ensures)
 
 pub returns-then-is_empty-clause-holds : goal.returns-then-is_empty-clause-holds
@@ -39,11 +33,7 @@ returns-then-is_empty-clause-holds c seen t0 entry question filtered h =
     let kept = c.args.kept.now in
     let asks = w.asking.lookup.query in
     let empty = sym c.is_empty.ensures ∙ c.if-is_empty.true in
-    stops seen t0 question _ c.no_server.result (record { outcome = Err (NoNameServer w.name NoAddress); grounds = [] }) c.no_server.ensures (
-      h.way.name,
-      refl,
-      glueless-of seen t0 q asks.name asks entry kept (candidate-on-the-way seen q w h.way) h.stands
-          (candidate-asked seen q w h.way)
-          (sym c.is_delegation.ensures ∙ c.if-not-is_delegation.false)
-          (λ ip has. let place = (c.in_ok-ips.ensures ip).1 (subst (λ (f : Access). Contains (allowed (denies f) (glue kept asks.name)) ip) filtered has) in let less = place.1 in grind (arith, nat_tests)),
-    )
+    let none = glueless-of seen t0 q asks.name asks entry kept (candidate-on-the-way seen q w h.way) h.stands (candidate-asked seen q w h.way)
+    (sym c.is_delegation.ensures ∙ c.if-not-is_delegation.false)
+    (λ ip has. let place = (c.in_ok-ips.ensures ip).1 (rw filtered at has) in let less = place.1 in grind (arith, nat_tests)) in
+    stops seen t0 question _ c.no_server.result (record { outcome = Err (NoNameServer w.name NoAddress); grounds = [] }) c.no_server.ensures ((h.way.name, refl, none), tt)

@@ -12,13 +12,13 @@ returns-in-Ok-clause-holds c seen t0 question filtered h =
     let v = c.in-Ok.verdict in
     c.heed.ensures.holds seen t0 question filtered (record {
       way = h.way;
-      stands = told-stands seen t0 w.asking.zone w.asking.lookup.query c.args.entry v (rw c.in-Ok.is at h.told) (candidate-walked seen question.query w h.way);
+      stands = told-stands seen t0 w.asking.zone w.asking.lookup.query c.args.entry v (rw c.in-Ok.is at h.came) (candidate-walked seen question.query w h.way);
     })
 
 pub returns-clause-holds : goal.returns-clause-holds
 returns-clause-holds c seen t0 question filtered h =
     let w = c.args.self.now in
-    absurd (told-no-error seen t0 w.asking.zone w.asking.lookup.query c.args.entry c.in-Err.field-0 (rw c.in-Err.is at h.told))
+    absurd (told-no-error seen t0 w.asking.zone w.asking.lookup.query c.args.entry c.in-Err.field-0 (rw c.in-Err.is at h.came))
 
 pub returns-in-Ok-clause-ends : goal.returns-in-Ok-clause-ends
 returns-in-Ok-clause-ends c =

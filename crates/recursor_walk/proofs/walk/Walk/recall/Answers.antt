@@ -1,6 +1,6 @@
-use Rattle.std.proofs.Common.{IfSome, Option, sym, subst, ◌∙◌, refl}
-use Rattle.recursor_walk.specs.Counted.{IsRecalled}
+use Rattle.std.proofs.Common.{Ok, Option, sym, subst, ◌∙◌, refl}
 use Rattle.recursor_walk.specs.Walk.{Recalls}
+use Rattle.recursor_walk.specs.declared.walk.Course.TheVariants.{Further}
 use Rattle.recursor_walk.specs.declared.counted.Counted.{Counted}
 use Rattle.recursor_walk.proofs.Recalling.{recalled-for}
 use Rattle.recursor_walk.proofs.Walks.{way-looked}
@@ -10,8 +10,7 @@ pub returns-in-Some-clause-holds : goal.returns-in-Some-clause-holds
 returns-in-Some-clause-holds c seen t0 question filtered reads h =
     let p = c.args.self.now.asking.lookup.query in
     let stands = recalled-for seen t0 c.args.cache.now p c.in_ok-counted.counted (rw reads.at at reads.since) reads.holds (rw reads.at at c.in_ok-counted.ensures) in
-    let found = subst (λ (o : Option Counted). IfSome o (IsRecalled seen t0 p)) c.in-Some.is stands in
-    c.heed.ensures.holds seen t0 question filtered (record { way = h.way; stands = found.stands })
+    c.heed.ensures.holds seen t0 question filtered (record { way = h.way; stands = (rw c.in-Some.is at stands).stands })
 
 pub returns-in-None-clause-holds : goal.returns-in-None-clause-holds
 returns-in-None-clause-holds c seen t0 question filtered reads h =
@@ -24,3 +23,6 @@ returns-in-None-clause-holds c seen t0 question filtered reads h =
 pub returns-in-Some-clause-ends : goal.returns-in-Some-clause-ends
 returns-in-Some-clause-ends c =
     subst (λ (o : Option Counted). Recalls o c.heed.result) (sym c.in-Some.is ∙ c.in_ok-counted.ensures) c.heed.ensures.ends
+
+pub returns-in-None-clause-ends : goal.returns-in-None-clause-ends
+returns-in-None-clause-ends c = subst (λ (o : Option Counted). Recalls o (Ok Further)) (sym c.in-None.is ∙ c.in_ok-counted.ensures) refl

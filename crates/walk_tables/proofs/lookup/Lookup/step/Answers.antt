@@ -21,8 +21,7 @@ returns-in-Order-clause-holds c seen step pools h =
 
 pub returns-in-Order-clause-goes : goal.returns-in-Order-clause-goes
 returns-in-Order-clause-goes c seen step pools =
-    let same = rw c.if-branch.false at c.in_ok-settle.ensures.falls in
-    rw c.in-Order.is at c.in_ok-number.ensures.goes seen step (rw same.1 pools)
+    rw c.in-Order.is at c.in_ok-number.ensures.goes seen step (c.settle.ensures.pools seen pools)
 
 pub returns-in-Waiting-clause-holds : goal.returns-in-Waiting-clause-holds
 returns-in-Waiting-clause-holds c seen step pools h =

@@ -62,7 +62,7 @@ returns c = record {
       let sent : HasSent pool numbers request now old.shared mid.shared n = rw (c.in_ok-pool.ensures.pool.servers, here) at c.in_ok-lookup.ensures.sent in
       let begun : HasBegun pool numbers request now old.shared mid.shared n = has-begun pool numbers request now old.shared mid.shared n later sent in
       let within : pool ≤ old.shared.pools = omega (arith, own, count) in
-      let sought : Sought = record { query = c.in_ok-try_clone.field-0; zone = c.in_ok-try_clone-2.field-0; start = c.args.tick.now; given = None; first = None; at = c.args.tick.now } in
+      let sought : Sought = record { query = c.in_ok-try_clone.field-0; zone = c.in_ok-try_clone-2.field-0; start = c.args.tick.now; given = None; first = None; at = c.args.tick.now; came = None } in
       let holds : SoughtHolds seen mid n sought =
       rw (c.in_ok-try_clone.ensures, c.in_ok-try_clone-2.ensures, here)
       (begun-holds seen c.args.zone.now c.args.ips.now numbers request old mid pool n served numbered.servers there begun _

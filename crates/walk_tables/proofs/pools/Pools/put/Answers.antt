@@ -1,4 +1,4 @@
-use Rattle.std.proofs.Common.{◌≡◌, ◌∙◌, ℕ, max, inr, sym, refl, subst, Some, None, Ok, Result, arith, rules, Err}
+use Rattle.std.proofs.Common.{◌≡◌, ◌∙◌, ℕ, max, inr, sym, refl, ap, subst, Some, None, Ok, Result, arith, rules, Err}
 use Rattle.std.specs.Option.{option_copied}
 use Rattle.dns_core.specs.declared.errors.NoMemory.{NoMemory}
 use Rattle.server_core.specs.declared.order.After.{After}
@@ -7,11 +7,13 @@ use Rattle.server_pool.specs.Orders.{open_at}
 use Rattle.walk_tables.specs.Pools.{IsOutcomeOf}
 use Rattle.walk_tables.specs.Order.{closing_of, seen_with}
 use Rattle.walk_tables.specs.View.{View, seen_at}
-use Rattle.walk_tables.specs.Taking.{Took, TablesHold}
+use Rattle.walk_tables.specs.Remembered.{CacheHolds, remembered}
+use Rattle.walk_tables.specs.Taking.{Took, TablesHold, telling_at}
 use Rattle.walk_tables.proofs.Late.{late-other, open-late}
 use Rattle.walk_tables.proofs.Puts.{later-put, err-last, err-is, was-put}
 use Rattle.walk_tables.proofs.Later.{cache-later, tables-later}
-use Rattle.walk_tables.proofs.Taking.{remembered-kept}
+use Rattle.walk_tables.proofs.Pooling.{pools-came}
+use Rattle.walk_tables.proofs.Taking.{took-came, comes-has, telling-noted, told-kept}
 use Rattle.walk_tables.proofs.pools.Pools.put.Goals as goal
 
 -- what is late changes nothing
@@ -38,12 +40,12 @@ returns-in_err-after-clause-holds c seen longer put h =
     } in
     tables)
 
--- where it was wanting for the cache
-pub returns-in_err-remember-clause-holds : goal.returns-in_err-remember-clause-holds
-returns-in_err-remember-clause-holds c seen longer put h =
+-- where it was wanting for what the lookup came to
+pub returns-in_err-came-clause-holds : goal.returns-in_err-came-clause-holds
+returns-in_err-came-clause-holds c seen longer put h =
     let waits = option_copied c.args.waits in
     let o = c.args.outcome in
-    let fault = c.from_residual-in_err-remember in
+    let fault = c.from_residual-in_err-came in
     let did : Result After NoMemory = Ok c.in_ok-after.after in
     let was = was-put seen c.args.tick waits o did fault.result longer fault.ensures.0 put in
     let middle = seen_with seen c.args.tick waits o did was.by in
@@ -53,29 +55,34 @@ returns-in_err-remember-clause-holds c seen longer put h =
       pools = c.in_ok-after.ensures.holds seen was.by was.put h.pools;
     } in
     let last : View = seen_at seen.setting (max seen.greatest (closing_of waits o)) c.args.tick.now longer in
-    rw (err-last waits o fault.result fault.ensures.0, c.in_err-remember.ensures.err)
+    rw (err-last waits o fault.result fault.ensures.0, c.in_err-came.ensures.err)
     (tables-later middle last (record { setting = refl; patience = omega arith; greatest = omega (arith, fewer); moment = omega arith; extends = was.extends }) c.args.cache.now c.take.new.self tables)
 
 pub returns-clause-takes : goal.returns-clause-takes
 returns-clause-takes c =
+    let n = c.in-Some.lookup in
+    let mid = c.take.new.self in
+    let new = c.keep_came.new.self in
     let given = rw c.in-Some-given_for.is at c.given_for.ensures.some in
     inr (record {
-      n = c.in-Some.lookup;
-      took = subst (λ (k : ℕ). Took c.args.self.now c.take.new.self c.in-Some.lookup k c.args.outcome c.args.tick c.in_ok-after.after) given.0 c.in_ok-after.ensures.took;
-      writes = c.in_ok-remember.ensures.ok;
+      n = n;
+      took = took-came c.args.self.now mid new n c.args.number c.args.outcome c.args.tick c.in_ok-after.after c.in_ok-came.came c.keep_came.ensures
+          (subst (λ (k : ℕ). Took c.args.self.now mid n k c.args.outcome c.args.tick c.in_ok-after.after) given.0 c.in_ok-after.ensures.took);
+      writes = c.in_ok-came.ensures.ok ∙ ap (remembered c.args.cache.now) (telling-noted n c.in_ok-came.came mid new c.keep_came.ensures);
     })
 
 pub returns-clause-holds : goal.returns-clause-holds
 returns-clause-holds c seen longer put h =
+    let n = c.in-Some.lookup in
+    let mid = c.take.new.self in
     let waits = option_copied c.args.waits in
-    let o = c.args.outcome in
     let did : Result After NoMemory = Ok c.in_ok-after.after in
-    let next = seen_with seen c.args.tick waits o did longer in
+    let next = seen_with seen c.args.tick waits c.args.outcome did longer in
     let pools = c.in_ok-after.ensures.holds seen longer put h.pools in
-    let cache = cache-later seen next (later-put seen c.args.tick waits o did longer put) c.args.cache.now h.cache in
+    let cache = cache-later seen next (later-put seen c.args.tick waits c.args.outcome did longer put) c.args.cache.now h.cache in
     record {
-      cache = remembered-kept next c.take.new.self c.in-Some.lookup pools c.args.cache.now c.remember.new.cache c.remember.result c.remember.ensures.ok c.remember.ensures.err cache;
-      pools = pools;
+      cache = subst (CacheHolds next) (sym c.in_ok-came.ensures.ok) (told-kept next mid n pools c.args.cache.now (telling_at mid n) refl cache);
+      pools = pools-came next n c.in_ok-came.came mid c.keep_came.new.self c.keep_came.ensures (comes-has mid n c.in_ok-came.came c.in_ok-came.ensures.comes) pools;
     }
 
 -- ---- which outcomes are late

@@ -3,7 +3,7 @@ use Rattle.std.specs.Prelude.{slice_get}
 use Rattle.std.specs.List.{last_or}
 use Rattle.std.specs.Option.{option_copied}
 use Rattle.walk_tables.specs.Lookup.{last_of}
-use Rattle.walk_tables.proofs.lookup.last_of.Goals as goal
+use Rattle.walk_tables.proofs.answered.last_of.Goals as goal
 
 -- the last stands before the end
 last-at : (o : Option ℕ) (x : ℕ) (xs : List ℕ) → last_or o (x ∷ xs) ≡ slice_get (x ∷ xs) (length xs)
