@@ -77,6 +77,9 @@ pub fn try_clone_all<T: TryClone>(alloc: Global, items: &[T]) -> Result<Vec<T>, 
 
 impl<T: TryClone> TryClone for Items<T> {
     fn try_clone(&self, alloc: Global) -> Result<Self, NoMemory> {
+        if self.is_empty() {
+            return Ok(Items::empty(alloc));
+        }
         let items = try_clone_all(alloc, self.items())?;
         Ok(Items::new(items))
     }
