@@ -1,4 +1,5 @@
 pub mod SharedBits
+pub mod Spans
 pub mod ByOrder
 pub mod OneAddress
 pub mod OneNumber

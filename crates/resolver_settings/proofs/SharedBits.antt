@@ -1,16 +1,14 @@
 -- Two numbers have the same first bits as numbers where each of these bits is the same.
-use Rattle.std.proofs.Common.{◌≡◌, ℕ, ◌+◌, ◌-◌, ◌/◌, ◌%◌, ◌^◌, ◌<◌, ◌≤◌, IsTrue, nat_eq, subst, refl, ap, ◌∙◌, sym, arith, ⊎_elim}
+use Rattle.std.proofs.Common.{◌≡◌, ℕ, ◌+◌, ◌-◌, ◌/◌, ◌%◌, ◌^◌, ◌<◌, ◌≤◌, Bool, IsTrue, true≢false, subst, refl, ap, ◌∙◌, sym, arith, ⊎_elim}
 use Rattle.std.specs.Prelude.{◌↔◌}
 use Rattle.std.specs.Int.{bit_at}
 use Rattle.std.specs.declared.net.ip_addr.IpAddr.{IpAddr}
 use Rattle.std.specs.declared.net.ip_addr.IpAddr.TheVariants.{V4, V6}
-use Rattle.std.specs.declared.net.ipv4_addr.Ipv4Addr.{Ipv4Addr}
-use Rattle.std.specs.declared.net.ipv6_addr.Ipv6Addr.{Ipv6Addr}
 use Rattle.std.specs.Net.Addr.{ipv4_bits, ipv6_bits}
 use Rattle.std.proofs.lemmas.Bool.{cases_lt, eq-eqb, eqb-true}
 use Rattle.std.proofs.lemmas.Nat.{shr-shr}
 use Rattle.std.proofs.lemmas.Nat.Bits.{same_from_bits, bit_at_above}
-use Rattle.resolver_settings.specs.Net.{Network, width_of, first_bits, SharesPrefix}
+use Rattle.resolver_settings.specs.Net.{Network, width_of, number_of, first_bits, begins_with, contains, IsWithinFamily, SharesPrefix}
 
 shifted_bit : (n s i : ℕ) → bit_at (n / 2 ^ s) i ≡ bit_at n (s + i)
 shifted_bit n s i = ap (λ m. m % 2) (shr-shr n s i)
@@ -34,24 +32,19 @@ first_from_bits w p a b h in_a in_b same =
         (λ (g : w ≤ j). bit_at_above a w j in_a g ∙ sym (bit_at_above b w j in_b g))
         (cases_lt j w)
 
-pub shares_in_ipv4 : (net : Network) (from at : IpAddr) (a ip : Ipv4Addr) (p x y : ℕ)
-    → record { addr = from; prefix = p } ≡ net → from ≡ V4 a → at ≡ V4 ip → p ≤ width_of from
-    → ipv4_bits a < 2 ^ 32 → ipv4_bits ip < 2 ^ 32 → x ≡ first_bits 32 p (ipv4_bits a) → y ≡ first_bits 32 p (ipv4_bits ip)
-    → IsTrue (nat_eq x y) ↔ SharesPrefix net at
-shares_in_ipv4 net from at a ip p x y is_net is_a is_ip fits in_a in_ip x_is y_is =
-    let h : p ≤ 32 = subst (λ (f : IpAddr). p ≤ width_of f) is_a fits in
-    rw (← is_net, is_a, is_ip, x_is, y_is) (
-      λ t. (refl, λ k l. sym (bits_from_first 32 p (ipv4_bits a) (ipv4_bits ip) k h (eqb-true _ _ t) l)),
-      λ s. eq-eqb _ _ (first_from_bits 32 p (ipv4_bits a) (ipv4_bits ip) h in_a in_ip (λ k l. sym (s.1 k l))),
-    )
+shares : (from at : IpAddr) (p : ℕ) → IsWithinFamily from p → number_of at < 2 ^ width_of at
+    → IsTrue (begins_with from p at) ↔ SharesPrefix (record { addr = from; prefix = p }) at
+shares (V4 a) (V4 ip) p h in_ip = (
+  λ t. (refl, λ k l. bits_from_first 32 p (ipv4_bits ip) (ipv4_bits a) k h.0 (eqb-true _ _ t) l),
+  λ s. eq-eqb _ _ (first_from_bits 32 p (ipv4_bits ip) (ipv4_bits a) h.0 in_ip h.1 s.1),
+)
+shares (V6 a) (V6 ip) p h in_ip = (
+  λ t. (refl, λ k l. bits_from_first 128 p (ipv6_bits ip) (ipv6_bits a) k h.0 (eqb-true _ _ t) l),
+  λ s. eq-eqb _ _ (first_from_bits 128 p (ipv6_bits ip) (ipv6_bits a) h.0 in_ip h.1 s.1),
+)
+shares (V4 a) (V6 ip) p h in_ip = (λ t. absurd (true≢false (sym t)), λ s. s.0)
+shares (V6 a) (V4 ip) p h in_ip = (λ t. absurd (true≢false (sym t)), λ s. sym s.0)
 
-pub shares_in_ipv6 : (net : Network) (from at : IpAddr) (a ip : Ipv6Addr) (p x y : ℕ)
-    → record { addr = from; prefix = p } ≡ net → from ≡ V6 a → at ≡ V6 ip → p ≤ width_of from
-    → ipv6_bits a < 2 ^ 128 → ipv6_bits ip < 2 ^ 128 → x ≡ first_bits 128 p (ipv6_bits a) → y ≡ first_bits 128 p (ipv6_bits ip)
-    → IsTrue (nat_eq x y) ↔ SharesPrefix net at
-shares_in_ipv6 net from at a ip p x y is_net is_a is_ip fits in_a in_ip x_is y_is =
-    let h : p ≤ 128 = subst (λ (f : IpAddr). p ≤ width_of f) is_a fits in
-    rw (← is_net, is_a, is_ip, x_is, y_is) (
-      λ t. (refl, λ k l. sym (bits_from_first 128 p (ipv6_bits a) (ipv6_bits ip) k h (eqb-true _ _ t) l)),
-      λ s. eq-eqb _ _ (first_from_bits 128 p (ipv6_bits a) (ipv6_bits ip) h in_a in_ip (λ k l. sym (s.1 k l))),
-    )
+pub shares_as_told : (net : Network) (at : IpAddr) (told : Bool) → told ≡ contains net at → IsWithinFamily net.addr net.prefix → number_of at < 2 ^ width_of at
+    → IsTrue told ↔ SharesPrefix net at
+shares_as_told net at told is h in_at = rw is (shares net.addr at net.prefix h in_at)

@@ -1,8 +1,10 @@
 //! Which addresses may be asked: those outside of all denied networks, and those in an allowed one.
 ghost use Rattle.std.specs.Prelude.{◌≡◌, ◌++◌, ◌↔◌, [], IfOk, IsTrue};
+ghost use Rattle.std.specs.List.{list_any};
 ghost use Rattle.resolver_settings.specs.Access.{Access, denies, is_in_any};
+ghost use Rattle.resolver_settings.specs.Net.{holds};
 
-use crate::net::IpNet;
+use crate::net::{IpNet, number};
 use dns_core::{Items, NoMemory, TryClone, try_clone_all};
 use std::alloc::Global;
 use std::marker::Model;
@@ -79,11 +81,18 @@ impl AccessControlSetBuilder {
     }
 }
 
+/// Whether some network of this family holds the address of this number.
+fn holds_number(nets: &[IpNet], is_ipv4: bool, number: u128) -> bool
+    ensures { result ≡ list_any (λ net. holds net is_ipv4 number) nets.now }
+{
+    nets.iter().any(|net| net.holds(is_ipv4, number))
+}
+
 /// Whether some network holds the address.
 fn is_in_any(nets: &[IpNet], ip: IpAddr) -> bool
     ensures { result ≡ is_in_any nets.now ip }
 {
-    nets.iter().any(|net| net.contains(ip))
+    holds_number(nets, ip.is_ipv4(), number(ip))
 }
 
 impl AccessControlSet {

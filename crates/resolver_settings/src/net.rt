@@ -1,7 +1,6 @@
 //! Networks of addresses in CIDR notation (RFC 4632 section 3.1, RFC 4291 section 2.3).
-ghost use Rattle.std.specs.Prelude.{◌≡◌, ◌≤◌, ◌<◌, ◌^◌, ◌↔◌, IfOk, IsErr, IsTrue};
-ghost use Rattle.std.specs.Net.Addr.{ipv4_bits, ipv6_bits};
-ghost use Rattle.resolver_settings.specs.Net.{Network, width_of, first_bits, contains, SharesPrefix, ipv4_net, ipv6_net};
+ghost use Rattle.std.specs.Prelude.{◌≡◌, ◌≤◌, ◌<◌, ◌-◌, ◌*◌, ◌/◌, ◌^◌, ◌↔◌, ◌&&◌, nat_le, IfOk, IsErr, IsTrue};
+ghost use Rattle.resolver_settings.specs.Net.{IsWithinFamily, width_of, number_of, holds, contains, SharesPrefix, ipv4_net, ipv6_net};
 
 use dns_core::{NoMemory, TryClone};
 use std::alloc::Global;
@@ -27,21 +26,49 @@ impl fmt::Display for PrefixTooLong {
 impl Error for PrefixTooLong {}
 
 /// The addresses that begin with the first `prefix` bits of an address. The bits behind them are
-/// kept as given, and count for nothing.
-#[derive(Clone, Copy, Debug, PartialEq, Eq)]
+/// kept as given, and count for nothing. The numbers of these addresses go from `lowest` to
+/// `highest`.
+#[derive(Clone, Copy, PartialEq, Eq)]
 pub struct IpNet {
     addr: IpAddr,
     prefix: u8,
+    lowest: u128,
+    highest: u128,
 }
 
 impl Model for IpNet {
+    ghost use Rattle.std.specs.Prelude.{◌≡◌};
+    ghost use Rattle.std.proofs.Common.{sym};
+    ghost use Rattle.resolver_settings.specs.Net.{Network, IsWithinFamily, lowest_of, highest_of};
+
     ghost Value = { Network };
 
     ghost view = { λ n. record { addr = n.addr; prefix = n.prefix } };
 
-    ghost invariant = { λ n. n.prefix ≤ width_of n.addr };
+    ghost invariant = { λ n. IsWithinFamily n.addr n.prefix × (n.lowest ≡ lowest_of n.addr n.prefix) × (n.highest ≡ highest_of n.addr n.prefix) };
 
-    ghost inverse = { λ n. record { addr = n.addr; prefix = n.prefix } };
+    ghost inverse = { λ n. record {
+      addr = n.addr;
+      prefix = n.prefix;
+      lowest = lowest_of n.addr n.prefix;
+      highest = highest_of n.addr n.prefix;
+    } };
+
+    ghost inverse_ok = { λ n h i. record {
+      addr = n.addr;
+      prefix = n.prefix;
+      lowest = sym h.1 i;
+      highest = sym h.2 i;
+    } };
+}
+
+impl fmt::Debug for IpNet {
+    fn fmt<W: fmt::Write>(&self, f: &mut fmt::Formatter<W>) -> fmt::Result {
+        f.debug_struct("IpNet")
+            .field("addr", &self.addr)
+            .field("prefix", &self.prefix)
+            .finish()
+    }
 }
 
 /// The bits of an address of this family.
@@ -54,24 +81,55 @@ fn width(addr: IpAddr) -> u8
     }
 }
 
-/// The first bits of an IPv4 address, as a number: 0 where there are none.
-fn first_bits_of_ipv4(ip: Ipv4Addr, prefix: u8) -> u32
-    requires { prefix ≤ 32 }
-    ensures first { result ≡ first_bits 32 prefix (ipv4_bits ip) }
-    ensures within { ipv4_bits ip < 2 ^ 32 }
+/// The bits of an address, as a number.
+pub(crate) fn number(addr: IpAddr) -> u128
+    ensures number { result ≡ number_of addr }
+    ensures within { result < 2 ^ width_of addr }
 {
-    let behind = 32 - u32::from(prefix);
-    ip.to_bits().checked_shr(behind).unwrap_or(0)
+    match addr {
+        IpAddr::V4(ip) => u128::from(ip.to_bits()),
+        IpAddr::V6(ip) => ip.to_bits(),
+    }
 }
 
-/// The first bits of an IPv6 address, as a number: 0 where there are none.
-fn first_bits_of_ipv6(ip: Ipv6Addr, prefix: u8) -> u128
-    requires { prefix ≤ 128 }
-    ensures first { result ≡ first_bits 128 prefix (ipv6_bits ip) }
-    ensures within { ipv6_bits ip < 2 ^ 128 }
+/// A number with its last bits cleared.
+fn without_last(number: u128, behind: u32) -> u128
+    requires { behind ≤ 128 }
+    ensures { result ≡ number / 2 ^ behind * 2 ^ behind }
 {
-    let behind = 128 - u32::from(prefix);
-    ip.to_bits().checked_shr(behind).unwrap_or(0)
+    let first = number.checked_shr(behind).unwrap_or(0);
+    first.checked_shl(behind).unwrap_or(0)
+}
+
+/// The number whose last bits are set, and no others.
+fn last_ones(behind: u32) -> u128
+    requires { behind ≤ 128 }
+    ensures { result ≡ 2 ^ behind - 1 }
+{
+    u128::MAX.checked_shr(128 - behind).unwrap_or(0)
+}
+
+/// Whether a number lies between two, these included.
+fn is_between(number: u128, lowest: u128, highest: u128) -> bool
+    ensures { result ≡ (nat_le lowest number && nat_le number highest) }
+{
+    lowest <= number && number <= highest
+}
+
+/// The network of these first bits of an address, which has as many or more.
+fn net_of(addr: IpAddr, prefix: u8) -> IpNet
+    requires { prefix ≤ width_of addr }
+    ensures { result ≡ record { addr = addr; prefix = prefix } }
+{
+    let behind = u32::from(width(addr) - prefix);
+    let lowest = without_last(number(addr), behind);
+    let highest = lowest + last_ones(behind);
+    IpNet {
+        addr,
+        prefix,
+        lowest,
+        highest,
+    }
 }
 
 impl IpNet {
@@ -84,7 +142,7 @@ impl IpNet {
         if prefix > width(addr) {
             return Err(PrefixTooLong);
         }
-        Ok(IpNet { addr, prefix })
+        Ok(net_of(addr, prefix))
     }
 
     /// The address as given, with the bits behind the prefix.
@@ -106,15 +164,15 @@ impl IpNet {
         ensures value { result ≡ contains self.now ip }
         ensures bits { IsTrue result ↔ SharesPrefix self.now ip }
     {
-        match (self.addr, ip) {
-            (IpAddr::V4(addr), IpAddr::V4(ip)) => {
-                first_bits_of_ipv4(addr, self.prefix) == first_bits_of_ipv4(ip, self.prefix)
-            }
-            (IpAddr::V6(addr), IpAddr::V6(ip)) => {
-                first_bits_of_ipv6(addr, self.prefix) == first_bits_of_ipv6(ip, self.prefix)
-            }
-            _ => false,
-        }
+        self.holds(ip.is_ipv4(), number(ip))
+    }
+
+    /// Whether the network is of this family, and the address of this number lies in it.
+    pub(crate) fn holds(&self, is_ipv4: bool, number: u128) -> bool
+        ensures held { result ≡ holds self.now is_ipv4 number }
+        ensures family { IsWithinFamily self.now.addr self.now.prefix }
+    {
+        self.addr.is_ipv4() == is_ipv4 && is_between(number, self.lowest, self.highest)
     }
 }
 
@@ -123,10 +181,7 @@ pub(crate) fn ipv4_net(octets: [u8; 4], prefix: u8) -> IpNet
     requires { prefix ≤ 32 }
     ensures { result ≡ ipv4_net octets prefix }
 {
-    IpNet {
-        addr: IpAddr::V4(Ipv4Addr::from_octets(octets)),
-        prefix,
-    }
+    net_of(IpAddr::V4(Ipv4Addr::from_octets(octets)), prefix)
 }
 
 /// The network of eight segments.
@@ -134,10 +189,7 @@ pub(crate) fn ipv6_net(segments: [u16; 8], prefix: u8) -> IpNet
     requires { prefix ≤ 128 }
     ensures { result ≡ ipv6_net segments prefix }
 {
-    IpNet {
-        addr: IpAddr::V6(Ipv6Addr::from_segments(segments)),
-        prefix,
-    }
+    net_of(IpAddr::V6(Ipv6Addr::from_segments(segments)), prefix)
 }
 
 impl TryClone for IpNet {

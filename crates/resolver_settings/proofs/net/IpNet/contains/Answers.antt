@@ -1,14 +1,13 @@
-use Rattle.resolver_settings.proofs.SharedBits.{shares_in_ipv4, shares_in_ipv6}
+use Rattle.std.proofs.Common.{◌<◌, ◌^◌, subst}
+use Rattle.resolver_settings.proofs.SharedBits.{shares_as_told}
+use Rattle.resolver_settings.proofs.Spans.{contained}
+use Rattle.resolver_settings.specs.Net.{width_of}
 use Rattle.resolver_settings.proofs.net.IpNet.contains.Goals as goal
 
-pub returns-in-V4-V4-clause-bits : goal.returns-in-V4-V4-clause-bits
-returns-in-V4-V4-clause-bits c =
-    let addr = c.first_bits_of_ipv4.ensures in
-    let ip = c.first_bits_of_ipv4-in-V4-V4.ensures in
-    shares_in_ipv4 _ _ _ _ _ _ _ _ c.self.view_is c.in-V4-V4.is-0 c.in-V4-V4.is-1 c.self.invariant addr.within ip.within addr.first ip.first
+pub returns-clause-value : goal.returns-clause-value
+returns-clause-value c = contained _ c.args.ip c.is_ipv4.result c.number.result c.holds.result c.is_ipv4.ensures c.number.ensures.number c.holds.ensures.held
 
-pub returns-in-V6-V6-clause-bits : goal.returns-in-V6-V6-clause-bits
-returns-in-V6-V6-clause-bits c =
-    let addr = c.first_bits_of_ipv6.ensures in
-    let ip = c.first_bits_of_ipv6-in-V6-V6.ensures in
-    shares_in_ipv6 _ _ _ _ _ _ _ _ c.self.view_is c.in-V6-V6.is-0 c.in-V6-V6.is-1 c.self.invariant addr.within ip.within addr.first ip.first
+pub returns-clause-bits : goal.returns-clause-bits
+returns-clause-bits c =
+    let told = contained _ c.args.ip c.is_ipv4.result c.number.result c.holds.result c.is_ipv4.ensures c.number.ensures.number c.holds.ensures.held in
+    shares_as_told _ c.args.ip c.holds.result told c.holds.ensures.family (subst (λ n. n < 2 ^ width_of c.args.ip) c.number.ensures.number c.number.ensures.within)
