@@ -2,7 +2,7 @@
 use Rattle.std.proofs.Common.{◌≡◌, ℕ, zero, suc, ◌<◌, Bool, true, false, ◌&&◌, List, [], ◌∷◌, length, map, Option, Some, None, slice_get, refl, ap, ◌∙◌, sym, IsTrue}
 use Rattle.std.specs.Option.{option_map}
 use Rattle.std.specs.List.{list_all}
-use Rattle.std.specs.Prelude.{Result, Ok, Err}
+use Rattle.std.specs.Prelude.{Result, Ok, Err, option_and_then}
 use Rattle.std.proofs.lemmas.Option.{slice_get-map}
 use Rattle.dns_core.specs.NetError.{is_qualified_error}
 use Rattle.dns_core.specs.declared.net_error.NetError.{NetError}
@@ -15,22 +15,16 @@ use Rattle.recursor_world.specs.Script.{is_qualified_line, is_qualified_outcome}
 use Rattle.recursor_world.specs.declared.script.ScriptLine.{ScriptLine}
 use Rattle.recursor_world.specs.declared.script.ScriptLine.TheVariants.{Connect, Refuse, Reply}
 
-some_of : {L : Type 0} (o x : Option L) → option_map Some o ≡ Some x → (y : L) × (o ≡ Some y) × (x ≡ Some y)
-some_of None x h = cc
-some_of (Some y) x h = (y, refl, cc)
-
-none_of : {L : Type 0} (o : Option L) → option_map Some o ≡ None → o ≡ None
-none_of None h = refl
-none_of (Some y) h = cc
+then_line : {L : Type 0} (f : ℕ → Option L) (o : Option ℕ) (r : Option L) → option_map f o ≡ option_map Some r → option_and_then f o ≡ r
+then_line f None None h = refl
+then_line f None (Some y) h = cc
+then_line f (Some n) None h = cc
+then_line f (Some n) (Some y) h = cc
 
 -- the line at the place is the one in the list
-pub found_line : {L : Type 0} (lines fs : List L) (ps : List ℕ) (u place : ℕ) → map (slice_get lines) ps ≡ map Some fs → slice_get ps u ≡ Some place → (y : L) × (slice_get fs u ≡ Some y) × (slice_get lines place ≡ Some y)
-found_line lines fs ps u place h at =
-    some_of (slice_get fs u) (slice_get lines place) (sym (slice_get-map Some fs u) ∙ sym (ap (λ xs. slice_get xs u) h) ∙ slice_get-map (slice_get lines) ps u ∙ ap (option_map (slice_get lines)) at)
-
-pub no_line : {L : Type 0} (lines fs : List L) (ps : List ℕ) (u : ℕ) → map (slice_get lines) ps ≡ map Some fs → slice_get ps u ≡ None → slice_get fs u ≡ None
-no_line lines fs ps u h at =
-    none_of (slice_get fs u) (sym (slice_get-map Some fs u) ∙ sym (ap (λ xs. slice_get xs u) h) ∙ slice_get-map (slice_get lines) ps u ∙ ap (option_map (slice_get lines)) at)
+pub line_at : {L : Type 0} (lines fs : List L) (ps : List ℕ) (u : ℕ) → map (slice_get lines) ps ≡ map Some fs → option_and_then (slice_get lines) (slice_get ps u) ≡ slice_get fs u
+line_at lines fs ps u h =
+    then_line (slice_get lines) (slice_get ps u) (slice_get fs u) (sym (slice_get-map (slice_get lines) ps u) ∙ ap (λ xs. slice_get xs u) h ∙ slice_get-map Some fs u)
 
 and_left : (a b : Bool) → (a && b) ≡ true → a ≡ true
 and_left true b h = refl

@@ -1,6 +1,6 @@
 -- What holds of a book after an entry was noted.
 use Rattle.std.proofs.Common.{◌≡◌, ℕ, ◌+◌, ◌-◌, Bool, true, false, cond, List, [], ◌∷◌, ◌++◌, length, min, filter, map, slice_get, Option, Some, None, refl, ap, ◌∙◌, sym, subst, arith, nat_eq, nat_lt, count_by, IsTrue}
-use Rattle.std.specs.Prelude.{option_and_then}
+use Rattle.std.specs.Prelude.{option_and_then, unwrap_or}
 use Rattle.std.specs.Option.{option_map, option_map_or}
 use Rattle.std.specs.declared.hash.FoldHasher.{FoldHasher}
 use Rattle.std.specs.declared.hash.BuildHasherDefault.{BuildHasherDefault}
@@ -17,10 +17,11 @@ use Rattle.dns_core.specs.declared.log.LogEntry.TheVariants.{Told}
 use Rattle.dns_core.specs.declared.log.ToldOutcome.{ToldOutcome}
 use Rattle.dns_core.specs.declared.message.Query.{Query}
 use Rattle.recursor_world.specs.Script.{Fits, course_after, question_course_for, asks, waits, replies}
-use Rattle.recursor_world.specs.Course.{is_qualified_course, IsWaiting}
+use Rattle.recursor_world.specs.Course.{reply_course, is_qualified_course, IsWaiting}
 use Rattle.recursor_world.specs.Index.{IsIndexed, places_at, used_at, advanced}
 use Rattle.recursor_world.specs.Book.{told, open_at, IsKept, Awaits, Counts, Knows, Holds, SameScript, Waits, IsDue, IsDueAs}
-use Rattle.recursor_world.proofs.Keeping.{kept_begun, kept_fewer}
+use Rattle.recursor_world.proofs.Keeping.{kept_begun}
+use Rattle.recursor_world.proofs.Finding.{line_at}
 use Rattle.recursor_world.specs.declared.course.Course.TheVariants.{Never, After}
 use Rattle.recursor_world.specs.declared.index.Asking.{Asking}
 use Rattle.recursor_world.specs.declared.index.Index.{Index}
@@ -92,49 +93,46 @@ knows_still s old new h places routes = record {
   };
 }
 
--- put and taken out again
-pub put_back : (b : Bool) (c : Option Course) (old mid new : Option Course) → mid ≡ cond b c old → new ≡ cond b None mid → new ≡ cond b None old
-put_back true c old mid new m n = n
-put_back false c old mid new m n = n ∙ m
+-- no more is open than before
+pub kept_less : (s : Script) (es : List LogEntry) (old new : ℕ → Option Course) → IsKept s es old → ((n : ℕ) (c : Course) → new n ≡ Some c → old n ≡ Some c) → IsKept s es new
+kept_less s es old new h e = record { gives = h.gives; awaited = λ n c is. h.awaited n c (e n c is) }
 
-pub kept_same : (s : Script) (es : List LogEntry) (old new : ℕ → Option Course) → IsKept s es old → ((n : ℕ) → new n ≡ old n) → IsKept s es new
-kept_same s es old new h e = record { gives = h.gives; awaited = λ n c is. h.awaited n c (sym (e n) ∙ is) }
+-- what holds of a book that differs at most in what waits for memory
+pub held : (old new : Book) → told new ≡ told old → new.open ≡ old.open → SameScript old new → Holds old → Holds new
+held old new t o same h =
+    hold new old.script (told old) old.index same.script same.index t
+    (kept_less old.script (told old) (open_at old) (open_at new) h.keeps (λ n c is. ap (λ m. get nat_eq m n) (sym o) ∙ is)) h.counts h.knows
 
--- a book after an entry that opened or asked was noted
-pub record Begun (b0 b3 : Book) (e : LogEntry) : Type 0 where
-  pub script : b3.script ≡ b0.script
-  pub index : b3.index ≡ b0.index
-  pub log : told b3 ≡ told b0 ++ e ∷ []
-  pub keeps : IsKept b0.script (told b0 ++ e ∷ []) (open_at b3)
+-- a book in which an entry that opened or asked was noted
+pub begun : (old new : Book) (e : LogEntry) (c : Course) (number : ℕ) → old.late ≡ [] → number ≡ length (told old) + 1 → new.script ≡ old.script → new.late ≡ old.late
+    → ((n : ℕ) → open_at new n ≡ cond (nat_eq number n) (Some c) (open_at old n)) → new.log ≡ old.log ++ e ∷ []
+    → Fits old.script (told old) e → course_after old.script (told old) e ≡ Some c → IsTrue (is_qualified_course c) → Counts old.script (told old ++ e ∷ []) new.index → Knows old.script new.index → Holds old → Holds new
+begun old new e c number late at script still put noted fits course qualified counts knows h =
+    hold new old.script (told old ++ e ∷ []) new.index script refl (pushed (told old) old.log new.late new.log e (ap (λ x. old.log ++ x) still) (still ∙ late) noted)
+    (kept_begun old.script (told old) e (open_at old) (open_at new) c h.keeps fits course qualified (λ n. put n ∙ ap (λ k. cond (nat_eq k n) (Some c) (open_at old n)) at)) counts knows
 
-pub begun : (b0 b1 b2 b3 : Book) (e : LogEntry) (c : Course) (number : ℕ) → told b1 ≡ told b0 → b1.open ≡ b0.open → SameScript b0 b1 → b1.late ≡ [] → number ≡ length (told b0) + 1
-    → b2 ≡ record b1 { «open» = b2.open } → ((n : ℕ) → open_at b2 n ≡ cond (nat_eq number n) (Some c) (open_at b1 n)) → b3 ≡ record b2 { log = b2.log ++ e ∷ [] }
-    → IsKept b0.script (told b0) (open_at b0) → Fits b0.script (told b0) e → course_after b0.script (told b0) e ≡ Some c → IsTrue (is_qualified_course c) → Begun b0 b3 e
-begun b0 b1 b2 b3 e c number t o same late at two put three keeps fits course qualified = record {
-  script = ap (λ b. b.script) three ∙ ap (λ b. b.script) two ∙ same.script;
-  index = ap (λ b. b.index) three ∙ ap (λ b. b.index) two ∙ same.index;
-  log = pushed (told b0) b1.log b3.late b3.log e (ap (λ x. b1.log ++ x) (ap (λ b. b.late) three ∙ ap (λ b. b.late) two) ∙ t) (ap (λ b. b.late) three ∙ ap (λ b. b.late) two ∙ late) (ap (λ b. b.log) three ∙ ap (λ b. b.log ++ e ∷ []) two);
-  keeps = kept_begun b0.script (told b0) e (open_at b0) (open_at b3) c keeps fits course qualified
-      (λ n. ap (λ b. get nat_eq b.open n) three ∙ put n ∙ ap (λ m. cond (nat_eq number n) (Some c) (get nat_eq m n)) o ∙ ap (λ k. cond (nat_eq k n) (Some c) (open_at b0 n)) at);
-}
+-- a book in which nothing was noted, and no more is open
+pub not_begun : (old new : Book) → new.script ≡ old.script → new.late ≡ old.late → new.log ≡ old.log → ((n : ℕ) (c : Course) → open_at new n ≡ Some c → open_at old n ≡ Some c)
+    → Counts old.script (told old) new.index → Knows old.script new.index → Holds old → Holds new
+not_begun old new script late log fewer counts knows h =
+    hold new old.script (told old) new.index script refl (ap (λ x. x ++ new.late) log ∙ ap (λ x. old.log ++ x) late) (kept_less old.script (told old) (open_at old) (open_at new) h.keeps fewer) counts knows
 
-pub forgot : (b0 b1 b2 b3 : Book) (c : Course) (number : ℕ) → told b1 ≡ told b0 → b1.open ≡ b0.open → SameScript b0 b1
-    → b2 ≡ record b1 { «open» = b2.open } → ((n : ℕ) → open_at b2 n ≡ cond (nat_eq number n) (Some c) (open_at b1 n)) → b3 ≡ record b2 { «open» = b3.open }
-    → ((n : ℕ) → open_at b3 n ≡ cond (nat_eq number n) None (open_at b2 n)) → Holds b0 → Holds b3
-forgot b0 b1 b2 b3 c number t o same two put three out h =
-    hold b3 b0.script (told b0) b0.index (ap (λ b. b.script) three ∙ ap (λ b. b.script) two ∙ same.script) (ap (λ b. b.index) three ∙ ap (λ b. b.index) two ∙ same.index) (ap told three ∙ ap told two ∙ t)
-    (kept_fewer b0.script (told b0) (open_at b0) (open_at b3) number h.keeps (λ n. put_back (nat_eq number n) (Some c) (open_at b0 n) (open_at b2 n) (open_at b3 n) (put n ∙ ap (λ m. cond (nat_eq number n) (Some c) (get nat_eq m n)) o) (out n)))
-    h.counts h.knows
+-- as many lines are used up as before
+pub counts_still : (s : Script) (es : List LogEntry) (old new : Index) → Counts s es old → ((a : Asking) → used_at new a ≡ used_at old a) → Counts s es new
+counts_still s es old new h used = λ a. used a ∙ h a
 
-pub not_put : (b0 b1 b2 : Book) → told b1 ≡ told b0 → b1.open ≡ b0.open → SameScript b0 b1 → b2 ≡ record b1 { «open» = b2.open } → ((n : ℕ) → open_at b2 n ≡ open_at b1 n) → Holds b0 → Holds b2
-not_put b0 b1 b2 t o same two put h =
-    hold b2 b0.script (told b0) b0.index (ap (λ b. b.script) two ∙ same.script) (ap (λ b. b.index) two ∙ same.index) (ap told two ∙ t)
-    (kept_same b0.script (told b0) (open_at b0) (open_at b2) h.keeps (λ n. put n ∙ ap (λ m. get nat_eq m n) o)) h.counts h.knows
+-- the line that an index finds is the one that the script says
+pub turn_course : (s : Script) (es : List LogEntry) (index : Index) (a : Asking) (q : Query) → Counts s es index → Knows s index
+    → unwrap_or (option_map (reply_course q) (option_and_then (slice_get s.lines) (slice_get (places_at index a) (used_at index a)))) Never ≡ question_course_for s a q (count_by (asks a) es)
+turn_course s es index a q counts knows =
+    let fs = filter (replies a) s.lines in
+    ap (λ o. unwrap_or (option_map (reply_course q) o) Never) (line_at s.lines fs (places_at index a) (used_at index a) (knows.indexed.replying a) ∙ ap (slice_get fs) (counts a))
 
 -- what a question comes to, said of equal things
-pub question_is : (s s' : Script) (es es' : List LogEntry) (a a' : Asking) (q q' : Query) (c : Course) → s' ≡ s → es' ≡ es → a' ≡ a → q' ≡ q → c ≡ question_course_for s' a' q' (count_by (asks a') es') → Some (question_course_for s a q (count_by (asks a) es)) ≡ Some c
-question_is s s' es es' a a' q q' c hs he ha hq h =
-    sym (ap Some (h ∙ ap (λ x. question_course_for x a' q' (count_by (asks a') es')) hs ∙ ap (λ x. question_course_for s a' q' (count_by (asks a') x)) he ∙ ap (λ x. question_course_for s x q' (count_by (asks x) es)) ha ∙ ap (λ x. question_course_for s a x (count_by (asks a) es)) hq))
+pub question_is : (s : Script) (es : List LogEntry) (a a' : Asking) (q q' : Query) (c : Course) → a' ≡ a → q' ≡ q → c ≡ question_course_for s a' q' (count_by (asks a') es) → Some (question_course_for s a q (count_by (asks a) es)) ≡ Some c
+question_is s es a a' q q' c ha hq h =
+    sym (ap Some (h ∙ ap (λ x. question_course_for s x q' (count_by (asks x) es)) ha ∙ ap (λ x. question_course_for s a x (count_by (asks a) es)) hq))
+
 
 pub waits_some : (o : Option Course) → Waits o → (c : Course) × (o ≡ Some c) × IsWaiting c
 waits_some None h = absurd h

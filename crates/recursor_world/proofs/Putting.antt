@@ -42,6 +42,29 @@ put_first f new old false t x e here = ap f e ∙ sym (or_none (f old))
     or_none None = refl
     or_none (Some x) = refl
 
+-- the turns of a question, as they are left
+abbrev pub Leaves : {S : Type 0} → HashMap Asking Turns S → HashMap Asking Turns S → Asking → Turns → Turns → Type 0
+Leaves old new k found left = (Some found ≡ get same_asking old k) × ((a : Asking) → get same_asking new a ≡ cond (same_asking k a) (Some left) (get same_asking old a))
+
+pub places_left : {S : Type 0} (old new : HashMap Asking Turns S) (k : Asking) (found left : Turns) → Leaves old new k found left → left.places ≡ found.places → (a : Asking) → places_of (get same_asking new a) ≡ places_of (get same_asking old a)
+places_left old new k found left h same = λ a.
+    put_same places_of _ (get same_asking old a) (get same_asking old a) (same_asking k a) left (h.1 a)
+    (λ alike. same ∙ ap places_of (h.0 ∙ same_turns old k a alike))
+    (λ apart. refl)
+
+pub used_left : {S : Type 0} (old new : HashMap Asking Turns S) (k : Asking) (found left : Turns) → Leaves old new k found left → left.used ≡ found.used → (a : Asking) → used_of (get same_asking new a) ≡ used_of (get same_asking old a)
+used_left old new k found left h same = λ a.
+    put_same used_of _ (get same_asking old a) (get same_asking old a) (same_asking k a) left (h.1 a)
+    (λ alike. same ∙ ap used_of (h.0 ∙ same_turns old k a alike))
+    (λ apart. refl)
+
+pub used_up : {S : Type 0} (old new : HashMap Asking Turns S) (k : Asking) (found left : Turns) → Leaves old new k found left → left.used ≡ advanced (length found.places) found.used
+    → (a : Asking) → used_of (get same_asking new a) ≡ cond (same_asking k a) (advanced (length (places_of (get same_asking old a))) (used_of (get same_asking old a))) (used_of (get same_asking old a))
+used_up old new k found left h same = λ a.
+    put used_of _ (get same_asking old a) (get same_asking old a) (same_asking k a) left _ (h.1 a)
+    (λ alike. same ∙ ap (λ o. advanced (length (places_of o)) (used_of o)) (h.0 ∙ same_turns old k a alike))
+    (λ apart. refl)
+
 -- a question without lines uses none up
 pub none_used : (o : Option Turns) (b : Bool) → (b ≡ true → o ≡ None) → used_of o ≡ cond b (advanced (length (places_of o)) (used_of o)) (used_of o)
 none_used o true h = ap used_of (h refl) ∙ sym (ap (λ o. advanced (length (places_of o)) (used_of o)) (h refl))

@@ -1,9 +1,14 @@
 //! The book of a script: its log, and what each open entry still comes to.
 ghost use Rattle.std.specs.Option.{option_map, option_copied};
+ghost use Rattle.std.specs.HashMap.{get};
+ghost use Rattle.recursor_world.specs.declared.course.Course.{Course as Known};
+ghost use Rattle.recursor_world.specs.declared.course.Course.TheVariants.{Never};
+ghost use Rattle.recursor_world.specs.Course.{reply_course, is_qualified_course};
+ghost use Rattle.recursor_world.specs.Script.{is_qualified_script};
 ghost use Rattle.dns_core.specs.declared.net_error.NetError.TheVariants.{Io};
 ghost use Rattle.dns_core.specs.declared.net_error.IoKind.TheVariants.{Refused};
 ghost use Rattle.dns_core.specs.declared.log.LogEntry.TheVariants.{Opened, Asked, Waited, Told, GaveUp};
-ghost use Rattle.std.specs.Prelude.{◌≡◌, ℕ, ◌+◌, ◌-◌, min, filter, find, slice_get, true, IfSome, nat_eq, is_some, if◌then◌else◌, [], ◌∷◌, ◌++◌, Some, None, IfOk, IfErr, OnOk, OnErr, IsTrue, length, count_by};
+ghost use Rattle.std.specs.Prelude.{◌≡◌, ℕ, ◌+◌, find, slice_get, unwrap_or, option_and_then, true, IfSome, nat_eq, is_some, if◌then◌else◌, [], ◌∷◌, ◌++◌, Some, None, IfOk, IfErr, OnOk, OnErr, IsTrue, length};
 
 use crate::course::{Course, Stage};
 use crate::index::{Asking, Endpoint, Index};
@@ -23,12 +28,72 @@ pub struct Book {
     pub late: Late,
 }
 
+/// Knows what the entry of a number comes to that opened or asked, and notes it, or does neither.
+fn begin(
+    open: &mut HashMap<u64, Course>,
+    log: &mut Log,
+    number: u64,
+    course: Course,
+    entry: LogEntry,
+) -> Result<(), NoMemory>
+    ensures known { OnOk result ((n : ℕ) → get nat_eq open.new n ≡ (if nat_eq number n then Some course else get nat_eq open.old n)) }
+    ensures noted { OnOk result (log.new ≡ log.old ++ entry ∷ []) }
+    ensures fewer { OnErr result ((n : ℕ) (c : Known) → get nat_eq open.new n ≡ Some c → get nat_eq open.old n ≡ Some c) }
+    ensures same { OnErr result (log.new ≡ log.old) }
+{
+    match open.insert(number, course) {
+        Ok(replaced) => let_go(replaced),
+        Err(failed) => {
+            let_go(failed);
+            return Err(NoMemory);
+        }
+    }
+    let noted = log.push(entry);
+    if noted.is_err() {
+        let_go(open.remove(&number));
+    }
+    noted
+}
+
+/// The entry of a question that is asked.
+fn asked_entry(endpoint: Endpoint, query: Query, now: u64) -> LogEntry
+    ensures { result ≡ Asked endpoint.ip endpoint.protocol query now None }
+{
+    LogEntry::Asked {
+        ip: endpoint.ip,
+        protocol: endpoint.protocol,
+        query,
+        moment: now,
+        refused: None,
+    }
+}
+
+/// What a question comes to that takes the line at a place, and one that takes none never ends.
+fn question_course(
+    alloc: Global,
+    script: &Script,
+    place: Option<usize>,
+    query: &Query,
+) -> Result<Course, NoMemory>
+    requires { IsTrue (is_qualified_script script.now) }
+    ensures course { IfOk result (λ c. c ≡ unwrap_or (option_map (reply_course query.now) (option_and_then (slice_get script.now.lines) place)) Never) }
+    ensures qualified { IfOk result (λ c. IsTrue (is_qualified_course c)) }
+{
+    let Some(place) = place else {
+        return Ok(Course::Never);
+    };
+    match script.lines.items().get(place) {
+        Some(line) => Course::of_question(alloc, query, line),
+        None => Ok(Course::Never),
+    }
+}
+
 impl Book {
     ghost use Rattle.recursor_world.specs.Book.{told, open_at, Holds, SameScript, IsStage, IsDue, IsDueAs, Waits};
     ghost use Rattle.recursor_world.specs.Stage.{TellsConnection, TellsQuestion};
     ghost use Rattle.recursor_world.specs.declared.course.Course.TheVariants.{After};
-    ghost use Rattle.recursor_world.specs.Script.{is_qualified_script, is_qualified_line, connects, replies, refusal, connection_course, question_course_for, asks};
-    ghost use Rattle.recursor_world.specs.Course.{is_qualified_course, is_qualified_told, shortened};
+    ghost use Rattle.recursor_world.specs.Script.{is_qualified_line, connects, refusal, connection_course};
+    ghost use Rattle.recursor_world.specs.Course.{is_qualified_told, shortened};
 
     pub fn new(alloc: Global, script: Script) -> Result<Book, NoMemory>
         requires { IsTrue (is_qualified_script script) }
@@ -74,42 +139,11 @@ impl Book {
         Ok(count + 1)
     }
 
-    /// Knows what the entry of a number comes to.
-    fn expect(&mut self, number: u64, course: Course) -> Result<(), NoMemory>
-        ensures ok { OnOk result ((n : ℕ) → open_at self.new n ≡ (if nat_eq number n then Some course else open_at self.old n)) }
-        ensures err { OnErr result ((n : ℕ) → open_at self.new n ≡ open_at self.old n) }
-        ensures same { self.new ≡ record self.old { «open» = self.new.open } }
-    {
-        match self.open.insert(number, course) {
-            Ok(replaced) => {
-                let_go(replaced);
-                Ok(())
-            }
-            Err(failed) => {
-                let_go(failed);
-                Err(NoMemory)
-            }
-        }
-    }
-
     fn forget(&mut self, number: u64)
         ensures fewer { (n : ℕ) → open_at self.new n ≡ (if nat_eq number n then None else open_at self.old n) }
         ensures same { self.new ≡ record self.old { «open» = self.new.open } }
     {
         let_go(self.open.remove(&number));
-    }
-
-    /// Notes an entry that opened or asked, or forgets what it comes to.
-    fn note(&mut self, number: u64, entry: LogEntry) -> Result<(), NoMemory>
-        ensures ok { OnOk result (self.new ≡ record self.old { log = self.old.log ++ entry ∷ [] }) }
-        ensures err { OnErr result (self.new ≡ record self.old { «open» = self.new.open }) }
-        ensures fewer { OnErr result ((n : ℕ) → open_at self.new n ≡ (if nat_eq number n then None else open_at self.old n)) }
-    {
-        let noted = self.log.push(entry);
-        if noted.is_err() {
-            self.forget(number);
-        }
-        noted
     }
 
     pub fn is_refused(&self, endpoint: &Endpoint) -> bool
@@ -131,19 +165,6 @@ impl Book {
         }
     }
 
-    /// The line that a question takes now.
-    fn reply_line(&self, asking: &Asking) -> Option<&ScriptLine>
-        requires { Holds self.now }
-        ensures found { let lines = filter (replies asking.now) self.now.script.lines in
-            option_copied result ≡ slice_get lines (min (count_by (asks asking.now) (told self.now)) (length lines - 1)) }
-        ensures qualified { IfSome result (λ line. is_qualified_line line.now ≡ true) }
-    {
-        match self.index.reply_place(asking) {
-            Some(place) => self.script.lines.items().get(place),
-            None => None,
-        }
-    }
-
     /// What a connection comes to.
     fn connection(&self, alloc: Global, endpoint: &Endpoint) -> Result<Course, NoMemory>
         requires { Holds self.now }
@@ -156,18 +177,6 @@ impl Book {
                 polls: 0,
                 outcome: ToldOutcome::Connected,
             }),
-        }
-    }
-
-    /// What a question comes to that is asked now.
-    fn question(&self, alloc: Global, asking: &Asking, query: &Query) -> Result<Course, NoMemory>
-        requires { Holds self.now }
-        ensures course { IfOk result (λ c. c ≡ question_course_for self.now.script asking.now query.now (count_by (asks asking.now) (told self.now))) }
-        ensures qualified { IfOk result (λ c. IsTrue (is_qualified_course c)) }
-    {
-        match self.reply_line(asking) {
-            Some(line) => Course::of_question(alloc, query, line),
-            None => Ok(Course::Never),
         }
     }
 
@@ -202,16 +211,13 @@ impl Book {
     {
         let number = self.next_number(alloc)?;
         let course = self.connection(alloc, &endpoint)?;
-        self.expect(number, course)?;
-        self.note(
-            number,
-            LogEntry::Opened {
-                ip: endpoint.ip,
-                protocol: endpoint.protocol,
-                moment: now,
-                refused: None,
-            },
-        )?;
+        let entry = LogEntry::Opened {
+            ip: endpoint.ip,
+            protocol: endpoint.protocol,
+            moment: now,
+            refused: None,
+        };
+        begin(&mut self.open, &mut self.log, number, course, entry)?;
         Ok(number)
     }
 
@@ -233,20 +239,20 @@ impl Book {
         let asking = Asking::of(alloc, endpoint, query)?;
         let asked = query.try_clone(alloc)?;
         let number = self.next_number(alloc)?;
-        let course = self.question(alloc, &asking, query)?;
-        self.expect(number, course)?;
-        self.note(
-            number,
-            LogEntry::Asked {
-                ip: endpoint.ip,
-                protocol: endpoint.protocol,
-                query: asked,
-                moment: now,
-                refused: None,
-            },
-        )?;
-        self.index.use_turn(&asking);
-        Ok(number)
+        match self.index.replies.get_mut(&asking) {
+            Some(turns) => {
+                let course = question_course(alloc, &self.script, turns.place(), query)?;
+                let entry = asked_entry(endpoint, asked, now);
+                begin(&mut self.open, &mut self.log, number, course, entry)?;
+                turns.advance();
+                Ok(number)
+            }
+            None => {
+                let entry = asked_entry(endpoint, asked, now);
+                begin(&mut self.open, &mut self.log, number, Course::Never, entry)?;
+                Ok(number)
+            }
+        }
     }
 
     /// What is to be done at a poll of a connection.

@@ -51,8 +51,15 @@ pub struct Turns {
 impl Turns {
     ghost use Rattle.recursor_world.specs.Index.{advanced};
 
+    /// The place of the line that is taken next.
+    pub fn place(&self) -> Option<usize>
+        ensures { result ≡ slice_get self.now.places self.now.used }
+    {
+        self.places.items().get(self.used).copied()
+    }
+
     /// Uses up a line, but for the last.
-    fn advance(&mut self)
+    pub fn advance(&mut self)
         ensures { self.new ≡ record self.old { used = advanced (length self.old.places) self.old.used } }
     {
         if self.used < self.places.len().saturating_sub(1) {
@@ -80,7 +87,7 @@ impl Index {
     ghost use Rattle.recursor_world.specs.declared.index.Endpoint.{Endpoint};
     ghost use Rattle.recursor_world.specs.declared.index.Asking.{Asking};
     ghost use Rattle.std.specs.HashMap.{get};
-    ghost use Rattle.recursor_world.specs.Index.{places_at, used_at, refused_at, place_at, AddsLine, IsIndexed, advanced};
+    ghost use Rattle.recursor_world.specs.Index.{places_at, used_at, refused_at, place_at, AddsLine, IsIndexed};
     ghost use Rattle.recursor_world.specs.Script.{replies, refuses, connects};
 
     pub fn new(alloc: Global) -> Index
@@ -219,26 +226,5 @@ impl Index {
         ensures { result ≡ place_at self.now endpoint.now }
     {
         self.route(endpoint).place
-    }
-
-    /// The place of the line that a question takes next.
-    pub fn reply_place(&self, asking: &Asking) -> Option<usize>
-        ensures { result ≡ slice_get (places_at self.now asking.now) (used_at self.now asking.now) }
-    {
-        match self.replies.get(asking) {
-            Some(turns) => turns.places.items().get(turns.used).copied(),
-            None => None,
-        }
-    }
-
-    /// Uses up the line that a question takes.
-    pub fn use_turn(&mut self, asking: &Asking)
-        ensures places { (a : Asking) → places_at self.new a ≡ places_at self.old a }
-        ensures used { (a : Asking) → used_at self.new a ≡ (if same_asking asking.now a then advanced (length (places_at self.old a)) (used_at self.old a) else used_at self.old a) }
-        ensures routes { self.new.routes ≡ self.old.routes }
-    {
-        if let Some(turns) = self.replies.get_mut(asking) {
-            turns.advance();
-        }
     }
 }
