@@ -74,11 +74,10 @@ fn all_candidates(
 pub(crate) fn candidates(
     alloc: Global,
     table: &ServerTable,
-    servers: &[u32],
+    mut servers: Vec<u32>,
 ) -> Result<Vec<Candidate>, NoMemory>
-    ensures { IfOk result (λ found. found.items ≡ candidates table.now servers.now) }
+    ensures { IfOk result (λ found. found.items ≡ candidates table.now servers.items) }
 {
-    let mut reached = Vec::from_slice(alloc, servers)?;
-    keep_reached(table, &mut reached);
-    all_candidates(alloc, table, reached.as_slice())
+    keep_reached(table, &mut servers);
+    all_candidates(alloc, table, servers.as_slice())
 }

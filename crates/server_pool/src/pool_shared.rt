@@ -199,7 +199,7 @@ impl PoolShared {
         let options = self.context.options();
         let mut servers = Vec::from_slice(alloc, servers)?;
         ordered(alloc, &mut servers, turn, &self.table, options, tick.now)?;
-        let found = candidates(alloc, &self.table, servers.as_slice())?;
+        let found = candidates(alloc, &self.table, servers)?;
         if found.len() > u32::MAX as usize {
             return Err(NoMemory);
         }

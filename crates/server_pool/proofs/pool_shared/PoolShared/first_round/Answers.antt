@@ -20,7 +20,7 @@ returns-clause-begins c =
     let order : IsOrdered i.context.options i.table now turn given asked =
     subst (λ (o : ResolverOpts). IsOrdered o i.table now turn given asked) c.options-options.ensures
     (subst (λ (g : List ℕ). IsOrdered c.options-options.result.now i.table now turn g asked) c.in_ok-servers.ensures.items c.in_ok-ordered.ensures.order) in
-    let those : found ≡ candidates i.table asked = c.in_ok-found.ensures ∙ ap (candidates i.table) c.as_slice.ensures.value in
+    let those : found ≡ candidates i.table asked = c.in_ok-found.ensures in
     let many : together ≡ side_by_side i.context.options = c.side_by_side-together.ensures ∙ ap side_by_side c.options-options.ensures in
     let is : IfOk c.begin.result (λ l. l ≡ begun c.args.request found together i.context.options.timeout now) =
     subst (λ (o : ResolverOpts). IfOk c.begin.result (λ l. l ≡ begun c.args.request found together o.timeout now)) c.options-options.ensures c.begin.ensures.begun in
