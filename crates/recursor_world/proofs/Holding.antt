@@ -133,7 +133,6 @@ pub question_is : (s : Script) (es : List LogEntry) (a a' : Asking) (q q' : Quer
 question_is s es a a' q q' c ha hq h =
     sym (ap Some (h ∙ ap (λ x. question_course_for s x q' (count_by (asks x) es)) ha ∙ ap (λ x. question_course_for s a x (count_by (asks a) es)) hq))
 
-
 pub waits_some : (o : Option Course) → Waits o → (c : Course) × (o ≡ Some c) × IsWaiting c
 waits_some None h = absurd h
 waits_some (Some c) h = (c, refl, h)
