@@ -1,17 +1,23 @@
 -- A resolution after a step.
-use Rattle.std.proofs.Common.{◌≡◌, ◌≤◌, ◌<◌, ◌∙◌, ◌↔◌, ℕ, true, Option, Some, None, Result, Ok, Err, IfOk, IsErr, OnErr, IfSome, IsTrue, refl, sym, ap, subst, arith}
+use Rattle.std.proofs.Common.{◌≡◌, ◌≤◌, ◌<◌, ◌+◌, ◌∙◌, ◌↔◌, ℕ, true, Option, Some, None, Result, Ok, Err, IfOk, IsErr, OnErr, IfSome, IsTrue, refl, sym, ap, subst, arith}
 use Rattle.std.specs.Global.{Box}
 use Rattle.dns_core.specs.declared.message.Query.{Query}
 use Rattle.dns_core.specs.declared.request.Question.{Question}
 use Rattle.dns_core.specs.declared.errors.NoMemory.{NoMemory}
+use Rattle.walk_tables.specs.Lookup.{LeavesLess, want_after, want_steps}
 use Rattle.walk_tables.specs.View.{View}
+use Rattle.walk_tables.specs.declared.lookup.Want.{Want}
+use Rattle.walk_tables.specs.declared.lookup.Want.TheVariants.{Step}
+use Rattle.walk_tables.specs.declared.pools.Stepped.{Stepped}
+use Rattle.walk_tables.specs.declared.pools.Stepped.TheVariants as stepped
 use Rattle.recursor_types.specs.declared.reply.Reply.{Reply}
 use Rattle.recursor_walk.specs.Asking.{AskingHolds, LastHolds, SameSite, LeavesFewer}
 use Rattle.recursor_walk.specs.Asking as asking
-use Rattle.recursor_walk.specs.Walk.{Goes, Recalls}
+use Rattle.recursor_walk.specs.Walk.{Goes, Recalls, EndsIf}
 use Rattle.recursor_walk.specs.Replies.{RepliesWith, reply_with}
 use Rattle.recursor_walk.specs.declared.counted.Counted.{Counted}
 use Rattle.resolution.specs.Failing.{ends_walk}
+use Rattle.resolution.specs.declared.verdict.Verdict.{Verdict}
 use Rattle.recursor_walk.specs.Walk as walk
 use Rattle.recursor_walk.specs.Way.{WalkHolds}
 use Rattle.recursor_walk.specs.Resolving.{state_want, state_steps, steps, asked_of, IsWalked, IsSettled, IsOpen, StaysOpen, AsksOn, SameBegun, IsUnder, IsDone, IsDoneWith, IsAnswered}
@@ -72,15 +78,6 @@ pub settle-falls : (q : Query) (old : AtServers) (a : Box AtServers) (came : Res
 settle-falls q old a (Ok None) state is h = let left = ap (state_steps q) is in omega (arith, left, h)
 settle-falls q old a _ state is h = let left = ap (state_steps q) is in omega (arith, left)
 
--- it has ended where memory was wanting
-pub settle-ends : {X : Type 0} (a : Box AtServers) (came : Result (Option (Box Reply)) NoMemory) (result : Result X NoMemory) (state : State)
-    → IsSettled came (Asking a) state → (IsErr result ↔ IsErr came) → StaysOpen result state
-settle-ends a (Ok None) (Ok x) state is errs = subst IsOpen (sym is) tt
-settle-ends a (Ok (Some reply)) (Ok x) state is errs = subst IsOpen (sym is) tt
-settle-ends a (Ok o) (Err e) state is errs = let no = errs.0 refl in cc
-settle-ends a (Err d) (Ok x) state is errs = let no = errs.1 refl in cc
-settle-ends a (Err d) (Err e) state is errs = is
-
 -- what the cache has is heeded for the question itself
 pub settle-heeds : {X : Type 0} (question : Question) (a : Box AtServers) (counted : Option Counted) (came : Result (Option (Box Reply)) NoMemory) (result : Result X NoMemory) (state : State)
     → IsSettled came (Asking a) state → (IsErr result ↔ IsErr came) → IfOk came (RepliesWith question counted) → IfOk result (λ x. IsAnswered question counted state)
@@ -91,14 +88,32 @@ settle-heeds question a (Some c) (Ok None) (Ok x) state is errs replies = absurd
 settle-heeds question a counted (Err d) (Ok x) state is errs replies = let no = errs.1 refl in cc
 settle-heeds question a counted came (Err e) state is errs replies = tt
 
--- and for a candidate of its walk
+-- what came is heard for a candidate of its walk
+pub follow-hears : {X : Type 0} (q : Query) (old : State) (v : Option Verdict) (came : Result Course NoMemory) (result : Result X NoMemory) (state : State)
+    → IsWalked q came old state → StaysOpen result state → EndsIf v came → IfOk result (λ x. IfSome v (λ v. IsTrue (ends_walk v) → IsDone state))
+follow-hears q old None came (Ok x) state is stays ends = tt
+follow-hears q old (Some v) (Ok (course.Reply reply)) (Ok x) state is stays ends = λ it. subst IsDone (sym is) tt
+follow-hears q old (Some v) (Ok _) (Ok x) state is stays ends = λ it. absurd (ends it)
+follow-hears q old (Some v) (Err e) (Ok x) state is stays ends = λ it. absurd (subst IsOpen is stays)
+follow-hears q old v came (Err e) state is stays ends = tt
+
+-- and what the cache has is heeded
 pub follow-heeds : {X : Type 0} (q : Query) (old : State) (counted : Option Counted) (came : Result Course NoMemory) (result : Result X NoMemory) (state : State)
     → IsWalked q came old state → StaysOpen result state → Recalls counted came → IfOk result (λ x. IfSome counted (λ c. IsTrue (ends_walk c.verdict) → IsDone state))
 follow-heeds q old None came (Ok x) state is stays ends = tt
-follow-heeds q old (Some c) (Ok (course.Reply reply)) (Ok x) state is stays ends = λ it. subst IsDone (sym is) tt
-follow-heeds q old (Some c) (Ok _) (Ok x) state is stays ends = λ it. absurd (ends it)
-follow-heeds q old (Some c) (Err e) (Ok x) state is stays ends = λ it. absurd (subst IsOpen is stays)
+follow-heeds q old (Some c) came (Ok x) state is stays ends = follow-hears q old (Some c.verdict) came (Ok x) state is stays ends
 follow-heeds q old counted came (Err e) state is stays ends = tt
+
+-- a step of its lookup, after which that wants this
+pub steps-on : (result : Result Stepped NoMemory) (rest : ℕ) (old new : Want) → need.Send old ≡ need.Send Step → IfOk result (λ s. new ≡ want_after s)
+    → IfOk result (λ s. LeavesLess (rest + want_steps old) (rest + want_steps new) s × (need.Send new ≡ need.Send (want_after s)))
+steps-on (Err e) rest old new was is = tt
+steps-on (Ok s) rest old new was is = let stood : old ≡ Step = cc in rw (stood, is) (by s, refl)
+  where
+    by : (s : Stepped) → LeavesLess (rest + 2) (rest + want_steps (want_after s)) s
+    by (stepped.Order number order) = omega arith
+    by (stepped.Waiting number) = omega arith
+    by stepped.Done = omega arith
 
 -- so much less is left of its resolution
 pub falls-from : (old new : Resolution) (was : State) → old.state ≡ was → SameBegun old new

@@ -9,6 +9,7 @@ use Rattle.dns_core.specs.declared.request.Question.{Question}
 use Rattle.walk_tables.specs.Lookup as lookup
 use Rattle.walk_tables.specs.Taking.{awaited_by}
 use Rattle.walk_tables.specs.declared.pools.Pools.{Pools}
+use Rattle.walk_tables.specs.declared.pools.Stepped.{Stepped}
 use Rattle.recursor_types.specs.declared.reply.Reply.{Reply}
 use Rattle.resolution.specs.Failing.{ends_walk}
 use Rattle.resolver_cache.specs.Cached.{Cached}
@@ -106,6 +107,10 @@ StaysOpen result state = MatchResult result (λ x. IsOpen state) (λ e. state �
 abbrev pub AsksOn : {X : Type 0} → Result X NoMemory → Resolution → Resolution → Type 0
 AsksOn result old new = MatchResult result (λ x. asked_of new.state ≡ asked_of old.state) (λ e. new ≡ old)
 
+-- A step of its lookup leaves less to do than before, but where it gives an order, or waits for one; where it is done, what came is to be heard.
+abbrev pub StepsOn : Resolution → Resolution → Stepped → Type 0
+StepsOn old new stepped = lookup.LeavesLess (steps old) (steps new) stepped × (want_of new ≡ need.Send (lookup.want_after stepped))
+
 -- ---- how it begins
 
 abbrev pub IsUnder : State → Type 0
@@ -127,7 +132,7 @@ abbrev pub IsAnswered : Question → Option Counted → State → Type 0
 IsAnswered question None state = IsUnder state
 IsAnswered question (Some c) state = IsDoneWith (reply_with question c) state
 
--- ---- what the cache has
+-- ---- what the cache has, and what came
 
 abbrev pub IsDone : State → Type 0
 IsDone (Done reply) = Unit {0}
@@ -139,3 +144,9 @@ abbrev pub IsHeeded : Cached → ℕ → Question → State → State → Type 0
 IsHeeded cache now question (Asking a) new = IsAnswered question (answerable (recalled cache a.value.lookup.query now)) new
 IsHeeded cache now question (Walking w) new = IfSome (recalled cache w.value.asking.lookup.query now) (λ c. IsTrue (ends_walk c.verdict) → IsDone new)
 IsHeeded cache now question _ new = Unit {0}
+
+-- What came is heard: the question itself is answered by it, and so is one whose walk it ends.
+abbrev pub IsHeard : State → State → Type 0
+IsHeard (Asking a) new = IsDone new
+IsHeard (Walking w) new = IfSome (walk.verdict_heard w.value) (λ v. IsTrue (ends_walk v) → IsDone new)
+IsHeard _ new = Unit {0}

@@ -2,7 +2,7 @@
 //! them.
 ghost use Rattle.std.specs.Prelude.{◌≡◌, ◌<◌, ℕ, Err, IfOk, IsSome, OnOk, OnErr};
 ghost use Rattle.walk_tables.specs.View.{View};
-ghost use Rattle.walk_tables.specs.Lookup.{want_of, LeavesLess};
+ghost use Rattle.walk_tables.specs.Lookup.{want_of, want_after};
 ghost use Rattle.walk_tables.specs.Taking.{awaited_by, IfAwaits};
 ghost use Rattle.walk_tables.specs.Pools.{AreFor, PoolsHold, StepGoes, IsStepAt, given_so_far, GivesNext};
 ghost use Rattle.walk_tables.specs.declared.lookup.Want.TheVariants as want;
@@ -90,7 +90,7 @@ impl Asking {
         tick: Tick,
     ) -> Result<Stepped, NoMemory>
         requires { want_of self.old.lookup.ask ≡ want.Step }
-        ensures falls { IfOk result (LeavesLess (steps self.old) (steps self.new)) }
+        ensures wants { IfOk result (λ stepped. want_of self.new.lookup.ask ≡ want_after stepped) }
         ensures given { GivesNext (given_so_far pools.old) (given_so_far pools.new) result }
         ensures same { SameSite self.old self.new }
         ensures holds { (seen : View) → IsStepAt seen since tick → PoolsHold seen pools.old
@@ -137,10 +137,8 @@ impl Asking {
         ensures holds { (seen : View) (t0 : ℕ) → LastHolds seen t0 question.now.query self.old → IfOk result (LastComes seen t0 question.now self.new) }
         ensures answers { IfOk result IsSome }
     {
-        match self.lookup.hear() {
-            Some(found) => Ok(Some(self.conclude(alloc, question, found)?)),
-            None => unreachable!(),
-        }
+        let found = self.lookup.hear();
+        Ok(Some(self.conclude(alloc, question, found)?))
     }
 
     /// The reply by what the lookup came to.

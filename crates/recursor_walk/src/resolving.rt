@@ -2,13 +2,12 @@
 ghost use Rattle.std.specs.Prelude.{◌≡◌, ◌≤◌, ◌<◌, ◌↔◌, ℕ, true, Some, IfOk, IfSome, IsSome, IsErr, OnOk, OnErr, option_copied};
 ghost use Rattle.walk_tables.specs.View.{View};
 ghost use Rattle.walk_tables.specs.Remembered.{CacheHolds};
-ghost use Rattle.walk_tables.specs.Taking.{IfAwaits};
-ghost use Rattle.walk_tables.specs.Lookup.{LeavesLess};
+ghost use Rattle.walk_tables.specs.Taking.{Leaves, IfAwaits};
 ghost use Rattle.walk_tables.specs.Pools.{PoolsHold, StepGoes, IsStepAt, given_so_far, GivesNext};
 ghost use Rattle.walk_tables.specs.declared.lookup.Want.TheVariants as want;
 ghost use Rattle.recursor_walk.specs.Replies.{Replied};
 ghost use Rattle.recursor_walk.specs.Counted.{ReadsAt, recalled, answerable};
-ghost use Rattle.recursor_walk.specs.Resolving.{want_of, state_steps, steps, open_of, asking_of, asked_of, IsWalking, IsUnder, IsWalked, IsSettled, StaysOpen, AsksOn, SameBegun, AsksFor, IsAnswered, IsHeeded};
+ghost use Rattle.recursor_walk.specs.Resolving.{want_of, state_steps, steps, open_of, asking_of, asked_of, IsWalking, IsUnder, IsWalked, IsSettled, IsDone, IsOpen, StaysOpen, AsksOn, SameBegun, AsksFor, StepsOn, IsAnswered, IsHeeded, IsHeard};
 ghost use Rattle.recursor_walk.specs.Resolved.{StandsSo, StateHolds, StateComes, AnswerComes, ResolutionHolds};
 ghost use Rattle.recursor_walk.specs.Walk.{begin_steps};
 ghost use Rattle.recursor_walk.specs.Way.{HasRoots, FiltersBy};
@@ -224,6 +223,8 @@ impl Resolution {
     fn settle(&mut self, came: Result<Option<Box<Reply>>, NoMemory>) -> Result<(), NoMemory>
         ensures state { IsSettled came self.old.state self.new.state }
         ensures result { IsErr result ↔ IsErr came }
+        ensures ended { IsOpen self.old.state → StaysOpen result self.new.state }
+        ensures done { IfOk came IsSome → IfOk result (λ x. IsDone self.new.state) }
         ensures begun { SameBegun self.old self.new }
         ensures holds { (seen : View) (t0 : ℕ) → IfOk came (AnswerComes seen t0 self.old.question self.old.state)
             → StateHolds seen t0 self.old.question self.new.state }
@@ -278,6 +279,7 @@ impl Resolution {
         ensures begun { SameBegun self.old self.new }
         ensures holds { (seen : View) → FiltersBy seen filter.now
             → ResolutionHolds seen self.old → ResolutionHolds seen self.new }
+        ensures hears { IfOk result (λ x. IsHeard self.old.state self.new.state) }
     {
         match &mut self.state {
             State::Walking(walk) => {
@@ -325,7 +327,7 @@ impl Resolution {
         tick: Tick,
     ) -> Result<Stepped, NoMemory>
         requires { want_of self.old ≡ Need.Send want.Step }
-        ensures falls { IfOk result (LeavesLess (steps self.old) (steps self.new)) }
+        ensures falls { IfOk result (StepsOn self.old self.new) }
         ensures given { GivesNext (given_so_far pools.old) (given_so_far pools.new) result }
         ensures begun { SameBegun self.old self.new }
         ensures holds { (seen : View) → IsStepAt seen since tick → PoolsHold seen pools.old
@@ -361,6 +363,7 @@ impl Resolution {
 
     /// Ends without a reply: its lookup is left.
     pub fn leave(self, pools: &mut Pools)
+        ensures left { IfSome (asking_of self.state) (λ asking. Leaves asking.lookup.ask pools.old pools.new) }
         ensures given { given_so_far pools.new ≡ given_so_far pools.old }
         ensures holds { (seen : View) → PoolsHold seen pools.old → PoolsHold seen pools.new }
     {

@@ -95,10 +95,8 @@ impl Walk {
         ensures holds { (seen : View) (t0 : ℕ) (asked : Question) → FiltersBy seen filter.now
             → WalkHolds seen t0 asked.query self.old → Comes seen t0 asked self.new result }
     {
-        match self.asking.lookup.hear() {
-            Some(found) => self.conclude(alloc, filter, found),
-            None => unreachable!(),
-        }
+        let found = self.asking.lookup.hear();
+        self.conclude(alloc, filter, found)
     }
 
     /// Goes by what a lookup came to.

@@ -1,9 +1,8 @@
 -- The order that a lookup waits for.
-use Rattle.std.proofs.Common.{◌≡◌, ℕ, ◌+◌, Bool, true, false, cond, ◌==◌, Option, Some, None, Err, refl, sym, ap, subst, ◌∙◌, eqb-true, eq-eqb}
+use Rattle.std.proofs.Common.{◌≡◌, ℕ, ◌+◌, Bool, true, false, cond, ◌==◌, Option, Some, None, Err, refl, sym, ap, subst, ◌∙◌, eq-eqb}
 use Rattle.std.specs.BTreeMap.{insert_entry}
 use Rattle.std.specs.Ordering.{nat_cmp}
 use Rattle.std.specs.Prelude.{is_some, option_and_then, option_map}
-use Rattle.std.proofs.lemmas.Option.{same_Some}
 use Rattle.dns_core.specs.declared.net_error.NetError.TheVariants as net
 use Rattle.server_core.specs.declared.order.Order.{Order}
 use Rattle.retry_lookup.specs.Giving.{Gives}
@@ -34,22 +33,6 @@ awaits pools n s g is given at =
     ap (λ (o : Option Sought). option_and_then (if_open_at pools n) (option_and_then (λ (s : Sought). s.given) o)) is
     ∙ ap (option_and_then (if_open_at pools n)) given
     ∙ ap (λ (b : Bool). cond b (Some g.number) None) open_there
-
--- The order is open at it.
-pub awaited-open : (pools : Pools) (n number : ℕ) → awaited_in pools n ≡ Some number → open_at number pools.shared ≡ Some n
-awaited-open pools n number = by (option_and_then (λ (s : Sought). s.given) (sought_at pools n))
-  where
-    is-at : (k : ℕ) (o : Option ℕ) → open_at k pools.shared ≡ o → elim o as (λ y. Bool) [ None ↦ false | Some m ↦ m == n ] ≡ true → open_at k pools.shared ≡ Some n
-    is-at k None none e = cc
-    is-at k (Some m) at e = at ∙ ap Some (eqb-true m n e)
-
-    at : (k : ℕ) (b : Bool) → is_open_at pools n k ≡ b → cond b (Some k) None ≡ Some number → open_at number pools.shared ≡ Some n
-    at k true here e = subst (λ (m : ℕ). open_at m pools.shared ≡ Some n) (same_Some _ _ e) (is-at k (open_at k pools.shared) refl here)
-    at k false here e = cc
-
-    by : (o : Option Given) → option_and_then (if_open_at pools n) o ≡ Some number → open_at number pools.shared ≡ Some n
-    by None e = cc
-    by (Some g) e = at g.number (is_open_at pools n g.number) refl e
 
 -- ---- an order that a lookup gives
 

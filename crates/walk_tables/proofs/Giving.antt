@@ -1,7 +1,7 @@
 -- What is sought by a lookup that gave an order, and to whom the order goes.
 use Rattle.std.proofs.Common.{◌≡◌, ℕ, ◌+◌, ⊎_elim, Bool, true, false, List, map, find, All, Contains, Option, Some, None, refl, sym, ap, subst, ◌∙◌, arith}
 use Rattle.std.specs.List.Sorted.{IsPermutation}
-use Rattle.std.specs.Prelude.{IsTrue, IfSome, option_map, is_some}
+use Rattle.std.specs.Prelude.{IsTrue, IfSome, option_and_then, option_map, is_some}
 use Rattle.std.proofs.lemmas.Option.{same_Some}
 use Rattle.std.proofs.lemmas.List.Elements.{All-weaker, All-contains}
 use Rattle.std.proofs.lemmas.List.Sorted.{Contains-permutation, IsPermutation-sym}
@@ -22,7 +22,8 @@ use Rattle.retry_lookup.specs.declared.giving.LookupStep.{LookupStep}
 use Rattle.retry_lookup.specs.declared.giving.LookupStep.TheVariants as step
 use Rattle.retry_lookup.specs.declared.attempt.Attempt.{Attempt}
 use Rattle.retry_lookup.specs.declared.lookup.State.TheVariants.{Asking}
-use Rattle.retry_lookup.specs.Asked.{opens}
+use Rattle.retry_lookup.specs.Asked.{opens, answer_in, answer_of}
+use Rattle.resolution.specs.Lookups.{Answered}
 use Rattle.retry_lookup.specs.Attempts.{is_open_at}
 use Rattle.retry_lookup.specs.Giving.{Gives}
 use Rattle.retry_lookup.specs.Lookup.{LookupState, BegunWith}
@@ -43,6 +44,7 @@ use Rattle.server_pool.proofs.Running.{next_runs, next_rest, order_goes}
 use Rattle.server_pool.proofs.UnderNumbers.{found_with}
 use Rattle.walk_tables.specs.View.{View, given_of}
 use Rattle.walk_tables.specs.Pools.{AreNumbered, PoolsHold, HasNoted, noted, either, sought_at, server_at, IsAt, IsSentTo, GivenHolds, SoughtHolds, aim_of}
+use Rattle.walk_tables.specs.Taking.{answer_at}
 use Rattle.walk_tables.specs.declared.pools.Aim.{Aim}
 use Rattle.walk_tables.specs.declared.pools.Aim.TheVariants as aim
 use Rattle.walk_tables.specs.declared.pools.Given.{Given}
@@ -119,6 +121,19 @@ module _ (seen : View) (old new : Pools) (n : ℕ) (s : Sought) (told : PoolStep
     came = tt;
   }
 
+  -- the step left it there
+  moved-there : lookup_at new.shared n ≡ Some (moved_to t.step.next h.shared_by)
+  moved-there = ap (under n) t.step.lookups ∙ found_with n (moved_to t.step.next) h.shared_by old.shared.lookups h.there
+
+  -- its answer is what it told
+  done-answer : (answer : Answered) → told ≡ gives.Done answer → answer_at new.shared n ≡ Some answer
+  done-answer answer is = ap (option_and_then (λ (x : OpenLookup). answer_of x.lookup)) moved-there ∙ by t.made (sym is ∙ t.is) t.step.gives
+    where
+      by : (made : LookupStep) → gives.Done answer ≡ told_as (old.shared.given + 1) made → Gives (old.shared.given + 1) seen.moment old.shared.table (started seen.moment l) made t.step.next → answer_of t.step.next ≡ Some answer
+      by (step.Order order) e g = cc
+      by step.Waiting e g = cc
+      by (step.Done made) e g = let same : made ≡ answer = cc in ap answer_of g.1 ∙ ap answer_in g.0.1 ∙ ap Some same
+
   -- ---- with an order
 
   module _ (number : ℕ) (o : Order) (is : told ≡ gives.Order number o) where
@@ -134,10 +149,7 @@ module _ (seen : View) (old new : Pools) (n : ℕ) (s : Sought) (told : PoolStep
 
     -- as the step left it
     left-so : t.step.next ≡ next
-    left-so =
-        let at : lookup_at new.shared n ≡ Some (moved_to t.step.next h.shared_by) =
-        ap (under n) t.step.lookups ∙ found_with n (moved_to t.step.next) h.shared_by old.shared.lookups h.there in
-        ap (λ (x : OpenLookup). x.lookup) (same_Some _ _ (sym at ∙ step-runs.there))
+    left-so = ap (λ (x : OpenLookup). x.lookup) (same_Some _ _ (sym moved-there ∙ step-runs.there))
 
     -- no poll of it was put yet
     never-polled : (a : Attempt) → t.step.next.state ≡ Asking → find (is_open_at number) t.step.next.attempts ≡ Some a → pendings a.send.stage ≡ 0
@@ -278,6 +290,10 @@ module _ (seen : View) (n : ℕ) (told : PoolStep) (old mid new : Pools) (number
   -- It has its answer.
   pub pools-done : HasNoted n (noted None None None) mid new → PoolsHold seen new
   pools-done note = pools-noted None note (done-holds seen old mid n its told its-holds its-step)
+
+  -- that is what it told
+  pub pools-answer : (answer : Answered) → told ≡ gives.Done answer → HasNoted n (noted None None None) mid new → answer_at new.shared n ≡ Some answer
+  pools-answer answer is note = ap (λ (shared : Shared). answer_at shared n) note.same.shared ∙ done-answer seen old mid n its told its-holds its-step answer is
 
   -- The order goes to a server of what is sought.
   pub pools-go : (number : ℕ) (o : Order) → told ≡ gives.Order number o → GoesToServer (given_of seen.setting) seen.log (seen.greatest + 1) o

@@ -29,7 +29,7 @@ use Rattle.server_pool.proofs.Listed.{opened}
 use Rattle.walk_base.specs.Kept.{kept_of}
 use Rattle.walk_base.proofs.NotKept.{not-kept}
 use Rattle.walk_tables.specs.Lookup.{last_of, classified, ComesTo, HasCome}
-use Rattle.walk_tables.specs.Pools.{IsGivenFor, NotesOutcome, HasNoted, PoolsHold, sought_at, noted, with_came, given_after}
+use Rattle.walk_tables.specs.Pools.{IsGivenFor, NotesOutcome, HasNoted, PoolsHold, sought_at, came_at, noted, with_came, given_after}
 use Rattle.walk_tables.specs.Remembered.{CacheHolds, Telling, telling, with_response, remembered}
 use Rattle.walk_tables.specs.Taking.{answer_at, telling_by, telling_at, has_more_ends, Took, Comes, ComesBy, with_found, with_sought}
 use Rattle.walk_tables.specs.View.{View, given_of}
@@ -159,11 +159,10 @@ comes-writes cache shared n (Some came) (Some s) has =
     found-writes cache s entry (classified has.told) came has.comes
     ∙ sym (ap (λ (o : Option Answered). remembered cache (option_and_then (λ told. telling s.zone s.query entry s.at (classified told)) o)) has.answered)
 
--- what is kept of one is what it comes to, also where it is taken
-pub kept-comes : (seen : View) (old new : Pools) (n : ℕ) (came : Found) → PoolsHold seen old → HasNoted n (with_came None) old new
-    → Some came ≡ option_and_then (λ (s : Sought). s.came) (sought_at old n) → Comes new n (Some came)
-kept-comes seen old new n came h note kept = rw (note.is, note.same.shared) (by (sought_at old n) refl kept)
+-- what is kept of one is what it comes to
+pub kept-comes : (seen : View) (pools : Pools) (n : ℕ) (came : Found) → PoolsHold seen pools → Some came ≡ came_at pools n → Comes pools n (Some came)
+kept-comes seen pools n came h kept = by (sought_at pools n) refl kept
   where
-    by : (o : Option Sought) → sought_at old n ≡ o → Some came ≡ option_and_then (λ (s : Sought). s.came) o → IfSome (option_map (with_came None) o) (ComesBy old.shared n (Some came))
+    by : (o : Option Sought) → sought_at pools n ≡ o → Some came ≡ option_and_then (λ (s : Sought). s.came) o → IfSome o (ComesBy pools.shared n (Some came))
     by None is kept = tt
-    by (Some s) is kept = subst (λ (o : Option Found). IfSome o (HasCome s.zone s.query (lookup_at old.shared n))) (sym kept) (h.lookups n s is).came
+    by (Some s) is kept = subst (λ (o : Option Found). IfSome o (HasCome s.zone s.query (lookup_at pools.shared n))) (sym kept) (h.lookups n s is).came

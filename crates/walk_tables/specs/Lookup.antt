@@ -43,7 +43,6 @@ want_of ask.Fresh = Recall
 want_of ask.Ready = Begin
 want_of (ask.Under under) = Step
 want_of (ask.Came came) = Hear
-want_of ask.Heard = Step
 
 -- the last of the entries, 0 where there is none
 abbrev pub last_of : List ℕ → ℕ
@@ -59,16 +58,21 @@ abbrev pub classified : Answered → Result (Result Response DnsError) NetError
 classified (Ok message) = Ok (Ok message)
 classified (Err error) = class_of_failure error
 
--- how many steps it has before it, beside those by which it gives orders and waits for them
-abbrev pub ask_steps : Ask → ℕ
-ask_steps ask.Fresh = 4
-ask_steps ask.Ready = 3
-ask_steps (ask.Under under) = 2
-ask_steps (ask.Came came) = 1
-ask_steps ask.Heard = 0
+-- what one wants after a step at its pool: where it is done, that what it came to is heard
+abbrev pub want_after : Stepped → Want
+want_after (stepped.Order number order) = Step
+want_after (stepped.Waiting number) = Step
+want_after stepped.Done = Hear
+
+-- how many steps one that wants this has before it, beside those by which it gives orders and waits for them
+abbrev pub want_steps : Want → ℕ
+want_steps Recall = 4
+want_steps Begin = 3
+want_steps Step = 2
+want_steps Hear = 1
 
 abbrev pub steps : Lookup → ℕ
-steps l = ask_steps l.ask
+steps l = want_steps (want_of l.ask)
 
 -- A step leaves less to do than before, but where it gives an order, or waits for one.
 abbrev pub LeavesLess : ℕ → ℕ → Stepped → Type 0
@@ -84,7 +88,6 @@ found_in ask.Fresh = None
 found_in ask.Ready = None
 found_in (ask.Under under) = None
 found_in (ask.Came came) = Some came
-found_in ask.Heard = None
 
 -- what a failed lookup is answered with: another server is asked where one is busy or not reached
 abbrev pub is_lookup_error : NetError → Bool
@@ -133,7 +136,6 @@ AskHolds seen t0 zone q g ask.Fresh = Unit {0}
 AskHolds seen t0 zone q g ask.Ready = Unit {0}
 AskHolds seen t0 zone q g (ask.Under under) = Unit {0}
 AskHolds seen t0 zone q g (ask.Came came) = FoundHolds seen t0 zone q g came
-AskHolds seen t0 zone q g ask.Heard = Unit {0}
 
 -- what a lookup came to at its pool
 abbrev pub AnswerHolds : View → ℕ → DomainName → Query → Answer → Type 0

@@ -1,5 +1,5 @@
 -- The servers that were met, and the lookups that are under way at pools of them.
-use Rattle.std.specs.Prelude.{◌≡◌, ◌≢◌, ℕ, ◌+◌, ◌≤◌, ◌<◌, ◌++◌, nat_lt, unwrap_or, if◌then◌else◌, Bool, true, false, not, ◌==◌, IsTrue, List, [], ◌∷◌, length, map, option_map, All, Contains, IfSome, Option, Some, None, Result, Ok, Err}
+use Rattle.std.specs.Prelude.{◌≡◌, ◌≢◌, ℕ, ◌+◌, ◌≤◌, ◌<◌, ◌++◌, nat_lt, unwrap_or, if◌then◌else◌, Bool, true, false, not, ◌==◌, IsTrue, List, [], ◌∷◌, length, map, option_map, All, Contains, IfSome, IsSome, option_and_then, Option, Some, None, Result, Ok, Err}
 use Rattle.std.specs.BTreeMap as tree
 use Rattle.std.specs.Ordering.{nat_cmp}
 use Rattle.std.specs.List.Sorted.{IsPermutation}
@@ -83,6 +83,10 @@ pub record ServersHold (setting : Setting) (pools : Pools) : Type 0 where
 -- what is sought by the lookup of a number
 abbrev pub sought_at : Pools → ℕ → Option Sought
 sought_at pools n = tree.get nat_cmp pools.sought n
+
+-- what it came to, where that is known
+abbrev pub came_at : Pools → ℕ → Option Found
+came_at pools n = option_and_then (λ (s : Sought). s.came) (sought_at pools n)
 
 -- each of these serves the zone, by what was put
 abbrev pub AreServers : View → DomainName → List IpAddr → Type 0
@@ -270,6 +274,13 @@ pub record HasLeft (n : ℕ) (old new : Pools) : Type 0 where
   pub numbers : new.numbers ≡ old.numbers
   pub sought : (m : ℕ) → sought_at new m ≡ sought_at old m
 
+-- So it is, and nothing is sought by the lookup any more.
+pub record HasGone (n : ℕ) (old new : Pools) : Type 0 where
+  pub left : new.shared ≡ record old.shared { lookups = after_leave n old.shared.lookups }
+  pub numbers : new.numbers ≡ old.numbers
+  pub none : sought_at new n ≡ None
+  pub others : (m : ℕ) → m ≢ n → sought_at new m ≡ sought_at old m
+
 abbrev pub either : Option IpAddr → Option IpAddr → Option IpAddr
 either None other = other
 either (Some ip) other = Some ip
@@ -315,6 +326,12 @@ abbrev pub StepGoes : View → Stepped → Type 0
 StepGoes seen (stepped.Order number order) = GoesToServer (given_of seen.setting) seen.log (seen.greatest + 1) order
 StepGoes seen (stepped.Waiting number) = Unit {0}
 StepGoes seen stepped.Done = Unit {0}
+
+-- Where a step is done, it is known what the lookup came to.
+abbrev pub IfCame : Option Found → Stepped → Type 0
+IfCame came (stepped.Order number order) = Unit {0}
+IfCame came (stepped.Waiting number) = Unit {0}
+IfCame came stepped.Done = IsSome came
 
 -- The outcome is one of the open order of the lookup.
 pub record IsGivenFor (pools : Pools) (n : ℕ) (waits : Option Sent) (o : Outcome) (g : Given) : Type 0 where

@@ -14,7 +14,7 @@ use Rattle.server_pool.specs.Stepping.{HasPut}
 use Rattle.server_pool.specs.declared.open_lookup.OpenLookup.{OpenLookup}
 use Rattle.walk_base.specs.Kept.{kept_of}
 use Rattle.walk_tables.specs.Lookup.{last_of, classified, HasCome}
-use Rattle.walk_tables.specs.Pools.{sought_at, PoolsHold}
+use Rattle.walk_tables.specs.Pools.{sought_at, PoolsHold, HasGone}
 use Rattle.walk_tables.specs.Remembered.{CacheHolds, Telling, telling, with_response, remembered}
 use Rattle.walk_tables.specs.View.{View}
 use Rattle.walk_tables.specs.declared.lookup.Found.{Found}
@@ -114,10 +114,16 @@ awaited_when pools ask.Fresh = None
 awaited_when pools ask.Ready = None
 awaited_when pools (ask.Under under) = awaited_in pools under.number
 awaited_when pools (ask.Came came) = None
-awaited_when pools ask.Heard = None
 
 abbrev pub awaited_by : Pools → Lookup → Option ℕ
 awaited_by pools l = awaited_when pools l.ask
+
+-- A lookup that was under way at a pool has left it; another one leaves all as it is.
+abbrev pub Leaves : Ask → Pools → Pools → Type 0
+Leaves ask.Fresh old new = new ≡ old
+Leaves ask.Ready old new = new ≡ old
+Leaves (ask.Under under) old new = HasGone under.number old new
+Leaves (ask.Came came) old new = new ≡ old
 
 -- The order that a step gives, or that it waits for, is the one that is waited for.
 abbrev pub IfAwaits : Option ℕ → Stepped → Type 0

@@ -1,11 +1,11 @@
 //! One question put to the servers of a zone.
-ghost use Rattle.std.specs.Prelude.{◌≡◌, ◌<◌, ℕ, IfOk, IfSome, IsSome, OnErr, IsTrue, MatchBool, MatchResult};
+ghost use Rattle.std.specs.Prelude.{◌≡◌, ◌<◌, ℕ, IfOk, IsTrue, MatchResult};
 ghost use Rattle.dns_core.specs.Name.{DomainName};
 ghost use Rattle.resolution.specs.Names.{is_above, walk};
-ghost use Rattle.walk_tables.specs.Taking.{awaited_by, IfAwaits};
+ghost use Rattle.walk_tables.specs.Taking.{awaited_by, Leaves, IfAwaits};
 ghost use Rattle.walk_tables.specs.View.{View};
 ghost use Rattle.walk_tables.specs.Pools.{PoolsHold, StepGoes, AreFor, IsStepAt, given_so_far, GivesNext};
-ghost use Rattle.walk_tables.specs.Lookup.{want_of, steps, LeavesLess, found_in, LookupHolds, FoundHolds};
+ghost use Rattle.walk_tables.specs.Lookup.{want_of, want_after, steps, LookupHolds, FoundHolds};
 
 use crate::pools::{Answer, Pools, Stepped};
 use dns_core::{DnsRequest, Name, NetError, NoMemory, Numbers, Query};
@@ -17,14 +17,13 @@ use std::mem;
 use std::net::IpAddr;
 
 /// Where a lookup stands. At first the cache was not looked at; then it is to begin, or is under way at
-/// a pool; at last it came to something, and that was heard.
+/// a pool; at last it came to something, which is to be heard.
 #[derive(Drop, Debug)]
 pub enum Ask {
     Fresh,
     Ready,
     Under(PoolLookup),
     Came(Found),
-    Heard,
 }
 
 /// What a lookup wants next: what the cache has, to begin at its servers, its next step there, or that
@@ -79,7 +78,6 @@ impl Lookup {
             Ask::Ready => Want::Begin,
             Ask::Under(_) => Want::Step,
             Ask::Came(_) => Want::Hear,
-            Ask::Heard => Want::Step,
         }
     }
 
@@ -118,35 +116,6 @@ impl Lookup {
         Ok(())
     }
 
-    /// Takes what its pool answered, if it did: then it is no longer under way there.
-    fn settle(
-        &mut self,
-        alloc: Global,
-        pools: &mut Pools,
-        zone: &Name,
-        begun: u64,
-    ) -> Result<bool, NoMemory>
-        ensures falls { IfOk result (λ settled. MatchBool settled (steps self.new < steps self.old) (self.new ≡ self.old)) }
-        ensures err { OnErr result (self.new ≡ self.old) }
-        ensures given { given_so_far pools.new ≡ given_so_far pools.old }
-        ensures pools { (seen : View) → PoolsHold seen pools.old → PoolsHold seen pools.new }
-        ensures holds { (seen : View) → PoolsHold seen pools.old
-            → LookupHolds seen begun zone.now self.old → LookupHolds seen begun zone.now self.new × PoolsHold seen pools.new }
-        ensures query { self.new.query ≡ self.old.query }
-    {
-        let Ask::Under(lookup) = &self.ask else {
-            return Ok(false);
-        };
-        let answer = pools.answer(alloc, lookup, &self.query, zone, begun)?;
-        let Some(Answer { came, ends }) = answer else {
-            return Ok(false);
-        };
-        self.ends = ends;
-        self.leave(pools);
-        self.ask = Ask::Came(came);
-        Ok(true)
-    }
-
     /// The number of the order that it waits for, which is open, if there is one.
     pub fn open_order(&self, pools: &Pools) -> Option<u64>
         ensures { result ≡ awaited_by pools.now self.now }
@@ -162,6 +131,7 @@ impl Lookup {
         ensures pools { (seen : View) → PoolsHold seen pools.old → PoolsHold seen pools.new }
         ensures given { given_so_far pools.new ≡ given_so_far pools.old }
         ensures same { (self.new.query ≡ self.old.query) × (self.new.ends ≡ self.old.ends) }
+        ensures left { Leaves self.old.ask pools.old pools.new }
     {
         match mem::replace(&mut self.ask, Ask::Ready) {
             Ask::Under(lookup) => pools.leave(lookup),
@@ -181,7 +151,7 @@ impl Lookup {
         tick: Tick,
     ) -> Result<Stepped, NoMemory>
         requires { want_of self.old.ask ≡ Want.Step }
-        ensures falls { IfOk result (LeavesLess (steps self.old) (steps self.new)) }
+        ensures wants { IfOk result (λ stepped. want_of self.new.ask ≡ want_after stepped) }
         ensures given { GivesNext (given_so_far pools.old) (given_so_far pools.new) result }
         ensures holds { (seen : View) → IsStepAt seen since tick → PoolsHold seen pools.old
             → LookupHolds seen begun zone.now self.old → LookupHolds seen begun zone.now self.new × PoolsHold seen pools.new }
@@ -189,57 +159,36 @@ impl Lookup {
         ensures waits { IfOk result (IfAwaits (awaited_by pools.new self.new)) }
         ensures query { self.new.query ≡ self.old.query }
     {
-        if self.settle(alloc, pools, zone, begun)? {
-            return Ok(Stepped::Done);
-        }
         let Ask::Under(lookup) = &mut self.ask else {
-            return Err(NoMemory);
+            unreachable!()
         };
         match pools.next(alloc, lookup, since, tick)? {
             Stepped::Order { number, order } => Ok(Stepped::Order { number, order }),
             Stepped::Waiting { number } => Ok(Stepped::Waiting { number }),
-            Stepped::Done => self.finish(alloc, pools, zone, begun),
-        }
-    }
-
-    /// Takes the answer that its pool has come to.
-    fn finish(
-        &mut self,
-        alloc: Global,
-        pools: &mut Pools,
-        zone: &Name,
-        begun: u64,
-    ) -> Result<Stepped, NoMemory>
-        ensures falls { IfOk result (λ stepped. (stepped ≡ Stepped.Done) × (steps self.new < steps self.old)) }
-        ensures err { OnErr result (self.new ≡ self.old) }
-        ensures given { given_so_far pools.new ≡ given_so_far pools.old }
-        ensures holds { (seen : View) → PoolsHold seen pools.old
-            → LookupHolds seen begun zone.now self.old → LookupHolds seen begun zone.now self.new × PoolsHold seen pools.new }
-        ensures query { self.new.query ≡ self.old.query }
-    {
-        if self.settle(alloc, pools, zone, begun)? {
-            Ok(Stepped::Done)
-        } else {
-            Err(NoMemory)
-        }
-    }
-
-    /// Hears what came.
-    pub fn hear(&mut self) -> Option<Found>
-        requires { want_of self.old.ask ≡ Want.Hear }
-        ensures falls { steps self.new < steps self.old }
-        ensures found { IsSome result }
-        ensures hears { result ≡ found_in self.old.ask }
-        ensures holds { (seen : View) (t0 : ℕ) (zone : DomainName)
-            → LookupHolds seen t0 zone self.old → IfSome result (FoundHolds seen t0 zone self.new.query self.new.ends) }
-        ensures query { self.new.query ≡ self.old.query }
-    {
-        match mem::replace(&mut self.ask, Ask::Heard) {
-            Ask::Came(found) => Some(found),
-            other => {
-                self.ask = other;
-                None
+            Stepped::Done => {
+                let answer = pools.answer(alloc, lookup, &self.query, zone, begun)?;
+                let Some(Answer { came, ends }) = answer else {
+                    unreachable!()
+                };
+                self.ends = ends;
+                self.leave(pools);
+                self.ask = Ask::Came(came);
+                Ok(Stepped::Done)
             }
+        }
+    }
+
+    /// Hears what came. It could begin once more then.
+    pub fn hear(&mut self) -> Found
+        requires { want_of self.old.ask ≡ Want.Hear }
+        ensures hears { self.old.ask ≡ Ask.Came result }
+        ensures holds { (seen : View) (t0 : ℕ) (zone : DomainName)
+            → LookupHolds seen t0 zone self.old → FoundHolds seen t0 zone self.new.query self.new.ends result }
+        ensures query { self.new.query ≡ self.old.query }
+    {
+        match mem::replace(&mut self.ask, Ask::Ready) {
+            Ask::Came(found) => found,
+            _ => unreachable!(),
         }
     }
 }

@@ -1,6 +1,6 @@
 //! The servers that were met, each under its address, the pools of them, and the lookups that are under
 //! way at these.
-ghost use Rattle.std.specs.Prelude.{◌≡◌, ◌↔◌, ◌≤◌, ◌<◌, ◌+◌, ◌==◌, ℕ, true, false, length, Some, None, Ok, Err, IfOk, IfSome, OnOk, OnErr, IsTrue, option_copied, option_and_then};
+ghost use Rattle.std.specs.Prelude.{◌≡◌, ◌↔◌, ◌≤◌, ◌<◌, ◌+◌, ◌==◌, ℕ, true, false, length, Some, None, Ok, Err, IfOk, IfSome, IsSome, OnOk, OnErr, IsTrue, option_copied};
 ghost use Rattle.std.specs.List.{AllZip};
 ghost use Rattle.std.specs.declared.net.ip_addr.IpAddr.{IpAddr};
 ghost use Rattle.dns_core.specs.declared.message.Query.{Query};
@@ -12,10 +12,10 @@ ghost use Rattle.recursor_types.specs.Options.{answer_filter_of};
 ghost use Rattle.recursor_setting.specs.Setting.{context_of};
 ghost use Rattle.recursor_setting.specs.declared.setting.Setting.{Setting};
 ghost use Rattle.recursor_setting.specs.Delays.{turn_at, delay_at};
-ghost use Rattle.walk_tables.specs.Pools.{number_of, first_delay_at, sought_at, ServersHold, PoolsHold, IsSentOver, IsFirst, IsOf, IsStill, MayWait, MayTake, MayTakeBy, IsOutcomeOf, is_denial, IsMet, IsGrown, HasForgotten, HasNoted, HasKept, HasLeft, noted, with_came, aim_of, sent_to, first_of, polled_by, StepGoes, IsGivenFor, NotesOutcome, Seeks, AreFor, IsStepAt, given_so_far, GivesNext};
+ghost use Rattle.walk_tables.specs.Pools.{number_of, first_delay_at, sought_at, came_at, IfCame, ServersHold, PoolsHold, IsSentOver, IsFirst, IsOf, IsStill, MayWait, MayTake, MayTakeBy, IsOutcomeOf, is_denial, IsMet, IsGrown, HasForgotten, HasNoted, HasKept, HasLeft, HasGone, noted, with_came, aim_of, sent_to, first_of, polled_by, StepGoes, IsGivenFor, NotesOutcome, Seeks, AreFor, IsStepAt, given_so_far, GivesNext};
 ghost use Rattle.walk_tables.specs.Lookup.{AnswerHolds};
 ghost use Rattle.walk_tables.specs.Remembered.{remembered};
-ghost use Rattle.walk_tables.specs.Taking.{telling_at, Took, Takes, Comes, with_sought, TablesHold, is_open_at, awaited_in, IfAwaits};
+ghost use Rattle.walk_tables.specs.Taking.{answer_at, telling_at, Took, Takes, Comes, with_sought, TablesHold, is_open_at, awaited_in, IfAwaits};
 ghost use Rattle.server_pool.specs.Orders.{open_at};
 ghost use Rattle.walk_tables.specs.declared.pools.Given.{Given};
 
@@ -458,8 +458,19 @@ impl Pools {
         }
     }
 
+    /// Whether it is known what a lookup came to.
+    fn has_come(&self, lookup: u64) -> bool
+        ensures { IsTrue result → IsSome (came_at self.now lookup) }
+    {
+        match self.sought.get(&lookup) {
+            Some(sought) => sought.came.is_some(),
+            None => false,
+        }
+    }
+
     /// What a lookup has next: the order that it waits for, a new one, which no entry was put after, or
-    /// its answer. Where memory is wanting, it is no longer under way.
+    /// its answer, where it is known then what it came to. Where memory is wanting, it is no longer under
+    /// way.
     pub fn next(
         &mut self,
         alloc: Global,
@@ -471,9 +482,14 @@ impl Pools {
         ensures goes { (seen : View) → IsStepAt seen since tick → PoolsHold seen self.old → IfOk result (StepGoes seen) }
         ensures waits { IfOk result (IfAwaits (awaited_in self.new lookup.old.number)) }
         ensures given { GivesNext (given_so_far self.old) (given_so_far self.new) result }
+        ensures came { IfOk result (IfCame (came_at self.new lookup.old.number)) }
         ensures same { lookup.new ≡ lookup.old }
     {
-        match self.awaited(lookup.number()) {
+        let n = lookup.number();
+        if self.has_come(n) {
+            return Ok(Stepped::Done);
+        }
+        match self.awaited(n) {
             Some(number) => Ok(Stepped::Waiting { number }),
             None => self.step(alloc, lookup, since, tick),
         }
@@ -491,6 +507,7 @@ impl Pools {
         ensures goes { (seen : View) → IsStepAt seen since tick → PoolsHold seen self.old → IfOk result (StepGoes seen) }
         ensures waits { IfOk result (IfAwaits (awaited_in self.new lookup.old.number)) }
         ensures given { GivesNext (given_so_far self.old) (given_so_far self.new) result }
+        ensures came { IfOk result (IfCame (came_at self.new lookup.old.number)) }
         ensures same { lookup.new ≡ lookup.old }
     {
         let n = lookup.number();
@@ -509,8 +526,9 @@ impl Pools {
                 self.note(n, Some(given), None, None);
                 Ok(Stepped::Order { number, order })
             }
-            Ok(PoolStep::Done(_)) => {
+            Ok(PoolStep::Done(told)) => {
                 self.note(n, None, None, None);
+                self.decide(n, told)?;
                 Ok(Stepped::Done)
             }
             Ok(PoolStep::Waiting) => {
@@ -600,22 +618,27 @@ impl Pools {
         }
     }
 
-    /// What a lookup came to by its answer, where it was answered. Want of memory is nothing that it came
-    /// to.
+    /// What a lookup came to that was answered so. Want of memory is nothing that it came to.
+    fn found(&self, lookup: u64, told: Result<Message, NetError>) -> Option<Found>
+        ensures comes { answer_at self.now.shared lookup ≡ Some told → Comes self.now lookup result }
+        ensures sought { IsSome result → IsSome (sought_at self.now lookup) }
+    {
+        let sought = self.sought.get(&lookup)?;
+        if is_memory(&told) {
+            return None;
+        }
+        let entry = last_of(self.shared.ends(lookup));
+        Some(found_by(entry, told, &sought.query, &sought.zone))
+    }
+
+    /// What a lookup came to by its answer, where it was answered.
     fn comes(&self, alloc: Global, lookup: u64) -> Result<Option<Found>, NoMemory>
         ensures { IfOk result (Comes self.now lookup) }
     {
-        let Some(sought) = self.sought.get(&lookup) else {
-            return Ok(None);
-        };
-        let Some(told) = self.shared.answer(alloc, lookup)? else {
-            return Ok(None);
-        };
-        if is_memory(&told) {
-            return Ok(None);
+        match self.shared.answer(alloc, lookup)? {
+            Some(told) => Ok(self.found(lookup, told)),
+            None => Ok(None),
         }
-        let entry = last_of(self.shared.ends(lookup));
-        Ok(Some(found_by(entry, told, &sought.query, &sought.zone)))
     }
 
     /// Writes what a lookup came to into the cache, where it is a response that is kept.
@@ -677,6 +700,25 @@ impl Pools {
         }
     }
 
+    /// Keeps what a lookup came to that was answered so. Where memory was wanting for it, it is no longer
+    /// under way.
+    fn decide(&mut self, lookup: u64, told: Result<Message, NetError>) -> Result<(), NoMemory>
+        ensures came { OnOk result (IsSome (came_at self.new lookup)) }
+        ensures holds { (seen : View) → answer_at self.old.shared lookup ≡ Some told → PoolsHold seen self.old → PoolsHold seen self.new }
+        ensures given { given_so_far self.new ≡ given_so_far self.old }
+    {
+        match self.found(lookup, told) {
+            Some(found) => {
+                self.keep_came(lookup, Some(found));
+                Ok(())
+            }
+            None => {
+                self.forget(lookup);
+                Err(NoMemory)
+            }
+        }
+    }
+
     /// Takes the outcome of the order of a number. With a poll that found nothing is handed in what it
     /// waits for. An outcome is late, and changes nothing, where the order is open at no lookup, or the
     /// outcome is none of this order. What a lookup comes to by it is written into the cache, where it is
@@ -723,7 +765,7 @@ impl Pools {
     /// Takes what is kept of what a lookup came to.
     fn take_kept(&mut self, lookup: u64) -> Option<Found>
         ensures noted { HasNoted lookup (with_came None) self.old self.new }
-        ensures kept { result ≡ option_and_then (λ s. s.came) (sought_at self.old lookup) }
+        ensures kept { result ≡ came_at self.old lookup }
     {
         match self.sought.get_mut(&lookup) {
             Some(sought) => mem::replace(&mut sought.came, None),
@@ -731,19 +773,8 @@ impl Pools {
         }
     }
 
-    /// Takes what a lookup came to: what is kept of it, else what it comes to by its answer.
-    fn take_came(&mut self, alloc: Global, lookup: u64) -> Result<Option<Found>, NoMemory>
-        ensures noted { HasNoted lookup (with_came None) self.old self.new }
-        ensures came { (seen : View) → PoolsHold seen self.old → IfOk result (Comes self.new lookup) }
-    {
-        match self.take_kept(lookup) {
-            Some(found) => Ok(Some(found)),
-            None => self.comes(alloc, lookup),
-        }
-    }
-
     /// Takes what a lookup for a question at the servers of a zone, since no earlier than a moment, came
-    /// to; none where it goes on. One for which memory was wanting comes to nothing.
+    /// to, where that is known.
     pub fn answer(
         &mut self,
         alloc: Global,
@@ -754,24 +785,25 @@ impl Pools {
     ) -> Result<Option<Answer>, NoMemory>
         ensures answer { (seen : View) → PoolsHold seen self.old
             → IfOk result (λ answer. IfSome answer (AnswerHolds seen begun zone.now query.now)) }
+        ensures some { IsSome (came_at self.old lookup.now.number) → IfOk result IsSome }
         ensures holds { (seen : View) → PoolsHold seen self.old → PoolsHold seen self.new }
         ensures given { given_so_far self.new ≡ given_so_far self.old }
     {
         let n = lookup.number();
-        let Some(came) = self.take_came(alloc, n)? else {
-            return Ok(None);
-        };
         if !self.seeks(n, query, zone, begun) {
             return Err(NoMemory);
         }
         let ends = copy_of(alloc, lookup.ends(&self.shared))?;
-        Ok(Some(Answer { came, ends }))
+        match self.take_kept(n) {
+            Some(came) => Ok(Some(Answer { came, ends })),
+            None => Ok(None),
+        }
     }
 
     /// Ends the interest in a lookup.
     pub fn leave(&mut self, lookup: PoolLookup)
         ensures holds { (seen : View) → PoolsHold seen self.old → PoolsHold seen self.new }
-        ensures gone { sought_at self.new lookup.number ≡ None }
+        ensures gone { HasGone lookup.number self.old self.new }
         ensures given { given_so_far self.new ≡ given_so_far self.old }
     {
         self.forget(lookup.number());

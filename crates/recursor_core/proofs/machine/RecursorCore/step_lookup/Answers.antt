@@ -10,7 +10,7 @@ pub returns-clause-falls : goal.returns-clause-falls
 returns-clause-falls c =
     let xs = c.args.self.now.resolutions.items in
     let at = kept_at xs c.args.r c.index_mut.result.now c.in-Some.resolution (λ e. cc) c.index_mut.ensures.value c.in-Some.is in
-    IfOk-weaker c.step.result _ _ (λ stepped fewer. sum_leaves xs c.args.r c.in-Some.resolution c.step.new.self at stepped fewer)
+    IfOk-weaker c.step.result _ _ (λ stepped on. sum_leaves xs c.args.r c.in-Some.resolution c.step.new.self at stepped on.0)
     (rw c.deref_mut.ensures.value at c.step.ensures.falls)
 
 pub returns-clause-waits : goal.returns-clause-waits

@@ -1,4 +1,6 @@
-use Rattle.recursor_walk.proofs.Resolved.{follow-falls, settle-ends, falls-from, holds-on}
+use Rattle.recursor_walk.specs.Walk.{verdict_heard}
+use Rattle.recursor_walk.specs.declared.resolving.State.TheVariants.{Walking}
+use Rattle.recursor_walk.proofs.Resolved.{follow-falls, follow-hears, falls-from, holds-on}
 use Rattle.recursor_walk.proofs.resolving.Resolution.hear.Goals as goal
 
 pub returns-in-Walking-clause-falls : goal.returns-in-Walking-clause-falls
@@ -24,5 +26,14 @@ returns-in-Asking-clause-holds c seen filtered h =
     (c.hear-came-in-Asking.ensures.holds seen r.begun (rw c.deref_mut-in-Asking.ensures.value (rw c.in-Asking.is at h.state))))
 
 pub returns-in-Asking-clause-ended : goal.returns-in-Asking-clause-ended
-returns-in-Asking-clause-ended c =
-    settle-ends (record c.in-Asking.asking { value = c.hear-came-in-Asking.new.self }) c.hear-came-in-Asking.result c.settle.result c.settle.new.self.state c.settle.ensures.state c.settle.ensures.result
+returns-in-Asking-clause-ended c = c.settle.ensures.ended tt
+
+pub returns-in-Walking-clause-hears : goal.returns-in-Walking-clause-hears
+returns-in-Walking-clause-hears c =
+    let r = c.args.self.now in
+    let b = c.in-Walking.walk in
+    rw c.in-Walking.is (follow-hears r.question.query (Walking (record b { value = c.hear-came.new.self })) (verdict_heard b.value) c.hear-came.result c.follow.result c.follow.new.self.state
+    c.follow.ensures.steps c.follow.ensures.ended (rw c.deref_mut.ensures.value at c.hear-came.ensures.ends))
+
+pub returns-in-Asking-clause-hears : goal.returns-in-Asking-clause-hears
+returns-in-Asking-clause-hears c = rw c.in-Asking.is (c.settle.ensures.done c.hear-came-in-Asking.ensures.answers)

@@ -1,6 +1,6 @@
 use Rattle.recursor_walk.specs.Counted.{ReadsAt, recalled, answerable}
 use Rattle.recursor_walk.specs.declared.resolving.State.TheVariants.{Walking}
-use Rattle.recursor_walk.proofs.Resolved.{follow-falls, settle-falls, settle-ends, settle-heeds, follow-heeds, falls-from, holds-on}
+use Rattle.recursor_walk.proofs.Resolved.{follow-falls, settle-falls, settle-heeds, follow-heeds, falls-from, holds-on}
 use Rattle.recursor_walk.proofs.resolving.Resolution.recall.Goals as goal
 
 pub returns-in-Walking-clause-falls : goal.returns-in-Walking-clause-falls
@@ -36,8 +36,7 @@ returns-in-Asking-clause-holds c seen at-now filtered cached h =
     (c.recall-came-in-Asking.ensures.holds seen r.begun reads (rw c.deref_mut-in-Asking.ensures.value (rw c.in-Asking.is at h.state))))
 
 pub returns-in-Asking-clause-ended : goal.returns-in-Asking-clause-ended
-returns-in-Asking-clause-ended c =
-    settle-ends (record c.in-Asking.asking { value = c.recall-came-in-Asking.new.self }) c.recall-came-in-Asking.result c.settle.result c.settle.new.self.state c.settle.ensures.state c.settle.ensures.result
+returns-in-Asking-clause-ended c = c.settle.ensures.ended tt
 
 pub returns-in-Walking-clause-heeds : goal.returns-in-Walking-clause-heeds
 returns-in-Walking-clause-heeds c =

@@ -1,6 +1,18 @@
-use Rattle.recursor_walk.proofs.Resolved.{walk-holds, asking-holds}
+use Rattle.std.proofs.Common.{◌+◌, ◌-◌, ◌*◌, length}
+use Rattle.walk_tables.specs.Lookup.{want_of}
+use Rattle.recursor_walk.proofs.Resolved.{steps-on, walk-holds, asking-holds}
 use Rattle.recursor_walk.proofs.Walks.{walk-asks}
 use Rattle.recursor_walk.proofs.resolving.Resolution.step.Goals as goal
+
+pub returns-in-Walking-clause-falls : goal.returns-in-Walking-clause-falls
+returns-in-Walking-clause-falls c =
+    let w = c.in-Walking.walk.value in
+    rw c.in-Walking.is (steps-on c.step.result (10 + (length w.name.labels - w.labels) * 8) (want_of w.asking.lookup.ask) (want_of c.step.new.self.lookup.ask) (rw c.in-Walking.is at c.requires) c.step.ensures.wants)
+
+pub returns-in-Asking-clause-falls : goal.returns-in-Asking-clause-falls
+returns-in-Asking-clause-falls c =
+    let a = c.in-Asking.asking.value in
+    rw c.in-Asking.is (steps-on c.step-in-Asking.result 2 (want_of a.lookup.ask) (want_of c.step-in-Asking.new.self.lookup.ask) (rw c.in-Asking.is at c.requires) c.step-in-Asking.ensures.wants)
 
 pub returns-in-Walking-clause-waits : goal.returns-in-Walking-clause-waits
 returns-in-Walking-clause-waits c = c.step.ensures.waits

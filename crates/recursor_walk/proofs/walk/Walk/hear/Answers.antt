@@ -7,9 +7,8 @@ returns-clause-holds c seen t0 question filtered h =
     let w = c.args.self.now in
     c.conclude.ensures.holds seen t0 question filtered (record {
       way = way-looked seen question.query w (record w.asking { lookup = c.hear.new.self }) (refl, refl, c.hear.ensures.query) h.way;
-      came = rw c.in-Some.is at c.hear.ensures.holds seen t0 w.asking.zone h.lookup;
+      came = c.hear.ensures.holds seen t0 w.asking.zone h.lookup;
     })
 
 pub returns-clause-ends : goal.returns-clause-ends
-returns-clause-ends c =
-    rw (← c.hear.ensures.hears, c.in-Some.is) c.conclude.ensures.ends
+returns-clause-ends c = rw c.hear.ensures.hears c.conclude.ensures.ends

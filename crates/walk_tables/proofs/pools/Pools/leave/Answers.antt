@@ -1,4 +1,5 @@
 use Rattle.std.proofs.Common.{refl, ap, ◌∙◌}
+use Rattle.server_pool.specs.Lookups.{after_leave}
 use Rattle.server_pool.specs.Shared.{Shared}
 use Rattle.walk_tables.proofs.Pooling.{pools-forgotten, pools-left}
 use Rattle.walk_tables.proofs.pools.Pools.leave.Goals as goal
@@ -12,5 +13,13 @@ returns c = record {
       pools-left seen n mid _ (record { left = c.leave.ensures.left; last = c.leave.ensures.last; numbers = refl; sought = λ m. refl }) forgotten.none
       (pools-forgotten seen n c.args.self.now mid forgotten h);
   given = ap (λ (shared : Shared). shared.given) (c.leave.ensures.left) ∙ ap (λ (shared : Shared). shared.given) c.forget.ensures.same.shared;
-  gone = (rw c.number.ensures at c.forget.ensures).none;
+  gone =
+      let n = c.args.lookup.number in
+      let forgotten = rw c.number.ensures at c.forget.ensures in
+      record {
+        left = c.leave.ensures.left ∙ ap (λ (shared : Shared). let left : Shared = record shared { lookups = after_leave n shared.lookups } in left) forgotten.same.shared;
+        numbers = forgotten.same.numbers;
+        none = forgotten.none;
+        others = forgotten.others;
+      };
 }

@@ -1,12 +1,14 @@
-use Rattle.std.proofs.Common.{refl, sym, ap, subst, ◌∙◌, Some, None, Ok, Err}
+use Rattle.std.proofs.Common.{◌≡◌, ℕ, true, refl, sym, ap, ◌∙◌, Some, None, Result, Ok, Err}
+use Rattle.std.specs.Prelude.{is_err}
+use Rattle.dns_core.specs.declared.errors.NoMemory.{NoMemory}
 use Rattle.server_pool.specs.Shared.{Shared}
-use Rattle.server_pool.specs.declared.pool_shared.PoolStep.{PoolStep}
-use Rattle.walk_tables.specs.Pools.{HasNoted, noted, aim_of}
+use Rattle.walk_tables.specs.Pools.{HasNoted, noted, aim_of, GivesNext}
 use Rattle.walk_tables.specs.declared.pools.Given.{Given}
-use Rattle.walk_tables.proofs.Giving.{pools-ordered, pools-done, pools-go}
+use Rattle.walk_tables.specs.declared.pools.Stepped.{Stepped}
+use Rattle.walk_tables.proofs.Giving.{pools-ordered, pools-done, pools-answer, pools-go}
 use Rattle.walk_tables.proofs.Losing.{pools-waits}
 use Rattle.walk_tables.proofs.Awaited.{awaits-order}
-use Rattle.walk_tables.proofs.Numbering.{GivesAs, step-count}
+use Rattle.walk_tables.proofs.Numbering.{step-count}
 use Rattle.walk_tables.proofs.pools.Pools.step.Goals as goal
 
 pub returns-in-Ok-Order-clause-holds : goal.returns-in-Ok-Order-clause-holds
@@ -25,12 +27,25 @@ returns-in-Ok-Order-clause-goes c seen step h =
     pools-go seen n c.in-Ok-Order.field-0 old (record old { shared = c.next.new.shared }) c.note.new.self refl refl h
     (rw c.number-n.ensures at (sym c.contains_key.ensures ∙ c.if-not-contains_key.false)) (rw step.now_is at c.in-Ok-Order.ensures.steps) c.in-Ok-Order.number c.in-Ok-Order.order c.in-Ok-Order.field-0-is
 
-pub returns-in-Ok-Done-clause-holds : goal.returns-in-Ok-Done-clause-holds
-returns-in-Ok-Done-clause-holds c seen step h =
+pub returns-in_err-decide-in-Ok-Done-clause-holds : goal.returns-in_err-decide-in-Ok-Done-clause-holds
+returns-in_err-decide-in-Ok-Done-clause-holds c seen step h =
     let old = c.args.self.now in
-    let n = c.args.lookup.now.number in
-    pools-done seen n c.in-Ok-Done.field-0 old (record old { shared = c.next.new.shared }) c.note-in-Ok-Done.new.self refl refl h
-    (rw c.number-n.ensures at (sym c.contains_key.ensures ∙ c.if-not-contains_key.false)) (rw step.now_is at c.in-Ok-Done.ensures.steps) (rw c.number-n.ensures at c.note-in-Ok-Done.ensures)
+    let mid = record old { shared = c.next.new.shared } in
+    let there = rw c.number-n.ensures at (sym c.contains_key.ensures ∙ c.if-not-contains_key.false) in
+    let steps = rw step.now_is at c.in-Ok-Done.ensures.steps in
+    let note = rw c.number-n.ensures at c.note-in-Ok-Done.ensures in
+    c.decide.ensures.holds seen (rw c.number-n.ensures (pools-answer seen _ c.in-Ok-Done.field-0 old mid _ refl refl h there steps c.in-Ok-Done.told c.in-Ok-Done.field-0-is note))
+    (pools-done seen _ c.in-Ok-Done.field-0 old mid _ refl refl h there steps note)
+
+pub returns-in_ok-decide-in-Ok-Done-clause-holds : goal.returns-in_ok-decide-in-Ok-Done-clause-holds
+returns-in_ok-decide-in-Ok-Done-clause-holds c seen step h =
+    let old = c.args.self.now in
+    let mid = record old { shared = c.next.new.shared } in
+    let there = rw c.number-n.ensures at (sym c.contains_key.ensures ∙ c.if-not-contains_key.false) in
+    let steps = rw step.now_is at c.in-Ok-Done.ensures.steps in
+    let note = rw c.number-n.ensures at c.note-in-Ok-Done.ensures in
+    c.decide.ensures.holds seen (rw c.number-n.ensures (pools-answer seen _ c.in-Ok-Done.field-0 old mid _ refl refl h there steps c.in-Ok-Done.told c.in-Ok-Done.field-0-is note))
+    (pools-done seen _ c.in-Ok-Done.field-0 old mid _ refl refl h there steps note)
 
 -- where memory is wanting, or it waits, it is forgotten
 pub returns-in-Ok-Waiting-clause-holds : goal.returns-in-Ok-Waiting-clause-holds
@@ -40,8 +55,8 @@ returns-in-Ok-Waiting-clause-holds c seen step h =
     pools-waits seen n old (record old { shared = c.next.new.shared }) c.forget.new.self (Ok c.in-Ok-Waiting.field-0) refl refl
     (rw c.number-n.ensures at (sym c.contains_key.ensures ∙ c.if-not-contains_key.false)) (rw step.now_is at c.in-Ok-Waiting.ensures.steps) c.in-Ok-Waiting.ensures.halts (rw c.number-n.ensures at c.forget.ensures) h
 
-pub returns-clause-holds : goal.returns-clause-holds
-returns-clause-holds c seen step h =
+pub returns-in-Err-clause-holds : goal.returns-in-Err-clause-holds
+returns-in-Err-clause-holds c seen step h =
     let old = c.args.self.now in
     let n = c.args.lookup.now.number in
     let none = c.in-Err.ensures in
@@ -50,37 +65,38 @@ returns-clause-holds c seen step h =
 
 -- ---- how many orders were given
 
+gives-none : (old new : ℕ) (r : Result Stepped NoMemory) → is_err r ≡ true → new ≡ old → GivesNext old new r
+gives-none old new (Err e) is same = same
+gives-none old new (Ok s) is same = cc
+
 pub returns-in-Ok-Order-clause-given : goal.returns-in-Ok-Order-clause-given
 returns-in-Ok-Order-clause-given c =
-    let old = c.args.self.now.shared in
-    let new = c.next.new.shared in
-    let first = c.in-Ok-Order.ensures in
-    let count = step-count c.args.lookup.now.number c.args.tick.now old new (Ok c.in-Ok-Order.field-0) first.steps first.halts first.gone in
-    let gave = subst (λ (t : PoolStep). GivesAs old.given new.given (Ok t)) c.in-Ok-Order.field-0-is count in
-    (gave.0, ap (λ (x : Shared). x.given) c.note.ensures.same.shared ∙ gave.1)
+    let told = c.in-Ok-Order.ensures in
+    let count = rw c.in-Ok-Order.field-0-is at (step-count _ _ c.args.self.now.shared c.next.new.shared (Ok c.in-Ok-Order.field-0) told.steps told.halts told.gone) in
+    (count.0, ap (λ (x : Shared). x.given) c.note.ensures.same.shared ∙ count.1)
 
-pub returns-in-Ok-Done-clause-given : goal.returns-in-Ok-Done-clause-given
-returns-in-Ok-Done-clause-given c =
-    let old = c.args.self.now.shared in
-    let new = c.next.new.shared in
-    let done = c.in-Ok-Done.ensures in
-    let count = step-count c.args.lookup.now.number c.args.tick.now old new (Ok c.in-Ok-Done.field-0) done.steps done.halts done.gone in
-    ap (λ (x : Shared). x.given) c.note-in-Ok-Done.ensures.same.shared ∙ subst (λ (t : PoolStep). GivesAs old.given new.given (Ok t)) c.in-Ok-Done.field-0-is count
+pub returns-in_err-decide-in-Ok-Done-clause-given : goal.returns-in_err-decide-in-Ok-Done-clause-given
+returns-in_err-decide-in-Ok-Done-clause-given c =
+    let told = c.in-Ok-Done.ensures in
+    let count = rw c.in-Ok-Done.field-0-is at (step-count _ _ c.args.self.now.shared c.next.new.shared (Ok c.in-Ok-Done.field-0) told.steps told.halts told.gone) in
+    gives-none _ _ c.from_residual.result c.from_residual.ensures.0 (c.decide.ensures.given ∙ ap (λ (x : Shared). x.given) c.note-in-Ok-Done.ensures.same.shared ∙ count)
+
+pub returns-in_ok-decide-in-Ok-Done-clause-given : goal.returns-in_ok-decide-in-Ok-Done-clause-given
+returns-in_ok-decide-in-Ok-Done-clause-given c =
+    let told = c.in-Ok-Done.ensures in
+    let count = rw c.in-Ok-Done.field-0-is at (step-count _ _ c.args.self.now.shared c.next.new.shared (Ok c.in-Ok-Done.field-0) told.steps told.halts told.gone) in
+    c.decide.ensures.given ∙ ap (λ (x : Shared). x.given) c.note-in-Ok-Done.ensures.same.shared ∙ count
 
 pub returns-in-Ok-Waiting-clause-given : goal.returns-in-Ok-Waiting-clause-given
 returns-in-Ok-Waiting-clause-given c =
-    let old = c.args.self.now.shared in
-    let new = c.next.new.shared in
-    let none = c.in-Ok-Waiting.ensures in
-    let count = step-count c.args.lookup.now.number c.args.tick.now old new (Ok c.in-Ok-Waiting.field-0) none.steps none.halts none.gone in
-    ap (λ (x : Shared). x.given) c.forget.ensures.same.shared ∙ subst (λ (t : PoolStep). GivesAs old.given new.given (Ok t)) c.in-Ok-Waiting.field-0-is count
+    let told = c.in-Ok-Waiting.ensures in
+    let count = rw c.in-Ok-Waiting.field-0-is at (step-count _ _ c.args.self.now.shared c.next.new.shared (Ok c.in-Ok-Waiting.field-0) told.steps told.halts told.gone) in
+    ap (λ (x : Shared). x.given) c.forget.ensures.same.shared ∙ count
 
-pub returns-clause-given : goal.returns-clause-given
-returns-clause-given c =
-    let old = c.args.self.now.shared in
-    let new = c.next.new.shared in
+pub returns-in-Err-clause-given : goal.returns-in-Err-clause-given
+returns-in-Err-clause-given c =
     let none = c.in-Err.ensures in
-    ap (λ (x : Shared). x.given) c.forget-in-Err.ensures.same.shared ∙ step-count c.args.lookup.now.number c.args.tick.now old new (Err c.in-Err.field-0) none.steps none.halts none.gone
+    ap (λ (x : Shared). x.given) c.forget-in-Err.ensures.same.shared ∙ step-count _ _ c.args.self.now.shared c.next.new.shared (Err c.in-Err.field-0) none.steps none.halts none.gone
 
 -- ---- the order is the one that is waited for
 
