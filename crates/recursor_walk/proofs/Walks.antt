@@ -1,5 +1,5 @@
 -- How a walk goes on.
-use Rattle.std.proofs.Common.{◌≡◌, ◌≤◌, ◌<◌, ◌+◌, ◌-◌, ◌↔◌, ℕ, Bool, true, false, cond, List, length, Contains, refl, sym, ◌∙◌, ap, subst, arith, Err, nat_lt, ◌&&◌, ◌==◌, not, IsTrue}
+use Rattle.std.proofs.Common.{◌≡◌, ◌≤◌, ◌<◌, ◌+◌, ◌-◌, ◌↔◌, ℕ, Bool, true, false, cond, List, length, Contains, refl, sym, ◌∙◌, ap, subst, arith, Result, Ok, Err, nat_lt, ◌&&◌, ◌==◌, not, IsTrue}
 use Rattle.std.proofs.lemmas.List.Elements.{All-weaker, All-contains_itself, recursion_from_All}
 use Rattle.std.proofs.lemmas.List.FromFn.{get_or-map-range_with_len, length-map-range_with_len}
 use Rattle.std.proofs.lemmas.Bool.{not-true}
@@ -42,6 +42,18 @@ use Rattle.recursor_walk.specs.declared.walk.Walk.{Walk}
 use Rattle.resolution.proofs.WayDown.{above-last, last-above, last-length, root-above, walked-from-passed, walked-at-candidate}
 use Rattle.recursor_walk.proofs.Denials.{has-failed}
 use Rattle.recursor_walk.proofs.Earlier.{Finished-earlier}
+use Rattle.recursor_walk.specs.Walk.{steps, steps_after, Goes, Passes}
+use Rattle.recursor_walk.specs.declared.walk.Course.{Course}
+use Rattle.recursor_walk.specs.declared.walk.Course.TheVariants as course
+use Rattle.dns_core.specs.declared.errors.NoMemory.{NoMemory}
+
+-- what is past its candidate goes further, whatever became of its lookup meanwhile
+pub past-falls : (old middle new : Walk) (result : Result Course NoMemory) → steps_after middle ≡ steps_after old → steps_after old < steps old
+    → Passes middle new result → Goes old new result
+past-falls old middle new (Ok course.Further) same fewer past = omega (arith, same, fewer, past)
+past-falls old middle new (Ok course.Arrived) same fewer past = tt
+past-falls old middle new (Ok (course.Reply reply)) same fewer past = tt
+past-falls old middle new (Err e) same fewer past = tt
 
 -- ---- at a candidate
 

@@ -1,5 +1,5 @@
 -- Where a walk stands, and how many steps it has before it.
-use Rattle.std.specs.Prelude.{◌≡◌, ℕ, ◌+◌, ◌-◌, ◌*◌, ◌<◌, length, Option, Some, None, Result, Ok, Err, IfOk, IsTrue, option_and_then}
+use Rattle.std.specs.Prelude.{◌≡◌, ℕ, ◌+◌, ◌-◌, ◌*◌, ◌<◌, ◌≤◌, length, Option, Some, None, Result, Ok, Err, IfOk, IsTrue, option_and_then}
 use Rattle.dns_core.specs.declared.message.Query.{Query}
 use Rattle.dns_core.specs.declared.errors.NoMemory.{NoMemory}
 use Rattle.dns_core.specs.declared.net_error.NetError.{NetError}
@@ -15,10 +15,13 @@ use Rattle.recursor_walk.specs.declared.walk.Course.{Course}
 use Rattle.recursor_walk.specs.declared.walk.Course.TheVariants as course
 use Rattle.recursor_walk.specs.declared.walk.Walk.{Walk}
 
--- how many steps a walk has before it, beside those by which it gives orders and waits for them, and those of the question itself; a lookup
--- has fewer than 8
+-- how many steps a walk has before it once the lookup of its candidate was heard, beside those by which it gives orders and waits for them, and
+-- those of the question itself; a lookup has fewer than 8
+abbrev pub steps_after : Walk → ℕ
+steps_after w = 10 + (length w.name.labels - w.labels) * 8
+
 abbrev pub steps : Walk → ℕ
-steps w = 10 + (length w.name.labels - w.labels) * 8 + lookup.steps w.asking.lookup
+steps w = steps_after w + lookup.steps w.asking.lookup
 
 -- more steps than a question has with its walk
 abbrev pub begin_steps : Query → ℕ
@@ -32,6 +35,15 @@ IsFurther old new (course.Reply reply) = Unit {0}
 
 abbrev pub Goes : Walk → Walk → Result Course NoMemory → Type 0
 Goes old new result = IfOk result (IsFurther old new)
+
+-- It is past its candidate, where it goes further.
+abbrev pub IsPast : Walk → Walk → Course → Type 0
+IsPast old new course.Further = steps new ≤ steps_after old
+IsPast old new course.Arrived = Unit {0}
+IsPast old new (course.Reply reply) = Unit {0}
+
+abbrev pub Passes : Walk → Walk → Result Course NoMemory → Type 0
+Passes old new result = IfOk result (IsPast old new)
 
 -- ---- replies
 

@@ -11,7 +11,7 @@ ghost use Rattle.walk_tables.specs.declared.lookup.Want.TheVariants as want;
 ghost use Rattle.recursor_walk.specs.Asking.{LastHolds};
 ghost use Rattle.recursor_walk.specs.Asking as asking;
 ghost use Rattle.recursor_walk.specs.Counted.{ReadsAt, recalled};
-ghost use Rattle.recursor_walk.specs.Walk.{steps, Goes, Ends, EndsIf, IsOnward, Recalls, counting, verdict_found, verdict_heard, IsCourseOf};
+ghost use Rattle.recursor_walk.specs.Walk.{steps, Goes, Passes, Ends, EndsIf, IsOnward, Recalls, counting, verdict_found, verdict_heard, IsCourseOf};
 ghost use Rattle.recursor_walk.specs.Way.{WayHolds, WalkHolds, LeavesBehind, Comes, HasFailedAt, HasHeard, HasFound, HasRoots, FiltersBy};
 
 use crate::asking::Asking;
@@ -106,7 +106,7 @@ impl Walk {
         filter: &AccessControlSet,
         found: Found,
     ) -> Result<Course, NoMemory>
-        ensures falls { Goes self.old self.new result }
+        ensures falls { Passes self.old self.new result }
         ensures ends { EndsIf (verdict_found found) result }
         ensures holds { (seen : View) (t0 : ℕ) (asked : Question) → FiltersBy seen filter.now
             → HasFound seen t0 asked.query self.old found → Comes seen t0 asked self.new result }
@@ -119,7 +119,7 @@ impl Walk {
 
     /// Goes on without the candidate whose lookup failed, unless its servers stayed silent.
     fn pass_over(&mut self, alloc: Global, error: NetError) -> Result<Course, NoMemory>
-        ensures falls { Goes self.old self.new result }
+        ensures falls { Passes self.old self.new result }
         ensures holds { (seen : View) (t0 : ℕ) (asked : Question) → HasFailedAt seen t0 asked.query self.old error
             → Comes seen t0 asked self.new result }
     {
@@ -137,7 +137,7 @@ impl Walk {
         entry: u64,
         verdict: Result<Verdict, NetError>,
     ) -> Result<Course, NoMemory>
-        ensures falls { Goes self.old self.new result }
+        ensures falls { Passes self.old self.new result }
         ensures ends { EndsIf (counting verdict) result }
         ensures holds { (seen : View) (t0 : ℕ) (asked : Question) → FiltersBy seen filter.now
             → HasFound seen t0 asked.query self.old (Found.Told entry verdict) → Comes seen t0 asked self.new result }
@@ -155,7 +155,7 @@ impl Walk {
         filter: &AccessControlSet,
         counted: Counted,
     ) -> Result<Course, NoMemory>
-        ensures falls { Goes self.old self.new result }
+        ensures falls { Passes self.old self.new result }
         ensures ends { Ends counted.verdict result }
         ensures holds { (seen : View) (t0 : ℕ) (asked : Question) → FiltersBy seen filter.now
             → HasHeard seen t0 asked.query self.old counted.entry counted.verdict → Comes seen t0 asked self.new result }
@@ -173,7 +173,7 @@ impl Walk {
 
     /// A negative response ends the walk where it says that the name is not there.
     fn deny(&mut self, alloc: Global, entry: u64, found: NoRecords) -> Result<Course, NoMemory>
-        ensures falls { Goes self.old self.new result }
+        ensures falls { Passes self.old self.new result }
         ensures ends { Ends (Verdict.Neg found) result }
         ensures holds { (seen : View) (t0 : ℕ) (asked : Question) → HasHeard seen t0 asked.query self.old entry (Verdict.Neg found)
             → Comes seen t0 asked self.new result }
@@ -192,7 +192,7 @@ impl Walk {
         filter: &AccessControlSet,
         kept: &Message,
     ) -> Result<Course, NoMemory>
-        ensures falls { Goes self.old self.new result }
+        ensures falls { Passes self.old self.new result }
         ensures holds { (seen : View) (t0 entry : ℕ) (asked : Question) → FiltersBy seen filter.now
             → HasHeard seen t0 asked.query self.old entry (Verdict.Pos kept.now) → Comes seen t0 asked self.new result }
     {
@@ -211,7 +211,7 @@ impl Walk {
     /// Goes on to the next candidate, at the present servers; after the last one these are the servers of
     /// the name.
     fn advance(&mut self, alloc: Global) -> Result<Course, NoMemory>
-        ensures falls { Goes self.old self.new result }
+        ensures falls { Passes self.old self.new result }
         ensures none { IfOk result IsOnward }
         ensures holds { (seen : View) (t0 : ℕ) (asked : Question) → WayHolds seen asked.query self.old → LeavesBehind seen self.old
             → Comes seen t0 asked self.new result }

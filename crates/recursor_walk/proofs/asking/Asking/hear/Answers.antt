@@ -4,7 +4,7 @@ use Rattle.recursor_walk.proofs.asking.Asking.hear.Goals as goal
 pub returns-clause-holds : goal.returns-clause-holds
 returns-clause-holds c seen t0 h =
     c.in_ok-conclude.ensures seen t0 (record {
-      asks = c.hear.ensures.query ∙ h.asks;
-      walked = rw c.hear.ensures.query h.holds.site.walked;
-      came = c.hear.ensures.holds seen t0 c.args.self.now.zone h.holds.lookup;
+      asks = c.hear-found.ensures.query ∙ h.asks;
+      walked = rw c.hear-found.ensures.query h.holds.site.walked;
+      came = c.hear-found.ensures.holds seen t0 c.args.self.now.zone h.holds.lookup;
     })

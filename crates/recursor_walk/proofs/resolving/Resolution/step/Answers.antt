@@ -7,7 +7,7 @@ use Rattle.recursor_walk.proofs.resolving.Resolution.step.Goals as goal
 pub returns-in-Walking-clause-falls : goal.returns-in-Walking-clause-falls
 returns-in-Walking-clause-falls c =
     let w = c.in-Walking.walk.value in
-    rw c.in-Walking.is (steps-on c.step.result (10 + (length w.name.labels - w.labels) * 8) (want_of w.asking.lookup.ask) (want_of c.step.new.self.lookup.ask) (rw c.in-Walking.is at c.requires) c.step.ensures.wants)
+    rw (c.in-Walking.is, c.deref_mut.ensures.value) (steps-on c.step.result (10 + (length w.name.labels - w.labels) * 8) (want_of w.asking.lookup.ask) (want_of c.step.new.self.lookup.ask) (rw c.in-Walking.is at c.requires) c.step.ensures.wants)
 
 pub returns-in-Asking-clause-falls : goal.returns-in-Asking-clause-falls
 returns-in-Asking-clause-falls c =

@@ -1,10 +1,15 @@
-use Rattle.std.proofs.Common.{Ok, Option, sym, subst, ◌∙◌, refl}
+use Rattle.std.proofs.Common.{Ok, Option, sym, subst, ◌∙◌, refl, arith}
 use Rattle.recursor_walk.specs.Walk.{Recalls}
 use Rattle.recursor_walk.specs.declared.walk.Course.TheVariants.{Further}
 use Rattle.recursor_walk.specs.declared.counted.Counted.{Counted}
 use Rattle.recursor_walk.proofs.Recalling.{recalled-for}
-use Rattle.recursor_walk.proofs.Walks.{way-looked}
+use Rattle.recursor_walk.proofs.Walks.{way-looked, past-falls}
 use Rattle.recursor_walk.proofs.walk.Walk.recall.Goals as goal
+
+pub returns-in-Some-clause-falls : goal.returns-in-Some-clause-falls
+returns-in-Some-clause-falls c =
+    let w = c.args.self.now in
+    past-falls w w c.heed.new.self c.heed.result refl (rw c.requires (omega arith)) c.heed.ensures.falls
 
 pub returns-in-Some-clause-holds : goal.returns-in-Some-clause-holds
 returns-in-Some-clause-holds c seen t0 question filtered reads h =
