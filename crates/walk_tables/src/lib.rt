@@ -2,6 +2,7 @@
 //! lookups that are under way at these.
 #![tactic(auto)]
 
+mod aims;
 mod answered;
 mod keeping;
 mod lookup;

@@ -5,7 +5,6 @@ ghost use Rattle.std.specs.List.{AllZip};
 ghost use Rattle.std.specs.declared.net.ip_addr.IpAddr.{IpAddr};
 ghost use Rattle.dns_core.specs.declared.message.Query.{Query};
 ghost use Rattle.server_core.specs.Servers.{IsFirstDelay};
-ghost use Rattle.retry_lookup.specs.Holds.{out_of_memory};
 ghost use Rattle.walk_tables.specs.Order.{HoldsOn};
 ghost use Rattle.walk_tables.specs.View.{View, Later};
 ghost use Rattle.recursor_types.specs.Options.{answer_filter_of};
@@ -19,12 +18,11 @@ ghost use Rattle.walk_tables.specs.Taking.{answer_at, telling_at, Took, Takes, C
 ghost use Rattle.server_pool.specs.Orders.{open_at};
 ghost use Rattle.walk_tables.specs.declared.pools.Given.{Given};
 
+use crate::aims::{aim_of, first_of, is_denial, is_identical, is_memory, is_still, polled_by};
 use crate::answered::{found_by, last_of};
 use crate::keeping::write;
 use crate::lookup::Found;
-use dns_core::{
-    Delays, DnsError, DnsRequest, Message, Name, NetError, NoMemory, Numbers, Query, TryClone,
-};
+use dns_core::{Delays, DnsRequest, Message, Name, NetError, NoMemory, Numbers, Query, TryClone};
 use recursor_setting::{FirstDelay, first_delay, pool_context};
 use recursor_types::RecursorOptions;
 use resolver_cache::ResponseCache;
@@ -93,92 +91,6 @@ pub struct Pools {
     first_delays: Delays,
     turn: usize,
     sought: BTreeMap<u64, Sought>,
-}
-
-/// Whether an error is a denial in place of a message.
-fn is_denial(error: &NetError) -> bool
-    ensures { result ≡ is_denial error.now }
-{
-    matches!(error, NetError::Dns(DnsError::NoRecordsFound(_)))
-}
-
-/// Whether what a lookup was answered is that memory was wanting for it.
-fn is_memory(told: &Result<Message, NetError>) -> bool
-    ensures { result ≡ out_of_memory told.now }
-{
-    match told {
-        Ok(_) => false,
-        Err(error) => error.is_memory(),
-    }
-}
-
-/// Whether two questions are equal, also in the case of their names.
-fn is_identical(left: &Query, right: &Query) -> bool
-    ensures { IsTrue result ↔ (left.now ≡ right.now) }
-{
-    left.query_type == right.query_type
-        && left.query_class == right.query_class
-        && left.name.eq_case(&right.name)
-}
-
-/// What an order does.
-fn aim_of(order: &Order) -> Aim
-    ensures { result ≡ aim_of order.now }
-{
-    match order {
-        Order::Open { ip, .. } => Aim::Open { ip: *ip },
-        Order::Ask { ip, .. } => Aim::Ask { ip: *ip },
-        Order::Sleep { .. } => Aim::Sleep,
-    }
-}
-
-/// To which address what came of an order was sent, or what it waits for, where that is known.
-fn sent_to(outcome: &Outcome, waits: Option<&Sent>) -> Option<IpAddr>
-    ensures { result ≡ sent_to (option_copied waits.entry) outcome.now }
-{
-    match outcome {
-        Outcome::Connected { sent, .. } => Some(sent.ip),
-        Outcome::Told { sent, .. } => Some(sent.ip),
-        Outcome::Failed { sent, .. } => Some(sent.ip),
-        Outcome::Pending { .. } => match waits {
-            Some(sent) => Some(sent.ip),
-            None => None,
-        },
-        Outcome::Slept => None,
-    }
-}
-
-/// To which address the first send of a lookup goes, where an outcome of its open order says so.
-fn first_of(given: &Given, outcome: &Outcome, waits: Option<&Sent>) -> Option<IpAddr>
-    ensures { result ≡ first_of given.now.aim (option_copied waits.entry) outcome.now }
-{
-    match given.aim {
-        Aim::Sleep => None,
-        Aim::Open { .. } | Aim::Ask { .. } => sent_to(outcome, waits),
-    }
-}
-
-/// The entry that sent what a poll waits for, if the outcome is one that found nothing.
-fn polled_by(outcome: &Outcome) -> Option<u64>
-    ensures { result ≡ polled_by outcome.now }
-{
-    match outcome {
-        Outcome::Pending { of, .. } => Some(*of),
-        Outcome::Connected { .. }
-        | Outcome::Told { .. }
-        | Outcome::Failed { .. }
-        | Outcome::Slept => None,
-    }
-}
-
-/// Whether what a poll waits for is what the polls before it waited for.
-fn is_still(polled: Option<u64>, of: u64) -> bool
-    ensures { IsTrue result ↔ IsStill polled of }
-{
-    match polled {
-        None => true,
-        Some(before) => before == of,
-    }
 }
 
 /// A copy of numbers.
