@@ -1,5 +1,5 @@
 -- A write adds one response alone.
-use Rattle.std.proofs.Common.{◌≡◌, ◌≤◌, ◌+◌, ◌*◌, ◌-◌, ◌^◌, ℕ, min, suc, Bool, true, false, ◌⊎◌, inl, inr, List, [], ◌∷◌, ◌++◌, take, drop, Option, Some, None, Result, All, Contains, refl, arith}
+use Rattle.std.proofs.Common.{◌≡◌, ◌≤◌, ◌+◌, ◌*◌, ◌-◌, ◌^◌, ℕ, min, suc, Bool, true, false, ◌⊎◌, inl, inr, List, [], ◌∷◌, ◌++◌, take, drop, Option, Some, None, Result, All, Contains, refl, ap, arith}
 use Rattle.std.specs.Prelude.{◌==◌, if◌then◌else◌}
 use Rattle.std.proofs.lemmas.List.Elements.{All-append, All-push, All-take, All-drop, All-weaker, All-contains, All-contains_itself}
 use Rattle.dns_core.specs.declared.message.Query.{Query}
@@ -10,7 +10,7 @@ use Rattle.resolver_cache.specs.Entry.{current_for}
 use Rattle.resolver_cache.specs.Life.{life_of, moment_after}
 use Rattle.resolver_cache.specs.Placing.{giving_way, without, with_entry}
 use Rattle.resolver_cache.specs.Cached.{Cached}
-use Rattle.resolver_cache.specs.Cache.{no_later_than, new_expiry, written_with, upserted}
+use Rattle.resolver_cache.specs.Cache.{no_later_than, new_expiry, written_with, upserted, KeepsNothing}
 use Rattle.resolver_cache.specs.Laws.{IsJustWritten, WritesNoOther}
 
 -- what holds of each entry holds of those that stay
@@ -67,6 +67,17 @@ upserted-config cache q response source now clamp =
 pub upserted-size : (cache : Cached) (q : Query) (response : Result Message NetError) (source : ℕ) (now : ℕ) (clamp : Bool) → (upserted cache q response source now clamp).size ≡ cache.size
 upserted-size cache q response source now clamp =
     size_of_written cache q response source now clamp (life_of cache.config q.query_type response)
+
+same_of_none : (cache : Cached) (q : Query) (response : Result Message NetError) (source now : ℕ) (clamp : Bool) (o : Option ℕ) → (cache.size == 0) ≡ true → written_with cache q response source now clamp o ≡ cache
+same_of_none cache q response source now clamp None h = refl
+same_of_none cache q response source now clamp (Some life) h =
+    let e : Entry = record { query = q; response = response; written = now; expiry = new_expiry cache.entries q now clamp life; source = source } in
+    ap (λ (b : Bool). record cache { entries = if b then cache.entries else without cache.entries (giving_way cache.size q cache.entries) ++ e ∷ [] }) h
+
+-- a cache of size 0 stays as it is
+pub same_of_size_0 : (cache : Cached) → (cache.size == 0) ≡ true → KeepsNothing cache
+same_of_size_0 cache h q response source now clamp =
+    same_of_none cache q response source now clamp (life_of cache.config q.query_type response) h
 
 -- each entry after a write was there before, or is what was written
 pub one_written : (cache : Cached) (q : Query) (response : Result Message NetError) (source : ℕ) (now : ℕ) (clamp : Bool) (entry : Entry) → Contains (upserted cache q response source now clamp).entries entry → Contains cache.entries entry ⊎ IsJustWritten cache q response source now entry

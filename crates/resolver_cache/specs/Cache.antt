@@ -1,5 +1,5 @@
 -- What is read from a cache of responses, and what writing leaves (RFC 2308 section 5).
-use Rattle.std.specs.Prelude.{ℕ, Bool, min, List, Option, Some, None, Result, if◌then◌else◌}
+use Rattle.std.specs.Prelude.{◌≡◌, ℕ, Bool, min, List, Option, Some, None, Result, if◌then◌else◌}
 use Rattle.std.specs.Option.{option_map}
 use Rattle.dns_core.specs.declared.message.Query.{Query}
 use Rattle.dns_core.specs.declared.message.Message.{Message}
@@ -41,6 +41,11 @@ written_with cache q response source now clamp (Some life) =
 abbrev pub upserted : Cached → Query → Result Message NetError → ℕ → ℕ → Bool → Cached
 upserted cache q response source now clamp =
     written_with cache q response source now clamp (life_of cache.config q.query_type response)
+
+-- whatever is written, the cache stays as it is
+abbrev pub KeepsNothing : Cached → Type 0
+KeepsNothing cache =
+    (q : Query) (response : Result Message NetError) (source now : ℕ) (clamp : Bool) → upserted cache q response source now clamp ≡ cache
 
 -- no more entries than the size, and no two for one question
 abbrev pub IsSound : Cached → Type 0

@@ -1,10 +1,10 @@
 //! The cache of responses.
-ghost use Rattle.std.specs.Prelude.{◌≡◌, ◌↔◌, [], length, IfOk, OnOk, OnErr, IsErr, IsTrue, false};
+ghost use Rattle.std.specs.Prelude.{◌≡◌, ◌↔◌, ◌==◌, [], length, IfOk, OnOk, OnErr, IsErr, IsTrue, false};
 ghost use Rattle.std.specs.List.{list_any};
 ghost use Rattle.std.specs.Option.{option_copied};
 ghost use Rattle.resolver_settings.specs.Ttl.{has_reversed};
 ghost use Rattle.resolver_cache.specs.Entry.{is_for, current_for};
-ghost use Rattle.resolver_cache.specs.Cache.{read, found_for, upserted, new_expiry, IsSound};
+ghost use Rattle.resolver_cache.specs.Cache.{read, found_for, upserted, new_expiry, KeepsNothing, IsSound};
 ghost use Rattle.resolver_cache.specs.Index.{ArePlaced};
 ghost use Rattle.std.specs.Map.{values_of};
 
@@ -171,6 +171,14 @@ impl ResponseCache {
         };
         let kept = KeptEntry::new(alloc, entry)?;
         self.index.put(alloc, self.size, kept)
+    }
+
+    /// Whether it keeps nothing, whatever is written.
+    pub fn keeps_nothing(&self) -> bool
+        ensures size { result ≡ (self.now.size == 0) }
+        ensures nothing { IsTrue result → KeepsNothing self.now }
+    {
+        self.size == 0
     }
 
     pub fn entry_count(&self) -> u64
