@@ -88,6 +88,18 @@ impl NameServerPool {
         self.servers.as_slice()
     }
 
+    pub(crate) fn into_servers(self) -> Vec<u32>
+        ensures { result ≡ self.servers }
+    {
+        let NameServerPool {
+            number: _,
+            servers,
+            zone: _,
+            last: _,
+        } = self;
+        servers
+    }
+
     /// Its number, which its copies share.
     pub fn number(&self) -> u64
         ensures { result ≡ self.now.number }

@@ -12,9 +12,7 @@ ghost use Rattle.server_pool.specs.declared.open_lookup.OpenLookup.{OpenLookup a
 
 use crate::pool::NameServerPool;
 use crate::pool_shared::{PoolShared, PoolStep};
-use dns_core::{
-    DnsRequest, DnsRequestOptions, Message, NetError, NoMemory, Numbers, Query, TryClone,
-};
+use dns_core::{DnsRequest, DnsRequestOptions, Message, NetError, NoMemory, Numbers, Query};
 use server_core::Tick;
 use std::alloc::Global;
 
@@ -23,7 +21,7 @@ use std::alloc::Global;
 #[derive(Drop, Debug)]
 pub struct PoolLookup {
     number: u64,
-    servers: Numbers,
+    servers: Vec<u32>,
 }
 
 /// A copy of the numbers of servers.
@@ -49,12 +47,31 @@ impl NameServerPool {
         tick: Tick,
     ) -> Result<PoolLookup, NoMemory>
         ensures sent { IfOk result (λ lookup. HasSent self.now.number self.now.servers.items request tick.now shared.old shared.new lookup.number) }
-        ensures servers { IfOk result (λ lookup. lookup.servers ≡ self.now.servers.items) }
+        ensures servers { IfOk result (λ lookup. lookup.servers.items ≡ self.now.servers.items) }
         ensures err { OnErr result (shared.new ≡ shared.old) }
     {
-        let servers = copy_of(alloc, self.servers())?;
+        let servers = Vec::from_slice(alloc, self.servers())?;
         let number = shared.send(alloc, self.number(), self.servers(), request, tick)?;
         Ok(PoolLookup { number, servers })
+    }
+
+    /// The same by a pool that is used for this alone: the lookup takes over the numbers of its servers.
+    pub fn into_lookup(
+        self,
+        alloc: Global,
+        shared: &mut PoolShared,
+        request: DnsRequest,
+        tick: Tick,
+    ) -> Result<PoolLookup, NoMemory>
+        ensures sent { IfOk result (λ lookup. HasSent self.number self.servers.items request tick.now shared.old shared.new lookup.number) }
+        ensures servers { IfOk result (λ lookup. lookup.servers.items ≡ self.servers.items) }
+        ensures err { OnErr result (shared.new ≡ shared.old) }
+    {
+        let number = shared.send(alloc, self.number(), self.servers(), request, tick)?;
+        Ok(PoolLookup {
+            number,
+            servers: self.into_servers(),
+        })
     }
 
     /// Asks the servers a question, with the case of its letters by chance where the settings say so.
@@ -67,7 +84,7 @@ impl NameServerPool {
         tick: Tick,
     ) -> Result<PoolLookup, NoMemory>
         ensures sent { IfOk result (λ lookup. HasSent self.now.number self.now.servers.items (request_by shared.old.context query options) tick.now shared.old shared.new lookup.number) }
-        ensures servers { IfOk result (λ lookup. lookup.servers ≡ self.now.servers.items) }
+        ensures servers { IfOk result (λ lookup. lookup.servers.items ≡ self.now.servers.items) }
         ensures err { OnErr result (shared.new ≡ shared.old) }
     {
         let mut options = options;
@@ -87,11 +104,11 @@ impl PoolLookup {
     /// The numbers of the servers that the lookup names: those of its pool, in the order of their
     /// configuration. One that is not there, of another `PoolShared` say, names none.
     pub fn servers(&self, alloc: Global, shared: &PoolShared) -> Result<Numbers, NoMemory>
-        ensures there { lookup_at shared.now self.now.number ≢ None → IfOk result (λ ns. ns ≡ self.now.servers) }
+        ensures there { lookup_at shared.now self.now.number ≢ None → IfOk result (λ ns. ns ≡ self.now.servers.items) }
         ensures gone { lookup_at shared.now self.now.number ≡ None → IfOk result (λ ns. ns ≡ []) }
     {
         if shared.has(self.number) {
-            self.servers.try_clone(alloc)
+            copy_of(alloc, self.servers.as_slice())
         } else {
             Ok(Numbers::empty(alloc))
         }
