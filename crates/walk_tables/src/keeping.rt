@@ -37,6 +37,9 @@ pub(crate) fn write(
     ensures ok { OnOk result (cache.new ≡ with_response cache.old query.now entry at (kept_of verdict.now)) }
     ensures err { OnErr result (cache.new ≡ cache.old) }
 {
+    if cache.keeps_nothing() {
+        return Ok(());
+    }
     let Some(response) = kept_copy(alloc, verdict)? else {
         return Ok(());
     };

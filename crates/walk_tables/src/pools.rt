@@ -22,7 +22,9 @@ use crate::aims::{aim_of, first_of, is_denial, is_identical, is_memory, is_still
 use crate::answered::{found_by, last_of};
 use crate::keeping::write;
 use crate::lookup::Found;
-use dns_core::{Delays, DnsRequest, Message, Name, NetError, NoMemory, Numbers, Query, TryClone};
+use dns_core::{
+    Boxed, Delays, DnsRequest, Message, Name, NetError, NoMemory, Numbers, Query, TryClone,
+};
 use recursor_setting::{FirstDelay, first_delay, pool_context};
 use recursor_types::RecursorOptions;
 use resolver_cache::ResponseCache;
@@ -90,7 +92,7 @@ pub struct Pools {
     numbers: BTreeMap<IpAddr, u32>,
     first_delays: Delays,
     turn: usize,
-    sought: BTreeMap<u64, Sought>,
+    sought: BTreeMap<u64, Boxed<Sought>>,
 }
 
 /// A copy of numbers.
@@ -284,7 +286,7 @@ impl Pools {
 
 impl Pools {
     /// Keeps what is sought by a lookup, which is left where memory is wanting.
-    fn keep(&mut self, lookup: PoolLookup, sought: Sought) -> Result<PoolLookup, NoMemory>
+    fn keep(&mut self, lookup: PoolLookup, sought: Boxed<Sought>) -> Result<PoolLookup, NoMemory>
         ensures ok { IfOk result (λ kept. HasKept lookup.number sought self.old self.new × (kept ≡ lookup)) }
         ensures err { OnErr result (HasLeft lookup.number self.old self.new) }
     {
@@ -309,18 +311,21 @@ impl Pools {
         ensures holds { (seen : View) → tick.now ≡ seen.moment → AreFor seen request.query zone.now ips.now → PoolsHold seen self.old → PoolsHold seen self.new }
         ensures given { given_so_far self.new ≡ given_so_far self.old }
     {
-        let sought = Sought {
-            query: request.query.try_clone(alloc)?,
-            zone: zone.try_clone(alloc)?,
-            start: tick.now,
-            given: None,
-            first: None,
-            at: tick.now,
-            came: None,
-        };
+        let sought = Boxed::new(
+            alloc,
+            Sought {
+                query: request.query.try_clone(alloc)?,
+                zone: zone.try_clone(alloc)?,
+                start: tick.now,
+                given: None,
+                first: None,
+                at: tick.now,
+                came: None,
+            },
+        )?;
         let servers = self.meet_all(alloc, ips)?;
         let pool = NameServerPool::from_nameservers(alloc, servers, &mut self.shared)?;
-        let lookup = pool.send(alloc, &mut self.shared, request, tick)?;
+        let lookup = pool.into_lookup(alloc, &mut self.shared, request, tick)?;
         self.keep(lookup, sought)
     }
 
@@ -338,6 +343,7 @@ impl Pools {
     {
         match self.sought.get_mut(&lookup) {
             Some(sought) => {
+                let sought = sought.get_mut();
                 sought.given = given;
                 sought.first = sought.first.or(first);
                 sought.at = at.unwrap_or(sought.at);
@@ -361,7 +367,7 @@ impl Pools {
     pub fn awaited(&self, lookup: u64) -> Option<u64>
         ensures { result ≡ awaited_in self.now lookup }
     {
-        let sought = self.sought.get(&lookup)?;
+        let sought = self.sought.get(&lookup)?.get();
         let given = sought.given?;
         if self.is_open_at(lookup, given.number) {
             Some(given.number)
@@ -375,7 +381,7 @@ impl Pools {
         ensures { IsTrue result → IsSome (came_at self.now lookup) }
     {
         match self.sought.get(&lookup) {
-            Some(sought) => sought.came.is_some(),
+            Some(sought) => sought.get().came.is_some(),
             None => false,
         }
     }
@@ -466,7 +472,7 @@ impl Pools {
         ensures none { result ≡ None → (g : Given) → g.number ≡ number → IsGivenFor self.now lookup (option_copied waits.entry) outcome.now g → ⊥ }
     {
         let ended = !self.shared.ends(lookup).is_empty();
-        let sought = self.sought.get(&lookup)?;
+        let sought = self.sought.get(&lookup)?.get();
         let given = sought.given?;
         if given.number == number && sought.may_take(ended, &given, outcome, waits) {
             Some(given)
@@ -535,7 +541,7 @@ impl Pools {
         ensures comes { answer_at self.now.shared lookup ≡ Some told → Comes self.now lookup result }
         ensures sought { IsSome result → IsSome (sought_at self.now lookup) }
     {
-        let sought = self.sought.get(&lookup)?;
+        let sought = self.sought.get(&lookup)?.get();
         if is_memory(&told) {
             return None;
         }
@@ -567,6 +573,7 @@ impl Pools {
         let Some(sought) = self.sought.get(&lookup) else {
             return Ok(());
         };
+        let sought = sought.get();
         match came {
             Some(
                 Found::Told {
@@ -607,7 +614,7 @@ impl Pools {
         ensures { HasNoted lookup (with_came came) self.old self.new }
     {
         match self.sought.get_mut(&lookup) {
-            Some(sought) => sought.came = came,
+            Some(sought) => sought.get_mut().came = came,
             None => {}
         }
     }
@@ -669,7 +676,7 @@ impl Pools {
         ensures { IsTrue result → Seeks self.now lookup query.now zone.now begun }
     {
         match self.sought.get(&lookup) {
-            Some(sought) => sought.is_for(query, zone, begun),
+            Some(sought) => sought.get().is_for(query, zone, begun),
             None => false,
         }
     }
@@ -680,7 +687,7 @@ impl Pools {
         ensures kept { result ≡ came_at self.old lookup }
     {
         match self.sought.get_mut(&lookup) {
-            Some(sought) => mem::replace(&mut sought.came, None),
+            Some(sought) => mem::replace(&mut sought.get_mut().came, None),
             None => None,
         }
     }

@@ -1,4 +1,4 @@
-use Rattle.std.proofs.Common.{◌≡◌, ℕ, ◌+◌, ◌<◌, ◌≤◌, ◌∙◌, Some, None, refl, sym, ap, subst, arith}
+use Rattle.std.proofs.Common.{◌≡◌, ℕ, ◌+◌, ◌<◌, ◌≤◌, ◌∙◌, Some, refl, sym, ap, subst, arith}
 use Rattle.std.specs.List.{AllZip}
 use Rattle.server_pool.specs.Sending.{HasSent, HasBegun}
 use Rattle.server_pool.specs.Shared.{Shared, lookup_at}
@@ -49,7 +49,7 @@ returns c = record {
       let first = c.meet_all.new.self in
       let met = pools-grown seen c.args.self.now first c.meet_all.ensures.grown (c.meet_all.ensures.servers seen.setting h.servers) h in
       let old : Pools = record first { shared = c.from_nameservers.new.shared } in
-      let mid : Pools = record first { shared = c.send.new.shared } in
+      let mid : Pools = record first { shared = c.into_lookup.new.shared } in
       let one_more = c.in_ok-pool.ensures.ok in
       let numbered : PoolsHold seen old = pools-numbered seen first old (first.shared.pools + 1) (omega arith) one_more refl refl met in
       let numbers = c.in_ok-servers.servers.items in
@@ -62,16 +62,16 @@ returns c = record {
       let sent : HasSent pool numbers request now old.shared mid.shared n = rw (c.in_ok-pool.ensures.pool.servers, here) at c.in_ok-lookup.ensures.sent in
       let begun : HasBegun pool numbers request now old.shared mid.shared n = has-begun pool numbers request now old.shared mid.shared n later sent in
       let within : pool ≤ old.shared.pools = omega (arith, own, count) in
-      let sought : Sought = record { query = c.in_ok-try_clone.field-0; zone = c.in_ok-try_clone-2.field-0; start = c.args.tick.now; given = None; first = None; at = c.args.tick.now; came = None } in
+      let sought : Sought = c.in_ok-sought.sought in
       let holds : SoughtHolds seen mid n sought =
-      rw (c.in_ok-try_clone.ensures, c.in_ok-try_clone-2.ensures, here)
+      rw (c.in_ok-sought.ensures, c.in_ok-try_clone.ensures, c.in_ok-try_clone-2.ensures, here)
       (begun-holds seen c.args.zone.now c.args.ips.now numbers request old mid pool n served numbered.servers there begun _
       (begun-there pool numbers request now old.shared mid.shared n begun) refl (begun-rest pool numbers request now old.shared mid.shared n begun).servers.configs) in
       pools-begun seen n sought old mid c.keep.new.self (begun-rest pool numbers request now old.shared mid.shared n begun)
       (begun-numbered pool numbers request now old.shared mid.shared n begun within numbered.numbered) refl refl numbered c.keep.result c.in_ok-lookup.lookup
       (begun-fresh pool numbers request now old.shared mid.shared n begun numbered.numbered) holds c.keep.ensures.ok c.keep.ensures.err;
   given =
-      kept-count c.in_ok-lookup.lookup _ (record c.meet_all.new.self { shared = c.send.new.shared }) c.keep.new.self c.keep.result c.keep.ensures.ok c.keep.ensures.err
-      ∙ sent-count _ _ _ _ c.from_nameservers.new.shared c.send.new.shared c.in_ok-lookup.lookup.number c.in_ok-lookup.ensures.sent
+      kept-count c.in_ok-lookup.lookup _ (record c.meet_all.new.self { shared = c.into_lookup.new.shared }) c.keep.new.self c.keep.result c.keep.ensures.ok c.keep.ensures.err
+      ∙ sent-count _ _ _ _ c.from_nameservers.new.shared c.into_lookup.new.shared c.in_ok-lookup.lookup.number c.in_ok-lookup.ensures.sent
       ∙ ap (λ (shared : Shared). shared.given) c.in_ok-pool.ensures.ok ∙ c.meet_all.ensures.grown.given;
 }
