@@ -53,6 +53,9 @@ pub(crate) fn recalled(
 ) -> Result<Option<Counted>, NoMemory>
     ensures { IfOk result (λ counted. counted ≡ recalled cache.now query.now now) }
 {
+    if cache.current(query, now).is_none() {
+        return Ok(None);
+    }
     match cache.find(alloc, query, now)? {
         Some(CachedResponse { response, source }) => {
             let counted = verdict_kept(response).map(|verdict| Counted {

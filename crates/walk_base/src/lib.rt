@@ -15,6 +15,6 @@ pub use answer::{ends_walk, just, made_negative, outcome_of, reply_by, told_nega
 pub use candidate::{candidate_query, walked_name};
 pub use class::class_of;
 pub use glue::{addresses, is_delegation};
-pub use kept::{kept_of, response_in, verdict_kept};
+pub use kept::verdict_kept;
 pub use response::verdict_of_class;
 pub use verdict::{answer_within, negative_within};
