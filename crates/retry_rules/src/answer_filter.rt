@@ -1,6 +1,6 @@
 //! What is left of an answer: it is refused for a record of another class than the question's, and
 //! loses the records with an address that the filter of answers denies.
-ghost use Rattle.std.specs.Prelude.{◌≡◌, ◌&&◌, ◌||◌, not, None, Some, Ok, Err, IfOk, IfErr, find, filter, if◌then◌else◌};
+ghost use Rattle.std.specs.Prelude.{◌≡◌, ◌&&◌, ◌||◌, not, None, Some, Ok, Err, IfOk, IfErr, find, filter, IsTrue, if◌then◌else◌};
 ghost use Rattle.std.specs.List.{position};
 ghost use Rattle.std.specs.Option.{option_copied};
 ghost use Rattle.dns_core.specs.declared.record.Record.{Record};
@@ -30,6 +30,29 @@ fn foreign_place(query: &Query, section: &[Record]) -> Option<usize>
     section.iter().position(|r| is_foreign(query, r))
 }
 
+/// Whether each record of a section is of the class of the question.
+fn is_of_class(query: &Query, section: &[Record]) -> bool
+    ensures { IsTrue result → find (is_foreign query.now) section.now ≡ None }
+{
+    match foreign_place(query, section) {
+        Some(_) => false,
+        None => true,
+    }
+}
+
+/// Whether each record of a message is.
+fn are_of_class(query: &Query, message: &Message) -> bool
+    ensures { IsTrue result → find (is_foreign query.now) (records message.now) ≡ None }
+{
+    if !is_of_class(query, message.answers.items()) {
+        return false;
+    }
+    if !is_of_class(query, message.authorities.items()) {
+        return false;
+    }
+    is_of_class(query, message.additionals.items())
+}
+
 /// A section without records of another class than the question's, or the first of them.
 fn one_class(query: &Query, section: Records) -> Result<Records, Record>
     ensures ok { IfOk result (λ kept. (kept ≡ section) × (find (is_foreign query.now) section ≡ None)) }
@@ -48,6 +71,9 @@ pub(crate) fn of_one_class(query: &Query, message: Message) -> Result<Message, R
     ensures ok { IfOk result (λ kept. (kept ≡ message) × (find (is_foreign query.now) (records message) ≡ None)) }
     ensures err { IfErr result (λ r. find (is_foreign query.now) (records message) ≡ Some r) }
 {
+    if are_of_class(query, &message) {
+        return Ok(message);
+    }
     let answers = one_class(query, message.answers)?;
     let authorities = one_class(query, message.authorities)?;
     let additionals = one_class(query, message.additionals)?;

@@ -32,9 +32,6 @@ pub fn sort_servers_by_query_statistics(
     ensures stable { IsStableByKey (delay_of table.now now) nat_cmp servers.old.items servers.new.items }
     ensures err { OnErr result (servers.new.items ≡ servers.old.items) }
 {
-    if servers.len() < 2 {
-        return Ok(());
-    }
     servers.sort_by_cached_key(|number| delay_of(table, *number, now))?;
     Ok(())
 }
