@@ -4,7 +4,7 @@
 
 Runs 1,000 steps that a linear congruential generator makes from SEED, by default 1: records, failures, some at a moment
 before the last one, and readings, some after very long times. Prints the delay after the last step and a checksum of all
-that was read. The test `a_thousand_steps_give_the_checksum_of_exact_integers` of crates/low_call_tests/src/delay_tests.rt
+that was read. The test `a_thousand_steps_give_the_checksum_of_exact_integers` of crates/server_call_tests/src/delay_tests.rt
 runs the same steps from the seed 1 and compares both numbers."""
 import sys
 

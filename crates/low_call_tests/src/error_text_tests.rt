@@ -1,5 +1,6 @@
 //! What errors print where no contract says it: kinds of messages, causes, and errors that hold one of these.
 
+use call_samples::is_wanted;
 use dns_core::{Name, NameError};
 use recursor_types::{MessageKind, RecursorError, WalkCause};
 use std::alloc::Global;
@@ -9,10 +10,7 @@ use std::test::Fail;
 /// A value prints this text.
 fn prints<T: fmt::Display>(alloc: Global, value: &T, text: &str) -> Result<(), Fail> {
     let printed = format!(in alloc; "{value}")?;
-    if printed.as_str() == text {
-        return Ok(());
-    }
-    Err(Fail::new(format_args!("{printed} in place of {text}")))
+    is_wanted(printed.as_str(), text)
 }
 
 /// The same of a value that is not used again, as it was made or not made: a body that lets go of a large

@@ -1,10 +1,17 @@
 //! Names, their parents and their candidates, and what a response is.
 
-use crate::message_samples::{Sight, message, response, seen, shown};
-use crate::server_samples::{domain, written};
+use crate::copy_samples::message;
+use call_samples::{domain, is_wanted, query, response, shown};
 use dns_core::{DnsError, Message, Name, NameError, NoMemory, Records, ResponseCode, classify};
 use std::alloc::Global;
 use std::test::Fail;
+
+/// A name as it is written.
+pub fn written(alloc: Global, name: &Name) -> Result<Vec<u8>, NoMemory> {
+    let mut out = Vec::new(alloc);
+    name.write_text(alloc, &mut out)?;
+    Ok(out)
+}
 
 fn text_of(alloc: Global, name: Name) -> Result<Vec<u8>, NoMemory> {
     written(alloc, &name)
@@ -13,10 +20,7 @@ fn text_of(alloc: Global, name: Name) -> Result<Vec<u8>, NoMemory> {
 /// A name is written as this text.
 fn is_written(alloc: Global, name: Result<Name, NameError>, text: &str) -> Result<(), Fail> {
     let found = text_of(alloc, name?)?;
-    if found.as_slice() == text.as_bytes() {
-        return Ok(());
-    }
-    Err(Fail::new(format_args!("{} in place of {text}", shown(&found))))
+    is_wanted(shown(&found), text)
 }
 
 fn parent(alloc: Global, text: &str) -> Result<Name, NameError> {
@@ -41,48 +45,40 @@ fn names_are_read_cut_and_written(rt: HostRuntime) -> Result<(), Fail> {
     is_written(alloc, last_labels(alloc, 4), "A.b.c.")
 }
 
-/// What a response is.
-#[derive(Clone, Copy, Debug, PartialEq)]
-enum Seen {
-    Itself,
-    Negative(ResponseCode),
-    Code(ResponseCode),
-}
-
-impl Sight<Seen> for Result<Message, DnsError> {
-    fn sight(&self) -> Seen {
-        match self {
-            Ok(_) => Seen::Itself,
-            Err(DnsError::NoRecordsFound(found)) => Seen::Negative(found.response_code),
-            Err(DnsError::ResponseCode(code)) => Seen::Code(*code),
-        }
+/// What a response is, and with which code.
+fn kind_of(class: &Result<Message, DnsError>) -> (&'static str, u16) {
+    match class {
+        Ok(message) => ("itself", message.response_code.code),
+        Err(DnsError::NoRecordsFound(found)) => ("negative", found.response_code.code),
+        Err(DnsError::ResponseCode(code)) => ("code", code.code),
     }
 }
 
-fn seen_of(alloc: Global, message: Message) -> Result<Seen, NoMemory> {
-    Ok(seen(classify(alloc, message)?))
+fn kind(alloc: Global, message: Message) -> Result<(&'static str, u16), NoMemory> {
+    let class = classify(alloc, message)?;
+    Ok(kind_of(&class))
 }
 
-fn is_seen(alloc: Global, message: Result<Message, NameError>, wanted: Seen) -> Result<(), Fail> {
-    let found = seen_of(alloc, message?)?;
-    if found == wanted {
-        return Ok(());
-    }
-    Err(Fail::new(format_args!("{found:?} in place of {wanted:?}")))
+/// A response is of this kind and has this code.
+fn is_of_kind(
+    alloc: Global,
+    message: Result<Message, NameError>,
+    wanted: (&'static str, u16),
+) -> Result<(), Fail> {
+    is_wanted(kind(alloc, message?)?, wanted)
 }
 
 /// A response with this code and no records.
 fn empty(alloc: Global, code: ResponseCode) -> Result<Message, NameError> {
-    let none = Records::empty(alloc);
-    response(alloc, code.code, false, none, Records::empty(alloc))
+    let (answers, authorities) = (Records::empty(alloc), Records::empty(alloc));
+    let additionals = Records::empty(alloc);
+    Ok(response(query(alloc, "a.")?, code, answers, authorities, additionals))
 }
 
 #[test]
 fn a_response_is_itself_negative_or_a_code(rt: HostRuntime) -> Result<(), Fail> {
     let alloc = rt.alloc();
-    is_seen(alloc, message(alloc), Seen::Itself)?;
-    let no_name = ResponseCode::NXDomain;
-    is_seen(alloc, empty(alloc, no_name), Seen::Negative(no_name))?;
-    let failed = ResponseCode::ServFail;
-    is_seen(alloc, empty(alloc, failed), Seen::Code(failed))
+    is_of_kind(alloc, message(alloc), ("itself", 0))?;
+    is_of_kind(alloc, empty(alloc, ResponseCode::NXDomain), ("negative", 3))?;
+    is_of_kind(alloc, empty(alloc, ResponseCode::ServFail), ("code", 2))
 }

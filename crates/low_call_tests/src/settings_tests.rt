@@ -1,7 +1,8 @@
 //! Settings that are made where there is memory, and a source that holds them.
 
-use crate::message_samples::server_address;
-use crate::server_samples::{bounds, encrypted, filter, options, plain, resolver_config, written};
+use crate::name_tests::written;
+use crate::settings_samples::{bounds, encrypted, resolver_config};
+use call_samples::{comes_to, filter, ip, is_wanted, options, plain};
 use dns_core::{
     Items, MemorySource, Name, NameError, NoMemory, Numbers, Ports, Protocol, ProtocolConfig,
     RecordType, Source,
@@ -12,7 +13,6 @@ use resolver_settings::{
 };
 use std::alloc::Global;
 use std::net::{IpAddr, Ipv4Addr};
-use std::process::Abort;
 use std::test::Fail;
 
 fn net(first: u8, second: u8, prefix: u8) -> Result<IpNet, Fail> {
@@ -22,7 +22,7 @@ fn net(first: u8, second: u8, prefix: u8) -> Result<IpNet, Fail> {
 
 /// Whether 10.1.0.0 and 10.2.0.0 are denied where 10.0.0.0/8 is, and 10.1.0.0/16 is allowed.
 fn denied(alloc: Global) -> Result<(bool, bool), Fail> {
-    let set = filter(alloc, net(10, 0, 8)?, net(10, 1, 16)?)?;
+    let set = filter(alloc, &[net(10, 0, 8)?], &[net(10, 1, 16)?])?;
     let inner = set.denied(IpAddr::V4(Ipv4Addr::new(10, 1, 0, 0)));
     let outer = set.denied(IpAddr::V4(Ipv4Addr::new(10, 2, 0, 0)));
     Ok((inner, outer))
@@ -32,11 +32,6 @@ fn denied(alloc: Global) -> Result<(bool, bool), Fail> {
 fn recommended(alloc: Global) -> Result<(usize, Option<IpNet>), NoMemory> {
     let nets = recommended_server_filters(alloc)?;
     Ok((nets.len(), nets.first().copied()))
-}
-
-fn are_recommended(alloc: Global) -> Result<bool, Fail> {
-    let loopback = net(127, 0, 8)?;
-    Ok(recommended(alloc)? == (22, Some(loopback)))
 }
 
 /// The bounds for answers of A, and for denials of NS.
@@ -51,10 +46,9 @@ fn bounds_of(alloc: Global) -> Result<((u64, u64), (u64, u64)), NoMemory> {
 #[test]
 fn networks_and_bounds_are_set(rt: HostRuntime) -> Result<(), Fail> {
     let alloc = rt.alloc();
-    assert!(rt; denied(alloc)? == (false, true));
-    assert!(rt; are_recommended(alloc)?);
-    assert!(rt; bounds_of(alloc)? == ((5, 6), (3, 4)));
-    Ok(())
+    is_wanted(denied(alloc)?, (false, true))?;
+    comes_to(recommended(alloc), (22, Some(net(127, 0, 8)?)))?;
+    comes_to(bounds_of(alloc), ((5, 6), (3, 4)))
 }
 
 /// The port and the protocol of a way to a server.
@@ -65,26 +59,19 @@ fn way_at(server: &NameServerConfig, place: usize) -> Option<(u16, Protocol)> {
     }
 }
 
-/// Those of the first five ways, in their order.
-fn ways(server: NameServerConfig) -> [Option<(u16, Protocol)>; 5] {
-    [
+/// Ways, in their order.
+type Ways = [Option<(u16, Protocol)>; 5];
+
+/// The first five ways to a server.
+fn ways(server: Result<NameServerConfig, NoMemory>) -> Result<Ways, NoMemory> {
+    let server = server?;
+    Ok([
         way_at(&server, 0),
         way_at(&server, 1),
         way_at(&server, 2),
         way_at(&server, 3),
         way_at(&server, 4),
-    ]
-}
-
-fn is_reached(
-    server: Result<NameServerConfig, NoMemory>,
-    wanted: [Option<(u16, Protocol)>; 5],
-) -> Result<(), Fail> {
-    let found = ways(server?);
-    if found == wanted {
-        return Ok(());
-    }
-    Err(Fail::new(format_args!("{found:?} in place of {wanted:?}")))
+    ])
 }
 
 /// Whether a server is named by the text of its address where it is asked over TLS.
@@ -106,19 +93,13 @@ const QUIC: Option<(u16, Protocol)> = Some((853, Protocol::Quic));
 #[test]
 fn servers_are_reached_in_these_ways(rt: HostRuntime) -> Result<(), Fail> {
     let alloc = rt.alloc();
-    let ip = server_address();
-    is_reached(
-        NameServerConfig::udp(alloc, ip),
-        [UDP, None, None, None, None],
-    )?;
-    is_reached(
-        NameServerConfig::tcp(alloc, ip),
-        [TCP, None, None, None, None],
-    )?;
-    is_reached(plain(alloc), [UDP, TCP, None, None, None])?;
-    is_reached(encrypted(alloc), [UDP, TCP, TLS, QUIC, None])?;
-    assert!(rt; is_named(encrypted(alloc)?, "192.0.2.1"));
-    Ok(())
+    let udp = NameServerConfig::udp(alloc, ip(1));
+    comes_to(ways(udp), [UDP, None, None, None, None])?;
+    let tcp = NameServerConfig::tcp(alloc, ip(1));
+    comes_to(ways(tcp), [TCP, None, None, None, None])?;
+    comes_to(ways(plain(alloc)), [UDP, TCP, None, None, None])?;
+    comes_to(ways(encrypted(alloc)), [UDP, TCP, TLS, QUIC, None])?;
+    is_wanted(is_named(encrypted(alloc)?, "11.0.0.1"), true)
 }
 
 fn wanted_options(alloc: Global) -> ResolverOpts {
@@ -164,7 +145,9 @@ fn labels(domain: Option<&Name>) -> Option<u8> {
 }
 
 /// How many servers and search domains a configuration has, and how many labels its domain.
-fn parts(config: ResolverConfig) -> (usize, usize, Option<u8>) {
+type Parts = (usize, usize, Option<u8>);
+
+fn parts(config: ResolverConfig) -> Parts {
     (
         config.name_servers().len(),
         config.search().len(),
@@ -182,9 +165,9 @@ const TEXT: &str = "search -- lan\nnameserver 127.0.0.53\noptions ndots:3\n";
 
 /// What a resolver's text says: how many servers and search domains, how many labels the domain has, and
 /// up to how many dots a name is searched for.
-type Said = Result<((usize, usize, Option<u8>), usize), ConfError>;
+type Said = Result<(Parts, usize), ConfError>;
 
-fn said(config: ResolverConfig, options: ResolverOpts) -> ((usize, usize, Option<u8>), usize) {
+fn said(config: ResolverConfig, options: ResolverOpts) -> (Parts, usize) {
     (parts(config), options.ndots)
 }
 
@@ -196,23 +179,17 @@ fn parsed(alloc: Global) -> Said {
 /// What that text says of a host in `example.com`.
 const WHOLE: Said = Ok(((1, 1, Some(2)), 3));
 
-fn is_read_whole(alloc: Global) -> bool {
-    parsed(alloc) == WHOLE
-}
-
-fn has_its_parts(alloc: Global) -> Result<bool, NameError> {
-    let config = resolver_config(alloc)?;
-    Ok(parts(config) == (1, 2, Some(1)))
+fn parts_of(config: Result<ResolverConfig, NameError>) -> Result<Parts, NameError> {
+    Ok(parts(config?))
 }
 
 #[test]
 fn configurations_are_made_and_read(rt: HostRuntime) -> Result<(), Fail> {
     let alloc = rt.alloc();
-    assert!(rt; are_standard(alloc)?);
-    assert!(rt; has_its_parts(alloc)?);
-    assert!(rt; gives(alloc, "a.com\tb.net.", "a.com b.net. ")?);
-    assert!(rt; is_read_whole(alloc));
-    Ok(())
+    comes_to(are_standard(alloc), true)?;
+    comes_to(parts_of(resolver_config(alloc)), (1, 2, Some(1)))?;
+    is_wanted(gives(alloc, "a.com\tb.net.", "a.com b.net. ")?, true)?;
+    is_wanted(parsed(alloc), WHOLE)
 }
 
 fn said_by<S: Source + Drop>(alloc: Global, mut source: S) -> Said {
@@ -227,35 +204,29 @@ fn read(alloc: Global, text: Vec<u8>, call: u64) -> Said {
     said_by(alloc, MemorySource::new(alloc, Items::new(text), failing))
 }
 
-fn reads(alloc: Global, text: Vec<u8>, call: u64, wanted: Said) -> Result<(), Fail> {
-    let found = read(alloc, text, call);
-    if found == wanted {
-        return Ok(());
-    }
-    Err(Fail::new(format_args!("{found:?} in place of {wanted:?}")))
-}
-
 /// So many bytes, all of them a comment.
 fn comment(alloc: Global, size: usize) -> Result<Vec<u8>, NoMemory> {
     Ok(vec![in alloc; b'#'; size]?)
 }
 
-fn reads_text(alloc: Global, call: u64, wanted: Said) -> Result<(), Fail> {
+fn read_text(alloc: Global, call: u64) -> Said {
     let text = TEXT.as_bytes().to_vec(alloc)?;
-    reads(alloc, text, call, wanted)
+    read(alloc, text, call)
 }
 
 /// No call fails.
-fn reads_comment(alloc: Global, size: usize, wanted: Said) -> Result<(), Fail> {
-    let text = comment(alloc, size)?;
-    reads(alloc, text, 1000, wanted)
+fn read_comment(alloc: Global, size: usize) -> Said {
+    read(alloc, comment(alloc, size)?, 1000)
 }
 
 #[test]
 fn a_source_is_read_to_its_end_fails_or_is_too_long(rt: HostRuntime) -> Result<(), Fail> {
     let alloc = rt.alloc();
-    reads_text(alloc, 9, WHOLE)?;
-    reads_text(alloc, 2, Err(ConfError::ReadFault))?;
-    reads_comment(alloc, 1_048_576, Err(ConfError::NoNameServers))?;
-    reads_comment(alloc, 1_048_577, Err(ConfError::TooLong))
+    is_wanted(read_text(alloc, 9), WHOLE)?;
+    is_wanted(read_text(alloc, 2), Err(ConfError::ReadFault))?;
+    is_wanted(
+        read_comment(alloc, 1_048_576),
+        Err(ConfError::NoNameServers),
+    )?;
+    is_wanted(read_comment(alloc, 1_048_577), Err(ConfError::TooLong))
 }

@@ -1,13 +1,12 @@
 //! Sources and sinks, whole and failing in mid-stream. Each is handed to generic functions as it was made,
 //! or not made, which let go of it or hand it back: a body that keeps one in memory alive is dear to prove.
 
-use crate::message_samples::shown;
+use call_samples::{comes_to, is_wanted, shown};
 use dns_core::{
     Failed, Items, MemorySink, MemorySource, NoMemory, Numbers, ReadError, Sink, Source, StdSink,
     StdSource, TryClone, read_all, write_all,
 };
 use std::alloc::Global;
-use std::process::Abort;
 use std::test::Fail;
 
 /// That the call of this number fails; none has the number 0.
@@ -29,34 +28,28 @@ fn sink_of(alloc: Global, call: u64) -> Result<MemorySink, NoMemory> {
 }
 
 /// A read of two bytes gives these, or fails.
-fn gives<S: Source>(source: &mut S, wanted: Result<&[u8], Failed>) -> Result<(), Fail> {
+fn gives<S: Source>(source: &mut S, wanted: Read<'_>) -> Result<(), Fail> {
     let mut piece = [0u8; 2];
-    let count = source.read(&mut piece);
-    let is_wanted = match (count, wanted) {
-        (Ok(count), Ok(bytes)) => piece.get(..count) == Some(bytes),
-        (Err(_), Err(_)) => true,
-        _ => false,
-    };
-    if is_wanted {
-        return Ok(());
+    match source.read(&mut piece) {
+        Ok(count) => is_wanted(Ok(piece.get(..count)), wanted),
+        Err(failed) => is_wanted(Err(failed), wanted),
     }
-    Err(Fail::new(format_args!("{count:?} {piece:?} in place of {wanted:?}")))
 }
 
-/// What reads of two bytes give, one after another.
-type Reads<'a> = &'a [Result<&'a [u8], Failed>];
+/// The bytes that a read of two gives.
+type Read<'a> = Result<Option<&'a [u8]>, Failed>;
 
-/// Reads of two bytes give these.
-fn reads<S: Source + Drop>(mut source: S, wanted: Reads<'_>) -> Result<S, Fail> {
+/// Reads of two bytes give these, one after another.
+fn reads<S: Source + Drop>(mut source: S, wanted: &[Read<'_>]) -> Result<S, Fail> {
     for piece in wanted {
         gives(&mut source, *piece)?;
     }
     Ok(source)
 }
 
-const FRONT: [Result<&[u8], Failed>; 1] = [Ok(b"ab")];
+const FRONT: [Read<'_>; 1] = [Ok(Some(b"ab"))];
 
-const REST: [Result<&[u8], Failed>; 3] = [Err(Failed), Ok(b"c"), Ok(b"")];
+const REST: [Read<'_>; 3] = [Err(Failed), Ok(Some(b"c")), Ok(Some(b""))];
 
 /// A source goes on after its front, and so does its copy.
 fn goes_on<S: Source + TryClone>(alloc: Global, source: Result<S, NoMemory>) -> Result<(), Fail> {
@@ -72,22 +65,13 @@ fn a_source_in_memory_fails_where_it_is_told_to(rt: HostRuntime) -> Result<(), F
     goes_on(rt.alloc(), source_of(rt.alloc(), b"abc", 2))
 }
 
-/// A write of these bytes takes so many, or fails.
-fn takes<K: Sink>(sink: &mut K, bytes: &[u8], wanted: Result<usize, Failed>) -> Result<(), Fail> {
-    let count = sink.write(bytes);
-    if count == wanted {
-        return Ok(());
-    }
-    Err(Fail::new(format_args!("{count:?} in place of {wanted:?}")))
-}
-
 /// Bytes to be written, one after another, and how many are taken.
 type Writes<'a> = &'a [(&'a [u8], Result<usize, Failed>)];
 
 fn writes<K: Sink + Drop>(sink: Result<K, NoMemory>, wanted: Writes<'_>) -> Result<K, Fail> {
     let mut sink = sink?;
     for (bytes, count) in wanted {
-        takes(&mut sink, *bytes, *count)?;
+        is_wanted(sink.write(*bytes), *count)?;
     }
     Ok(sink)
 }
@@ -104,20 +88,16 @@ impl Keeps for MemorySink {
 }
 
 /// It kept this.
-fn has<K: Keeps>(sink: Result<K, Fail>, wanted: &[u8]) -> Result<(), Fail> {
+fn has<K: Keeps>(sink: Result<K, Fail>, wanted: &str) -> Result<(), Fail> {
     let sink = sink?;
-    let found = sink.kept();
-    if found == wanted {
-        return Ok(());
-    }
-    Err(Fail::new(format_args!("{} in place of {}", shown(found), shown(wanted))))
+    is_wanted(shown(sink.kept()), wanted)
 }
 
 /// It kept this, and so did its copy.
 fn has_again<K: Keeps + TryClone>(
     alloc: Global,
     sink: Result<K, Fail>,
-    wanted: &[u8],
+    wanted: &str,
 ) -> Result<(), Fail> {
     let sink = sink?;
     let copy = sink.try_clone(alloc)?;
@@ -134,20 +114,19 @@ const SECOND_FAILS: [(&[u8], Result<usize, Failed>); 3] = [
 #[test]
 fn a_sink_in_memory_keeps_what_it_took(rt: HostRuntime) -> Result<(), Fail> {
     let sink = writes(sink_of(rt.alloc(), 2), &SECOND_FAILS);
-    has_again(rt.alloc(), sink, b"abef")
+    has_again(rt.alloc(), sink, "abef")
 }
 
-const ALL_READ: [Result<&[u8], Failed>; 3] = [Ok(b"ab"), Ok(b"c"), Ok(b"")];
+const ALL_READ: [Read<'_>; 3] = [Ok(Some(b"ab")), Ok(Some(b"c")), Ok(Some(b""))];
 
 const ALL_WRITTEN: [(&[u8], Result<usize, Failed>); 1] = [(b"abc", Ok(3))];
 
 #[test]
 fn the_streams_of_the_system_pass_bytes_on(rt: HostRuntime) -> Result<(), Fail> {
     let source = reads(StdSource::new(b"abc".as_slice()), &ALL_READ)?;
-    assert_eq!(rt; source.faults, 0);
+    is_wanted(source.faults, 0)?;
     let sink = writes(Ok(StdSink::new(Vec::new(rt.alloc()))), &ALL_WRITTEN)?;
-    assert_eq!(rt; sink.faults, 0);
-    Ok(())
+    is_wanted(sink.faults, 0)
 }
 
 /// How many bytes a source gives, up to a limit; or why none.
@@ -165,19 +144,6 @@ fn read_of(alloc: Global, call: u64, most: usize) -> Result<Result<usize, ReadEr
     Ok(read_from(alloc, source_of(alloc, &[7u8; 5000], call)?, most))
 }
 
-fn is_read(
-    alloc: Global,
-    call: u64,
-    most: usize,
-    wanted: Result<usize, ReadError>,
-) -> Result<(), Fail> {
-    let found = read_of(alloc, call, most)?;
-    if found == wanted {
-        return Ok(());
-    }
-    Err(Fail::new(format_args!("{found:?} in place of {wanted:?}, call {call}, at most {most}")))
-}
-
 /// The number of the call that fails, the limit, and what is read.
 const LIMITED: [(u64, usize, Result<usize, ReadError>); 7] = [
     (0, 6000, Ok(5000)),
@@ -193,7 +159,7 @@ const LIMITED: [(u64, usize, Result<usize, ReadError>); 7] = [
 fn a_source_is_read_to_its_end_or_the_limit_or_fails(rt: HostRuntime) -> Result<(), Fail> {
     let alloc = rt.alloc();
     for (call, most, wanted) in &LIMITED {
-        is_read(alloc, *call, *most, *wanted)?;
+        comes_to(read_of(alloc, *call, *most), *wanted)?;
     }
     Ok(())
 }
@@ -205,10 +171,7 @@ fn writes_whole<K: Sink + Drop>(
 ) -> Result<K, Fail> {
     let mut sink = sink?;
     for (text, wanted) in texts {
-        let found = write_all(&mut sink, *text);
-        if found != *wanted {
-            return Err(Fail::new(format_args!("{found:?} in place of {wanted:?}")));
-        }
+        is_wanted(write_all(&mut sink, *text), *wanted)?;
     }
     Ok(sink)
 }
@@ -223,6 +186,6 @@ const ONE_IS_LOST: [(&[u8], Result<(), Failed>); 3] = [
 fn a_write_that_fails_is_told(rt: HostRuntime) -> Result<(), Fail> {
     has(
         writes_whole(sink_of(rt.alloc(), 2), &ONE_IS_LOST),
-        b"frontend",
+        "frontend",
     )
 }

@@ -25,12 +25,6 @@ pub fn seen<S: Copy, T: Sight<S>>(value: T) -> S {
     value.sight()
 }
 
-/// Appends to a list.
-pub fn put<T: Drop>(list: &mut Vec<T>, item: T) -> Result<(), NoMemory> {
-    list.push(item)?;
-    Ok(())
-}
-
 /// The address 11.0.0 with a last octet.
 pub fn v4(last: u8) -> Ipv4Addr {
     Ipv4Addr::new(11, 0, 0, last)
@@ -81,11 +75,6 @@ pub fn address(alloc: Global, owner: &str, ttl: u32, ip: Ipv4Addr) -> Result<Rec
     record(alloc, owner, ttl, RecordType::A, RData::A(ip))
 }
 
-pub fn server_of(alloc: Global, zone: &str, target: &str) -> Result<Record, NameError> {
-    let target = Name::parse(alloc, target)?;
-    record(alloc, zone, 172_800, RecordType::NS, RData::NS(target))
-}
-
 /// The records of a section that has one.
 pub fn one(alloc: Global, record: Record) -> Result<Records, NoMemory> {
     let mut records = Records::empty(alloc);
@@ -119,20 +108,6 @@ pub fn message(alloc: Global, truncation: bool) -> Result<Message, NameError> {
     let mut message = answer(alloc, "a.", 300, v4(7))?;
     message.truncation = truncation;
     Ok(message)
-}
-
-/// The referral of a zone to a server with this address.
-pub fn referral(
-    alloc: Global,
-    zone: &str,
-    server: &str,
-    ip: Ipv4Addr,
-) -> Result<Message, NameError> {
-    let query = query_of(alloc, zone, RecordType::NS, DnsClass::IN)?;
-    let authorities = one(alloc, server_of(alloc, zone, server)?)?;
-    let additionals = one(alloc, address(alloc, server, 172_800, ip)?)?;
-    let none = Records::empty(alloc);
-    Ok(response(query, none, authorities, additionals))
 }
 
 /// That `a.` does not exist.

@@ -1,20 +1,20 @@
 //! The cache of responses, with the log entries that told them, and what a response lends.
 
-use crate::message_samples::{Sight, answer, ip, query, query_of, referral, seen, v4, without};
-use dns_core::{
-    DnsClass, Message, Name, NameError, NetError, NoMemory, Query, RecordType, TryClone,
+use call_samples::{
+    Machine, Sight, answer, comes_to, domain, filter, ip, is_wanted, query, query_of, referral,
+    runs, seen, v4,
 };
-use resolver_cache::{CachedResponse, ResponseCache, read_message};
-use resolver_settings::{IpNet, TtlConfig};
+use dns_core::{DnsClass, Message, NameError, NetError, NoMemory, Query, RecordType, TryClone};
+use resolver_cache::{CachedResponse, ResponseCache, ReversedTtl, read_message};
+use resolver_settings::{AccessControlSet, IpNet, TtlConfig};
 use std::alloc::Global;
 use std::net::IpAddr;
-use std::process::Abort;
 use std::test::Fail;
 use walk_base::addresses;
 
 /// How a response is written: for as long as it says, no longer than the one that it repeats, or so
 /// and by the log entry of a number.
-#[derive(Clone, Copy, Debug)]
+#[derive(Clone, Copy)]
 enum How {
     Plain,
     Clamped,
@@ -22,7 +22,7 @@ enum How {
 }
 
 /// Writes an answer with this TTL for `a.` at a moment, or reads it with its source.
-#[derive(Clone, Copy, Debug)]
+#[derive(Clone, Copy)]
 enum Call {
     Write(How, u32),
     Read,
@@ -32,7 +32,7 @@ enum Call {
 }
 
 /// What is seen of a call: the TTL that is read, and the source.
-#[derive(Clone, Copy, Debug, PartialEq, Eq)]
+#[derive(Clone, Copy, Debug, PartialEq)]
 enum Seen {
     Written,
     Nothing,
@@ -52,12 +52,24 @@ fn write(
     query: Query,
     response: Result<Message, NetError>,
     now: u64,
-) -> Result<Seen, NoMemory> {
+) -> Result<(), NoMemory> {
     match how {
-        How::Plain => cache.insert(alloc, query, response, now)?,
-        How::Clamped => cache.upsert_clamped_ttl(alloc, query, response, now, true)?,
-        How::Told(source) => cache.upsert_told(alloc, query, response, source, now, true)?,
+        How::Plain => cache.insert(alloc, query, response, now),
+        How::Clamped => cache.upsert_clamped_ttl(alloc, query, response, now, true),
+        How::Told(source) => cache.upsert_told(alloc, query, response, source, now, true),
     }
+}
+
+/// Writes an answer with this TTL.
+fn writes(
+    alloc: Global,
+    cache: &mut ResponseCache,
+    how: How,
+    ttl: u32,
+    now: u64,
+) -> Result<Seen, NameError> {
+    let asked = query(alloc, "a.")?;
+    write(alloc, cache, how, asked, response(alloc, ttl)?, now)?;
     Ok(Seen::Written)
 }
 
@@ -92,57 +104,41 @@ impl Sight<Seen> for Option<CachedResponse> {
     }
 }
 
-impl Sight<u32> for Message {
-    fn sight(&self) -> u32 {
-        ttl_of(self)
-    }
-}
-
-fn read_of_copy(
-    alloc: Global,
-    copy: ResponseCache,
-    asked: &Query,
-    now: u64,
-) -> Result<Seen, NoMemory> {
-    Ok(seen(copy.get(alloc, asked, now)?))
-}
-
-fn see(alloc: Global, cache: &mut ResponseCache, call: Call, now: u64) -> Result<Seen, NameError> {
+fn read(alloc: Global, cache: &ResponseCache, now: u64) -> Result<Seen, NameError> {
     let asked = query(alloc, "a.")?;
-    match call {
-        Call::Write(how, ttl) => {
-            let response = response(alloc, ttl)?;
-            Ok(write(alloc, cache, how, asked, response, now)?)
+    Ok(seen(cache.get(alloc, &asked, now)?))
+}
+
+fn read_of_copy(alloc: Global, cache: &ResponseCache, now: u64) -> Result<Seen, NameError> {
+    let copy = cache.try_clone(alloc)?;
+    read(alloc, &copy, now)
+}
+
+fn find(alloc: Global, cache: &ResponseCache, now: u64) -> Result<Seen, NameError> {
+    let asked = query(alloc, "a.")?;
+    Ok(seen(cache.find(alloc, &asked, now)?))
+}
+
+fn has(alloc: Global, cache: &ResponseCache, class: DnsClass) -> Result<Seen, NameError> {
+    let asked = query_of(alloc, "A.", RecordType::A, class)?;
+    Ok(Seen::Is(cache.has(&asked)))
+}
+
+impl Machine<Call, Seen> for ResponseCache {
+    fn see(&mut self, alloc: Global, call: Call, now: u64) -> Result<Seen, NameError> {
+        match call {
+            Call::Write(how, ttl) => writes(alloc, self, how, ttl, now),
+            Call::Read => read(alloc, self, now),
+            Call::ReadCopy => read_of_copy(alloc, self, now),
+            Call::Find => find(alloc, self, now),
+            Call::InClass(class) => has(alloc, self, class),
         }
-        Call::Read => Ok(seen(cache.get(alloc, &asked, now)?)),
-        Call::ReadCopy => Ok(read_of_copy(alloc, cache.try_clone(alloc)?, &asked, now)?),
-        Call::Find => Ok(seen(cache.find(alloc, &asked, now)?)),
-        Call::InClass(class) => {
-            let asked = query_of(alloc, "A.", RecordType::A, class)?;
-            Ok(Seen::Is(cache.has(&asked)))
-        }
     }
 }
 
-fn is_same(call: Call, now: u64, found: Seen, wanted: Seen) -> Result<(), Fail> {
-    if found == wanted {
-        return Ok(());
-    }
-    Err(Fail::new(format_args!("{call:?} at {now}: {found:?}, not {wanted:?}")))
-}
-
-fn runs(alloc: Global, cache: &mut ResponseCache, steps: &[(u64, Call, Seen)]) -> Result<(), Fail> {
-    for (now, call, wanted) in steps {
-        let found = see(alloc, cache, *call, *now)?;
-        is_same(*call, *now, found, *wanted)?;
-    }
-    Ok(())
-}
-
-/// At each moment a call is made on a cache that begins empty, of which this is to be seen.
-fn goes(alloc: Global, steps: &[(u64, Call, Seen)]) -> Result<(), Fail> {
-    let mut cache = ResponseCache::new(alloc, 8, TtlConfig::standard(alloc))?;
-    runs(alloc, &mut cache, steps)
+/// A cache that is empty.
+fn empty(alloc: Global) -> Result<ResponseCache, ReversedTtl> {
+    ResponseCache::new(alloc, 8, TtlConfig::standard(alloc))
 }
 
 /// A response counts down. It is found in any case of its name, and in its class alone.
@@ -175,38 +171,39 @@ const TOLD: [(u64, Call, Seen); 5] = [
 #[test]
 fn responses_are_written_and_found(rt: HostRuntime) -> Result<(), Fail> {
     let alloc = rt.alloc();
-    goes(alloc, &READ)?;
-    goes(alloc, &REPEATED)?;
-    goes(alloc, &TOLD)
+    runs(alloc, empty(alloc), &READ)?;
+    runs(alloc, empty(alloc), &REPEATED)?;
+    runs(alloc, empty(alloc), &TOLD)
 }
 
 /// The TTL of a message so many seconds after it was written with a TTL of 60.
 fn lowered(alloc: Global, seconds: u64) -> Result<u32, NameError> {
     let message = answer(alloc, "a.", 60, v4(7))?;
-    Ok(seen(read_message(alloc, &message, seconds, false)?))
+    Ok(ttl_of(&read_message(alloc, &message, seconds, false)?))
 }
 
-/// Whether a referral lends the way to `example.com.` this address alone, where another is denied.
-fn lends(alloc: Global, lent: u8, denied: u8) -> Result<bool, Fail> {
-    let name = Name::parse(alloc, "example.com.")?;
-    let filter = without(alloc, IpNet::new(ip(denied), 32)?)?;
+/// Denies one address.
+fn without(alloc: Global, denied: u8) -> Result<AccessControlSet, Fail> {
+    Ok(filter(alloc, &[IpNet::new(ip(denied), 32)?], &[])?)
+}
+
+/// What a referral with this filter lends the way to `example.com.`.
+fn lent(alloc: Global, filter: &AccessControlSet) -> Result<Vec<IpAddr>, NameError> {
+    let name = domain(alloc, "example.com.")?;
     let message = referral(alloc, "example.com.", "ns.example.com.", v4(2))?;
-    let found = addresses(alloc, &message, &name, &filter)?;
-    Ok(is_only(&found, ip(lent)))
+    Ok(addresses(alloc, &message, &name, filter)?)
 }
 
-fn is_only(found: &[IpAddr], wanted: IpAddr) -> bool {
-    match found {
-        [ip] => *ip == wanted,
-        _ => false,
-    }
+/// Whether it lends this address alone, where another is denied.
+fn lends(alloc: Global, wanted: u8, denied: u8) -> Result<bool, Fail> {
+    let found = lent(alloc, &without(alloc, denied)?)?;
+    Ok(found.as_slice() == [ip(wanted)].as_slice())
 }
 
 #[test]
 fn messages_are_lowered_and_lend_addresses(rt: HostRuntime) -> Result<(), Fail> {
     let alloc = rt.alloc();
-    assert!(rt; lowered(alloc, 2)? == 58);
-    assert!(rt; lends(alloc, 2, 3)?);
-    assert!(rt; !lends(alloc, 2, 2)?);
-    Ok(())
+    comes_to(lowered(alloc, 2), 58)?;
+    is_wanted(lends(alloc, 2, 3)?, true)?;
+    is_wanted(lends(alloc, 2, 2)?, false)
 }

@@ -2,10 +2,10 @@
 ghost use Rattle.std.specs.Prelude.{◌≡◌, ◌<◌, IfOk, length};
 ghost use Rattle.server_core.specs.Servers.{place_of};
 
-use crate::message_samples::{
-    Sight, addresses, both, put_in, request, response, seen, server_address,
-};
 use crate::server_samples::{Reached, context, server};
+use call_samples::{
+    Machine, Sight, both, ip, message, put_in, query, request, response, runs, seen,
+};
 use dns_core::{
     DnsRequest, IoKind, Message, NameError, NetError, NoMemory, Protocol, Records, ResponseCode,
 };
@@ -14,6 +14,7 @@ use server_core::{
     Status, Tick,
 };
 use std::alloc::Global;
+use std::mem;
 use std::test::Fail;
 
 /// What a send ends with that has no answer.
@@ -28,7 +29,7 @@ pub enum End {
 
 /// What is seen of a call: over which protocol a connection is opened, over which connection the
 /// request is asked, what a send ends with, what an outcome did, or the numbers of the first two
-/// connections to the server, 0 for none.
+/// connections to the server, 0 for none, and what is kept of the server.
 #[derive(Clone, Copy, Debug, PartialEq)]
 pub enum Seen {
     Opens(Protocol),
@@ -41,10 +42,12 @@ pub enum Seen {
     HasNoEnd,
     Connections(u64, u64),
     Delay(u128),
+    Keeps(Kept),
+    KeepsNone,
 }
 
 /// What comes of an order: beside an answer, a cut one, one without records, and one with a code.
-#[derive(Clone, Copy, Debug)]
+#[derive(Clone, Copy)]
 pub enum What {
     Pending,
     Connected,
@@ -60,17 +63,18 @@ pub enum What {
     Slept,
 }
 
-/// A call on one of two sends, or on their server. A new send takes the place of the first.
-#[derive(Clone, Copy, Debug)]
+/// A call on the first of two sends, or on their server. A new send takes the place of the first, or
+/// both change places.
+#[derive(Clone, Copy)]
 pub enum Call {
     Next,
     Put(What),
     TakeEnd,
     Again { disable_udp: bool },
-    LateNext,
-    LatePut(What),
+    Turn,
     Connections,
     Delay,
+    Kept,
 }
 
 /// What is kept of the server after an outcome: the delay of its first connection and its status, and
@@ -129,7 +133,7 @@ impl Sight<Seen> for Option<Result<Message, NetError>> {
 fn sent() -> Sent {
     Sent {
         of: 1,
-        ip: server_address(),
+        ip: ip(1),
         moment: 0,
         query: None,
     }
@@ -144,16 +148,6 @@ fn failed(error: NetError) -> Outcome {
     }
 }
 
-/// A response for `a.` with no records, or with answers.
-fn message(
-    alloc: Global,
-    code: u16,
-    truncation: bool,
-    answers: Records,
-) -> Result<Message, NameError> {
-    response(alloc, code, truncation, answers, Records::empty(alloc))
-}
-
 fn told(message: Message) -> Outcome {
     Outcome::Told {
         entry: 2,
@@ -163,12 +157,16 @@ fn told(message: Message) -> Outcome {
 }
 
 fn answered(alloc: Global) -> Result<Outcome, NameError> {
-    let answers = addresses(alloc)?;
-    Ok(told(message(alloc, 0, false, answers)?))
+    Ok(told(message(alloc, false)?))
 }
 
+/// A response for `a.` with a code and no records.
 fn told_empty(alloc: Global, code: u16, truncation: bool) -> Result<Outcome, NameError> {
-    let message = message(alloc, code, truncation, Records::empty(alloc))?;
+    let query = query(alloc, "a.")?;
+    let (answers, authorities) = (Records::empty(alloc), Records::empty(alloc));
+    let code = ResponseCode { code };
+    let mut message = response(query, code, answers, authorities, Records::empty(alloc));
+    message.truncation = truncation;
     Ok(told(message))
 }
 
@@ -195,14 +193,6 @@ fn outcome(alloc: Global, what: What) -> Result<Outcome, NameError> {
 /// An order may be pending three times.
 fn tick(now: u64) -> Tick {
     Tick { now, patience: 3 }
-}
-
-/// What calls are made on, and what is kept of the server after them. A course is handed to generic
-/// functions, which let go of it: a body that keeps one alive is dear to prove.
-trait Stepped: Drop {
-    fn see(&mut self, alloc: Global, call: Call, now: u64) -> Result<Seen, NameError>;
-
-    fn kept(&self, now: u64) -> Option<Kept>;
 }
 
 /// Two sends to a server, the only one of its table. Their orders have the numbers of their moments.
@@ -256,7 +246,7 @@ fn context_of(alloc: Global) -> Result<PoolContext, NameError> {
 }
 
 fn parts(alloc: Global) -> Result<Parts, NameError> {
-    let requests = both(request(alloc), request(alloc));
+    let requests = both(request(alloc, "a.", false), request(alloc, "a.", false));
     both(requests, context_of(alloc))
 }
 
@@ -295,7 +285,7 @@ impl Course {
 
     fn begin_again(&mut self, alloc: Global, disable_udp: bool) -> Result<Seen, NameError> {
         let policy = ConnectionPolicy { disable_udp };
-        let send = ServerSend::new(self.first.server, request(alloc)?, policy);
+        let send = ServerSend::new(self.first.server, request(alloc, "a.", false)?, policy);
         put_in(&mut self.first, send);
         Ok(Seen::HasNoEnd)
     }
@@ -312,115 +302,54 @@ impl Course {
         self.table.get(self.first.server).decayed_srtt(now) >> 60
     }
 
-    fn next_of_first(&mut self, alloc: Global, now: u64) -> Result<Seen, NameError> {
+    fn kept(&self, now: u64) -> Seen {
+        match self.table.get(self.first.server).connections().get(0) {
+            Some(connection) => Seen::Keeps(Kept {
+                connection: connection.delay.as_micros(),
+                status: connection.status,
+                server: self.delay(now),
+            }),
+            None => Seen::KeepsNone,
+        }
+    }
+
+    fn next(&mut self, alloc: Global, now: u64) -> Result<Seen, NameError> {
         let (table, context) = (&mut self.table, &mut self.context);
         Ok(next_of(alloc, table, context, &mut self.first, now)?)
     }
 
-    fn next_of_late(&mut self, alloc: Global, now: u64) -> Result<Seen, NameError> {
-        let (table, context) = (&mut self.table, &mut self.context);
-        Ok(next_of(alloc, table, context, &mut self.late, now)?)
-    }
-
-    fn put_first(&mut self, alloc: Global, what: What, now: u64) -> Result<Seen, NameError> {
+    fn put(&mut self, alloc: Global, what: What, now: u64) -> Result<Seen, NameError> {
         let (table, context) = (&mut self.table, &mut self.context);
         put_to(alloc, table, context, &mut self.first, what, now)
     }
 
-    fn put_late(&mut self, alloc: Global, what: What, now: u64) -> Result<Seen, NameError> {
-        let (table, context) = (&mut self.table, &mut self.context);
-        put_to(alloc, table, context, &mut self.late, what, now)
+    fn turn(&mut self) -> Seen {
+        mem::swap(&mut self.first, &mut self.late);
+        Seen::HasNoEnd
     }
 }
 
-impl Stepped for Course {
+impl Machine<Call, Seen> for Course {
     fn see(&mut self, alloc: Global, call: Call, now: u64) -> Result<Seen, NameError> {
         match call {
-            Call::Next => self.next_of_first(alloc, now),
-            Call::Put(what) => self.put_first(alloc, what, now),
+            Call::Next => self.next(alloc, now),
+            Call::Put(what) => self.put(alloc, what, now),
             Call::TakeEnd => Ok(seen(self.first.take_end())),
             Call::Again { disable_udp } => self.begin_again(alloc, disable_udp),
-            Call::LateNext => self.next_of_late(alloc, now),
-            Call::LatePut(what) => self.put_late(alloc, what, now),
+            Call::Turn => Ok(self.turn()),
             Call::Connections => Ok(Seen::Connections(self.connection(0), self.connection(1))),
             Call::Delay => Ok(Seen::Delay(self.delay(now))),
+            Call::Kept => Ok(self.kept(now)),
         }
     }
-
-    fn kept(&self, now: u64) -> Option<Kept> {
-        let connection = self.table.get(self.first.server).connections().get(0)?;
-        Some(Kept {
-            connection: connection.delay.as_micros(),
-            status: connection.status,
-            server: self.delay(now),
-        })
-    }
 }
 
-fn is_same(call: Call, now: u64, found: Seen, wanted: Seen) -> Result<(), Fail> {
-    if found == wanted {
-        return Ok(());
-    }
-    Err(Fail::new(format_args!("{call:?} at {now}: {found:?}, not {wanted:?}")))
-}
-
-/// At each moment a call is made, of which this is to be seen.
-fn step<C: Stepped>(alloc: Global, mut course: C, steps: &[(u64, Call, Seen)]) -> Result<(), Fail> {
-    for (now, call, wanted) in steps {
-        let found = course.see(alloc, *call, *now)?;
-        is_same(*call, *now, found, *wanted)?;
-    }
-    Ok(())
-}
-
-/// The same on sends to a server that is reached so.
+/// At each moment a call is made on sends to a server that is reached so, of which this is to be seen.
 pub fn goes(
     alloc: Global,
     reached: Reached,
     disable_udp: bool,
     steps: &[(u64, Call, Seen)],
 ) -> Result<(), Fail> {
-    step(alloc, Course::over(alloc, reached, disable_udp)?, steps)
-}
-
-fn kept_of<C: Stepped>(
-    alloc: Global,
-    mut course: C,
-    what: What,
-) -> Result<Option<Kept>, NameError> {
-    course.see(alloc, Call::Next, 3_000_000)?;
-    course.see(alloc, Call::Put(what), 3_002_000)?;
-    Ok(course.kept(3_002_000))
-}
-
-/// What is kept after this outcome of a question that was asked 2,000 microseconds before, three
-/// seconds after the delay of its connection was recorded.
-fn kept_after(alloc: Global, what: What) -> Result<Option<Kept>, NameError> {
-    kept_of(alloc, Course::over(alloc, Reached::Known, false)?, what)
-}
-
-fn is_kept(what: What, found: Option<Kept>, wanted: Kept) -> Result<(), Fail> {
-    if found == Some(wanted) {
-        return Ok(());
-    }
-    Err(Fail::new(format_args!("{what:?}: {found:?}, not {wanted:?}")))
-}
-
-pub fn keeps(alloc: Global, what: What, wanted: Kept) -> Result<(), Fail> {
-    is_kept(what, kept_after(alloc, what)?, wanted)
-}
-
-/// Three polls of the question find nothing.
-fn polled<C: Stepped>(alloc: Global, mut course: C) -> Result<Option<Kept>, NameError> {
-    course.see(alloc, Call::Next, 3_000_000)?;
-    course.see(alloc, Call::Put(What::Pending), 3_001_000)?;
-    course.see(alloc, Call::Put(What::Pending), 3_002_000)?;
-    course.see(alloc, Call::Put(What::Pending), 3_002_000)?;
-    Ok(course.kept(3_002_000))
-}
-
-/// What is kept after the last poll of a question that patience allows.
-pub fn keeps_given_up(alloc: Global, wanted: Kept) -> Result<(), Fail> {
-    let found = polled(alloc, Course::over(alloc, Reached::Known, false)?)?;
-    is_kept(What::Pending, found, wanted)
+    runs(alloc, Course::over(alloc, reached, disable_udp), steps)
 }

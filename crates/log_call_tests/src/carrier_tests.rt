@@ -2,10 +2,10 @@
 ghost use Rattle.std.specs.Prelude.{◌≡◌, List, [], Some};
 ghost use Rattle.dns_core.specs.declared.log.LogEntry.{LogEntry};
 
-use crate::message_samples::{Sight, ip, message, query, seen};
+use call_samples::{Machine, Sight, domain, ip, message, put, request, runs, seen};
 use dns_core::{
-    ConnectOptions, ConnectionConfig, ConnectionProvider, DnsRequest, DnsRequestOptions, Items,
-    Name, NameError, Ports, Protocol, ProtocolConfig, RecordType,
+    ConnectOptions, ConnectionConfig, ConnectionProvider, Items, NameError, Ports, Protocol,
+    ProtocolConfig, RecordType,
 };
 use order_carrier::Carrier;
 use recursor_world::{Script, ScriptLine, ScriptUpstream};
@@ -16,7 +16,7 @@ use std::test::Fail;
 
 /// An order: a connection is opened to the server with this last octet, a question is asked, or a
 /// sleep lasts until a moment.
-#[derive(Clone, Copy, Debug)]
+#[derive(Clone, Copy)]
 enum What {
     Open(u8),
     Ask(Ask),
@@ -24,7 +24,7 @@ enum What {
 }
 
 /// A question for a name, over the connection that the order of a number made to a server.
-#[derive(Clone, Copy, Debug)]
+#[derive(Clone, Copy)]
 struct Ask {
     conn: u64,
     server: u8,
@@ -42,7 +42,7 @@ const SOON: Ask = Ask {
 const LATE: Ask = Ask { name: "b.", ..SOON };
 
 /// Calls by the number of an order.
-#[derive(Clone, Copy, Debug)]
+#[derive(Clone, Copy)]
 enum Call {
     Carry(u64, What),
     GiveUp(u64),
@@ -53,7 +53,7 @@ enum Call {
 }
 
 /// What is seen of a call: of an outcome its entry, and the one by which was sent what it is of.
-#[derive(Clone, Copy, Debug, PartialEq, Eq)]
+#[derive(Clone, Copy, Debug, PartialEq)]
 enum Seen {
     Nothing,
     Pending(u64, u64),
@@ -96,10 +96,7 @@ fn question(alloc: Global, ask: Ask) -> Result<Order, NameError> {
         conn: ask.conn,
         ip: ip(ask.server),
         protocol: ask.protocol,
-        request: DnsRequest {
-            query: query(alloc, ask.name)?,
-            options: DnsRequestOptions::standard(),
-        },
+        request: request(alloc, ask.name, false)?,
     })
 }
 
@@ -174,19 +171,16 @@ impl<P: ConnectionProvider> Course<P> {
     }
 }
 
-fn see(
-    alloc: Global,
-    course: &mut Course<ScriptUpstream>,
-    call: Call,
-    now: u64,
-) -> Result<Seen, NameError> {
-    match call {
-        Call::Carry(number, what) => course.carry(alloc, number, what, now),
-        Call::GiveUp(number) => Ok(course.give_up(number, now)),
-        Call::Sent(number, what) => course.sent(alloc, number, what),
-        Call::IsUnderWay(number, what) => course.is_under_way(alloc, number, what),
-        Call::IsFree(number) => Ok(Seen::Free(course.carrier.is_free(number))),
-        Call::CountEntries => Ok(Seen::Entries(course.carrier.provider().log().len())),
+impl Machine<Call, Seen> for Course<ScriptUpstream> {
+    fn see(&mut self, alloc: Global, call: Call, now: u64) -> Result<Seen, NameError> {
+        match call {
+            Call::Carry(number, what) => self.carry(alloc, number, what, now),
+            Call::GiveUp(number) => Ok(self.give_up(number, now)),
+            Call::Sent(number, what) => self.sent(alloc, number, what),
+            Call::IsUnderWay(number, what) => self.is_under_way(alloc, number, what),
+            Call::IsFree(number) => Ok(Seen::Free(self.carrier.is_free(number))),
+            Call::CountEntries => Ok(Seen::Entries(self.carrier.provider().log().len())),
+        }
     }
 }
 
@@ -195,7 +189,7 @@ fn answered(alloc: Global, name: &str, delay: u32) -> Result<ScriptLine, NameErr
     Ok(ScriptLine::Reply {
         ip: ip(1),
         protocol: Protocol::Udp,
-        name: Name::parse(alloc, name)?,
+        name: domain(alloc, name)?,
         query_type: RecordType::A,
         delay,
         outcome: Ok(message(alloc, false)?),
@@ -220,12 +214,16 @@ fn refused(server: u8) -> ScriptLine {
 
 /// The question for `a.` is answered at the second poll, that for `b.` at the ninth. The servers 1
 /// and 2 connect at once, the server 3 at the ninth poll, and the server 4 refuses.
+fn put_lines(alloc: Global, lines: &mut Items<ScriptLine>) -> Result<(), NameError> {
+    put(lines, answered(alloc, "a.", 1))?;
+    put(lines, answered(alloc, "b.", 8))?;
+    put(lines, Ok(connected(3, 8)))?;
+    put(lines, Ok(refused(4)))
+}
+
 fn script(alloc: Global) -> Result<Script, NameError> {
     let mut lines = Items::empty(alloc);
-    lines.push(answered(alloc, "a.", 1)?)?;
-    lines.push(answered(alloc, "b.", 8)?)?;
-    lines.push(connected(3, 8))?;
-    lines.push(refused(4))?;
+    put_lines(alloc, &mut lines)?;
     Ok(Script { lines })
 }
 
@@ -237,29 +235,10 @@ fn begun(alloc: Global) -> Result<Course<ScriptUpstream>, Fail> {
     Ok(Course::over(alloc, ScriptUpstream::new(alloc, script)?))
 }
 
-fn is_same(call: Call, now: u64, found: Seen, wanted: Seen) -> Result<(), Fail> {
-    if found == wanted {
-        return Ok(());
-    }
-    Err(Fail::new(format_args!("{call:?} at {now}: {found:?}, not {wanted:?}")))
-}
-
-fn runs(
-    alloc: Global,
-    course: &mut Course<ScriptUpstream>,
-    steps: &[(u64, Call, Seen)],
-) -> Result<(), Fail> {
-    for (now, call, wanted) in steps {
-        let found = see(alloc, course, *call, *now)?;
-        is_same(*call, *now, found, *wanted)?;
-    }
-    Ok(())
-}
-
-/// At each moment a call is made, of which this is to be seen.
+/// At each moment a call is made on orders that are carried over it, of which this is to be seen.
 fn goes(alloc: Global, steps: &[(u64, Call, Seen)]) -> Result<(), Fail> {
-    let mut course = begun(alloc)?;
-    runs(alloc, &mut course, steps)
+    let course: Result<Course<ScriptUpstream>, NameError> = Ok(begun(alloc)?);
+    runs(alloc, course, steps)
 }
 
 const OPEN: What = What::Open(1);

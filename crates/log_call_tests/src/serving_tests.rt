@@ -1,9 +1,9 @@
 //! Logs of the worked example and of other walks, told to the plain programs: which addresses serve a
 //! zone, and which entries answer a question.
-use crate::message_samples::{answer, put, query, query_of, referral, v4};
+
+use call_samples::{answer, both, domain, is_wanted, put, query, query_of, referral, v4};
 use dns_core::{
-    DnsClass, LogEntry, Message, Name, NameError, NoMemory, Protocol, Query, RecordType,
-    ToldOutcome,
+    DnsClass, Log, LogEntry, Message, Name, NameError, Protocol, Query, RecordType, ToldOutcome,
 };
 use plain_resolution::{Setting, base, serves};
 use std::alloc::Global;
@@ -21,76 +21,77 @@ fn ip_of(octets: [u8; 4]) -> Ipv4Addr {
     Ipv4Addr::new(a, b, c, d)
 }
 
-/// A server is opened and asked; the first entry gets the number `n`.
-fn put_question(
-    log: &mut Vec<LogEntry>,
-    n: u64,
-    server: Ipv4Addr,
-    query: Query,
-) -> Result<(), NoMemory> {
-    let ip = IpAddr::V4(server);
-    let protocol = Protocol::Udp;
-    let opened = LogEntry::Opened {
-        ip,
-        protocol,
+fn opened(server: Ipv4Addr) -> LogEntry {
+    LogEntry::Opened {
+        ip: IpAddr::V4(server),
+        protocol: Protocol::Udp,
         moment: 0,
         refused: None,
-    };
-    put(log, opened)?;
-    let connected = LogEntry::Told {
-        of: n,
-        moment: 0,
-        outcome: ToldOutcome::Connected,
-    };
-    put(log, connected)?;
-    let asked = LogEntry::Asked {
-        ip,
-        protocol,
-        query,
-        moment: 0,
-        refused: None,
-    };
-    put(log, asked)
+    }
 }
 
-/// The question of this number is told a message.
-fn put_told(log: &mut Vec<LogEntry>, of: u64, message: Message) -> Result<(), NoMemory> {
-    let told = LogEntry::Told {
+/// What was ordered by the entry of this number is told.
+fn told(of: u64, outcome: ToldOutcome) -> LogEntry {
+    LogEntry::Told {
         of,
         moment: 0,
-        outcome: ToldOutcome::Message(message),
-    };
-    put(log, told)
+        outcome,
+    }
+}
+
+fn asked(server: Ipv4Addr, query: Result<Query, NameError>) -> Result<LogEntry, NameError> {
+    Ok(LogEntry::Asked {
+        ip: IpAddr::V4(server),
+        protocol: Protocol::Udp,
+        query: query?,
+        moment: 0,
+        refused: None,
+    })
+}
+
+fn replied(of: u64, message: Result<Message, NameError>) -> Result<LogEntry, NameError> {
+    Ok(told(of, ToldOutcome::Message(message?)))
+}
+
+/// A server is opened; the first entry gets the number `n`.
+fn put_opened(log: &mut Log, n: u64, server: Ipv4Addr) -> Result<(), NameError> {
+    put(log, Ok(opened(server)))?;
+    put(log, Ok(told(n, ToldOutcome::Connected)))
 }
 
 /// A server is asked for the NS records of a zone, and refers it to a server with an address; the first
 /// entry gets the number `n`.
 fn put_referral(
     alloc: Global,
-    log: &mut Vec<LogEntry>,
+    log: &mut Log,
     n: u64,
-    asked: Ipv4Addr,
+    at: Ipv4Addr,
     zone: &str,
     server: &str,
     ip: Ipv4Addr,
 ) -> Result<(), NameError> {
-    let query = query_of(alloc, zone, RecordType::NS, DnsClass::IN)?;
-    put_question(log, n, asked, query)?;
-    put_told(log, n.saturating_add(2), referral(alloc, zone, server, ip)?)?;
-    Ok(())
+    put_opened(log, n, at)?;
+    put(
+        log,
+        asked(at, query_of(alloc, zone, RecordType::NS, DnsClass::IN)),
+    )?;
+    put(
+        log,
+        replied(n.saturating_add(2), referral(alloc, zone, server, ip)),
+    )
 }
 
 /// A server is asked for the address of a name, and answers; the first entry gets the number 9.
 fn put_answer(
     alloc: Global,
-    log: &mut Vec<LogEntry>,
-    asked: Ipv4Addr,
+    log: &mut Log,
+    at: Ipv4Addr,
     owner: &str,
     ip: Ipv4Addr,
 ) -> Result<(), NameError> {
-    put_question(log, 9, asked, query(alloc, owner)?)?;
-    put_told(log, 11, answer(alloc, owner, 300, ip)?)?;
-    Ok(())
+    put_opened(log, 9, at)?;
+    put(log, asked(at, query(alloc, owner)))?;
+    put(log, replied(11, answer(alloc, owner, 300, ip)))
 }
 
 /// Which log is told: that of the worked example, one whose second referral names a server of another
@@ -104,7 +105,7 @@ enum Walk {
 
 fn put_referrals(
     alloc: Global,
-    log: &mut Vec<LogEntry>,
+    log: &mut Log,
     server: &str,
     ip: Ipv4Addr,
 ) -> Result<(), NameError> {
@@ -112,7 +113,7 @@ fn put_referrals(
     put_referral(alloc, log, 5, v4(2), "example.com.", server, ip)
 }
 
-fn put_walk(alloc: Global, log: &mut Vec<LogEntry>, walk: Walk) -> Result<(), NameError> {
+fn put_walk(alloc: Global, log: &mut Log, walk: Walk) -> Result<(), NameError> {
     match walk {
         Walk::Worked => {
             put_referrals(alloc, log, "ns.example.com.", v4(3))?;
@@ -126,14 +127,14 @@ fn put_walk(alloc: Global, log: &mut Vec<LogEntry>, walk: Walk) -> Result<(), Na
     }
 }
 
-fn log_of(alloc: Global, walk: Walk) -> Result<Vec<LogEntry>, NameError> {
-    let mut log = Vec::new(alloc);
+fn log_of(alloc: Global, walk: Walk) -> Result<Log, NameError> {
+    let mut log = Log::empty(alloc);
     put_walk(alloc, &mut log, walk)?;
     Ok(log)
 }
 
 /// Whether an address serves a zone by the entries below a number.
-#[derive(Clone, Copy, Debug)]
+#[derive(Clone, Copy)]
 struct Serving {
     below: usize,
     ip: [u8; 4],
@@ -142,7 +143,7 @@ struct Serving {
 }
 
 /// Whether an entry answers the question for a type of a name, at a moment, from a server of a zone.
-#[derive(Clone, Copy, Debug)]
+#[derive(Clone, Copy)]
 struct Answering {
     moment: u64,
     name: &'static str,
@@ -179,11 +180,12 @@ fn serves_in(log: &[LogEntry], below: usize, ip: [u8; 4], zone: &Name) -> bool {
 }
 
 fn is_served(alloc: Global, log: &[LogEntry], row: Serving) -> Result<(), Fail> {
-    let zone = Name::parse(alloc, row.zone)?;
-    if serves_in(log, row.below, row.ip, &zone) == row.wanted {
-        return Ok(());
-    }
-    Err(Fail::new(format_args!("not so: {row:?}")))
+    let zone = domain(alloc, row.zone)?;
+    let found = serves_in(log, row.below, row.ip, &zone);
+    is_wanted(
+        (row.zone, row.below, found),
+        (row.zone, row.below, row.wanted),
+    )
 }
 
 fn are_served(alloc: Global, log: &[LogEntry], rows: &[Serving]) -> Result<(), Fail> {
@@ -196,7 +198,7 @@ fn are_served(alloc: Global, log: &[LogEntry], rows: &[Serving]) -> Result<(), F
 /// Each row holds of the log of a walk.
 fn serve(alloc: Global, walk: Walk, rows: &[Serving]) -> Result<(), Fail> {
     let log = log_of(alloc, walk)?;
-    are_served(alloc, &log, rows)
+    are_served(alloc, log.items(), rows)
 }
 
 fn answers_in(
@@ -219,12 +221,13 @@ fn answers_in(
 }
 
 fn is_answered(alloc: Global, log: &[LogEntry], terms: Terms, row: Answering) -> Result<(), Fail> {
-    let zone = Name::parse(alloc, row.zone)?;
-    let query = query_of(alloc, row.name, row.query_type, DnsClass::IN)?;
-    if answers_in(log, terms, row.moment, &query, row.entry, &zone) == row.wanted {
-        return Ok(());
-    }
-    Err(Fail::new(format_args!("not so: {row:?}")))
+    let query = query_of(alloc, row.name, row.query_type, DnsClass::IN);
+    let (zone, query) = both(domain(alloc, row.zone), query)?;
+    let found = answers_in(log, terms, row.moment, &query, row.entry, &zone);
+    is_wanted(
+        (row.name, row.entry, found),
+        (row.name, row.entry, row.wanted),
+    )
 }
 
 fn are_answered(
@@ -242,7 +245,7 @@ fn are_answered(
 /// Each row holds of the log of the worked example.
 fn answer_by(alloc: Global, terms: Terms, rows: &[Answering]) -> Result<(), Fail> {
     let log = log_of(alloc, Walk::Worked)?;
-    are_answered(alloc, &log, terms, rows)
+    are_answered(alloc, log.items(), terms, rows)
 }
 
 const ROOT: Serving = Serving {

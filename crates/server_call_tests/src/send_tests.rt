@@ -1,6 +1,6 @@
 //! Sends step by step, and what is kept of their outcomes.
 
-use crate::send_samples::{Call, End, Kept, Seen, What, goes, keeps, keeps_given_up};
+use crate::send_samples::{Call, End, Kept, Seen, What, goes};
 use crate::server_samples::Reached;
 use dns_core::Protocol;
 use server_core::{After, Status};
@@ -142,15 +142,19 @@ const TAKEN: [(u64, Call, Seen); 6] = [
 ];
 
 /// A connection that failed stays until the next choice.
-const STAYS: [(u64, Call, Seen); 11] = [
+const STAYS: [(u64, Call, Seen); 15] = [
     (1, Call::Next, OPENS),
-    (2, Call::LateNext, OPENS),
+    (2, Call::Turn, Seen::HasNoEnd),
+    (2, Call::Next, OPENS),
+    (3, Call::Turn, Seen::HasNoEnd),
     (3, Call::Put(What::Connected), ENDED),
     (3, Call::Next, Seen::Asks(1)),
     (3, Call::Put(What::Timeout), ENDED),
-    (4, Call::LatePut(What::Connected), ENDED),
-    (4, Call::LateNext, Seen::Asks(2)),
+    (4, Call::Turn, Seen::HasNoEnd),
+    (4, Call::Put(What::Connected), ENDED),
+    (4, Call::Next, Seen::Asks(2)),
     (4, Call::Connections, Seen::Connections(1, 2)),
+    (5, Call::Turn, Seen::HasNoEnd),
     (5, Call::Again { disable_udp: false }, Seen::HasNoEnd),
     (5, Call::Next, Seen::Asks(2)),
     (5, Call::Connections, Seen::Connections(2, 0)),
@@ -211,11 +215,35 @@ const LEFT: [(What, Kept); 9] = [
     (What::Mismatch, UNCHANGED),
 ];
 
+/// This is kept after an outcome of a question that was asked 2,000 microseconds before, three seconds
+/// after the delay of its connection was recorded.
+fn keeps(alloc: Global, what: What, wanted: Kept) -> Result<(), Fail> {
+    let steps = [
+        (3_000_000, Call::Next, Seen::Asks(3)),
+        (3_002_000, Call::Put(what), ENDED),
+        (3_002_000, Call::Kept, Seen::Keeps(wanted)),
+    ];
+    goes(alloc, Reached::Known, false, &steps)
+}
+
+/// After the last poll of a question that patience allows.
+const KEPT_GIVEN_UP: [(u64, Call, Seen); 5] = [
+    (3_000_000, Call::Next, Seen::Asks(3)),
+    (3_001_000, Call::Put(What::Pending), KEPT),
+    (3_002_000, Call::Put(What::Pending), KEPT),
+    (
+        3_002_000,
+        Call::Put(What::Pending),
+        Seen::Has(After::GiveUp),
+    ),
+    (3_002_000, Call::Kept, Seen::Keeps(FAILURE)),
+];
+
 #[test]
 fn an_outcome_counts_by_its_time_as_a_failure_or_not_at_all(rt: HostRuntime) -> Result<(), Fail> {
     let alloc = rt.alloc();
     for (what, wanted) in &LEFT {
         keeps(alloc, *what, *wanted)?;
     }
-    keeps_given_up(alloc, FAILURE)
+    goes(alloc, Reached::Known, false, &KEPT_GIVEN_UP)
 }
