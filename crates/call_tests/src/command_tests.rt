@@ -1,10 +1,9 @@
 //! The command over sources and sinks that fail, and with other words.
 
-use crate::samples::shown;
+use call_samples::{both, is_wanted, shown};
 use dns_core::{Bytes, MemorySink, MemorySource, NoMemory, Numbers, Text};
 use recursor_command::{Fault, Status, run, say};
 use std::alloc::Global;
-use std::process::Abort;
 use std::test::Fail;
 
 /// That the call of this number fails; none has the number 0.
@@ -20,72 +19,88 @@ fn words_of(alloc: Global, word: &str) -> Result<Vec<Text>, NoMemory> {
     Ok(words)
 }
 
+/// A source without bytes whose call of this number fails.
+fn source_of(alloc: Global, call: u64) -> Result<MemorySource, NoMemory> {
+    let numbers = failing(alloc, call)?;
+    Ok(MemorySource::new(alloc, Bytes::empty(alloc), numbers))
+}
+
+/// A sink whose call of this number fails.
+fn sink_of(alloc: Global, call: u64) -> Result<MemorySink, NoMemory> {
+    Ok(MemorySink::new(alloc, failing(alloc, call)?))
+}
+
+/// How a run with one word ends, and its sink.
+fn run_of(
+    alloc: Global,
+    word: &str,
+    source: Result<MemorySource, NoMemory>,
+    sink: Result<MemorySink, NoMemory>,
+) -> Result<(Status, MemorySink), NoMemory> {
+    let (words, (mut source, mut sink)) = both(words_of(alloc, word), both(source, sink))?;
+    let status = run(alloc, &words, &mut source, &mut sink);
+    Ok((status, sink))
+}
+
 /// A run with one word, on an empty source and a sink of which these calls fail, ends so and writes
 /// this.
 fn ends(
     alloc: Global,
     word: &str,
-    source_fails: u64,
-    sink_fails: u64,
+    (source_fails, sink_fails): (u64, u64),
     wanted: Status,
-    text: &[u8],
+    text: &str,
 ) -> Result<(), Fail> {
-    let words = words_of(alloc, word)?;
-    let mut source = MemorySource::new(alloc, Bytes::empty(alloc), failing(alloc, source_fails)?);
-    let mut sink = MemorySink::new(alloc, failing(alloc, sink_fails)?);
-    let status = run(alloc, &words, &mut source, &mut sink);
-    if status == wanted && sink.written() == text {
-        return Ok(());
-    }
-    Err(Fail::new(format_args!("{status:?} in place of {wanted:?}")))
+    let (source, sink) = (source_of(alloc, source_fails), sink_of(alloc, sink_fails));
+    let (status, sink) = run_of(alloc, word, source, sink)?;
+    is_wanted((status, shown(sink.written())), (wanted, text))
 }
 
 #[test]
 fn other_words_and_faults_of_streams_are_told(rt: HostRuntime) -> Result<(), Fail> {
     let alloc = rt.alloc();
-    ends(alloc, "lookup", 0, 0, Status::BadWords, b"error words\n")?;
-    ends(alloc, "resolve", 1, 0, Status::ReadFault, b"error read\n")?;
-    ends(alloc, "resolve", 0, 1, Status::WriteFault, b"")?;
+    ends(alloc, "lookup", (0, 0), Status::BadWords, "error words\n")?;
+    ends(alloc, "resolve", (1, 0), Status::ReadFault, "error read\n")?;
+    ends(alloc, "resolve", (0, 1), Status::WriteFault, "")?;
     ends(
         alloc,
         "resolve",
-        0,
-        0,
+        (0, 0),
         Status::BadScenario,
-        b"error line 1\n",
+        "error line 1\n",
     )
+}
+
+fn say_thrice(sink: &mut MemorySink) -> [Status; 3] {
+    [
+        say(sink, b"front", Status::Done),
+        say(sink, b"error read\n", Status::ReadFault),
+        say(sink, b"end\n", Status::Done),
+    ]
 }
 
 #[test]
 fn a_write_that_fails_is_told(rt: HostRuntime) -> Result<(), Fail> {
-    let mut sink = MemorySink::new(rt.alloc(), failing(rt.alloc(), 2)?);
-    assert_eq!(rt; say(&mut sink, b"front", Status::Done), Status::Done);
-    let lost = say(&mut sink, b"error read\n", Status::ReadFault);
-    assert_eq!(rt; lost, Status::WriteFault);
-    assert_eq!(rt; say(&mut sink, b"end\n", Status::Done), Status::Done);
-    assert_eq!(rt; sink.written(), b"frontend\n".as_slice());
-    Ok(())
+    let mut sink = sink_of(rt.alloc(), 2)?;
+    let said = (say_thrice(&mut sink), shown(sink.written()));
+    let statuses = [Status::Done, Status::WriteFault, Status::Done];
+    is_wanted(said, (statuses, "frontend\n"))
 }
 
 /// A fault ends a run with this code, and has this text.
-fn is_told(alloc: Global, fault: Fault, code: u8, text: &[u8]) -> Result<(), Fail> {
+fn is_told(alloc: Global, fault: Fault, code: u8, text: &str) -> Result<(), Fail> {
     let found = fault.text(alloc)?;
-    if found.as_slice() == text && fault.status().code() == code {
-        return Ok(());
-    }
-    Err(Fail::new(format_args!("{fault:?}: {}", shown(&found))))
+    is_wanted((fault.status().code(), shown(&found)), (code, text))
 }
 
 #[test]
 fn faults_have_a_text_and_a_code(rt: HostRuntime) -> Result<(), Fail> {
     let alloc = rt.alloc();
-    is_told(alloc, Fault::Words, 2, b"error words\n")?;
-    is_told(alloc, Fault::Line(16), 3, b"error line 16\n")?;
-    let last = b"error line 4294967295 not built\n";
+    is_told(alloc, Fault::Words, 2, "error words\n")?;
+    is_told(alloc, Fault::Line(16), 3, "error line 16\n")?;
+    let last = "error line 4294967295 not built\n";
     is_told(alloc, Fault::NotBuilt(4_294_967_295), 3, last)?;
-    is_told(alloc, Fault::Read, 4, b"error read\n")?;
-    is_told(alloc, Fault::Memory, 6, b"error memory\n")?;
-    assert_eq!(rt; Status::Done.code(), 0);
-    assert_eq!(rt; Status::WriteFault.code(), 5);
-    Ok(())
+    is_told(alloc, Fault::Read, 4, "error read\n")?;
+    is_told(alloc, Fault::Memory, 6, "error memory\n")?;
+    is_wanted((Status::Done.code(), Status::WriteFault.code()), (0, 5))
 }

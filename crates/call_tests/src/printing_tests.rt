@@ -1,6 +1,7 @@
 //! Texts of errors, records and logs that no run comes to yet.
 
-use crate::samples::{ip, is_text, query};
+use crate::samples::is_text;
+use call_samples::{ip, put, query};
 use dns_core::{
     Bytes, DnsClass, IoKind, Log, LogEntry, Name, NameError, NetError, NoMemory, Protocol, RData,
     Record, RecordType,
@@ -111,15 +112,15 @@ fn asked(alloc: Global, moment: u64, refused: NetError) -> Result<LogEntry, Name
 }
 
 fn put_refusals(alloc: Global, to: &mut Log) -> Result<(), NameError> {
-    to.push(LogEntry::Opened {
+    let opened = LogEntry::Opened {
         ip: ip(3),
         protocol: Protocol::Quic,
         moment: 7,
         refused: Some(NetError::Io(IoKind::Refused)),
-    })?;
-    to.push(asked(alloc, 8, NetError::Busy)?)?;
-    to.push(asked(alloc, 9, NetError::Io(IoKind::Closed))?)?;
-    Ok(())
+    };
+    put(to, Ok(opened))?;
+    put(to, asked(alloc, 8, NetError::Busy))?;
+    put(to, asked(alloc, 9, NetError::Io(IoKind::Closed)))
 }
 
 fn refusals(alloc: Global) -> Result<Log, NameError> {

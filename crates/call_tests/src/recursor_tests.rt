@@ -1,15 +1,15 @@
 //! A recursor from its scenario to its transcript, where there is memory.
 
-use crate::samples::{answer, is_text, v4};
-use dns_core::{Ips, Items, Log, NoMemory, TryClone};
-use recursor_core::{Recursor, RecursorOptions, drive};
+use crate::samples::is_text;
+use call_samples::{answer, comes_to, v4};
+use dns_core::{Ips, Items, Log, NoMemory, Question, TryClone, Turn};
+use recursor_core::{Recursor, RecursorOptions, Reply, drive};
 use recursor_text::{
     Scenario, Transcript, Upstream, has_transcript_words, print_message, print_transcript,
     read_scenario,
 };
 use recursor_world::{Script, ScriptUpstream};
 use std::alloc::Global;
-use std::process::Abort;
 use std::test::Fail;
 
 const SCENARIO: &str = "recursor 1
@@ -64,6 +64,39 @@ fn script_of(upstream: Upstream) -> Result<Script, Fail> {
     }
 }
 
+/// A recursor over what a scenario tells.
+fn recursor_of(
+    alloc: Global,
+    roots: &Ips,
+    options: RecursorOptions,
+    upstream: Upstream,
+) -> Result<Recursor<ScriptUpstream>, Fail> {
+    recursor_over(alloc, roots, options, script_of(upstream)?)
+}
+
+/// The replies of a recursor, beside its log.
+fn transcript_of(
+    alloc: Global,
+    recursor: Recursor<ScriptUpstream>,
+    replies: Items<Reply>,
+) -> Result<Transcript, NoMemory> {
+    let log = log_of(alloc, recursor.into_provider())?;
+    Ok(Transcript { log, replies })
+}
+
+/// What a recursor comes to.
+fn run_by(
+    alloc: Global,
+    recursor: Result<Recursor<ScriptUpstream>, Fail>,
+    questions: &[Question],
+    turns: &[Turn],
+    patience: u32,
+) -> Result<Transcript, Fail> {
+    let mut recursor = recursor?;
+    let replies = drive(alloc, &mut recursor, questions, turns, patience)?;
+    Ok(transcript_of(alloc, recursor, Items::new(replies))?)
+}
+
 /// What is driven of a scenario.
 fn driven(alloc: Global, scenario: Scenario) -> Result<Transcript, Fail> {
     let Scenario {
@@ -74,20 +107,8 @@ fn driven(alloc: Global, scenario: Scenario) -> Result<Transcript, Fail> {
         questions,
         turns,
     } = scenario;
-    let script = script_of(upstream)?;
-    let mut recursor = recursor_over(alloc, &roots, options, script)?;
-    let replies = drive(
-        alloc,
-        &mut recursor,
-        questions.items(),
-        turns.items(),
-        patience,
-    )?;
-    let log = log_of(alloc, recursor.into_provider())?;
-    Ok(Transcript {
-        log,
-        replies: Items::new(replies),
-    })
+    let recursor = recursor_of(alloc, &roots, options, upstream);
+    run_by(alloc, recursor, questions.items(), turns.items(), patience)
 }
 
 fn printed(alloc: Global, transcript: Transcript) -> Result<Vec<u8>, NoMemory> {
@@ -109,13 +130,16 @@ fn message_text(alloc: Global) -> Result<Vec<u8>, Fail> {
     Ok(out)
 }
 
+/// The transcript of a scenario.
+fn told(alloc: Global) -> Result<Vec<u8>, Fail> {
+    let transcript = driven(alloc, scenario(alloc)?)?;
+    Ok(printed(alloc, transcript)?)
+}
+
 #[test]
 fn a_scenario_is_driven_to_its_transcript(rt: HostRuntime) -> Result<(), Fail> {
     let alloc = rt.alloc();
-    is_text(
-        printed(alloc, driven(alloc, scenario(alloc)?)?)?,
-        TRANSCRIPT,
-    )?;
+    is_text(told(alloc)?, TRANSCRIPT)?;
     is_text(
         message_text(alloc)?,
         "message NOERROR aa 1 0 0\na. 60 IN A 11.0.0.2\n",
@@ -135,6 +159,5 @@ fn standard(alloc: Global) -> Result<(u64, usize, u16), NoMemory> {
 
 #[test]
 fn options_are_standard(rt: HostRuntime) -> Result<(), Fail> {
-    assert!(rt; standard(rt.alloc())? == (1_048_576, 22, 1_232));
-    Ok(())
+    comes_to(standard(rt.alloc()), (1_048_576, 22, 1_232))
 }

@@ -1,5 +1,6 @@
 //! Scenarios of very many lines.
 
+use call_samples::is_wanted;
 use recursor_text::{Cause, ScenarioError, read_scenario};
 use std::alloc::Global;
 use std::test::Fail;
@@ -37,11 +38,7 @@ fn reads(
     wanted: Result<(usize, usize), ScenarioError>,
 ) -> Result<(), Fail> {
     let text = with_many(alloc, line, times, last)?;
-    let found = read(alloc, &text);
-    if found == wanted {
-        return Ok(());
-    }
-    Err(Fail::new(format_args!("{found:?} in place of {wanted:?}")))
+    is_wanted(read(alloc, &text), wanted)
 }
 
 const QUESTION: &str = "question a. A plain\n";

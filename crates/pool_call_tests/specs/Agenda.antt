@@ -1,5 +1,5 @@
 -- What the servers of an agenda have room in.
-use Rattle.std.specs.Prelude.{ℕ, ◌+◌, ◌≤◌, length}
+use Rattle.std.specs.Prelude.{◌+◌, ◌≤◌, length}
 use Rattle.retry_rules.specs.Agenda.{Plan}
 
 -- those that wait and those that were busy have places

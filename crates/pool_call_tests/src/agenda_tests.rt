@@ -2,14 +2,15 @@
 ghost use Rattle.pool_call_tests.specs.Agenda.{IsWithin};
 ghost use Rattle.retry_rules.specs.Agenda.{HasRoom};
 
-use crate::message_samples::{Sight, denial, message, query, seen};
-use dns_core::{IoKind, Message, NameError, NetError};
+use call_samples::{Machine, Sight, denial, message, query, runs, seen};
+use dns_core::{IoKind, Message, NameError, NetError, NoMemory};
 use retry_rules::{Agenda, Candidate, Hearing};
 use std::alloc::Global;
+use std::marker::Model;
 use std::test::Fail;
 
 /// What a send ends with, and what a lookup answers.
-#[derive(Clone, Copy, Debug, PartialEq, Eq)]
+#[derive(Clone, Copy, Debug, PartialEq)]
 enum End {
     Answer,
     Cut,
@@ -23,8 +24,9 @@ enum End {
     Other,
 }
 
-/// The next server is asked, and its send ends so; a sleep passes; or the lookup gives up.
-#[derive(Clone, Copy, Debug)]
+/// The next server is asked, and its send ends so; a sleep passes; or the lookup gives up. Moments make no
+/// difference to an agenda: they number the calls.
+#[derive(Clone, Copy)]
 enum Call {
     Ask(End),
     Sleep,
@@ -33,7 +35,7 @@ enum Call {
 
 /// What is seen of a call: which server was asked, and what is answered then, how long the sleep was
 /// in microseconds, or what is answered where no server is left.
-#[derive(Clone, Copy, Debug, PartialEq, Eq)]
+#[derive(Clone, Copy, Debug, PartialEq)]
 enum Seen {
     GoesOn(u32),
     Answers(u32, End),
@@ -74,13 +76,23 @@ impl Sight<End> for NetError {
 }
 
 /// What the lookup answers, where it does not go on.
-impl Sight<Option<End>> for Hearing {
-    fn sight(&self) -> Option<End> {
+#[derive(Clone, Copy)]
+struct Heard(Option<End>);
+
+impl Sight<Heard> for Hearing {
+    fn sight(&self) -> Heard {
         match self {
-            Hearing::GoesOn => None,
-            Hearing::Answers(Ok(_)) => Some(End::Answer),
-            Hearing::Answers(Err(error)) => Some(error.sight()),
+            Hearing::GoesOn => Heard(None),
+            Hearing::Answers(Ok(_)) => Heard(Some(End::Answer)),
+            Hearing::Answers(Err(error)) => Heard(Some(error.sight())),
         }
+    }
+}
+
+fn what_comes(asked: Candidate, answer: Heard) -> Seen {
+    match answer.0 {
+        Some(end) => Seen::Answers(asked.server, end),
+        None => Seen::GoesOn(asked.server),
     }
 }
 
@@ -91,10 +103,8 @@ fn hears(alloc: Global, agenda: &mut Agenda, asked: Candidate, end: End) -> Resu
 {
     let query = query(alloc, "a.")?;
     let outcome = outcome(alloc, end)?;
-    match seen(agenda.hear(asked, outcome, &query)) {
-        Some(end) => Ok(Seen::Answers(asked.server, end)),
-        None => Ok(Seen::GoesOn(asked.server)),
-    }
+    let answer = seen(agenda.hear(asked, outcome, &query));
+    Ok(what_comes(asked, answer))
 }
 
 #[tactic(auto, using(crate::proofs::Rooms::room_taken))]
@@ -130,38 +140,39 @@ fn gives_up(agenda: &mut Agenda) -> Seen
     Seen::GaveUp(seen(agenda.give_up()))
 }
 
-fn see(alloc: Global, agenda: &mut Agenda, call: Call) -> Result<Seen, NameError>
-    requires { IsWithin agenda.old }
-    ensures { IsWithin agenda.new }
-{
-    match call {
-        Call::Ask(end) => asks(alloc, agenda, end),
-        Call::Sleep => Ok(sleeps(agenda)),
-        Call::GiveUp => Ok(gives_up(agenda)),
+/// An agenda, whose servers have places in it.
+#[derive(Drop)]
+struct Course {
+    agenda: Agenda,
+}
+
+impl Model for Course {
+    ghost use Rattle.retry_rules.specs.Agenda.{Plan};
+    ghost use Rattle.pool_call_tests.specs.Agenda.{IsWithin};
+
+    ghost Value = { Plan };
+
+    ghost view = { λ a. a.agenda };
+
+    ghost invariant = { λ a. IsWithin a.agenda };
+}
+
+impl Course {
+    fn of(alloc: Global, pool: &[Candidate]) -> Result<Course, NoMemory> {
+        Ok(Course {
+            agenda: Agenda::new(alloc, pool)?,
+        })
     }
 }
 
-fn is_same(call: Call, found: Seen, wanted: Seen) -> Result<(), Fail> {
-    if found == wanted {
-        return Ok(());
+impl Machine<Call, Seen> for Course {
+    fn see(&mut self, alloc: Global, call: Call, _now: u64) -> Result<Seen, NameError> {
+        match call {
+            Call::Ask(end) => asks(alloc, &mut self.agenda, end),
+            Call::Sleep => Ok(sleeps(&mut self.agenda)),
+            Call::GiveUp => Ok(gives_up(&mut self.agenda)),
+        }
     }
-    Err(Fail::new(format_args!("{call:?}: {found:?}, not {wanted:?}")))
-}
-
-fn runs(alloc: Global, agenda: &mut Agenda, steps: &[(Call, Seen)]) -> Result<(), Fail>
-    requires { IsWithin agenda.old }
-{
-    for (call, wanted) in steps {
-        let found = see(alloc, agenda, *call)?;
-        is_same(*call, found, *wanted)?;
-    }
-    Ok(())
-}
-
-/// Each call is made in its turn of an agenda of these servers, and this is to be seen of it.
-fn goes(alloc: Global, pool: &[Candidate], steps: &[(Call, Seen)]) -> Result<(), Fail> {
-    let mut agenda = Agenda::new(alloc, pool)?;
-    runs(alloc, &mut agenda, steps)
 }
 
 /// Servers that are reached over TCP too, and whose denials are believed.
@@ -188,57 +199,61 @@ const DOUBTED: Candidate = Candidate {
 };
 
 /// A busy server is asked again after each of four sleeps.
-const BUSY: [(Call, Seen); 11] = [
-    (Call::Ask(End::Busy), Seen::GoesOn(1)),
-    (Call::Sleep, Seen::Slept(20_000)),
-    (Call::Ask(End::Busy), Seen::GoesOn(1)),
-    (Call::Sleep, Seen::Slept(40_000)),
-    (Call::Ask(End::Busy), Seen::GoesOn(1)),
-    (Call::Sleep, Seen::Slept(80_000)),
-    (Call::Ask(End::Busy), Seen::GoesOn(1)),
-    (Call::Sleep, Seen::Slept(160_000)),
-    (Call::Ask(End::Busy), Seen::GoesOn(1)),
-    (Call::Sleep, Seen::MayNot),
-    (Call::GiveUp, Seen::GaveUp(End::NoConnections)),
+const BUSY: [(u64, Call, Seen); 11] = [
+    (1, Call::Ask(End::Busy), Seen::GoesOn(1)),
+    (2, Call::Sleep, Seen::Slept(20_000)),
+    (3, Call::Ask(End::Busy), Seen::GoesOn(1)),
+    (4, Call::Sleep, Seen::Slept(40_000)),
+    (5, Call::Ask(End::Busy), Seen::GoesOn(1)),
+    (6, Call::Sleep, Seen::Slept(80_000)),
+    (7, Call::Ask(End::Busy), Seen::GoesOn(1)),
+    (8, Call::Sleep, Seen::Slept(160_000)),
+    (9, Call::Ask(End::Busy), Seen::GoesOn(1)),
+    (10, Call::Sleep, Seen::MayNot),
+    (11, Call::GiveUp, Seen::GaveUp(End::NoConnections)),
 ];
 
 /// After a sleep only those that were busy are asked.
-const ONE_BUSY: [(Call, Seen); 7] = [
-    (Call::Ask(End::Busy), Seen::GoesOn(1)),
-    (Call::Sleep, Seen::MayNot),
-    (Call::Ask(End::Timeout), Seen::GoesOn(2)),
-    (Call::Ask(End::Busy), Seen::NoneWaiting),
-    (Call::GiveUp, Seen::MayNot),
-    (Call::Sleep, Seen::Slept(20_000)),
-    (Call::Ask(End::Answer), Seen::Answers(1, End::Answer)),
+const ONE_BUSY: [(u64, Call, Seen); 7] = [
+    (1, Call::Ask(End::Busy), Seen::GoesOn(1)),
+    (2, Call::Sleep, Seen::MayNot),
+    (3, Call::Ask(End::Timeout), Seen::GoesOn(2)),
+    (4, Call::Ask(End::Busy), Seen::NoneWaiting),
+    (5, Call::GiveUp, Seen::MayNot),
+    (6, Call::Sleep, Seen::Slept(20_000)),
+    (7, Call::Ask(End::Answer), Seen::Answers(1, End::Answer)),
 ];
 
 /// A cut message turns UDP off.
-const CUT: [(Call, Seen); 4] = [
-    (Call::Ask(End::Cut), Seen::GoesOn(1)),
-    (Call::Ask(End::Timeout), Seen::GoesOn(1)),
-    (Call::Ask(End::Refused), Seen::GoesOn(3)),
-    (Call::GiveUp, Seen::GaveUp(End::Timeout)),
+const CUT: [(u64, Call, Seen); 4] = [
+    (1, Call::Ask(End::Cut), Seen::GoesOn(1)),
+    (2, Call::Ask(End::Timeout), Seen::GoesOn(1)),
+    (3, Call::Ask(End::Refused), Seen::GoesOn(3)),
+    (4, Call::GiveUp, Seen::GaveUp(End::Timeout)),
 ];
 
 /// A cut message ends the lookup once UDP is off.
-const CUT_WITHOUT_UDP: [(Call, Seen); 2] = [
-    (Call::Ask(End::Mismatch), Seen::GoesOn(1)),
-    (Call::Ask(End::Cut), Seen::Answers(1, End::Truncated)),
+const CUT_WITHOUT_UDP: [(u64, Call, Seen); 2] = [
+    (1, Call::Ask(End::Mismatch), Seen::GoesOn(1)),
+    (2, Call::Ask(End::Cut), Seen::Answers(1, End::Truncated)),
 ];
 
 /// A denial ends the lookup where it is believed.
-const DENIED: [(Call, Seen); 2] = [
-    (Call::Ask(End::Denial), Seen::GoesOn(1)),
-    (Call::Ask(End::Denial), Seen::Answers(2, End::Denial)),
+const DENIED: [(u64, Call, Seen); 2] = [
+    (1, Call::Ask(End::Denial), Seen::GoesOn(1)),
+    (2, Call::Ask(End::Denial), Seen::Answers(2, End::Denial)),
 ];
 
 #[test]
 fn servers_are_asked_by_what_was_heard(rt: HostRuntime) -> Result<(), Fail> {
     let alloc = rt.alloc();
-    goes(alloc, &[FIRST], &BUSY)?;
-    goes(alloc, &[FIRST, SECOND], &ONE_BUSY)?;
-    goes(alloc, &[FIRST, BY_UDP_ALONE, THIRD], &CUT)?;
-    goes(alloc, &[FIRST], &CUT_WITHOUT_UDP)?;
-    goes(alloc, &[DOUBTED, SECOND], &DENIED)
+    runs(alloc, Course::of(alloc, &[FIRST]), &BUSY)?;
+    runs(alloc, Course::of(alloc, &[FIRST, SECOND]), &ONE_BUSY)?;
+    runs(
+        alloc,
+        Course::of(alloc, &[FIRST, BY_UDP_ALONE, THIRD]),
+        &CUT,
+    )?;
+    runs(alloc, Course::of(alloc, &[FIRST]), &CUT_WITHOUT_UDP)?;
+    runs(alloc, Course::of(alloc, &[DOUBTED, SECOND]), &DENIED)
 }

@@ -7,11 +7,9 @@
 #[cfg(test)]
 mod agenda_tests;
 #[cfg(test)]
-mod lookup_samples;
-#[cfg(test)]
 mod lookup_tests;
 #[cfg(test)]
-mod message_samples;
+mod pool_samples;
 #[cfg(test)]
 mod pool_tests;
 #[cfg(test)]

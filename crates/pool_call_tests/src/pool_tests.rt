@@ -1,45 +1,33 @@
 //! Pools, the order of their servers, and what is left of an answer, where there is memory.
 
-use crate::lookup_samples::{empty, pool_from_config, pool_of};
-use crate::message_samples::{Sight, message, options, query, seen, unopened, without};
-use dns_core::{Message, NameError, NetError, NoMemory};
-use resolver_settings::{AccessControlSet, IpNet, ServerOrderingStrategy};
+use crate::pool_samples::{Call, Course, Seen, unopened};
+use call_samples::{comes_to, filter, is_wanted, message, options, query, runs};
+use dns_core::{Message, NetError, NoMemory};
+use resolver_settings::{AccessControlSet, IpNet, ResolverOpts, ServerOrderingStrategy};
 use server_core::{NameServer, ServerTable};
-use server_pool::{NameServerPool, filtered, ordered, sort_servers_by_query_statistics};
+use server_pool::{filtered, ordered, sort_servers_by_query_statistics};
 use std::alloc::Global;
 use std::net::{IpAddr, Ipv4Addr};
-use std::process::Abort;
 use std::test::Fail;
 
-/// The numbers of two pools and of a copy of the first, each with how many servers it has.
-fn pools(alloc: Global) -> Result<[(u64, usize); 3], NoMemory> {
-    let mut shared = empty(alloc)?;
-    let first = pool_from_config(alloc, &mut shared)?;
-    let second = pool_of(alloc, &mut shared, &[])?;
-    let copy = first.try_clone(alloc)?;
-    Ok([numbered(first), numbered(second), numbered(copy)])
-}
+/// A copy of a pool has the number of the pool, and another pool has another one.
+const NUMBERED: [(u64, Call, Seen); 3] = [
+    (0, Call::Configure, Seen::Pool(0, 1)),
+    (0, Call::Group(&[]), Seen::Pool(1, 0)),
+    (0, Call::Copy(0), Seen::Pool(0, 1)),
+];
 
-fn numbered(pool: NameServerPool) -> (u64, usize) {
-    (pool.number(), pool.servers().len())
-}
-
-/// The numbers of two servers that are added, and how many there are then.
-fn added(alloc: Global) -> Result<(u32, u32, u32), NoMemory> {
-    let mut shared = empty(alloc)?;
-    let first = shared.add(alloc, unopened(alloc)?)?;
-    let second = shared.add(alloc, unopened(alloc)?)?;
-    Ok((first, second, shared.live_servers()))
-}
+const ADDED: [(u64, Call, Seen); 3] = [
+    (0, Call::Add, Seen::Server(1)),
+    (0, Call::Add, Seen::Server(2)),
+    (0, Call::CountServers, Seen::Servers(2)),
+];
 
 #[test]
 fn pools_and_servers_are_numbered(rt: HostRuntime) -> Result<(), Fail> {
     let alloc = rt.alloc();
-    let [first, second, copy] = pools(alloc)?;
-    assert!(rt; first.0 != second.0 && copy.0 == first.0);
-    assert!(rt; first.1 == 1 && second.1 == 0 && copy.1 == 1);
-    assert!(rt; added(alloc)? == (1, 2, 2));
-    Ok(())
+    runs(alloc, Course::new(alloc), &NUMBERED)?;
+    runs(alloc, Course::new(alloc), &ADDED)
 }
 
 /// A server of which a connection took so many microseconds the last time.
@@ -49,14 +37,15 @@ fn server(alloc: Global, took: u64) -> Result<NameServer, NoMemory> {
     Ok(server)
 }
 
-/// Servers of which the second is the fastest, and their numbers.
-fn table(alloc: Global) -> Result<(ServerTable, Vec<u32>), NoMemory> {
-    let mut table = ServerTable::new(alloc);
-    let mut numbers = Vec::new(alloc);
+fn put_servers(
+    alloc: Global,
+    table: &mut ServerTable,
+    numbers: &mut Vec<u32>,
+) -> Result<(), NoMemory> {
     for took in [30_000, 10_000, 20_000] {
         numbers.push(table.add(alloc, server(alloc, took)?)?)?;
     }
-    Ok((table, numbers))
+    Ok(())
 }
 
 /// The places of servers in a list of their numbers, which rise by one from the least.
@@ -72,66 +61,81 @@ fn places(numbers: &[u32]) -> Option<[u32; 3]> {
     }
 }
 
-fn sorted(alloc: Global) -> Result<Option<[u32; 3]>, NoMemory> {
-    let (table, mut numbers) = table(alloc)?;
-    sort_servers_by_query_statistics(alloc, &mut numbers, &table, 2_000_000)?;
-    Ok(places(&numbers))
-}
-
-/// The order of the servers by a strategy where two are asked at once and the second has its turn, and
-/// which has the next.
-fn order(
-    alloc: Global,
-    strategy: ServerOrderingStrategy,
-) -> Result<(Option<[u32; 3]>, usize), NoMemory> {
-    let (table, mut numbers) = table(alloc)?;
+fn options_by(alloc: Global, strategy: ServerOrderingStrategy) -> Result<ResolverOpts, NoMemory> {
     let mut options = options(alloc)?;
     options.server_ordering_strategy = strategy;
     options.num_concurrent_reqs = 2;
+    Ok(options)
+}
+
+/// The order of servers by a strategy where two are asked at once and the second has its turn, and which
+/// has the next; without one they are sorted by their statistics.
+fn put_in_order(
+    alloc: Global,
+    table: &ServerTable,
+    numbers: &mut Vec<u32>,
+    strategy: Option<ServerOrderingStrategy>,
+) -> Result<usize, NoMemory> {
     let mut turn = 1;
-    ordered(alloc, &mut numbers, &mut turn, &table, &options, 2_000_000)?;
+    match strategy {
+        Some(strategy) => {
+            let options = options_by(alloc, strategy)?;
+            ordered(alloc, numbers, &mut turn, table, &options, 2_000_000)?;
+        }
+        None => sort_servers_by_query_statistics(alloc, numbers, table, 2_000_000)?,
+    }
+    Ok(turn)
+}
+
+/// The same of servers of which the second is the fastest.
+fn order(
+    alloc: Global,
+    strategy: Option<ServerOrderingStrategy>,
+) -> Result<(Option<[u32; 3]>, usize), NoMemory> {
+    let mut numbers = Vec::new(alloc);
+    let mut table = ServerTable::new(alloc);
+    put_servers(alloc, &mut table, &mut numbers)?;
+    let turn = put_in_order(alloc, &table, &mut numbers, strategy)?;
     Ok((places(&numbers), turn))
 }
 
 #[test]
 fn servers_are_put_in_their_order(rt: HostRuntime) -> Result<(), Fail> {
     let alloc = rt.alloc();
-    assert!(rt; sorted(alloc)? == Some([1, 2, 0]));
-    let fastest = order(alloc, ServerOrderingStrategy::QueryStatistics)?;
-    assert!(rt; fastest == (Some([1, 2, 0]), 1));
-    let given = order(alloc, ServerOrderingStrategy::UserProvidedOrder)?;
-    assert!(rt; given == (Some([0, 1, 2]), 1));
-    let in_turn = order(alloc, ServerOrderingStrategy::RoundRobin)?;
-    assert!(rt; in_turn == (Some([1, 2, 0]), 0));
-    Ok(())
+    comes_to(order(alloc, None), (Some([1, 2, 0]), 1))?;
+    let fastest = Some(ServerOrderingStrategy::QueryStatistics);
+    comes_to(order(alloc, fastest), (Some([1, 2, 0]), 1))?;
+    let given = Some(ServerOrderingStrategy::UserProvidedOrder);
+    comes_to(order(alloc, given), (Some([0, 1, 2]), 1))?;
+    let in_turn = Some(ServerOrderingStrategy::RoundRobin);
+    comes_to(order(alloc, in_turn), (Some([1, 2, 0]), 0))
 }
 
 /// How many answers are left of one, and nothing where it is refused.
-impl Sight<Option<usize>> for Result<Message, NetError> {
-    fn sight(&self) -> Option<usize> {
-        match self {
-            Ok(message) => Some(message.answers.len()),
-            Err(_) => None,
-        }
+fn left_of(answer: &Result<Message, NetError>) -> Option<usize> {
+    match answer {
+        Ok(message) => Some(message.answers.len()),
+        Err(_) => None,
     }
 }
 
-fn left_by(alloc: Global, filter: Option<&AccessControlSet>) -> Result<Option<usize>, NameError> {
+fn left_by(alloc: Global, filter: Option<&AccessControlSet>) -> Result<Option<usize>, Fail> {
     let query = query(alloc, "a.")?;
-    Ok(seen(filtered(alloc, message(alloc, false)?, query, filter)))
+    let answer = filtered(alloc, message(alloc, false)?, query, filter);
+    Ok(left_of(&answer))
 }
 
-/// Denies addresses that begin like this one.
-fn denying(alloc: Global, first: u8) -> Result<AccessControlSet, Fail> {
+/// The same where addresses that begin like this one are denied.
+fn left_without(alloc: Global, first: u8) -> Result<Option<usize>, Fail> {
     let net = IpNet::new(IpAddr::V4(Ipv4Addr::new(first, 0, 0, 0)), 8)?;
-    Ok(without(alloc, net)?)
+    let filter = filter(alloc, &[net], &[])?;
+    left_by(alloc, Some(&filter))
 }
 
 #[test]
 fn a_denied_address_leaves_an_answer(rt: HostRuntime) -> Result<(), Fail> {
     let alloc = rt.alloc();
-    assert!(rt; left_by(alloc, None)? == Some(1));
-    assert!(rt; left_by(alloc, Some(&denying(alloc, 12)?))? == Some(1));
-    assert!(rt; left_by(alloc, Some(&denying(alloc, 11)?))?.is_none());
-    Ok(())
+    is_wanted(left_by(alloc, None)?, Some(1))?;
+    is_wanted(left_without(alloc, 12)?, Some(1))?;
+    is_wanted(left_without(alloc, 11)?, None)
 }

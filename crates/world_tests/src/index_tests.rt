@@ -1,10 +1,11 @@
 //! That an index tells what the scan of all zones tells.
 
-use crate::world_samples::{ip, world};
+use crate::world_samples::world;
+use call_samples::{both, domain, ip};
 use dns_core::{DnsClass, Name, Query, RecordType, TryClone};
 use std::alloc::Global;
 use std::test::Fail;
-use zone_worlds::{IndexedWorld, World, told};
+use zone_worlds::{IndexedWorld, World, Zone, told};
 
 const TYPES: [RecordType; 7] = [
     RecordType::A,
@@ -37,8 +38,9 @@ fn is_told_alike(
     from: u8,
     query: &Query,
 ) -> Result<(), Fail> {
-    let scanned = told(alloc, world, ip(from), query)?;
-    let looked_up = indexed.told(alloc, ip(from), query)?;
+    let scanned = told(alloc, world, ip(from), query);
+    let looked_up = indexed.told(alloc, ip(from), query);
+    let (scanned, looked_up) = both(scanned, looked_up)?;
     if are_alike(scanned, looked_up) {
         return Ok(());
     }
@@ -75,30 +77,47 @@ fn is_alike_at(
     Ok(())
 }
 
+/// At each name that owns a record of a zone.
+fn is_alike_in(
+    alloc: Global,
+    world: &World,
+    indexed: &IndexedWorld,
+    zone: &Zone,
+) -> Result<(), Fail> {
+    for r in zone.records.items() {
+        is_alike_at(alloc, world, indexed, &r.name)?;
+    }
+    Ok(())
+}
+
 /// At each name that owns a record of the world.
 fn is_alike_at_owners(alloc: Global, world: &World, indexed: &IndexedWorld) -> Result<(), Fail> {
     for zone in world.zones.items() {
-        for r in zone.records.items() {
-            is_alike_at(alloc, world, indexed, &r.name)?;
-        }
+        is_alike_in(alloc, world, indexed, zone)?;
     }
     Ok(())
 }
 
 fn is_alike_at_others(alloc: Global, world: &World, indexed: &IndexedWorld) -> Result<(), Fail> {
     for text in &OTHERS {
-        let name = Name::parse(alloc, text)?;
+        let name = domain(alloc, text)?;
         is_alike_at(alloc, world, indexed, &name)?;
     }
     Ok(())
 }
 
+fn is_alike(alloc: Global, world: &World, indexed: &IndexedWorld) -> Result<(), Fail> {
+    is_alike_at_owners(alloc, world, indexed)?;
+    is_alike_at_others(alloc, world, indexed)
+}
+
+fn is_indexed(alloc: Global, world: &World) -> Result<(), Fail> {
+    let indexed = IndexedWorld::new(alloc, world.try_clone(alloc)?)?;
+    is_alike(alloc, world, &indexed)
+}
+
 #[test]
 fn an_index_tells_what_a_scan_tells(rt: HostRuntime) -> Result<(), Fail> {
-    let alloc = rt.alloc();
-    let world = world(alloc)?;
-    let copy = world.try_clone(alloc)?;
-    let indexed = IndexedWorld::new(alloc, copy)?;
-    is_alike_at_owners(alloc, &world, &indexed)?;
-    is_alike_at_others(alloc, &world, &indexed)
+    let world = world(rt.alloc(), 0)?;
+    is_indexed(rt.alloc(), &world)
 }

@@ -1,7 +1,8 @@
 //! What an address tells, and what the world answers.
 
-use crate::world_samples::{Sight, ip, query, seen, world};
-use dns_core::{Message, RecordType, Records};
+use crate::world_samples::world;
+use call_samples::{comes_to, ip, query_of};
+use dns_core::{DnsClass, Message, NoMemory, Query, RecordType, Records};
 use std::alloc::Global;
 use std::test::Fail;
 use zone_worlds::{World, WorldAnswer, told, world_answer};
@@ -19,15 +20,13 @@ fn line_at(records: &Records, place: usize) -> Line {
 /// The code of a response, whether it has authority, and the first answer, authority and additional.
 type Told = (u16, bool, [Line; 3]);
 
-impl Sight<Told> for Message {
-    fn sight(&self) -> Told {
-        let lines = [
-            line_at(&self.answers, 0),
-            line_at(&self.authorities, 0),
-            line_at(&self.additionals, 0),
-        ];
-        (self.response_code.code, self.authoritative, lines)
-    }
+fn told_by(message: &Message) -> Told {
+    let lines = [
+        line_at(&message.answers, 0),
+        line_at(&message.authorities, 0),
+        line_at(&message.additionals, 0),
+    ];
+    (message.response_code.code, message.authoritative, lines)
 }
 
 const NS: Line = Some((RecordType::NS, 1));
@@ -72,68 +71,67 @@ const ROWS: [(&str, RecordType, u8, Told); 5] = [
     ),
 ];
 
-fn is_told(alloc: Global, world: &World, row: &(&str, RecordType, u8, Told)) -> Result<(), Fail> {
-    let (name, asked, from, wanted) = *row;
-    let query = query(alloc, name, asked)?;
-    let found = seen(told(alloc, world, ip(from), &query)?);
-    if found == wanted {
-        return Ok(());
-    }
-    Err(Fail::new(format_args!("{found:?} in place of {wanted:?}")))
+/// What an address tells.
+fn tells(alloc: Global, world: &World, from: u8, query: &Query) -> Result<Told, NoMemory> {
+    let message = told(alloc, world, ip(from), query)?;
+    Ok(told_by(&message))
 }
 
-#[test]
-fn an_address_refuses_refers_answers_and_denies(rt: HostRuntime) -> Result<(), Fail> {
-    let alloc = rt.alloc();
-    let world = world(alloc)?;
+fn is_told(alloc: Global, world: &World, row: &(&str, RecordType, u8, Told)) -> Result<(), Fail> {
+    let (name, asked, from, wanted) = *row;
+    let query = query_of(alloc, name, asked, DnsClass::IN)?;
+    comes_to(tells(alloc, world, from, &query), wanted)
+}
+
+fn are_told(alloc: Global, world: &World) -> Result<(), Fail> {
     for row in &ROWS {
-        is_told(alloc, &world, row)?;
+        is_told(alloc, world, row)?;
     }
     Ok(())
 }
 
-/// The first two records of an answer, or that there is none.
-#[derive(Clone, Copy, Debug, PartialEq, Eq)]
-enum Seen {
-    Endless,
-    Lines([Line; 2]),
-    NxDomain,
-    NoData,
+#[test]
+fn an_address_refuses_refers_answers_and_denies(rt: HostRuntime) -> Result<(), Fail> {
+    let world = world(rt.alloc(), 0)?;
+    are_told(rt.alloc(), &world)
 }
 
-impl Sight<Seen> for Option<WorldAnswer> {
-    fn sight(&self) -> Seen {
-        match self {
-            None => Seen::Endless,
-            Some(WorldAnswer::Records(found)) => Seen::Lines([
-                line_at(found, 0),
-                line_at(found, 1),
-            ]),
-            Some(WorldAnswer::NxDomain) => Seen::NxDomain,
-            Some(WorldAnswer::NoData) => Seen::NoData,
-        }
+/// What an answer is, and its first two records.
+type Answer = (&'static str, [Line; 2]);
+
+fn answer_of(answer: &Option<WorldAnswer>) -> Answer {
+    match answer {
+        None => ("endless", [None, None]),
+        Some(WorldAnswer::Records(found)) => ("records", [line_at(found, 0), line_at(found, 1)]),
+        Some(WorldAnswer::NxDomain) => ("no name", [None, None]),
+        Some(WorldAnswer::NoData) => ("no data", [None, None]),
     }
 }
 
-fn is_answered(alloc: Global, world: &World, name: &str, wanted: Seen) -> Result<(), Fail> {
-    let query = query(alloc, name, RecordType::A)?;
-    let found = seen(world_answer(alloc, world, &query)?);
-    if found == wanted {
-        return Ok(());
-    }
-    Err(Fail::new(format_args!("{found:?} in place of {wanted:?}")))
+/// What the world answers.
+fn answers(alloc: Global, world: &World, query: &Query) -> Result<Answer, NoMemory> {
+    let answer = world_answer(alloc, world, query)?;
+    Ok(answer_of(&answer))
+}
+
+fn is_answered(alloc: Global, world: &World, name: &str, wanted: Answer) -> Result<(), Fail> {
+    let query = query_of(alloc, name, RecordType::A, DnsClass::IN)?;
+    comes_to(answers(alloc, world, &query), wanted)
+}
+
+fn are_answered(alloc: Global, world: &World) -> Result<(), Fail> {
+    let alias = Some((RecordType::CNAME, 3));
+    is_answered(
+        alloc,
+        world,
+        "web.example.com.",
+        ("records", [alias, ADDRESS]),
+    )?;
+    is_answered(alloc, world, "no.example.com.", ("no name", [None, None]))
 }
 
 #[test]
 fn the_world_answers_by_its_alias_and_denies(rt: HostRuntime) -> Result<(), Fail> {
-    let alloc = rt.alloc();
-    let world = world(alloc)?;
-    let alias = Some((RecordType::CNAME, 3));
-    is_answered(
-        alloc,
-        &world,
-        "web.example.com.",
-        Seen::Lines([alias, ADDRESS]),
-    )?;
-    is_answered(alloc, &world, "no.example.com.", Seen::NxDomain)
+    let world = world(rt.alloc(), 0)?;
+    are_answered(rt.alloc(), &world)
 }

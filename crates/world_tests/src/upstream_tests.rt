@@ -1,53 +1,55 @@
 //! What a world as an upstream notes and tells.
 ghost use Rattle.std.specs.Prelude.{IfOk, IsTrue};
 
-use crate::world_samples::{Sight, ip, query, seen, world};
+use crate::world_samples::world;
+use call_samples::{Sight, ip, is_wanted, request, seen};
 use dns_core::{
-    ConnectOptions, ConnectionConfig, ConnectionProvider, DnsRequest, DnsRequestOptions, LogEntry,
-    Message, NetError, Poll, Ports, ProtocolConfig, RecordType,
+    ConnectOptions, ConnectionConfig, ConnectionProvider, LogEntry, Message, NetError, Poll, Ports,
+    ProtocolConfig,
 };
 use std::alloc::Global;
 use std::test::Fail;
 use world_upstream::{WorldUpstream, is_qualified_world};
 
-/// A kind of entry.
-#[derive(Clone, Copy, Debug, PartialEq, Eq)]
-enum Kind {
-    Opened,
-    Asked,
-    Waited,
-    Told,
-    GaveUp,
-    None,
-}
-
-fn kind_at(upstream: &WorldUpstream, place: usize) -> Kind {
+/// What kind of entry stands at a place.
+fn kind_at(upstream: &WorldUpstream, place: usize) -> &'static str {
     match upstream.log().items().get(place) {
-        Some(LogEntry::Opened { .. }) => Kind::Opened,
-        Some(LogEntry::Asked { .. }) => Kind::Asked,
-        Some(LogEntry::Waited { .. }) => Kind::Waited,
-        Some(LogEntry::Told { .. }) => Kind::Told,
-        Some(LogEntry::GaveUp { .. }) => Kind::GaveUp,
-        None => Kind::None,
+        Some(LogEntry::Opened { .. }) => "opened",
+        Some(LogEntry::Asked { .. }) => "asked",
+        Some(LogEntry::Waited { .. }) => "waited",
+        Some(LogEntry::Told { .. }) => "told",
+        Some(LogEntry::GaveUp { .. }) => "gave up",
+        None => "none",
     }
 }
 
+fn kinds(upstream: &WorldUpstream) -> [&'static str; 6] {
+    [
+        kind_at(upstream, 0),
+        kind_at(upstream, 1),
+        kind_at(upstream, 2),
+        kind_at(upstream, 3),
+        kind_at(upstream, 4),
+        kind_at(upstream, 5),
+    ]
+}
+
 /// The code that a poll tells, if it tells a message.
-type Code = Option<u16>;
+#[derive(Clone, Copy)]
+struct Code(Option<u16>);
 
 impl Sight<Code> for Poll<Result<Message, NetError>> {
     fn sight(&self) -> Code {
         match self {
-            Poll::Ready(Ok(message)) => Some(message.response_code.code),
-            _ => None,
+            Poll::Ready(Ok(message)) => Code(Some(message.response_code.code)),
+            _ => Code(None),
         }
     }
 }
 
 /// An upstream of the world, where each question waits for this many polls.
 fn upstream(alloc: Global, delay: u32) -> Result<WorldUpstream, Fail> {
-    let mut world = world(alloc)?;
-    world.delay = delay;
+    let world = world(alloc, delay)?;
     if !is_qualified_world(&world) {
         return Err(Fail::new(format_args!("a name is not fully qualified")));
     }
@@ -72,12 +74,19 @@ fn options(alloc: Global) -> ConnectOptions {
     }
 }
 
-fn request(alloc: Global, name: &str) -> Result<DnsRequest, Fail> {
-    let query = query(alloc, name, RecordType::A)?;
-    Ok(DnsRequest {
-        query,
-        options: DnsRequestOptions::standard(),
-    })
+/// A connection to an address.
+fn opened<P: ConnectionProvider>(
+    alloc: Global,
+    provider: &mut P,
+    server: u8,
+) -> Result<P::Conn, Fail> {
+    let Ok(mut opening) = provider.new_connection(ip(server), &udp(), &options(alloc), 1) else {
+        return Err(Fail::new(format_args!("a connection was refused")));
+    };
+    let Poll::Ready(Ok(connection)) = provider.poll_connection(&mut opening, 2) else {
+        return Err(Fail::new(format_args!("a connection waits")));
+    };
+    Ok(connection)
 }
 
 /// Asks an address for a name over a connection that is opened for it.
@@ -89,56 +98,60 @@ fn asked<P: ConnectionProvider>(
 ) -> Result<P::Exchange, Fail>
     ensures { IfOk result (λ e. IsTrue (P.waits e)) }
 {
-    let request = request(alloc, name)?;
-    let Ok(mut opening) = provider.new_connection(ip(server), &udp(), &options(alloc), 1) else {
-        return Err(Fail::new(format_args!("a connection was refused")));
-    };
-    let Poll::Ready(Ok(connection)) = provider.poll_connection(&mut opening, 2) else {
-        return Err(Fail::new(format_args!("a connection waits")));
-    };
+    let connection = opened(alloc, provider, server)?;
+    let request = request(alloc, name, false)?;
     let Ok(exchange) = provider.send(connection, &request, 3) else {
         return Err(Fail::new(format_args!("a question was refused")));
     };
     Ok(exchange)
 }
 
-/// The code that is told at the first poll.
-fn first<P: ConnectionProvider>(provider: &mut P, mut exchange: P::Exchange) -> Code
-    requires { IsTrue (P.waits exchange) }
-{
-    seen(provider.poll_exchange(&mut exchange, 4))
-}
-
-/// The code that is told at the second poll, where the first finds nothing yet.
-fn second<P: ConnectionProvider>(provider: &mut P, mut exchange: P::Exchange) -> Code
+/// At which of two polls a code is told, and which.
+fn told<P: ConnectionProvider>(provider: &mut P, mut exchange: P::Exchange) -> (u8, Option<u16>)
     requires { IsTrue (P.waits exchange) }
 {
     match provider.poll_exchange(&mut exchange, 4) {
-        Poll::Pending => seen(provider.poll_exchange(&mut exchange, 5)),
-        Poll::Ready(_) => None,
+        Poll::Pending => (2, seen(provider.poll_exchange(&mut exchange, 5)).0),
+        first => (1, seen(first).0),
     }
 }
 
+/// An address is asked for a name, and tells this code at this poll.
+fn tells(
+    alloc: Global,
+    upstream: &mut WorldUpstream,
+    server: u8,
+    name: &str,
+    wanted: (u8, Option<u16>),
+) -> Result<(), Fail> {
+    let exchange = asked(alloc, upstream, server, name)?;
+    is_wanted(told(upstream, exchange), wanted)
+}
+
+/// The entry of each call; no sixth is there.
+const NOTED: [&str; 6] = ["opened", "told", "asked", "waited", "told", "none"];
+
 #[test]
 fn a_question_waits_and_is_told(rt: HostRuntime) -> Result<(), Fail> {
-    let alloc = rt.alloc();
-    let mut upstream = upstream(alloc, 1)?;
-    let exchange = asked(alloc, &mut upstream, 3, "no.example.com.")?;
-    assert!(rt; second(&mut upstream, exchange) == Some(3));
-    assert!(rt; kind_at(&upstream, 0) == Kind::Opened);
-    assert!(rt; kind_at(&upstream, 1) == Kind::Told);
-    assert!(rt; kind_at(&upstream, 2) == Kind::Asked);
-    assert!(rt; kind_at(&upstream, 3) == Kind::Waited);
-    assert!(rt; kind_at(&upstream, 4) == Kind::Told);
-    assert!(rt; kind_at(&upstream, 5) == Kind::None);
-    Ok(())
+    let mut upstream = upstream(rt.alloc(), 1)?;
+    tells(
+        rt.alloc(),
+        &mut upstream,
+        3,
+        "no.example.com.",
+        (2, Some(3)),
+    )?;
+    is_wanted(kinds(&upstream), NOTED)
 }
 
 #[test]
 fn an_address_without_a_host_refuses(rt: HostRuntime) -> Result<(), Fail> {
-    let alloc = rt.alloc();
-    let mut upstream = upstream(alloc, 0)?;
-    let exchange = asked(alloc, &mut upstream, 9, "www.example.com.")?;
-    assert!(rt; first(&mut upstream, exchange) == Some(5));
-    Ok(())
+    let mut upstream = upstream(rt.alloc(), 0)?;
+    tells(
+        rt.alloc(),
+        &mut upstream,
+        9,
+        "www.example.com.",
+        (1, Some(5)),
+    )
 }

@@ -1,131 +1,67 @@
 //! A world of three zones, `.`, `com.` and `example.com.`, each with a server and a host of its own.
-ghost use Rattle.std.specs.Prelude.{IsTrue};
-ghost use Rattle.dns_core.specs.Record.{is_typed};
 
-use dns_core::{
-    Boxed, DnsClass, Items, Name, NameError, NoMemory, Query, RData, Record, RecordType, Records,
-    Soa,
-};
+use call_samples::{address, alias, authority, both, domain, ip, name_server, put, v4};
+use dns_core::{Items, NameError, Records};
 use std::alloc::Global;
-use std::net::{IpAddr, Ipv4Addr};
 use zone_worlds::{Host, World, Zone};
 
-/// What is seen of a value. Values of large enums are handed to `seen`, which lets go of them: a body
-/// that keeps one alive is dear to prove.
-pub trait Sight<S: Copy>: Drop {
-    fn sight(&self) -> S;
-}
-
-/// What is seen of a value that is not used again.
-pub fn seen<S: Copy, T: Sight<S>>(value: T) -> S {
-    value.sight()
-}
-
-/// The address of the host with this number.
-pub fn ip(number: u8) -> IpAddr {
-    IpAddr::V4(Ipv4Addr::new(192, 0, 2, number))
-}
-
-pub fn query(alloc: Global, name: &str, query_type: RecordType) -> Result<Query, NameError> {
-    Ok(Query {
-        name: Name::parse(alloc, name)?,
-        query_type,
-        query_class: DnsClass::IN,
-    })
-}
-
-// ---- records
-
-fn record(
-    alloc: Global,
-    name: &str,
-    record_type: RecordType,
-    rdata: RData,
-) -> Result<Record, NameError>
-    requires { IsTrue (is_typed record_type rdata) }
-{
-    Ok(Record {
-        name: Name::parse(alloc, name)?,
-        ttl: 60,
-        dns_class: DnsClass::IN,
-        record_type,
-        rdata,
-    })
-}
-
-fn address(alloc: Global, name: &str, number: u8) -> Result<Record, NameError> {
-    let ip = Ipv4Addr::new(192, 0, 2, number);
-    record(alloc, name, RecordType::A, RData::A(ip))
-}
-
-fn server(alloc: Global, apex: &str, target: &str) -> Result<Record, NameError> {
-    let target = Name::parse(alloc, target)?;
-    record(alloc, apex, RecordType::NS, RData::NS(target))
-}
-
-fn alias(alloc: Global, name: &str, target: &str) -> Result<Record, NameError> {
-    let target = Name::parse(alloc, target)?;
-    record(alloc, name, RecordType::CNAME, RData::CNAME(target))
-}
-
-fn soa(alloc: Global, server: &str) -> Result<Soa, NameError> {
-    Ok(Soa {
-        mname: Name::parse(alloc, server)?,
-        rname: Name::parse(alloc, "r.")?,
-        serial: 1,
-        refresh: 2,
-        retry: 3,
-        expire: 4,
-        minimum: 5,
-    })
-}
-
-fn authority(alloc: Global, apex: &str, server: &str) -> Result<Record, NameError> {
-    let soa = soa(alloc, server)?;
-    record(
-        alloc,
-        apex,
-        RecordType::SOA,
-        RData::SOA(Boxed::new(alloc, soa)?),
-    )
-}
-
-// ---- the world
-
 /// The records that each zone has: its authority, its server and the server's address.
+fn put_own(
+    alloc: Global,
+    records: &mut Records,
+    apex: &str,
+    target: &str,
+    number: u8,
+) -> Result<(), NameError> {
+    put(records, authority(alloc, apex, target))?;
+    put(records, name_server(alloc, apex, target))?;
+    put(records, address(alloc, target, 60, v4(number)))
+}
+
 fn own_records(alloc: Global, apex: &str, target: &str, number: u8) -> Result<Records, NameError> {
     let mut records = Records::empty(alloc);
-    records.push(authority(alloc, apex, target)?)?;
-    records.push(server(alloc, apex, target)?)?;
-    records.push(address(alloc, target, number)?)?;
+    put_own(alloc, &mut records, apex, target, number)?;
     Ok(records)
-}
-
-fn zone(alloc: Global, apex: &str, records: Records) -> Result<Zone, NameError> {
-    Ok(Zone {
-        apex: Name::parse(alloc, apex)?,
-        records,
-    })
 }
 
 /// The records of `example.com.`, where `web` is an alias of `www`.
+fn put_example(alloc: Global, records: &mut Records) -> Result<(), NameError> {
+    put_own(alloc, records, "example.com.", "ns.example.com.", 3)?;
+    put(records, address(alloc, "www.example.com.", 60, v4(7)))?;
+    put(
+        records,
+        alias(alloc, "web.example.com.", "www.example.com."),
+    )
+}
+
 fn example_records(alloc: Global) -> Result<Records, NameError> {
-    let mut records = own_records(alloc, "example.com.", "ns.example.com.", 3)?;
-    records.push(address(alloc, "www.example.com.", 7)?)?;
-    records.push(alias(alloc, "web.example.com.", "www.example.com.")?)?;
+    let mut records = Records::empty(alloc);
+    put_example(alloc, &mut records)?;
     Ok(records)
+}
+
+fn zone(alloc: Global, apex: &str, records: Result<Records, NameError>) -> Result<Zone, NameError> {
+    let (apex, records) = both(domain(alloc, apex), records)?;
+    Ok(Zone { apex, records })
+}
+
+fn put_zones(alloc: Global, zones: &mut Items<Zone>) -> Result<(), NameError> {
+    put(zones, zone(alloc, ".", own_records(alloc, ".", "ns.", 1)))?;
+    put(
+        zones,
+        zone(alloc, "com.", own_records(alloc, "com.", "ns.com.", 2)),
+    )?;
+    put(zones, zone(alloc, "example.com.", example_records(alloc)))
 }
 
 fn zones(alloc: Global) -> Result<Items<Zone>, NameError> {
     let mut zones = Items::empty(alloc);
-    zones.push(zone(alloc, ".", own_records(alloc, ".", "ns.", 1)?)?)?;
-    zones.push(zone(alloc, "com.", own_records(alloc, "com.", "ns.com.", 2)?)?)?;
-    zones.push(zone(alloc, "example.com.", example_records(alloc)?)?)?;
+    put_zones(alloc, &mut zones)?;
     Ok(zones)
 }
 
 /// The host that serves the zone with this number.
-fn host(alloc: Global, number: u8) -> Result<Host, NoMemory> {
+fn host(alloc: Global, number: u8) -> Result<Host, NameError> {
     let mut zones = Items::empty(alloc);
     zones.push(number as u32)?;
     Ok(Host {
@@ -134,21 +70,25 @@ fn host(alloc: Global, number: u8) -> Result<Host, NoMemory> {
     })
 }
 
-fn hosts(alloc: Global) -> Result<Items<Host>, NoMemory> {
+fn put_hosts(alloc: Global, hosts: &mut Items<Host>) -> Result<(), NameError> {
+    put(hosts, host(alloc, 1))?;
+    put(hosts, host(alloc, 2))?;
+    put(hosts, host(alloc, 3))
+}
+
+fn hosts(alloc: Global) -> Result<Items<Host>, NameError> {
     let mut hosts = Items::empty(alloc);
-    hosts.push(host(alloc, 1)?)?;
-    hosts.push(host(alloc, 2)?)?;
-    hosts.push(host(alloc, 3)?)?;
+    put_hosts(alloc, &mut hosts)?;
     Ok(hosts)
 }
 
-pub fn world(alloc: Global) -> Result<World, NameError> {
-    let hosts = hosts(alloc)?;
-    let zones = zones(alloc)?;
+/// The world, where each question waits for this many polls.
+pub fn world(alloc: Global, delay: u32) -> Result<World, NameError> {
+    let (zones, hosts) = both(zones(alloc), hosts(alloc))?;
     Ok(World {
         zones,
         hosts,
         chain: true,
-        delay: 0,
+        delay,
     })
 }
