@@ -114,19 +114,21 @@ fn byte_in_front(text: &[u8]) -> Option<(u8, &[u8])> {
     }
 }
 
+/// Appends the bytes of what stands behind `\x`.
+fn put_piece(bytes: &mut Vec<u8>, piece: &[u8]) -> Result<(), AllocError> {
+    let Some((byte, rest)) = byte_in_front(piece) else {
+        return bytes.extend_from_slice(piece);
+    };
+    bytes.push(byte)?;
+    bytes.extend_from_slice(rest)
+}
+
 /// The bytes of a text, in which `\x` and two digits stand for a byte.
 fn unescaped(alloc: Global, text: &str) -> Result<Vec<u8>, AllocError> {
     let mut pieces = text.split("\\x");
     let mut bytes = Vec::from_slice(alloc, pieces.next().unwrap_or("").as_bytes())?;
     for piece in pieces {
-        let rest = match byte_in_front(piece.as_bytes()) {
-            Some((byte, rest)) => {
-                bytes.push(byte)?;
-                rest
-            }
-            None => piece.as_bytes(),
-        };
-        bytes.extend_from_slice(rest)?;
+        put_piece(&mut bytes, piece.as_bytes())?;
     }
     Ok(bytes)
 }

@@ -72,7 +72,21 @@ fn try_bytes<R: Eprint>(
     Ok(Tally::one(failed))
 }
 
-/// Hands in each front of the bytes but the whole. `<number>` is the line in which it ends.
+/// Hands in a front of the bytes. `<number>` is the line in which it ends.
+fn try_front<R: Eprint>(
+    rt: &R,
+    alloc: Global,
+    subject: Subject,
+    case: Case<'_>,
+    front: &[u8],
+    wanted: &str,
+) -> io::Result<Tally> {
+    let number = format!(in alloc; "{}", count_lines(front).saturating_add(1))?;
+    let wanted = wanted.replace(alloc, "<number>", &number)?;
+    try_bytes(rt, alloc, subject, case, front, &number, &wanted)
+}
+
+/// Hands in each front of the bytes but the whole.
 fn try_fronts<R: Eprint>(
     rt: &R,
     alloc: Global,
@@ -83,10 +97,7 @@ fn try_fronts<R: Eprint>(
 ) -> io::Result<Tally> {
     let mut tally = Tally::new();
     for end in 0..bytes.len() {
-        let front = &bytes[..end];
-        let number = format!(in alloc; "{}", count_lines(front).saturating_add(1))?;
-        let wanted = wanted.replace(alloc, "<number>", &number)?;
-        tally.add(try_bytes(rt, alloc, subject, case, front, &number, &wanted)?);
+        tally.add(try_front(rt, alloc, subject, case, &bytes[..end], wanted)?);
     }
     Ok(tally)
 }
@@ -146,7 +157,25 @@ fn try_case<R: Eprint>(
     Ok(tally)
 }
 
-/// Tries each case of a file. A piece that is no case fails, and a file without a case too.
+/// Tries the case that a piece of a file is. A piece that is no case fails.
+fn try_piece<R: Eprint>(
+    rt: &R,
+    alloc: Global,
+    file: &str,
+    subject: Subject,
+    line: u64,
+    piece: &str,
+) -> io::Result<Tally> {
+    match case_of(file, line, piece) {
+        Some(case) => try_case(rt, alloc, subject, case),
+        None => {
+            eprintln!(rt; "{file}:{line}: no line -- parts what is given from what is wanted")?;
+            Ok(Tally::one(true))
+        }
+    }
+}
+
+/// Tries each case of a file. A file without a case fails.
 pub fn try_file<R: Eprint + AllocGlobal>(
     rt: &R,
     file: &str,
@@ -159,13 +188,7 @@ pub fn try_file<R: Eprint + AllocGlobal>(
     let head = pieces.next().unwrap_or("");
     let mut line = count_lines(head.as_bytes()).saturating_add(2);
     for piece in pieces {
-        match case_of(file, line, piece) {
-            Some(case) => tally.add(try_case(rt, alloc, subject, case)?),
-            None => {
-                eprintln!(rt; "{file}:{line}: no line -- parts what is given from what is wanted")?;
-                tally.add(Tally::one(true));
-            }
-        }
+        tally.add(try_piece(rt, alloc, file, subject, line, piece)?);
         line = line
             .saturating_add(count_lines(piece.as_bytes()))
             .saturating_add(1);

@@ -1,23 +1,11 @@
 //! Tries the cases of the files in data/, and tells those that do not come to what they want.
 #![tactic(auto)]
 
-mod cache_steps;
 mod case_text;
 mod cases;
-mod codes;
 mod comparing;
-mod delays;
-mod kept;
-mod names;
-mod networks;
-mod owned;
-mod plain_cache;
-mod resolver;
 mod run;
-mod scenario;
-mod script;
 mod subject;
-mod values;
 
 use cases::Tally;
 use std::process::ExitCode;

@@ -52,30 +52,38 @@ fn bench_of(alloc: Global, text: &str) -> Result<Bench, Failure> {
     }
 }
 
-fn is_answered(replies: &[Reply]) -> bool {
-    matches!(replies, [reply] if reply.outcome.is_ok())
+fn count_answered(replies: &[Reply]) -> usize {
+    replies.iter().filter(|reply| reply.outcome.is_ok()).count()
 }
 
-/// Whether the question gets an answer, in a run of its own.
-fn has_answer(alloc: Global, bench: &mut Bench) -> Result<bool, Failure> {
-    let replies = drive(alloc, &mut bench.recursor, bench.questions.items(), &[], 3)?;
-    Ok(is_answered(replies.as_slice()))
+/// How many of these questions get an answer, in a run of their own.
+fn driven(
+    alloc: Global,
+    recursor: &mut Recursor<ScriptUpstream>,
+    questions: &[Question],
+) -> Result<usize, Failure> {
+    let replies = drive(alloc, recursor, questions, &[], 3)?;
+    Ok(count_answered(replies.as_slice()))
 }
 
-fn count_answers(alloc: Global, bench: &mut Bench, times: u32) -> Result<u32, Failure> {
-    let mut answers: u32 = 0;
+fn count_answers(alloc: Global, bench: &mut Bench, times: u32) -> Result<usize, Failure> {
+    let mut answers: usize = 0;
     for _ in 0..times {
-        if has_answer(alloc, bench)? {
-            answers = answers.saturating_add(1);
-        }
+        let found = driven(alloc, &mut bench.recursor, bench.questions.items())?;
+        answers = answers.saturating_add(found);
     }
     Ok(answers)
 }
 
 /// Drives the question of a scenario so often, each time in a run of its own, and counts its answers.
-pub fn answers(alloc: Global, scenario: &str, times: u32) -> Result<u32, Failure> {
+pub fn answers(alloc: Global, scenario: &str, times: u32) -> Result<usize, Failure> {
     let mut bench = bench_of(alloc, scenario)?;
     count_answers(alloc, &mut bench, times)
+}
+
+fn push_copy(alloc: Global, all: &mut Vec<Question>, question: &Question) -> Result<(), NoMemory> {
+    all.push(question.try_clone(alloc)?)?;
+    Ok(())
 }
 
 /// So many copies of the first of these questions.
@@ -85,15 +93,18 @@ fn repeated(alloc: Global, questions: &[Question], count: u32) -> Result<Vec<Que
         return Ok(all);
     };
     for _ in 0..count {
-        all.push(question.try_clone(alloc)?)?;
+        push_copy(alloc, &mut all, question)?;
     }
     Ok(all)
+}
+
+fn count_in_one_run(alloc: Global, bench: &mut Bench, count: u32) -> Result<usize, Failure> {
+    let questions = repeated(alloc, bench.questions.items(), count)?;
+    driven(alloc, &mut bench.recursor, questions.as_slice())
 }
 
 /// Drives the first question of a scenario so many times, in one run, and counts its answers.
 pub fn answers_of_one_run(alloc: Global, scenario: &str, count: u32) -> Result<usize, Failure> {
     let mut bench = bench_of(alloc, scenario)?;
-    let questions = repeated(alloc, bench.questions.items(), count)?;
-    let replies = drive(alloc, &mut bench.recursor, questions.as_slice(), &[], 3)?;
-    Ok(replies.iter().filter(|reply| reply.outcome.is_ok()).count())
+    count_in_one_run(alloc, &mut bench, count)
 }

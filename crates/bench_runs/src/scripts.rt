@@ -1,6 +1,6 @@
 //! Lines of scenarios.
 
-use crate::failure::Failure;
+use scenario_runs::Failure;
 use std::alloc::Global;
 
 /// The first addresses of the first network, so many, as roots.

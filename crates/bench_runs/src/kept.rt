@@ -1,12 +1,12 @@
 //! The cache of responses alone, with so many entries, and its calls.
 
-use crate::failure::Failure;
 use dns_core::{
     DnsClass, Message, Name, NetError, NoMemory, Query, RData, Record, RecordType, Records,
     ResponseCode, TryClone,
 };
 use resolver_cache::ResponseCache;
 use resolver_settings::TtlConfig;
+use scenario_runs::Failure;
 use std::alloc::Global;
 use std::net::Ipv4Addr;
 
@@ -88,13 +88,19 @@ fn empty(alloc: Global, size: u32) -> Result<ResponseCache, Failure> {
     }
 }
 
+/// Writes an entry, at the microsecond of its number.
+fn fill(alloc: Global, cache: &mut ResponseCache, entry: u32) -> Result<(), Failure> {
+    let query = question(alloc, entry)?;
+    let answer = answer(alloc, &query, entry)?;
+    cache.insert(alloc, query, Ok(answer), u64::from(entry))?;
+    Ok(())
+}
+
 /// A cache with so many entries, written a microsecond apart from each other.
 fn filled(alloc: Global, entries: u32) -> Result<ResponseCache, Failure> {
     let mut cache = empty(alloc, entries)?;
     for entry in 0..entries {
-        let query = question(alloc, entry)?;
-        let answer = answer(alloc, &query, entry)?;
-        cache.insert(alloc, query, Ok(answer), u64::from(entry))?;
+        fill(alloc, &mut cache, entry)?;
     }
     Ok(cache)
 }
@@ -136,26 +142,35 @@ impl Calls {
         }
     }
 
-    /// Fills a cache and makes the calls. Gives how many find an answer, and how many entries there are
-    /// then.
-    pub fn go(self, alloc: Global) -> Result<(u32, u64), Failure> {
-        let mut cache = filled(alloc, self.entries)?;
+    /// Makes the calls. Gives how many find an answer, and how many entries there are then.
+    fn go_over(self, alloc: Global, cache: &mut ResponseCache) -> Result<(u32, u64), Failure> {
         let mut found: u32 = 0;
         for turn in 0..self.times {
-            if self.goes(alloc, &mut cache, turn, u64::from(self.entries))? {
+            if self.goes(alloc, cache, turn, u64::from(self.entries))? {
                 found = found.saturating_add(1);
             }
         }
         Ok((found, cache.entry_count()))
     }
+
+    /// The same on a cache that is filled before.
+    pub fn go(self, alloc: Global) -> Result<(u32, u64), Failure> {
+        let mut cache = filled(alloc, self.entries)?;
+        self.go_over(alloc, &mut cache)
+    }
+}
+
+fn hold_one(alloc: Global, held: &mut Vec<Message>, entry: u32) -> Result<(), Failure> {
+    let query = question(alloc, entry)?;
+    held.push(answer(alloc, &query, entry)?)?;
+    Ok(())
 }
 
 /// Makes so many answers without a cache, and holds them all. Gives how many there are.
 pub fn hold(alloc: Global, answers: u32) -> Result<usize, Failure> {
     let mut held = Vec::with_capacity(alloc, answers as usize)?;
     for entry in 0..answers {
-        let query = question(alloc, entry)?;
-        held.push(answer(alloc, &query, entry)?)?;
+        hold_one(alloc, &mut held, entry)?;
     }
     Ok(held.len())
 }

@@ -2,14 +2,14 @@
 
 use crate::owned::{Lines, lines_of};
 use crate::script::put_rule;
-use crate::values::{put_ip, put_name};
 use dns_core::{NoMemory, Question};
-use recursor_core::RecursorOptions;
 use recursor_text::{Cause, Scenario, ScenarioError, Upstream, read_scenario};
+use recursor_types::RecursorOptions;
 use recursor_world::ScriptLine;
 use resolver_settings::IpNet;
 use std::alloc::Global;
 use std::fmt::Write;
+use value_subjects::{put_ip, put_name};
 
 /// The line of a fault.
 fn fault_text(alloc: Global, error: ScenarioError) -> Result<String, NoMemory> {

@@ -1,7 +1,6 @@
 //! The text of a resolver, below a line with the name of its host; and search domains as text.
 
 use crate::owned::{Lines, lines_of};
-use crate::values::{put_ip, put_name};
 use dns_core::{ConnectionConfig, Name, NameError, Names, NoMemory, ProtocolConfig};
 use resolver_settings::{
     ConfError, NameServerConfig, ResolverConfig, ResolverOpts, parse_resolv_conf,
@@ -10,6 +9,7 @@ use resolver_settings::{
 use std::alloc::Global;
 use std::fmt::Write;
 use std::net::IpAddr;
+use value_subjects::{put_ip, put_name};
 
 /// What a resolver's text says.
 #[derive(Drop)]

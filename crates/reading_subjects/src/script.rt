@@ -1,11 +1,11 @@
 //! The lines of a script as text, with numbers for words.
 
-use crate::values::{put_bytes, put_ip, put_name, put_narrow, put_wide};
 use dns_core::{IoKind, Message, NetError, NoMemory, Protocol, RData, Record, RecordType, Soa};
 use recursor_world::ScriptLine;
 use std::alloc::Global;
 use std::fmt::Write;
 use std::net::IpAddr;
+use value_subjects::{put_bytes, put_ip, put_name, put_narrow, put_wide};
 
 fn protocol_text(protocol: Protocol) -> &'static str {
     match protocol {

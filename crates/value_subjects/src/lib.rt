@@ -1,0 +1,14 @@
+//! What cases are of below the recursor: names, codes, delays and the cache of responses. Each subject is
+//! a function from the text that a case hands in to the text that comes of it. The crate also writes
+//! values as numbers, for other subjects.
+#![tactic(auto)]
+
+mod cache_steps;
+pub mod codes;
+pub mod delays;
+pub mod kept;
+pub mod names;
+mod plain_cache;
+mod values;
+
+pub use values::{put_bytes, put_ip, put_name, put_narrow, put_wide};
