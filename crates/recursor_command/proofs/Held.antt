@@ -5,7 +5,6 @@ use Rattle.std.specs.declared.option.Option.{Option}
 use Rattle.std.specs.Io.KnownBytes.{Consumes, IsAtEnd}
 use Rattle.std.proofs.lemmas.List.{append-nil}
 use Rattle.recursor_text.specs.declared.scenario.Cause.{Cause}
-use Rattle.recursor_text.specs.declared.scenario.Cause.TheVariants as cause
 use Rattle.recursor_text.specs.Faults.{HasFault}
 use Rattle.dns_core.specs.WholeStreams.{HeldAll, TakesAtMost}
 use Rattle.recursor_command.specs.declared.faults.Fault.{Fault}
@@ -16,6 +15,7 @@ use Rattle.recursor_command.specs.declared.words.Command.TheVariants.{Resolve, C
 use Rattle.recursor_command.proofs.Unread.{too_long}
 use Rattle.recursor_command.specs.Command.{IsRefusedAs, IsUnread, IsUnchecked, IsFaultOf, HasOutput, HasWritten, HasRefused, IsTextFor, IsTextOf, WrotePart}
 use Rattle.dns_core.specs.Faults.{Rose}
+use Rattle.recursor_text.specs.declared.scenario.Cause.TheVariants as cause
 
 same_all : (all new bytes : List ℕ) → HeldAll (Some all) (Some new) bytes 16777217 → length bytes ≤ 16777216 → bytes ≡ all
 same_all all new bytes h le =

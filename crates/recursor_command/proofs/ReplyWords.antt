@@ -10,8 +10,6 @@ use Rattle.dns_core.specs.declared.codes.ResponseCode.{ResponseCode}
 use Rattle.dns_core.specs.declared.message.Message.{Message as Response}
 use Rattle.dns_core.specs.declared.message.Query.{Query}
 use Rattle.dns_core.specs.declared.net_error.NetError.{NetError}
-use Rattle.dns_core.specs.declared.net_error.NetError.TheVariants as net
-use Rattle.dns_core.specs.declared.net_error.DnsError.TheVariants as dns
 use Rattle.dns_core.specs.declared.net_error.NoRecords.{NoRecords}
 use Rattle.dns_core.specs.declared.record.Record.{Record}
 use Rattle.dns_core.specs.declared.request.Question.{Question}
@@ -31,10 +29,9 @@ use Rattle.resolution.specs.Ending.EndSends.{no_send, and_send}
 use Rattle.recursor_types.specs.declared.error.MessageKind.{MessageKind}
 use Rattle.recursor_types.specs.declared.error.MessageKind.TheVariants.{NotQualified}
 use Rattle.recursor_types.specs.declared.error.RecursorError.{RecursorError}
-use Rattle.recursor_types.specs.declared.error.RecursorError.TheVariants as error
 use Rattle.recursor_types.specs.declared.reply.Reply.{Reply}
 use Rattle.recursor_walk.specs.Causes.{ErrorHolds, HasFailed}
-use Rattle.walk_tables.specs.Lookup.{is_lookup_error}
+use Rattle.lookup_facts.specs.Found.{is_lookup_error}
 use Rattle.recursor_setting.specs.declared.setting.Setting.{Setting}
 use Rattle.recursor_walk.specs.Replies.{OutcomeHolds}
 use Rattle.recursor_core.specs.Standing.{RepliesHold}
@@ -43,6 +40,9 @@ use Rattle.transcript_printer.specs.Errors.{has_words, has_net_words, is_not_qua
 use Rattle.transcript_printer.specs.Log.{has_entry_words}
 use Rattle.transcript_printer.specs.Transcript.{has_result_words, has_reply_words}
 use Rattle.recursor_command.proofs.LogWords.{all_at_places}
+use Rattle.dns_core.specs.declared.net_error.NetError.TheVariants as net
+use Rattle.dns_core.specs.declared.net_error.DnsError.TheVariants as dns
+use Rattle.recursor_types.specs.declared.error.RecursorError.TheVariants as error
 
 -- each entry of the log has its words
 abbrev IsWorded : Log → Type 0

@@ -14,7 +14,7 @@ use Rattle.order_carrier.specs.Growing.{LongerOver}
 use Rattle.order_carrier.specs.Patience.{PatientSince}
 use Rattle.server_core.specs.Context.{Context}
 use Rattle.recursor_setting.specs.declared.setting.Setting.{Setting}
-use Rattle.walk_tables.specs.View.{given_of}
+use Rattle.lookup_facts.specs.View.{given_of}
 use Rattle.recursor_core.specs.Standing.{Standing, run_terms, run_moments, RepliesHold}
 use Rattle.recursor_types.specs.declared.reply.Reply.{Reply}
 use Rattle.recursor_command.specs.Command.{HappensAt, IsUntold}

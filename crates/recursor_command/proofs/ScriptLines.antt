@@ -14,7 +14,6 @@ use Rattle.recursor_text.specs.declared.reading.draft.Refusal.{Refusal}
 use Rattle.recursor_text.specs.declared.scenario.Scenario.{Scenario}
 use Rattle.recursor_text.specs.declared.scenario.ScenarioError.{ScenarioError}
 use Rattle.recursor_text.specs.declared.scenario.Cause.{Cause}
-use Rattle.recursor_text.specs.declared.scenario.Cause.TheVariants as cause
 use Rattle.recursor_text.specs.declared.scenario.Upstream.TheVariants.{Script as FromScript}
 use Rattle.recursor_text.specs.Steps.{is_ended}
 use Rattle.recursor_text.specs.Whole.{start, taken, scenario_of, refusal_of}
@@ -23,6 +22,7 @@ use Rattle.recursor_text.specs.Spelling.{to_patience, to_upstream, scenario_line
 use Rattle.recursor_text.proofs.BesideLaws.{Good, so_far, taken_takes, start_good, ended_is}
 use Rattle.recursor_command.specs.Checking.{TellsScript, first_told}
 use Rattle.recursor_command.proofs.Scripts.{told, Stood, tells, within, length_push}
+use Rattle.recursor_text.specs.declared.scenario.Cause.TheVariants as cause
 
 abbrev Read : Type 0
 Read = Result Scenario ScenarioError

@@ -1,9 +1,9 @@
 -- A recursor whose roots and options are right is refused for want of memory alone.
 use Rattle.std.proofs.Common.{◌≡◌, inl, inr}
-use Rattle.recursor_types.specs.declared.error.MessageKind.TheVariants as kind
 use Rattle.recursor_types.specs.declared.error.RecursorError.{RecursorError}
-use Rattle.recursor_types.specs.declared.error.RecursorError.TheVariants as error
 use Rattle.recursor_core.specs.Recursor.{IsSetupError}
+use Rattle.recursor_types.specs.declared.error.MessageKind.TheVariants as kind
+use Rattle.recursor_types.specs.declared.error.RecursorError.TheVariants as error
 
 pub memory_alone : (e : RecursorError) → IsSetupError e → (e ≡ error.Message kind.NoRoots → ⊥) → (e ≡ error.Message kind.ReversedTtl → ⊥) → (e ≡ error.Message kind.FirstDelays → ⊥) → e ≡ error.NoMemory
 memory_alone e (inl first) roots reversed delays = absurd (delays first)

@@ -2,7 +2,6 @@
 use Rattle.std.proofs.Common.{◌≡◌, ◌≤◌, ℕ, true, false, ltb, List, length, Option, Some, None, Ok, Err, inl, inr, refl, sym, subst, ◌∙◌, arith}
 use Rattle.std.proofs.lemmas.Bool.{cases_Bool, ltb-true, ltb-false}
 use Rattle.recursor_text.specs.declared.scenario.Cause.{Cause}
-use Rattle.recursor_text.specs.declared.scenario.Cause.TheVariants as cause
 use Rattle.recursor_text.specs.declared.scenario.Scenario.{Scenario}
 use Rattle.recursor_text.specs.declared.scenario.ScenarioError.{ScenarioError}
 use Rattle.recursor_text.specs.Faults.{HasFault}
@@ -17,6 +16,7 @@ use Rattle.recursor_command.specs.declared.faults.Fault.TheVariants.{Words, Line
 use Rattle.text_words.specs.Pieces.{pieces}
 use Rattle.text_words.proofs.Binds.{some_is}
 use Rattle.recursor_command.proofs.Scripts.{Stood, first_bad, trailing, cut_off, tells, tells_none}
+use Rattle.recursor_text.specs.declared.scenario.Cause.TheVariants as cause
 
 fits_by : (bytes : List ℕ) (n : ℕ) (why : Cause) → HasFault bytes n why → FailsBy (record { line = n; cause = why }) why (scenario_in bytes) → IsUnread bytes (fault_by why n)
 fits_by bytes n cause.Line h g = inl (h, g)

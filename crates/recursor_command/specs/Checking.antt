@@ -6,16 +6,16 @@ use Rattle.text_words.specs.Spelling.{spelled}
 use Rattle.line_forms.specs.Spelling.{told_words}
 use Rattle.zone_worlds.specs.declared.world.World.{World}
 use Rattle.recursor_text.specs.declared.scenario.Cause.{Cause}
-use Rattle.recursor_text.specs.declared.scenario.Cause.TheVariants as cause
 use Rattle.recursor_text.specs.declared.scenario.Scenario.{Scenario}
 use Rattle.recursor_text.specs.declared.scenario.ScenarioError.{ScenarioError}
-use Rattle.recursor_text.specs.declared.scenario.Upstream.TheVariants as upstream
 use Rattle.recursor_text.specs.Spelling.{Reads}
 use Rattle.recursor_text.specs.Faults.{CanStand}
 use Rattle.check_text.specs.Checking.{Tells as TellsOf}
 use Rattle.recursor_command.specs.Faults.{fault_of}
 use Rattle.recursor_command.specs.declared.faults.Fault.{Fault}
 use Rattle.recursor_command.specs.declared.faults.Fault.TheVariants.{Line}
+use Rattle.recursor_text.specs.declared.scenario.Cause.TheVariants as cause
+use Rattle.recursor_text.specs.declared.scenario.Upstream.TheVariants as upstream
 
 -- the scenario is over a world, and the text tells of it whether it is well served and which questions are valid
 abbrev pub HasFindings : Scenario → List ℕ → Type 0

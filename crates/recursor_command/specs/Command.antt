@@ -13,10 +13,9 @@ use Rattle.resolution.specs.Ending.{waits}
 use Rattle.resolution.specs.Asking.{AsksServers}
 use Rattle.recursor_setting.specs.Setting.{setting_of, context_of}
 use Rattle.recursor_setting.specs.declared.setting.Setting.{Setting}
-use Rattle.walk_tables.specs.View.{given_of}
+use Rattle.lookup_facts.specs.View.{given_of}
 use Rattle.resolver_settings.specs.Ttl.{has_reversed}
-use Rattle.recursor_types.specs.Options.{has_bad_first_delays}
-use Rattle.recursor_types.specs.Options.{server_filter_of, answer_filter_of}
+use Rattle.recursor_types.specs.Options.{has_bad_first_delays, server_filter_of, answer_filter_of}
 use Rattle.recursor_core.specs.Standing.{Standing, RepliesHold, run_moments}
 use Rattle.recursor_types.specs.declared.options.RecursorOptions.{RecursorOptions}
 use Rattle.std.specs.declared.net.ip_addr.IpAddr.{IpAddr}
@@ -24,10 +23,8 @@ use Rattle.dns_core.specs.declared.request.Question.{Question}
 use Rattle.dns_core.specs.declared.request.Turn.{Turn}
 use Rattle.recursor_types.specs.declared.reply.Reply.{Reply}
 use Rattle.recursor_text.specs.declared.scenario.Cause.{Cause}
-use Rattle.recursor_text.specs.declared.scenario.Cause.TheVariants as cause
 use Rattle.recursor_text.specs.declared.scenario.Scenario.{Scenario}
 use Rattle.recursor_text.specs.declared.scenario.Upstream.{Upstream as Told}
-use Rattle.recursor_text.specs.declared.scenario.Upstream.TheVariants as upstream
 use Rattle.transcript_printer.specs.declared.transcript.Transcript.{Transcript}
 use Rattle.recursor_text.specs.Spelling.{Reads, IsUpstream}
 use Rattle.recursor_text.specs.Reading.{fails_at, scenario_in}
@@ -41,6 +38,8 @@ use Rattle.recursor_command.specs.declared.words.Command.TheVariants.{Resolve, C
 use Rattle.recursor_command.specs.declared.faults.Fault.{Fault}
 use Rattle.recursor_command.specs.declared.faults.Fault.TheVariants.{Words, Line, NotBuilt, Read, Memory}
 use Rattle.recursor_command.specs.declared.status.Status.{Status}
+use Rattle.recursor_text.specs.declared.scenario.Cause.TheVariants as cause
+use Rattle.recursor_text.specs.declared.scenario.Upstream.TheVariants as upstream
 use Rattle.recursor_command.specs.declared.status.Status.TheVariants as status
 
 -- the command of this name

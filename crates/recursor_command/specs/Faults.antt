@@ -1,11 +1,11 @@
 -- Faults, their texts, and the statuses with which they end a run.
 use Rattle.std.specs.Prelude.{ℕ, List, ◌++◌, codes, decimal}
 use Rattle.recursor_text.specs.declared.scenario.Cause.{Cause}
-use Rattle.recursor_text.specs.declared.scenario.Cause.TheVariants as cause
 use Rattle.recursor_text.specs.declared.scenario.ScenarioError.{ScenarioError}
 use Rattle.recursor_command.specs.declared.faults.Fault.{Fault}
 use Rattle.recursor_command.specs.declared.faults.Fault.TheVariants.{Words, Line, NotBuilt, Read, Memory}
 use Rattle.recursor_command.specs.declared.status.Status.{Status}
+use Rattle.recursor_text.specs.declared.scenario.Cause.TheVariants as cause
 use Rattle.recursor_command.specs.declared.status.Status.TheVariants as status
 
 abbrev pub fault_text : Fault → List ℕ

@@ -1,11 +1,5 @@
 -- A question that is answered is under way no more.
-use Rattle.std.proofs.Common.{◌≡◌, ◌<◌, ℕ, zero, suc, List, [], ◌∷◌, length, get_or, Some, arith, ap, slice_get}
-use Rattle.std.specs.Global.{Box}
-use Rattle.std.proofs.Math.ListN.{set}
-use Rattle.std.proofs.lemmas.List.Sums.{sum_by-set}
-use Rattle.recursor_core.specs.Turns.{open_play, open_plays}
-use Rattle.recursor_types.specs.declared.reply.Reply.{Reply}
-use Rattle.recursor_core.specs.declared.plays.Played.{Played}
+use Rattle.recursor_core.proofs.Names.{◌≡◌, ◌<◌, ℕ, zero, suc, List, [], ◌∷◌, length, get_or, Some, arith, ap, slice_get, Box, set, sum_by-set, open_play, open_plays, Reply, Played}
 use Rattle.recursor_core.specs.declared.plays.Played.TheVariants as played
 
 -- what a list has at a place is read there

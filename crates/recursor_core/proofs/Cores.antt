@@ -1,34 +1,10 @@
 -- The machine after a step of one of its resolutions.
-use Rattle.std.proofs.Common.{◌≡◌, ◌≤◌, ◌<◌, ◌+◌, ℕ, zero, suc, List, [], ◌∷◌, ◌++◌, length, All, ◌⊎◌, inl, inr, ⊎_elim, Option, Some, None, Result, Ok, Err, refl, sym, ◌∙◌, ap, subst, arith}
-use Rattle.std.specs.Global.{Box}
-use Rattle.std.specs.Prelude.{slice_get, IfSome, IsErr}
-use Rattle.std.proofs.lemmas.List.Elements.{All-set}
-use Rattle.std.proofs.Math.ListN.{set}
-use Rattle.std.specs.Option.{option_map}
-use Rattle.dns_core.specs.Log.{Log}
-use Rattle.dns_core.specs.declared.request.Question.{Question}
-use Rattle.dns_core.specs.declared.errors.NoMemory.{NoMemory}
-use Rattle.order_carrier.specs.Fits.{GoesToServer}
+use Rattle.recursor_core.proofs.Names.{◌≡◌, ◌≤◌, ◌<◌, ◌+◌, ℕ, zero, suc, List, [], ◌∷◌, ◌++◌, length, All, ◌⊎◌, inl, inr, ⊎_elim, Option, Some, None, Result, Ok, Err, refl, sym, ◌∙◌, ap, subst, arith, Box, IfSome, IsErr, All-set, set, option_map, Log, Question, NoMemory, GoesToServer, View, seen_at, given_of, Replied, seen_by, Derived, KeptHolds, SameBegun, open_of, IfAwaits, Stepped, get_or_from_slice_get, slice_get_within, kept_in, Begun, begun_of, begun_at, IsOneMore, given_by, open_in, GoesOn, StepIs, Steps, ReplyGiven, StepGives, SameCore, Setting, RecursorCore, Step, Reply, Resolution, PoolsHold, CacheHolds, length-set}
+use Rattle.std.specs.Prelude.{slice_get}
 use Rattle.walk_tables.specs.declared.pools.Pools.{Pools}
-use Rattle.walk_tables.specs.View.{View, seen_at, given_of}
-use Rattle.recursor_walk.specs.Replies.{Replied}
-use Rattle.recursor_core.specs.Derived.{seen_by, Derived, KeptHolds}
-use Rattle.recursor_walk.specs.Resolving.{SameBegun, open_of}
-use Rattle.walk_tables.specs.Taking.{IfAwaits}
-use Rattle.walk_tables.specs.declared.pools.Stepped.{Stepped}
 use Rattle.recursor_core.proofs.Places.{slice_get-set_same}
-use Rattle.std.proofs.lemmas.Option.{get_or_from_slice_get, slice_get_within}
-use Rattle.recursor_core.specs.Machine.{kept_in, Begun, begun_of, begun_at, IsOneMore, given_by, open_in, GoesOn, StepIs, Steps, ReplyGiven, StepGives, SameCore}
-use Rattle.recursor_setting.specs.declared.setting.Setting.{Setting}
-use Rattle.recursor_core.specs.declared.machine.RecursorCore.{RecursorCore}
-use Rattle.recursor_core.specs.declared.machine.Step.{Step}
-use Rattle.recursor_core.specs.declared.machine.Step.TheVariants as step
 use Rattle.recursor_core.specs.declared.machine.Progress.{Progress}
-use Rattle.recursor_types.specs.declared.reply.Reply.{Reply}
-use Rattle.recursor_walk.specs.declared.resolving.Resolution.{Resolution}
-use Rattle.walk_tables.specs.Pools.{PoolsHold}
-use Rattle.walk_tables.specs.Remembered.{CacheHolds}
-use Rattle.std.proofs.lemmas.List.{length-set}
+use Rattle.recursor_core.specs.declared.machine.Step.TheVariants as step
 
 -- what holds of all holds of the one that is kept at a place
 pub held-at : (P : Option (Box Resolution) → Type 0) (xs : List (Option (Box Resolution))) (i : ℕ) (x : Option (Box Resolution)) → slice_get xs i ≡ Some x → All P xs → P x

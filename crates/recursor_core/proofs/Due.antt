@@ -1,11 +1,7 @@
 -- How much is left to do in a run.
-use Rattle.std.proofs.Common.{◌≡◌, ◌≤◌, ◌<◌, ◌+◌, ◌-◌, ◌*◌, ◌^◌, ◌∙◌, ℕ, Bool, true, false, Option, Some, None, Result, Ok, Err, OnOk, MatchBool, refl, sym, ap, arith}
-use Rattle.std.specs.BTreeSet.{BTreeSet, contains}
-use Rattle.std.specs.Ordering.{nat_cmp}
-use Rattle.std.specs.Prelude.{IsSome}
-use Rattle.std.proofs.Math.Nat.{mul-le-mul_left}
-use Rattle.dns_core.specs.declared.errors.NoMemory.{NoMemory}
+use Rattle.recursor_core.proofs.Names.{◌≡◌, ◌≤◌, ◌<◌, ◌+◌, ◌-◌, ◌*◌, ◌^◌, ◌∙◌, ℕ, Bool, true, false, Option, Some, None, Result, Ok, Err, OnOk, MatchBool, refl, sym, ap, arith, BTreeSet, contains, nat_cmp, IsSome, NoMemory}
 use Rattle.recursor_core.specs.Turns.{due_of}
+use Rattle.std.proofs.Math.Nat.{mul-le-mul_left}
 
 -- a number less outweighs all polls of an order, and its end
 less_left : (most s t x y : ℕ) → t + 1 ≤ s → x ≤ y + (most + 1) → (most + 2) * t + x < (most + 2) * s + y

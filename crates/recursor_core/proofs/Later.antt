@@ -1,15 +1,5 @@
 -- What the machine keeps goes on being derived as it comes further.
-use Rattle.std.proofs.Common.{◌≡◌, ◌<◌, List, All, Option, Some, None, length, refl, sym, subst, arith}
-use Rattle.std.specs.Global.{Box}
-use Rattle.std.proofs.lemmas.List.Elements.{All-weaker}
-use Rattle.dns_core.specs.Log.{Log, Extends}
-use Rattle.recursor_setting.specs.declared.setting.Setting.{Setting}
-use Rattle.walk_tables.specs.View.{View, Later}
-use Rattle.walk_tables.proofs.Later.{cache-later, pools-later, later-by}
-use Rattle.recursor_walk.proofs.Later.{resolution-later}
-use Rattle.recursor_core.specs.Derived.{KeptHolds, seen_by, Derived}
-use Rattle.recursor_walk.specs.declared.resolving.Resolution.{Resolution}
-use Rattle.recursor_core.specs.declared.machine.RecursorCore.{RecursorCore}
+use Rattle.recursor_core.proofs.Names.{◌≡◌, ◌<◌, List, All, Option, Some, None, length, refl, sym, subst, arith, Box, All-weaker, Log, Extends, Setting, View, Later, cache-later, later-by, pools-later, resolution-later, KeptHolds, seen_by, Derived, Resolution, RecursorCore}
 
 module _ (old new : View) (later : Later old new) where
   -- the one that is kept at a place

@@ -1,18 +1,6 @@
 -- Steps of a run lead on, and what became of its questions goes with them.
-use Rattle.std.proofs.Common.{◌≡◌, ◌≤◌, ◌+◌, ◌∙◌, ◌⊎◌, ℕ, zero, suc, max, List, [], ◌∷◌, Contains, Option, refl, sym, subst, arith}
-use Rattle.dns_core.specs.declared.log.LogEntry.{LogEntry}
-use Rattle.dns_core.specs.declared.provider.ConnectionProvider.{Ghosts}
-use Rattle.dns_core.specs.declared.request.Turn.{Turn}
+use Rattle.recursor_core.proofs.Names.{◌≡◌, ◌≤◌, ◌+◌, ◌∙◌, ◌⊎◌, ℕ, zero, suc, max, List, [], ◌∷◌, Contains, Option, refl, sym, subst, arith, LogEntry, Ghosts, Turn, GrownOver, over_refl, over_one, over_trans, IsPatient-refl, IsPatient-trans, Runner, Derived, Leading, IsDue, IsOver, Holds, Goes, RecursorCore, Log}
 use Rattle.order_carrier.specs.Patience.{IsPatient}
-use Rattle.order_carrier.specs.Growing.{GrownOver}
-use Rattle.order_carrier.proofs.Moments.{over_refl, over_one, over_trans}
-use Rattle.order_carrier.proofs.Waiting.{IsPatient-refl, IsPatient-trans}
-use Rattle.order_runner.specs.declared.runner.Runner.{Runner}
-use Rattle.recursor_core.specs.Derived.{Derived}
-use Rattle.recursor_core.specs.Runs.{Leading, IsDue, IsOver}
-use Rattle.recursor_core.specs.Standing.{Holds, Goes}
-use Rattle.recursor_core.specs.declared.machine.RecursorCore.{RecursorCore}
-use Rattle.dns_core.specs.Log.{Log}
 use Rattle.recursor_core.proofs.Playing.{first_other, begins_now, begins_last}
 use Rattle.recursor_core.proofs.Standing.{holds_derived, moment_later}
 use Rattle.recursor_core.proofs.Timed.{contains_first, contains_later, contains_moment}

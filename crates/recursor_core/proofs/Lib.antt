@@ -1,3 +1,4 @@
+pub mod Names
 pub mod Answered
 pub mod Cores
 pub mod Due

@@ -1,6 +1,5 @@
 -- A list in which one place is set.
-use Rattle.std.proofs.Common.{◌≡◌, ◌≢◌, ◌<◌, ℕ, zero, suc, List, [], ◌∷◌, length, slice_get, Some, refl, ap, arith}
-use Rattle.std.proofs.Math.ListN.{set}
+use Rattle.recursor_core.proofs.Names.{◌≡◌, ◌≢◌, ◌<◌, ℕ, zero, suc, List, [], ◌∷◌, length, slice_get, Some, refl, ap, arith, set}
 
 -- what is set at a place stands there
 pub slice_get-set_same : {X : Type 0} (xs : List X) (i : ℕ) (x : X) → i < length xs → slice_get (set xs i x) i ≡ Some x

@@ -1,36 +1,11 @@
 -- The questions of a run, as their turns are played.
-use Rattle.std.proofs.Common.{◌≡◌, ◌≢◌, ◌≤◌, ◌<◌, ◌+◌, ◌-◌, ◌++◌, ◌∙◌, ◌⊎◌, ⊎_elim, inl, inr, ℕ, zero, suc, max, List, [], ◌∷◌, length, Option, Some, None, Err, refl, sym, ap, subst, arith, slice_get, if◌then◌else◌, eq-eqb, All, Contains}
-use Rattle.std.specs.Global.{Box}
-use Rattle.std.proofs.Math.ListN.{set}
+use Rattle.recursor_core.proofs.Names.{◌≡◌, ◌≢◌, ◌≤◌, ◌<◌, ◌+◌, ◌-◌, ◌++◌, ◌∙◌, ◌⊎◌, ⊎_elim, inl, inr, ℕ, zero, suc, max, List, [], ◌∷◌, length, Option, Some, None, Err, refl, sym, ap, subst, arith, slice_get, if◌then◌else◌, eq-eqb, All, Contains, Box, set, same_Some, slice_get_within, get_or_from_slice_get, All-get_or, Log, log_of, LogEntry, Question, Turn, Ghosts, Timer, machine_timer, ReplyHolds, TellsThat, Grown, Begun, begun_at, begun_of, kept_in, IsOneMore, Moves, ReplyTold, first_moment, last_moment, begin_moment, run_moments, run_timer, PlayHolds, PlaysHold, RepliesHold, ReplyFor, Begins, BeginsIf, BeginsAt, IsRefused, ReplyOf, Setting, Carrier, RecursorCore, Reply, Played, reply-earlier, Grown-refl, seen_at, Resolution, option_map}
 use Rattle.std.proofs.lemmas.Bool.{ne_eqb}
-use Rattle.std.proofs.lemmas.Option.{same_Some, slice_get_within, get_or_from_slice_get}
-use Rattle.std.proofs.lemmas.List.Elements.{All-get_or}
-use Rattle.dns_core.specs.Log.{Log, log_of}
-use Rattle.dns_core.specs.declared.log.LogEntry.{LogEntry}
-use Rattle.dns_core.specs.declared.request.Question.{Question}
-use Rattle.dns_core.specs.declared.request.Turn.{Turn}
-use Rattle.dns_core.specs.declared.provider.ConnectionProvider.{Ghosts}
-use Rattle.walk_tables.specs.Tried.{Timer, machine_timer}
-use Rattle.recursor_walk.specs.Replies.{ReplyHolds}
-use Rattle.order_carrier.specs.Growing.{TellsThat, Grown}
-use Rattle.recursor_core.specs.Machine.{Begun, begun_at, begun_of, kept_in, IsOneMore}
-use Rattle.recursor_core.specs.Standing.{Moves, ReplyTold, first_moment, last_moment, begin_moment, run_moments, run_timer, PlayHolds, PlaysHold, RepliesHold, ReplyFor}
-use Rattle.recursor_core.specs.Turns.{Begins, BeginsIf, BeginsAt, IsRefused, ReplyOf}
-use Rattle.recursor_setting.specs.declared.setting.Setting.{Setting}
-use Rattle.order_carrier.specs.declared.carrier.Carrier.{Carrier}
-use Rattle.recursor_types.specs.declared.error.RecursorError.TheVariants as error
-use Rattle.recursor_core.specs.declared.machine.RecursorCore.{RecursorCore}
-use Rattle.recursor_types.specs.declared.reply.Reply.{Reply}
-use Rattle.recursor_core.specs.declared.plays.Played.{Played}
-use Rattle.recursor_core.specs.declared.plays.Played.TheVariants as played
-use Rattle.recursor_walk.proofs.Earlier.{reply-earlier}
-use Rattle.order_carrier.proofs.Growing.{Grown-refl}
 use Rattle.recursor_core.proofs.Places.{slice_get-set_same, slice_get-set_other}
 use Rattle.recursor_core.proofs.Standing.{ReplyHolds-grown}
 use Rattle.recursor_core.proofs.Timed.{reply-timed, run_first}
-use Rattle.walk_tables.specs.View.{seen_at}
-use Rattle.recursor_walk.specs.declared.resolving.Resolution.{Resolution}
-use Rattle.std.specs.Option.{option_map}
+use Rattle.recursor_types.specs.declared.error.RecursorError.TheVariants as error
+use Rattle.recursor_core.specs.declared.plays.Played.TheVariants as played
 
 -- two numbers are equal, or not
 same_or_not : (k n : ℕ) → (k ≡ n) ⊎ (k ≢ n)

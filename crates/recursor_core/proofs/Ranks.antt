@@ -1,17 +1,9 @@
 -- How many steps resolutions have before them, and a list of them in which one is changed.
-use Rattle.std.proofs.Common.{◌≡◌, ◌≢◌, ◌≤◌, ◌<◌, ◌∙◌, ℕ, zero, suc, List, [], ◌∷◌, length, get_or, Option, Some, refl, arith, ap}
-use Rattle.std.specs.Global.{Box}
-use Rattle.std.specs.Prelude.{slice_get, sum_by}
-use Rattle.std.proofs.Math.ListN.{set}
-use Rattle.std.proofs.lemmas.List.Sums.{sum_by-set}
-use Rattle.std.proofs.lemmas.Option.{get_or_from_slice_get, slice_get_read, slice_get_within}
+use Rattle.recursor_core.proofs.Names.{◌≡◌, ◌≢◌, ◌≤◌, ◌<◌, ◌∙◌, ℕ, zero, suc, List, [], ◌∷◌, length, get_or, Option, Some, refl, arith, ap, Box, sum_by, set, sum_by-set, get_or_from_slice_get, slice_get_read, slice_get_within, Stepped, steps, Resolution, kept_in, need_in, steps_of}
+use Rattle.std.specs.Prelude.{slice_get}
 use Rattle.walk_tables.specs.Lookup.{LeavesLess}
-use Rattle.walk_tables.specs.declared.pools.Stepped.{Stepped}
 use Rattle.walk_tables.specs.declared.pools.Stepped.TheVariants as stepped
-use Rattle.recursor_walk.specs.Resolving.{steps}
-use Rattle.recursor_walk.specs.declared.resolving.Resolution.{Resolution}
 use Rattle.recursor_walk.specs.declared.resolving.Need.TheVariants as need
-use Rattle.recursor_core.specs.Machine.{kept_in, need_in, steps_of}
 
 -- where something is needed there is a place
 pub need_within : (xs : List (Option (Box Resolution))) (i : ℕ) → need_in (kept_in (slice_get xs i)) ≢ need.Nothing → i < length xs

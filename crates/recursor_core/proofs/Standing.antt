@@ -1,55 +1,21 @@
 -- What holds of the machine and its provider goes on holding at each step of the two.
-use Rattle.std.proofs.Common.{◌≡◌, ◌≤◌, ◌<◌, ◌+◌, ◌∙◌, ◌⊎◌, ◌++◌, ⊎_elim, inl, inr, ℕ, Bool, true, false, List, [], ◌∷◌, length, All, Option, Some, None, Result, refl, sym, ap, subst, arith, min, max, if◌then◌else◌}
-use Rattle.std.specs.Global.{Box}
-use Rattle.dns_core.specs.Log.{Log, log_of}
-use Rattle.std.specs.declared.net.ip_addr.IpAddr.{IpAddr}
-use Rattle.dns_core.specs.declared.log.LogEntry.{LogEntry}
+use Rattle.recursor_core.proofs.Names.{◌≡◌, ◌≤◌, ◌<◌, ◌+◌, ◌∙◌, ◌⊎◌, ◌++◌, ⊎_elim, inl, inr, ℕ, Bool, true, false, List, [], ◌∷◌, length, All, Option, Some, None, Result, refl, sym, ap, subst, arith, min, max, if◌then◌else◌, Box, Log, log_of, IpAddr, LogEntry, Question, Ghosts, Given, GoesToServer, given_of, seen_at, ReplyHolds, machine_timer, TellsThat, Grown, IsPast, with_entries, seen_by, Derived, Cached, EntryHolds, TablesHold, Begun, begun_at, SameCore, ReplyGiven, StepGives, IsNewCore, TellsTo, Holds, Rests, Moves, Ready, Goes, ReplyTold, TurnedTold, KeepsTo, is_given_up, IsGivenUpIn, LogGoesOnIf, RunnerHolds, RunnerMoves, GoesNowhere, sent_by, still_awaited, IsLast, HasTold, Runner, Setting, Carrier, RecursorCore, Step, NoMemory, Order, After, Reply, Extends-refl, Grown-refl, Grown-trans, Longer-from_added, Extends-added, Logged-newest, unlogged, IsPast-later, IsPast-grown, IsPatient-refl, IsPatient-trans, later-by, reply-later}
 use Rattle.dns_core.specs.declared.log.LogEntry.TheVariants.{Opened, Asked, GaveUp}
-use Rattle.dns_core.specs.declared.request.Question.{Question}
-use Rattle.dns_core.specs.declared.provider.ConnectionProvider.{Ghosts}
-use Rattle.resolution.specs.Given.{Given}
 use Rattle.resolution.specs.Telling.{Logged, MomentsRise}
 use Rattle.resolution.specs.Asking.{AsksServers}
-use Rattle.order_carrier.specs.Fits.{GoesToServer}
 use Rattle.order_carrier.specs.GivingUp.{give_up_entry}
-use Rattle.walk_tables.specs.View.{given_of, seen_at}
-use Rattle.recursor_walk.specs.Replies.{ReplyHolds}
-use Rattle.walk_tables.specs.Tried.{machine_timer}
-use Rattle.order_carrier.specs.Growing.{TellsThat, Grown, IsPast, with_entries}
-use Rattle.recursor_core.specs.Derived.{seen_by, Derived}
-use Rattle.resolver_cache.specs.Cached.{Cached}
-use Rattle.walk_tables.specs.Remembered.{EntryHolds}
-use Rattle.walk_tables.specs.Taking.{TablesHold}
-use Rattle.recursor_setting.specs.Setting.{with_patience as setting_with}
-use Rattle.recursor_core.specs.Machine.{Begun, begun_at, SameCore, ReplyGiven, StepGives, IsNewCore, TellsTo}
-use Rattle.recursor_core.specs.Standing.{Holds, Rests, Moves, Ready, Goes, ReplyTold, TurnedTold, KeepsTo}
-use Rattle.walk_tables.specs.Order.{is_given_up, IsGivenUpIn, LogGoesOnIf}
-use Rattle.order_runner.specs.Runner.{RunnerHolds, RunnerMoves, GoesNowhere, sent_by, still_awaited, IsLast, HasTold}
-use Rattle.order_runner.specs.declared.runner.Runner.{Runner}
 use Rattle.recursor_types.specs.declared.options.RecursorOptions.{RecursorOptions}
-use Rattle.recursor_setting.specs.declared.setting.Setting.{Setting}
-use Rattle.order_carrier.specs.declared.carrier.Carrier.{Carrier}
-use Rattle.recursor_core.specs.declared.machine.RecursorCore.{RecursorCore}
-use Rattle.recursor_core.specs.declared.machine.Step.{Step}
-use Rattle.recursor_core.specs.declared.machine.Step.TheVariants as step
 use Rattle.recursor_core.specs.declared.turns.Turned.{Turned}
-use Rattle.recursor_core.specs.declared.turns.Turned.TheVariants as turned
-use Rattle.dns_core.specs.declared.errors.NoMemory.{NoMemory}
-use Rattle.server_core.specs.declared.order.Order.{Order}
-use Rattle.server_core.specs.declared.order.After.{After}
 use Rattle.server_core.specs.declared.order.Outcome.{Outcome}
 use Rattle.server_core.specs.declared.order.Outcome.TheVariants.{Pending, Connected, Told, Failed, Slept}
 use Rattle.server_core.specs.declared.order.Sent.{Sent}
 use Rattle.server_core.specs.declared.order.Tick.{Tick}
-use Rattle.recursor_types.specs.declared.reply.Reply.{Reply}
-use Rattle.order_carrier.proofs.Growing.{Extends-refl, Grown-refl, Grown-trans, Longer-from_added, Extends-added, Logged-newest, unlogged}
-use Rattle.order_carrier.proofs.Moments.{IsPast-later, IsPast-grown}
 use Rattle.order_carrier.proofs.Asking.{AsksServers-patience, GoesToServer-later}
-use Rattle.order_carrier.proofs.Waiting.{IsPatient-refl, IsPatient-trans}
 use Rattle.order_runner.proofs.Carried.{waits-still}
-use Rattle.walk_tables.proofs.Later.{later-by}
-use Rattle.recursor_walk.proofs.Later.{reply-later}
 use Rattle.recursor_core.proofs.Later.{Derived-extends}
+use Rattle.recursor_setting.specs.Setting.{with_patience as setting_with}
+use Rattle.recursor_core.specs.declared.machine.Step.TheVariants as step
+use Rattle.recursor_core.specs.declared.turns.Turned.TheVariants as turned
 
 -- ---- growing logs
 

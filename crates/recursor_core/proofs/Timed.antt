@@ -1,23 +1,10 @@
 -- What the machine knows of the moments of a lookup is known of a run, when it was heard at a moment of the run.
-use Rattle.std.proofs.Common.{◌≡◌, ◌≤◌, ◌<◌, ◌⊎◌, ⊎_elim, inl, ℕ, zero, suc, max, false, List, [], ◌∷◌, map, All, Contains, refl, sym, subst, arith}
-use Rattle.std.specs.declared.net.ip_addr.IpAddr.{IpAddr}
-use Rattle.dns_core.specs.Log.{Log}
+use Rattle.recursor_core.proofs.Names.{◌≡◌, ◌≤◌, ◌<◌, ◌⊎◌, ⊎_elim, inl, ℕ, zero, suc, max, false, List, [], ◌∷◌, map, All, Contains, refl, sym, subst, arith, IpAddr, Log, Question, Turn, Given, given_of, ReplyHolds, IsTimed, machine_timer, below_or_from, last_moment, run_moments, run_timer, Reply, outcome-earlier, Setting}
 use Rattle.dns_core.specs.declared.message.Query.{Query}
-use Rattle.dns_core.specs.declared.request.Question.{Question}
-use Rattle.dns_core.specs.declared.request.Turn.{Turn}
-use Rattle.resolution.specs.Given.{Given}
 use Rattle.resolution.specs.Lookups.{End}
 use Rattle.resolution.specs.Ending.{EndSends}
 use Rattle.resolution.specs.Ending.EndSends.{no_send, and_send}
 use Rattle.resolution.specs.Timing.{DriveTimed}
-use Rattle.walk_tables.specs.View.{given_of}
-use Rattle.recursor_walk.specs.Replies.{ReplyHolds}
-use Rattle.walk_tables.specs.Tried.{IsTimed, machine_timer}
-use Rattle.order_carrier.proofs.Growing.{below_or_from}
-use Rattle.recursor_core.specs.Standing.{last_moment, run_moments, run_timer}
-use Rattle.recursor_types.specs.declared.reply.Reply.{Reply}
-use Rattle.recursor_walk.proofs.Earlier.{outcome-earlier}
-use Rattle.recursor_setting.specs.declared.setting.Setting.{Setting}
 
 -- a lookup of the machine is one of a run, where it was heard at a moment of the run
 timed_in_run : (given : Given) (t0 at : ℕ) (run : List ℕ) (log : Log) → Contains run at

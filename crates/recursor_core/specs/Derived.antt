@@ -2,9 +2,9 @@
 use Rattle.std.specs.Prelude.{Option, Some, None, ◌<◌, length, All}
 use Rattle.std.specs.Global.{Box}
 use Rattle.dns_core.specs.Log.{Log}
-use Rattle.walk_tables.specs.View.{View, seen_at}
+use Rattle.lookup_facts.specs.View.{View, seen_at}
 use Rattle.walk_tables.specs.Pools.{PoolsHold}
-use Rattle.walk_tables.specs.Remembered.{CacheHolds}
+use Rattle.lookup_facts.specs.Remembered.{CacheHolds}
 use Rattle.recursor_walk.specs.Resolved.{ResolutionHolds}
 use Rattle.recursor_walk.specs.declared.resolving.Resolution.{Resolution}
 use Rattle.recursor_core.specs.declared.machine.RecursorCore.{RecursorCore}

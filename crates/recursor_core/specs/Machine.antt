@@ -12,8 +12,8 @@ use Rattle.server_core.specs.declared.order.After.{After}
 use Rattle.server_core.specs.declared.order.Outcome.{Outcome}
 use Rattle.server_core.specs.declared.order.Sent.{Sent}
 use Rattle.server_core.specs.declared.order.Tick.{Tick}
-use Rattle.walk_tables.specs.Order.{TellsOn}
-use Rattle.walk_tables.specs.View.{View, given_of}
+use Rattle.lookup_facts.specs.Order.{TellsOn}
+use Rattle.lookup_facts.specs.View.{View, given_of}
 use Rattle.recursor_walk.specs.Replies.{Replied}
 use Rattle.walk_tables.specs.Pools.{StepGoes, PoolsHold, given_so_far}
 use Rattle.walk_tables.specs.declared.pools.Pools.{Pools}
@@ -21,22 +21,22 @@ use Rattle.walk_tables.specs.declared.pools.Stepped.{Stepped}
 use Rattle.recursor_core.specs.Derived.{seen_by}
 use Rattle.recursor_types.specs.declared.reply.Reply.{Reply}
 use Rattle.dns_core.specs.declared.errors.NoMemory.{NoMemory}
-use Rattle.recursor_walk.specs.Resolving as one
 use Rattle.recursor_setting.specs.Asking.{request_options_of}
 use Rattle.recursor_types.specs.Options.{answer_filter_of}
 use Rattle.recursor_setting.specs.Setting.{setting_of}
 use Rattle.recursor_types.specs.declared.options.RecursorOptions.{RecursorOptions}
-use Rattle.recursor_types.specs.declared.error.MessageKind.TheVariants as kind
 use Rattle.recursor_types.specs.declared.error.RecursorError.{RecursorError}
-use Rattle.recursor_types.specs.declared.error.RecursorError.TheVariants as error
 use Rattle.recursor_walk.specs.declared.resolving.Need.{Need}
-use Rattle.recursor_walk.specs.declared.resolving.Need.TheVariants as need
 use Rattle.recursor_walk.specs.declared.resolving.Resolution.{Resolution}
 use Rattle.recursor_core.specs.declared.machine.Step.{Step}
-use Rattle.recursor_core.specs.declared.machine.Step.TheVariants as step
 use Rattle.recursor_core.specs.declared.machine.Progress.{Progress}
-use Rattle.recursor_core.specs.declared.machine.Progress.TheVariants as progress
 use Rattle.recursor_core.specs.declared.machine.RecursorCore.{RecursorCore}
+use Rattle.recursor_walk.specs.Resolving as one
+use Rattle.recursor_types.specs.declared.error.MessageKind.TheVariants as kind
+use Rattle.recursor_types.specs.declared.error.RecursorError.TheVariants as error
+use Rattle.recursor_walk.specs.declared.resolving.Need.TheVariants as need
+use Rattle.recursor_core.specs.declared.machine.Step.TheVariants as step
+use Rattle.recursor_core.specs.declared.machine.Progress.TheVariants as progress
 
 abbrev pub need_in : Option Resolution → Need
 need_in None = need.Nothing

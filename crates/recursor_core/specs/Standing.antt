@@ -14,14 +14,14 @@ use Rattle.resolution.specs.Telling.{MomentsRise}
 use Rattle.resolution.specs.Asking.{AsksServers}
 use Rattle.resolution.specs.Timing.{known_to_drive}
 use Rattle.recursor_setting.specs.declared.setting.Setting.{Setting}
-use Rattle.walk_tables.specs.View.{given_of}
-use Rattle.walk_tables.specs.Tried.{Timer, machine_timer}
+use Rattle.lookup_facts.specs.View.{given_of}
+use Rattle.lookup_facts.specs.Tried.{Timer, machine_timer}
 use Rattle.recursor_walk.specs.Replies.{ReplyHolds}
 use Rattle.order_carrier.specs.Growing.{TellsThat, Grown, IsPast}
 use Rattle.recursor_core.specs.Derived.{seen_by, Derived}
 use Rattle.order_carrier.specs.Patience.{IsPatient}
 use Rattle.walk_tables.specs.Pools.{PoolsHold}
-use Rattle.walk_tables.specs.Remembered.{CacheHolds}
+use Rattle.lookup_facts.specs.Remembered.{CacheHolds}
 use Rattle.order_runner.specs.Runner.{RunnerHolds}
 use Rattle.order_runner.specs.declared.runner.Runner.{Runner}
 use Rattle.recursor_core.specs.Machine.{Begun, begun_at}
@@ -29,8 +29,8 @@ use Rattle.order_carrier.specs.declared.carrier.Carrier.{Carrier}
 use Rattle.recursor_core.specs.declared.machine.RecursorCore.{RecursorCore}
 use Rattle.recursor_types.specs.declared.reply.Reply.{Reply}
 use Rattle.recursor_core.specs.declared.turns.Turned.{Turned}
-use Rattle.recursor_core.specs.declared.turns.Turned.TheVariants as turned
 use Rattle.recursor_core.specs.declared.plays.Played.{Played}
+use Rattle.recursor_core.specs.declared.turns.Turned.TheVariants as turned
 use Rattle.recursor_core.specs.declared.plays.Played.TheVariants as played
 
 -- a recursor: its provider, its roots, the filters of other servers and of the addresses of answers, the bounds of lives, what its pools are set to,

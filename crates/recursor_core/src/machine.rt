@@ -2,7 +2,7 @@
 ghost use Rattle.std.specs.Prelude.{◌≡◌, ◌≢◌, ◌≤◌, ◌<◌, ◌⊎◌, ◌↔◌, ℕ, [], true, false, max, length, None, Some, Ok, Err, IfOk, IfSome, IfNone, IfErr, IsSome, OnOk, IsTrue, option_copied, if◌then◌else◌};
 ghost use Rattle.dns_core.specs.Log.{Log};
 ghost use Rattle.server_core.specs.Order.{entry_of};
-ghost use Rattle.walk_tables.specs.Order.{IsNext, is_given_up, closing_of, last_entry};
+ghost use Rattle.lookup_facts.specs.Order.{IsNext, is_given_up, closing_of, last_entry};
 ghost use Rattle.walk_tables.specs.Lookup.{LeavesLess};
 ghost use Rattle.walk_tables.specs.Taking.{Takes, TablesHold, IfAwaits};
 ghost use Rattle.std.specs.BTreeSet.{contains};
@@ -10,10 +10,10 @@ ghost use Rattle.std.specs.Ordering.{nat_cmp};
 ghost use Rattle.resolver_settings.specs.Ttl.{has_reversed};
 ghost use Rattle.recursor_setting.specs.Asking.{connect_of};
 ghost use Rattle.recursor_setting.specs.Setting.{with_patience};
-ghost use Rattle.walk_tables.specs.declared.lookup.Want.TheVariants as want;
 ghost use Rattle.walk_tables.specs.Pools.{GivesNext, IsOutcomeOf};
 ghost use Rattle.recursor_core.specs.Derived.{seen_by, Derived};
 ghost use Rattle.recursor_core.specs.Machine.{TellsTo, resolution_at, need_at, open_at, given_by, IsRequestAt, rank, IsNearer, GoesOn, Steps, Gives, StepGives, IsNewError, IsBeginError, IsNewCore, SameCore, IsOneMore, LookupGives, IsBegunAt};
+ghost use Rattle.walk_tables.specs.declared.lookup.Want.TheVariants as want;
 
 use dns_core::{ConnectOptions, DnsRequest, NoMemory, Question, TryClone};
 use recursor_setting::{Setting, connect_options, request_options};

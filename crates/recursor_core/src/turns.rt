@@ -2,7 +2,7 @@
 ghost use Rattle.std.specs.Prelude.{◌≡◌, ◌≤◌, ◌<◌, ◌+◌, ℕ, max, true, false, Some, None, IfOk, IfSome, IfNone, IsSome, OnOk, MatchBool};
 ghost use Rattle.std.specs.BTreeSet.{contains};
 ghost use Rattle.std.specs.Ordering.{nat_cmp};
-ghost use Rattle.walk_tables.specs.View.{given_of};
+ghost use Rattle.lookup_facts.specs.View.{given_of};
 ghost use Rattle.order_carrier.specs.Growing.{TellsThat};
 ghost use Rattle.order_runner.specs.Runner.{GoesRight, held_at, sent_by, HasTold};
 ghost use Rattle.recursor_core.specs.Machine.{begun_at, need_at, open_at, given_by};

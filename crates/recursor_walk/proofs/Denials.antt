@@ -1,70 +1,24 @@
 -- What the reply of a walk rests on.
-use Rattle.std.proofs.Common.{◌≡◌, ℕ, Bool, true, false, cond, List, [], ◌∷◌, ◌++◌, Option, Some, None, Contains, refl, sym, ap, subst, ◌∙◌, ◌≤◌, arith, inl, inr, Result, Ok, Err, IfOk, ◌&&◌, ◌==◌, not, find, filter, if◌then◌else◌, is_none}
-use Rattle.std.specs.Global.{Box}
+use Rattle.recursor_walk.proofs.Names.{◌≡◌, ℕ, Bool, true, false, cond, List, [], ◌∷◌, ◌++◌, Option, Some, None, Contains, refl, sym, ap, subst, ◌∙◌, ◌≤◌, arith, inl, inr, Result, Ok, Err, IfOk, ◌&&◌, ◌==◌, not, find, filter, if◌then◌else◌, is_none, Box, same_Some, none-some, filter-append, second_so, IpAddr, DomainName, Log, Query, Message, Record, NoMemory, Question, NoRecords, ForwardNsData, NetError, candidates, walk, question, is_delegation, glue, allowed, Base, direct, Finished, Pos, Neg, Made, Verdict, Filter, Zone, Same-is_delegation, Same-glue, Same-strip, Same, View, given_of, IsToldAnswer, OutcomeCame, CameTo, HasCause, RepliesSo, IsCourseOf, Course, Concluded, machine_timer, IsDenied, HasFailed, HasNoAddress, Walked, Same-refl, told_on_the_way, made_on_the_way, referred, Stands, Answers, IsCurrentVerdict, AskedAs, SameIfAny, SameReferrals, SameNegative, SameVerdict, ShowsAsked, IsMadeFor, IsShown, nothing_left_for, left_of_class, told_data, made_data, told_negative, made_negative, ends_walk, outcome_of, WalkComes, RecursorError, Negative, ForwardNS, Reply, Walk, same_query-refl, answer_whole}
 use Rattle.std.proofs.lemmas.Result.{IfOk-weaker}
-use Rattle.std.proofs.lemmas.Option.{same_Some, none-some}
-use Rattle.std.proofs.lemmas.List.Elements.{filter-append}
-use Rattle.std.specs.Cmp.{second_so}
-use Rattle.std.specs.declared.net.ip_addr.IpAddr.{IpAddr}
-use Rattle.dns_core.specs.Name.{DomainName}
-use Rattle.dns_core.specs.Log.{Log}
 use Rattle.dns_core.specs.Stripping.{strip_of}
-use Rattle.dns_core.specs.declared.message.Query.{Query}
-use Rattle.dns_core.specs.declared.message.Message.{Message}
-use Rattle.dns_core.specs.declared.record.Record.{Record}
-use Rattle.dns_core.specs.declared.errors.NoMemory.{NoMemory}
-use Rattle.dns_core.specs.declared.request.Question.{Question}
-use Rattle.dns_core.specs.declared.net_error.NoRecords.{NoRecords}
-use Rattle.dns_core.specs.declared.net_error.ForwardNsData.{ForwardNsData}
 use Rattle.dns_core.specs.declared.net_error.DnsError.{DnsError}
-use Rattle.dns_core.specs.declared.net_error.NetError.{NetError}
-use Rattle.dns_core.specs.declared.net_error.DnsError.TheVariants as dns
-use Rattle.resolution.specs.Names.{candidates, walk, question}
 use Rattle.resolution.specs.Records.{records, only}
-use Rattle.resolution.specs.Failing as failing
 use Rattle.resolution.specs.Class.{class_of, class_of_classified, is_foreign}
-use Rattle.resolver_settings.specs.Access.{denies as access_denies}
 use Rattle.resolution.specs.Verdict.{is_all_denied, without_denied, holds_denied}
-use Rattle.resolution.specs.Serving.{is_delegation, glue, allowed}
-use Rattle.resolution.specs.Answering.{Base}
-use Rattle.resolution.specs.Answering.Answers.{direct}
-use Rattle.resolution.specs.Ending.{Finished}
 use Rattle.resolution.specs.declared.class.Class.{Class}
 use Rattle.resolution.specs.declared.class.Class.TheVariants.{Error, Code, Truncated, Negative as NoData, Foreign, Positive}
-use Rattle.resolution.specs.declared.verdict.Verdict.TheVariants.{Pos, Neg, Made}
-use Rattle.resolution.specs.declared.verdict.Verdict.{Verdict}
 use Rattle.resolution.specs.declared.verdict.Cause.{Cause}
-use Rattle.resolution.specs.declared.verdict.Cause.TheVariants.{Filter, Zone}
-use Rattle.resolution.proofs.SameDelegations.{Same-is_delegation, Same-glue, Same-strip}
-use Rattle.resolution.specs.Same.{Same}
 use Rattle.walk_base.specs.Response.{error_of}
-use Rattle.walk_tables.specs.Lookup.{IsToldAs}
-use Rattle.walk_tables.specs.View.{View, given_of}
-use Rattle.recursor_walk.specs.Replies.{IsToldAnswer, OutcomeCame, CameTo, HasCause, RepliesSo}
-use Rattle.recursor_walk.specs.Walk.{IsCourseOf}
-use Rattle.recursor_walk.specs.declared.walk.Course.{Course}
-use Rattle.recursor_walk.specs.declared.walk.Course.TheVariants as course
-use Rattle.walk_tables.specs.Tried.{Concluded, machine_timer}
-use Rattle.recursor_walk.specs.Causes.{IsDenied, HasFailed, HasNoAddress}
-use Rattle.resolution.specs.Walking.{Walked}
-use Rattle.resolution.proofs.Sameness.{Same-refl}
+use Rattle.lookup_facts.specs.Found.{IsToldAs}
 use Rattle.dns_core.specs.declared.log.ToldOutcome.{ToldOutcome}
-use Rattle.recursor_walk.specs.Causes.IsDenied.{told as denial_told, made as denial_made, told_on_the_way, made_on_the_way}
-use Rattle.recursor_walk.specs.Causes.IsReferred.{referred}
-use Rattle.recursor_walk.specs.Counted.{Stands, Answers, IsCurrentVerdict}
-use Rattle.walk_tables.specs.Asked.{AskedAs}
-use Rattle.recursor_walk.specs.SameTold.{SameIfAny, SameReferrals, SameNegative, SameVerdict, ShowsAsked, IsMadeFor}
-use Rattle.walk_base.specs.Shown.{IsShown, nothing_left_for, left_of_class}
-use Rattle.walk_base.specs.Answer.{told_data, made_data, told_negative, made_negative, ends_walk, outcome_of}
-use Rattle.recursor_walk.specs.Way.{WalkComes}
-use Rattle.recursor_types.specs.declared.error.RecursorError.{RecursorError}
-use Rattle.recursor_types.specs.declared.error.RecursorError.TheVariants.{Negative, ForwardNS}
-use Rattle.recursor_types.specs.declared.reply.Reply.{Reply}
-use Rattle.recursor_walk.specs.declared.walk.Walk.{Walk}
-use Rattle.walk_tables.proofs.Sends.{same_query-refl}
-use Rattle.walk_base.proofs.Runs.{answer_whole}
-use Rattle.walk_tables.proofs.Counting.{Counts, counts-of}
+use Rattle.recursor_walk.specs.Causes.IsDenied.{told as denial_told, made as denial_made}
+use Rattle.lookup_facts.proofs.Counting.{Counts, counts-of}
 use Rattle.recursor_walk.proofs.Lowered.{negative_same, data_same}
+use Rattle.resolver_settings.specs.Access.{denies as access_denies}
+use Rattle.dns_core.specs.declared.net_error.DnsError.TheVariants as dns
+use Rattle.resolution.specs.Failing as failing
+use Rattle.recursor_walk.specs.declared.walk.Course.TheVariants as course
 
 -- ---- what counts
 

@@ -1,35 +1,10 @@
 -- A reply to a question that began later is one to a question that began earlier, where as much is known of moments.
-use Rattle.std.proofs.Common.{◌≤◌, ◌+◌, ◌*◌, ℕ, Bool, List, Option, Some, None, arith, inl, inr, ⊎_elim, IsSomeAnd, Result, Ok, Err}
-use Rattle.std.specs.List.{last_or}
-use Rattle.std.specs.declared.net.ip_addr.IpAddr.{IpAddr}
-use Rattle.dns_core.specs.Name.{DomainName}
-use Rattle.dns_core.specs.Log.{Log}
-use Rattle.dns_core.specs.declared.message.Query.{Query}
-use Rattle.dns_core.specs.declared.message.Message.{Message}
-use Rattle.dns_core.specs.declared.request.Question.{Question}
-use Rattle.dns_core.specs.declared.net_error.ForwardNsData.{ForwardNsData}
-use Rattle.dns_core.specs.declared.net_error.NetError.{NetError}
-use Rattle.resolution.specs.Given.{Given}
-use Rattle.resolution.specs.Life.{Fresh, life_in_seconds}
-use Rattle.resolution.specs.Answering.{Base, IsCurrent, Answers, Answer}
-use Rattle.resolution.specs.Answering.Answers.{direct, by_alias}
+use Rattle.recursor_walk.proofs.Names.{◌≤◌, ◌+◌, ◌*◌, ℕ, Bool, List, Option, Some, None, arith, inl, inr, ⊎_elim, IsSomeAnd, Result, Ok, Err, last_or, IpAddr, DomainName, Log, Query, Message, Question, ForwardNsData, NetError, Given, Fresh, life_in_seconds, Base, IsCurrent, Answer, direct, by_alias, below-greater, run_later, Known, EndSends, Finished, Verdict, IsDenied, IsReferred, HasFailed, HasNoServer, ErrorHolds, told_on_the_way, made_on_the_way, referred, AuthorityData, WalkCause, RecursorError, View, given_of, IsToldAnswer, OutcomeHolds, Replied, machine_timer, Reply}
+use Rattle.resolution.specs.Answering.{Answers}
 use Rattle.resolution.specs.Lookups.{End, Answered}
-use Rattle.walk_tables.proofs.Later.{below-greater}
-use Rattle.walk_base.proofs.Runs.{run_later}
-use Rattle.resolution.specs.Ending.{Known, EndSends, Finished}
-use Rattle.resolution.specs.declared.verdict.Verdict.{Verdict}
-use Rattle.recursor_walk.specs.Causes.{IsDenied, IsReferred, HasFailed, HasNoServer, ErrorHolds}
-use Rattle.recursor_walk.specs.Causes.IsDenied.{told as denial_told, made as denial_made, told_on_the_way, made_on_the_way}
-use Rattle.recursor_walk.specs.Causes.IsReferred.{referred}
-use Rattle.recursor_types.specs.declared.error.AuthorityData.{AuthorityData}
-use Rattle.recursor_types.specs.declared.error.WalkCause.{WalkCause}
+use Rattle.recursor_walk.specs.Causes.IsDenied.{told as denial_told, made as denial_made}
 use Rattle.recursor_types.specs.declared.error.WalkCause.TheVariants as why
-use Rattle.recursor_types.specs.declared.error.RecursorError.{RecursorError}
 use Rattle.recursor_types.specs.declared.error.RecursorError.TheVariants as error
-use Rattle.walk_tables.specs.View.{View, given_of}
-use Rattle.recursor_walk.specs.Replies.{IsToldAnswer, OutcomeHolds, Replied}
-use Rattle.walk_tables.specs.Tried.{machine_timer}
-use Rattle.recursor_types.specs.declared.reply.Reply.{Reply}
 
 -- what holds of what is there, where one follows from the other
 pub some-weaker : {A : Type 0} (P Q : A → Type 0) → ((x : A) → P x → Q x) → (o : Option A) → IsSomeAnd o P → IsSomeAnd o Q

@@ -1,41 +1,14 @@
 -- What holds of a walk, and of a reply, goes on holding as a machine comes further.
-use Rattle.std.proofs.Common.{subst, ℕ, List, Result, Ok, Err, arith, Bool}
-use Rattle.dns_core.specs.Name.{DomainName}
-use Rattle.dns_core.specs.declared.message.Query.{Query}
-use Rattle.dns_core.specs.declared.message.Message.{Message}
-use Rattle.dns_core.specs.declared.net_error.NetError.{NetError}
-use Rattle.dns_core.specs.declared.net_error.ForwardNsData.{ForwardNsData}
-use Rattle.dns_core.specs.declared.request.Question.{Question}
-use Rattle.resolution.specs.Names.{last_name, question as question_for}
-use Rattle.resolution.specs.Answering.{Base}
-use Rattle.resolution.specs.declared.verdict.Verdict.{Verdict}
+use Rattle.recursor_walk.proofs.Names.{subst, ℕ, List, Result, Ok, Err, arith, Bool, DomainName, Query, Message, NetError, ForwardNsData, Question, last_name, Base, Verdict, IsDenied, IsReferred, HasFailed, HasNoServer, ErrorHolds, told_on_the_way, made_on_the_way, referred, AuthorityData, WalkCause, RecursorError, View, Later, given_of, IsToldAnswer, OutcomeHolds, Replied, machine_timer, Passed, WayHolds, WalkHolds, Reply, Walk, LastHolds, StateHolds, ResolutionHolds, State, Walking, Asking, Done, Resolution, given-is, walked-on, pool-on, for-on, concluded-later, asked-kept, Given, with_patience, NoCut, Known}
 use Rattle.resolution.proofs.Keeping.{Base-extend, Answer-extend}
 use Rattle.resolution.proofs.FailuresKept.{NoCut-extend, Walked-extend, Glueless-extend}
-use Rattle.recursor_walk.specs.Causes.{IsDenied, IsReferred, HasFailed, HasNoServer, ErrorHolds}
-use Rattle.recursor_walk.specs.Causes.IsDenied.{told as denial_told, made as denial_made, told_on_the_way, made_on_the_way}
-use Rattle.recursor_walk.specs.Causes.IsReferred.{referred}
-use Rattle.recursor_types.specs.declared.error.AuthorityData.{AuthorityData}
-use Rattle.recursor_types.specs.declared.error.WalkCause.{WalkCause}
-use Rattle.recursor_types.specs.declared.error.WalkCause.TheVariants as why
-use Rattle.recursor_types.specs.declared.error.RecursorError.{RecursorError}
-use Rattle.recursor_types.specs.declared.error.RecursorError.TheVariants as error
-use Rattle.walk_tables.specs.View.{View, Later, given_of}
-use Rattle.recursor_walk.specs.Replies.{IsToldAnswer, OutcomeHolds, Replied}
-use Rattle.walk_tables.specs.Tried.{machine_timer}
-use Rattle.recursor_walk.specs.Way.{Passed, WayHolds, WalkHolds}
-use Rattle.recursor_types.specs.declared.reply.Reply.{Reply}
-use Rattle.recursor_walk.specs.declared.walk.Walk.{Walk}
-use Rattle.recursor_walk.specs.Asking.{LastHolds}
-use Rattle.recursor_walk.specs.Resolved.{StateHolds, ResolutionHolds}
-use Rattle.recursor_walk.specs.declared.asking.Asking.{Asking as AtServers}
-use Rattle.recursor_walk.specs.declared.resolving.State.{State}
-use Rattle.recursor_walk.specs.declared.resolving.State.TheVariants.{Walking, Asking, Done}
-use Rattle.recursor_walk.specs.declared.resolving.Resolution.{Resolution}
-use Rattle.walk_tables.proofs.Later.{given-is, walked-on, pool-on, for-on, concluded-later, lookup-later, asked-kept}
-use Rattle.resolution.specs.Given.{Given, with_patience}
-use Rattle.resolution.specs.Walking.{NoCut}
-use Rattle.resolution.specs.Ending.{Known}
+use Rattle.recursor_walk.specs.Causes.IsDenied.{told as denial_told, made as denial_made}
+use Rattle.walk_tables.proofs.Later.{lookup-later}
 use Rattle.resolution.specs.Failing.{Glueless}
+use Rattle.resolution.specs.Names.{question as question_for}
+use Rattle.recursor_walk.specs.declared.asking.Asking.{Asking as AtServers}
+use Rattle.recursor_types.specs.declared.error.WalkCause.TheVariants as why
+use Rattle.recursor_types.specs.declared.error.RecursorError.TheVariants as error
 
 module _ (old new : View) (later : Later old new) where
   abbrev before : Given

@@ -1,3 +1,4 @@
+pub mod Names
 pub mod Lowered
 pub mod Denials
 pub mod Recalling

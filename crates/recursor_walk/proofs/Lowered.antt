@@ -1,15 +1,5 @@
 -- What reads later is the same but for TTLs.
-use Rattle.std.proofs.Common.{◌≡◌, ℕ, List, [], ◌∷◌, Option, Some, None, refl, ap, arith, map, option_map}
-use Rattle.std.specs.List.{AllZip}
-use Rattle.dns_core.specs.declared.record.Record.{Record}
-use Rattle.dns_core.specs.declared.message.Message.{Message}
-use Rattle.dns_core.specs.declared.net_error.ForwardNsData.{ForwardNsData}
-use Rattle.dns_core.specs.declared.net_error.NoRecords.{NoRecords}
-use Rattle.resolver_cache.specs.Lowering.{lowered_record, lowered_message, lowered_delegation, lowered_denial}
-use Rattle.resolution.specs.Same.{SameRecord, SameRecords, Same}
-use Rattle.resolution.proofs.Sameness.{SameRecords-refl}
-use Rattle.recursor_walk.specs.SameTold.{SameIfAny, SameReferral, SameReferrals, SameNegative, SameDenial}
-use Rattle.walk_base.specs.Answer.{told_data}
+use Rattle.recursor_walk.proofs.Names.{◌≡◌, ℕ, List, [], ◌∷◌, Option, Some, None, refl, ap, arith, map, option_map, AllZip, Record, Message, ForwardNsData, NoRecords, lowered_record, lowered_message, lowered_delegation, lowered_denial, SameRecord, SameRecords, Same, SameRecords-refl, SameIfAny, SameReferral, SameReferrals, SameNegative, SameDenial, told_data}
 
 -- ---- itself
 

@@ -1,41 +1,17 @@
 -- What is read from the cache stands for the question that reads it.
-use Rattle.std.proofs.Common.{◌≡◌, ℕ, ◌+◌, ◌*◌, ◌≤◌, Bool, true, false, cond, ◌&&◌, Option, Some, None, Result, Ok, IsTrue, IfSome, refl, sym, ap, subst, inl, inr, arith, ◌==◌, IsSomeAnd, option_and_then, option_map}
-use Rattle.std.specs.Cmp.{first_so, second_so}
-use Rattle.std.proofs.lemmas.Option.{same_Some}
-use Rattle.std.proofs.lemmas.List.Elements.{All-contains}
-use Rattle.dns_core.specs.Name.{same_names}
-use Rattle.dns_core.specs.Log.{Log}
-use Rattle.dns_core.specs.declared.message.Query.{Query}
-use Rattle.dns_core.specs.declared.message.Message.{Message}
-use Rattle.dns_core.specs.declared.net_error.NetError.{NetError}
+use Rattle.recursor_walk.proofs.Names.{◌≡◌, ℕ, ◌+◌, ◌*◌, ◌≤◌, Bool, true, false, cond, ◌&&◌, Option, Some, None, Result, Ok, IsTrue, IfSome, refl, sym, ap, subst, inl, inr, arith, ◌==◌, IsSomeAnd, option_and_then, option_map, first_so, second_so, same_Some, All-contains, same_names, Log, Query, Message, NetError, is_same_question, current_for, seconds_between, lowered, lowered_message, lowered_denial, same_query, Fresh, life_in_seconds, Base, Verdict, Pos, Neg, Made, Filter, NoRecords, counted_for, recalled, may_answer, answerable, IsCurrentVerdict, Stands, Answers, IsRecalled, View, given_of, AskedAs, IsShown, SameVerdict, ShowsAsked, Counted, same_query-refl}
 use Rattle.resolver_cache.specs.Cached.{Cached}
 use Rattle.resolver_cache.specs.Cache.{found_for}
-use Rattle.resolver_cache.specs.Entry.{is_same_question, current_for}
 use Rattle.resolver_cache.specs.Laws.{IsFoundIn}
-use Rattle.resolver_cache.specs.Lowering.{seconds_between, lowered, lowered_message, lowered_denial}
 use Rattle.resolver_cache.specs.declared.entry.Entry.{Entry}
 use Rattle.resolver_cache.specs.declared.entry.CachedResponse.{CachedResponse}
 use Rattle.resolver_cache.proofs.FoundThere.{found_there}
-use Rattle.resolution.specs.Names.{same_query}
-use Rattle.resolution.specs.Life.{Fresh, life_in_seconds}
-use Rattle.resolution.specs.Answering.{Base}
-use Rattle.resolution.specs.declared.verdict.Verdict.{Verdict}
-use Rattle.resolution.specs.declared.verdict.Verdict.TheVariants.{Pos, Neg, Made}
-use Rattle.resolution.specs.declared.verdict.Cause.TheVariants.{Filter}
-use Rattle.dns_core.specs.declared.net_error.NoRecords.{NoRecords}
 use Rattle.resolution.proofs.Caseless.{Base-same, both, same_through}
 use Rattle.resolution.proofs.WalksCaseless.{Walked-same}
 use Rattle.walk_base.specs.Kept.{kept_of, verdict_kept}
-use Rattle.recursor_walk.specs.Counted.{counted_for, recalled, may_answer, answerable, IsCurrentVerdict, Stands, Answers, IsRecalled}
-use Rattle.walk_tables.specs.Remembered.{EntryHolds, CacheHolds}
-use Rattle.walk_tables.specs.View.{View, given_of}
-use Rattle.walk_tables.specs.Asked.{AskedAs}
-use Rattle.walk_base.specs.Shown.{IsShown}
-use Rattle.recursor_walk.specs.SameTold.{SameVerdict, ShowsAsked}
-use Rattle.recursor_walk.specs.declared.counted.Counted.{Counted}
+use Rattle.lookup_facts.specs.Remembered.{EntryHolds, CacheHolds}
 use Rattle.recursor_walk.proofs.Earlier.{some-weaker}
 use Rattle.recursor_walk.proofs.Lowered.{lower_message, lower_denial}
-use Rattle.walk_tables.proofs.Sends.{same_query-refl}
 
 -- the same question for the cache is the same question
 same_question : (a b : Query) → is_same_question a b ≡ true → same_query a b ≡ true

@@ -1,36 +1,16 @@
 -- A resolution after a step.
-use Rattle.std.proofs.Common.{◌≡◌, ◌≤◌, ◌<◌, ◌+◌, ◌∙◌, ◌↔◌, ℕ, true, Option, Some, None, Result, Ok, Err, IfOk, IsErr, OnErr, IfSome, IsTrue, refl, sym, ap, subst, arith}
-use Rattle.std.specs.Global.{Box}
-use Rattle.dns_core.specs.declared.message.Query.{Query}
-use Rattle.dns_core.specs.declared.request.Question.{Question}
-use Rattle.dns_core.specs.declared.errors.NoMemory.{NoMemory}
-use Rattle.walk_tables.specs.Lookup.{LeavesLess, want_after, want_steps}
-use Rattle.walk_tables.specs.View.{View}
+use Rattle.recursor_walk.proofs.Names.{◌≡◌, ◌≤◌, ◌<◌, ◌+◌, ◌∙◌, ◌↔◌, ℕ, true, Option, Some, None, Result, Ok, Err, IfOk, IsErr, OnErr, IfSome, IsTrue, refl, sym, ap, subst, arith, Box, Query, Question, NoMemory, LeavesLess, want_after, want_steps, View, Reply, AskingHolds, LastHolds, SameSite, LeavesFewer, Goes, Recalls, EndsIf, RepliesWith, reply_with, Counted, Verdict, WalkHolds, state_want, state_steps, steps, asked_of, IsWalked, IsSettled, IsOpen, StaysOpen, AsksOn, SameBegun, IsUnder, IsDone, IsDoneWith, IsAnswered, StateHolds, ResolutionHolds, Course, Walk, State, New, Walking, Asking, Resolution}
 use Rattle.walk_tables.specs.declared.lookup.Want.{Want}
 use Rattle.walk_tables.specs.declared.lookup.Want.TheVariants.{Step}
 use Rattle.walk_tables.specs.declared.pools.Stepped.{Stepped}
-use Rattle.walk_tables.specs.declared.pools.Stepped.TheVariants as stepped
-use Rattle.recursor_types.specs.declared.reply.Reply.{Reply}
-use Rattle.recursor_walk.specs.Asking.{AskingHolds, LastHolds, SameSite, LeavesFewer}
-use Rattle.recursor_walk.specs.Asking as asking
-use Rattle.recursor_walk.specs.Walk.{Goes, Recalls, EndsIf}
-use Rattle.recursor_walk.specs.Replies.{RepliesWith, reply_with}
-use Rattle.recursor_walk.specs.declared.counted.Counted.{Counted}
 use Rattle.resolution.specs.Failing.{ends_walk}
-use Rattle.resolution.specs.declared.verdict.Verdict.{Verdict}
-use Rattle.recursor_walk.specs.Walk as walk
-use Rattle.recursor_walk.specs.Way.{WalkHolds}
-use Rattle.recursor_walk.specs.Resolving.{state_want, state_steps, steps, asked_of, IsWalked, IsSettled, IsOpen, StaysOpen, AsksOn, SameBegun, IsUnder, IsDone, IsDoneWith, IsAnswered}
-use Rattle.recursor_walk.specs.Resolved.{StateHolds, ResolutionHolds}
-use Rattle.recursor_walk.specs.declared.asking.Asking.{Asking as AtServers}
-use Rattle.recursor_walk.specs.declared.walk.Course.{Course}
-use Rattle.recursor_walk.specs.declared.walk.Course.TheVariants as course
-use Rattle.recursor_walk.specs.declared.walk.Walk.{Walk}
-use Rattle.recursor_walk.specs.declared.resolving.Need.TheVariants as need
-use Rattle.recursor_walk.specs.declared.resolving.State.{State}
-use Rattle.recursor_walk.specs.declared.resolving.State.TheVariants.{New, Walking, Asking}
-use Rattle.recursor_walk.specs.declared.resolving.Resolution.{Resolution}
 use Rattle.recursor_walk.proofs.Walks.{walk-asked}
+use Rattle.recursor_walk.specs.declared.asking.Asking.{Asking as AtServers}
+use Rattle.walk_tables.specs.declared.pools.Stepped.TheVariants as stepped
+use Rattle.recursor_walk.specs.Asking as asking
+use Rattle.recursor_walk.specs.Walk as walk
+use Rattle.recursor_walk.specs.declared.walk.Course.TheVariants as course
+use Rattle.recursor_walk.specs.declared.resolving.Need.TheVariants as need
 
 -- ---- a step of what it asks
 

@@ -1,51 +1,24 @@
 -- How a walk goes on.
-use Rattle.std.proofs.Common.{◌≡◌, ◌≤◌, ◌<◌, ◌+◌, ◌-◌, ◌↔◌, ℕ, Bool, true, false, cond, List, length, Contains, refl, sym, ◌∙◌, ap, subst, arith, Result, Ok, Err, nat_lt, ◌&&◌, ◌==◌, not, IsTrue}
-use Rattle.std.proofs.lemmas.List.Elements.{All-weaker, All-contains_itself, recursion_from_All}
+use Rattle.recursor_walk.proofs.Names.{◌≡◌, ◌≤◌, ◌<◌, ◌+◌, ◌-◌, ◌↔◌, ℕ, Bool, true, false, cond, List, length, Contains, refl, sym, ◌∙◌, ap, subst, arith, Result, Ok, Err, nat_lt, ◌&&◌, ◌==◌, not, IsTrue, All-weaker, All-contains_itself, recursion_from_All, nat_tests, first_so, second_so, IpAddr, DomainName, Query, Message, NetError, root, base, candidates, is_above, is_root, last_name, walk, question, Serves, Delegates, is_delegation, glue, allowed, Finished, is_timeout, NoCut, Walked, at_any_time, is_cut, Base, Pos, Verdict, Same-is_delegation, Same-glue, View, given_of, Concluded, machine_timer, HasNoServer, Stands, SameVerdict, LookupHolds, AskingHolds, SameSite, Passed, LeavesBehind, WayHolds, WalkHolds, Walk, steps_after, Goes, Passes, Course, NoMemory}
 use Rattle.std.proofs.lemmas.List.FromFn.{get_or-map-range_with_len, length-map-range_with_len}
 use Rattle.std.proofs.lemmas.Bool.{not-true}
-use Rattle.std.proofs.lemmas.Bool.Decides.{nat_tests}
-use Rattle.std.specs.Cmp.{first_so, second_so}
-use Rattle.std.specs.declared.net.ip_addr.IpAddr.{IpAddr}
-use Rattle.dns_core.specs.Name.{DomainName}
-use Rattle.dns_core.specs.declared.message.Query.{Query}
-use Rattle.dns_core.specs.declared.message.Message.{Message}
-use Rattle.dns_core.specs.declared.net_error.NetError.{NetError}
-use Rattle.dns_core.specs.declared.net_error.NetError.TheVariants as net
-use Rattle.resolution.specs.Names.{root, base, candidates, is_above, is_root, last_name, walk, question}
 use Rattle.resolver_settings.specs.Access.{denies}
-use Rattle.resolution.specs.Serving.{Serves, Delegates, is_delegation, glue, allowed}
 use Rattle.resolution.specs.Serving.Serves.{of_root, of_glue}
 use Rattle.resolution.specs.Serving.Delegates.{delegates}
-use Rattle.resolution.specs.Ending.{Finished, is_timeout}
 use Rattle.resolution.specs.Ending.Listed.{of_roots, of_told}
-use Rattle.resolution.specs.Walking.{NoCut, Walked, at_any_time, is_cut}
 use Rattle.resolution.specs.Walking.NoCut.{told_otherwise, not_told}
-use Rattle.resolution.specs.Answering.{Base}
-use Rattle.resolution.specs.declared.verdict.Verdict.TheVariants.{Pos}
-use Rattle.resolution.specs.declared.verdict.Verdict.{Verdict}
-use Rattle.resolution.proofs.SameDelegations.{Same-is_delegation, Same-glue}
 use Rattle.resolution.proofs.Members.{Has-from_Contains, Contains-from_Has, Has-filter, Has-passes}
-use Rattle.walk_tables.specs.View.{View, given_of}
-use Rattle.walk_tables.specs.Tried.{Concluded, machine_timer}
-use Rattle.recursor_walk.specs.Causes.{HasNoServer}
-use Rattle.recursor_walk.specs.Counted.{Stands}
-use Rattle.recursor_walk.specs.SameTold.{SameVerdict}
 use Rattle.walk_base.specs.Candidate.{candidate_query}
-use Rattle.walk_tables.specs.Pools.{ArePool, AreFor}
-use Rattle.walk_tables.specs.Lookup.{LookupHolds}
-use Rattle.recursor_walk.specs.Asking.{AskingHolds, SameSite}
-use Rattle.recursor_walk.specs.Way.{Passed, LeavesBehind, WayHolds, WalkHolds}
+use Rattle.lookup_facts.specs.Sought.{ArePool, AreFor}
 use Rattle.recursor_walk.specs.declared.asking.Asking.{Asking}
-use Rattle.recursor_types.specs.declared.error.WalkCause.TheVariants as why
 use Rattle.walk_tables.specs.declared.lookup.Lookup.{Lookup}
-use Rattle.recursor_walk.specs.declared.walk.Walk.{Walk}
 use Rattle.resolution.proofs.WayDown.{above-last, last-above, last-length, root-above, walked-from-passed, walked-at-candidate}
 use Rattle.recursor_walk.proofs.Denials.{has-failed}
 use Rattle.recursor_walk.proofs.Earlier.{Finished-earlier}
-use Rattle.recursor_walk.specs.Walk.{steps, steps_after, Goes, Passes}
-use Rattle.recursor_walk.specs.declared.walk.Course.{Course}
+use Rattle.recursor_walk.specs.Walk.{steps}
+use Rattle.dns_core.specs.declared.net_error.NetError.TheVariants as net
+use Rattle.recursor_types.specs.declared.error.WalkCause.TheVariants as why
 use Rattle.recursor_walk.specs.declared.walk.Course.TheVariants as course
-use Rattle.dns_core.specs.declared.errors.NoMemory.{NoMemory}
 
 -- what is past its candidate goes further, whatever became of its lookup meanwhile
 pub past-falls : (old middle new : Walk) (result : Result Course NoMemory) → steps_after middle ≡ steps_after old → steps_after old < steps old

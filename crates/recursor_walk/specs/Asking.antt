@@ -4,14 +4,15 @@ use Rattle.std.specs.Global.{Box}
 use Rattle.dns_core.specs.declared.message.Query.{Query}
 use Rattle.dns_core.specs.declared.request.Question.{Question}
 use Rattle.resolution.specs.Walking.{Walked}
-use Rattle.walk_tables.specs.Lookup as lookup
-use Rattle.walk_tables.specs.Lookup.{LookupHolds, FoundHolds}
-use Rattle.walk_tables.specs.Pools.{AreFor}
-use Rattle.walk_tables.specs.View.{View, given_of}
-use Rattle.walk_tables.specs.declared.lookup.Found.{Found}
+use Rattle.walk_tables.specs.Lookup.{LookupHolds}
+use Rattle.lookup_facts.specs.Found.{FoundHolds}
+use Rattle.lookup_facts.specs.Sought.{AreFor}
+use Rattle.lookup_facts.specs.View.{View, given_of}
+use Rattle.lookup_facts.specs.declared.found.Found.{Found}
 use Rattle.recursor_walk.specs.Replies.{CameTo}
 use Rattle.recursor_walk.specs.declared.asking.Asking.{Asking}
 use Rattle.recursor_types.specs.declared.reply.Reply.{Reply}
+use Rattle.walk_tables.specs.Lookup as lookup
 
 -- how many steps it has before it, beside those by which it gives orders and waits for them
 abbrev pub steps : Asking → ℕ

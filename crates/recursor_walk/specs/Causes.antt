@@ -3,11 +3,9 @@ use Rattle.std.specs.Prelude.{◌≡◌, ℕ, false, IsTrue, List, [], ◌∷◌
 use Rattle.dns_core.specs.Name.{DomainName}
 use Rattle.dns_core.specs.Log.{Log}
 use Rattle.dns_core.specs.declared.message.Query.{Query}
-use Rattle.dns_core.specs.declared.message.Message.{Message as Response}
 use Rattle.dns_core.specs.declared.net_error.NoRecords.{NoRecords}
 use Rattle.dns_core.specs.declared.net_error.ForwardNsData.{ForwardNsData}
 use Rattle.dns_core.specs.declared.net_error.NetError.{NetError}
-use Rattle.dns_core.specs.declared.net_error.NetError.TheVariants as net
 use Rattle.resolution.specs.Names.{walk, candidates, question}
 use Rattle.resolution.specs.Given.{Given}
 use Rattle.resolution.specs.Answering.{Base}
@@ -17,14 +15,16 @@ use Rattle.resolution.specs.Failing.{Glueless, ends_walk}
 use Rattle.resolution.specs.declared.verdict.Verdict.TheVariants.{Neg, Made}
 use Rattle.resolution.specs.declared.verdict.Cause.{Cause}
 use Rattle.walk_base.specs.Answer.{told_data, made_data}
-use Rattle.walk_tables.specs.Asked.{AskedAs}
-use Rattle.walk_tables.specs.Lookup.{is_lookup_error}
+use Rattle.lookup_facts.specs.Asked.{AskedAs}
+use Rattle.lookup_facts.specs.Found.{is_lookup_error}
 use Rattle.recursor_walk.specs.SameTold.{SameDenial, SameReferrals, IsMadeFor}
 use Rattle.recursor_types.specs.declared.error.AuthorityData.{AuthorityData}
 use Rattle.recursor_types.specs.declared.error.MessageKind.TheVariants.{NotQualified}
 use Rattle.recursor_types.specs.declared.error.WalkCause.{WalkCause}
-use Rattle.recursor_types.specs.declared.error.WalkCause.TheVariants as why
 use Rattle.recursor_types.specs.declared.error.RecursorError.{RecursorError}
+use Rattle.dns_core.specs.declared.message.Message.{Message as Response}
+use Rattle.dns_core.specs.declared.net_error.NetError.TheVariants as net
+use Rattle.recursor_types.specs.declared.error.WalkCause.TheVariants as why
 use Rattle.recursor_types.specs.declared.error.RecursorError.TheVariants as error
 
 -- A denial rests on one entry: of the question; or of a candidate on the way, where a name that is denied ends a walk (RFC 8020). What was told

@@ -11,8 +11,8 @@ use Rattle.resolution.specs.declared.verdict.Verdict.{Verdict}
 use Rattle.resolution.specs.declared.verdict.Verdict.TheVariants.{Pos, Neg, Made}
 use Rattle.resolution.specs.Walking.{Walked}
 use Rattle.walk_base.specs.Kept.{verdict_kept}
-use Rattle.walk_tables.specs.Remembered.{CacheHolds}
-use Rattle.walk_tables.specs.View.{View, given_of}
+use Rattle.lookup_facts.specs.Remembered.{CacheHolds}
+use Rattle.lookup_facts.specs.View.{View, given_of}
 use Rattle.recursor_walk.specs.SameTold.{SameVerdict, ShowsAsked}
 use Rattle.recursor_walk.specs.declared.counted.Counted.{Counted}
 

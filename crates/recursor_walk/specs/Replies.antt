@@ -16,17 +16,17 @@ use Rattle.resolution.specs.Ending.{Known}
 use Rattle.resolution.specs.declared.verdict.Verdict.TheVariants.{Pos}
 use Rattle.resolution.specs.declared.following.Follow.TheVariants.{Done}
 use Rattle.recursor_types.specs.declared.error.RecursorError.{RecursorError}
-use Rattle.recursor_types.specs.declared.error.RecursorError.TheVariants as error
 use Rattle.recursor_types.specs.declared.reply.Reply.{Reply}
 use Rattle.resolution.specs.Walking.{Walked}
 use Rattle.recursor_setting.specs.declared.setting.Setting.{Setting}
-use Rattle.walk_tables.specs.View.{View, given_of}
-use Rattle.walk_tables.specs.Tried.{Timer, machine_timer}
+use Rattle.lookup_facts.specs.View.{View, given_of}
+use Rattle.lookup_facts.specs.Tried.{Timer, machine_timer}
 use Rattle.resolver_cache.specs.Cached.{Cached}
 use Rattle.walk_base.specs.Answer.{outcome_of}
 use Rattle.recursor_walk.specs.Causes.{ErrorHolds}
 use Rattle.recursor_walk.specs.Counted.{recalled, may_answer}
 use Rattle.recursor_walk.specs.declared.counted.Counted.{Counted}
+use Rattle.recursor_types.specs.declared.error.RecursorError.TheVariants as error
 
 -- The message is what counts of one entry, less the DNSSEC records that were not asked for, and the walk went down to the zone of its server.
 -- Where its aliases lead no further, it is the answer.

@@ -3,7 +3,7 @@ use Rattle.std.specs.Prelude.{◌≡◌, ◌≤◌, ℕ, true, Option, Result, I
 use Rattle.std.specs.Global.{Box}
 use Rattle.dns_core.specs.declared.errors.NoMemory.{NoMemory}
 use Rattle.dns_core.specs.declared.request.Question.{Question}
-use Rattle.walk_tables.specs.View.{View}
+use Rattle.lookup_facts.specs.View.{View}
 use Rattle.recursor_types.specs.declared.reply.Reply.{Reply}
 use Rattle.recursor_walk.specs.Asking.{LastHolds, LastComes}
 use Rattle.recursor_walk.specs.Replies.{CameTo}

@@ -6,26 +6,26 @@ use Rattle.dns_core.specs.declared.errors.NoMemory.{NoMemory}
 use Rattle.dns_core.specs.declared.message.Query.{Query}
 use Rattle.dns_core.specs.declared.request.DnsRequest.{DnsRequest}
 use Rattle.dns_core.specs.declared.request.Question.{Question}
-use Rattle.walk_tables.specs.Lookup as lookup
 use Rattle.walk_tables.specs.Taking.{awaited_by}
 use Rattle.walk_tables.specs.declared.pools.Pools.{Pools}
 use Rattle.walk_tables.specs.declared.pools.Stepped.{Stepped}
 use Rattle.recursor_types.specs.declared.reply.Reply.{Reply}
 use Rattle.resolution.specs.Failing.{ends_walk}
 use Rattle.resolver_cache.specs.Cached.{Cached}
-use Rattle.recursor_walk.specs.Asking as asking
 use Rattle.recursor_walk.specs.Counted.{recalled, answerable}
 use Rattle.recursor_walk.specs.Replies.{reply_with}
-use Rattle.recursor_walk.specs.Walk as walk
-use Rattle.recursor_walk.specs.declared.asking.Asking.{Asking as AtServers}
 use Rattle.recursor_walk.specs.declared.counted.Counted.{Counted}
 use Rattle.recursor_walk.specs.declared.walk.Course.{Course}
-use Rattle.recursor_walk.specs.declared.walk.Course.TheVariants as course
 use Rattle.recursor_walk.specs.declared.resolving.Need.{Need}
-use Rattle.recursor_walk.specs.declared.resolving.Need.TheVariants as need
 use Rattle.recursor_walk.specs.declared.resolving.State.{State}
 use Rattle.recursor_walk.specs.declared.resolving.State.TheVariants.{New, Walking, Asking, Done, Ended}
 use Rattle.recursor_walk.specs.declared.resolving.Resolution.{Resolution}
+use Rattle.recursor_walk.specs.declared.asking.Asking.{Asking as AtServers}
+use Rattle.walk_tables.specs.Lookup as lookup
+use Rattle.recursor_walk.specs.Asking as asking
+use Rattle.recursor_walk.specs.Walk as walk
+use Rattle.recursor_walk.specs.declared.walk.Course.TheVariants as course
+use Rattle.recursor_walk.specs.declared.resolving.Need.TheVariants as need
 
 abbrev pub state_want : State → Need
 state_want New = need.SetOut

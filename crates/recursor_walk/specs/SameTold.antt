@@ -11,7 +11,7 @@ use Rattle.resolution.specs.declared.verdict.Verdict.{Verdict}
 use Rattle.resolution.specs.declared.verdict.Verdict.TheVariants.{Pos, Neg, Made}
 use Rattle.resolution.specs.declared.verdict.Cause.{Cause}
 use Rattle.resolution.specs.declared.verdict.Cause.TheVariants.{Filter, Zone}
-use Rattle.walk_tables.specs.Asked.{AskedAs}
+use Rattle.lookup_facts.specs.Asked.{AskedAs}
 use Rattle.walk_base.specs.Shown.{nothing_left_for}
 use Rattle.recursor_types.specs.declared.error.AuthorityData.{AuthorityData}
 

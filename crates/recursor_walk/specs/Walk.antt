@@ -4,16 +4,16 @@ use Rattle.dns_core.specs.declared.message.Query.{Query}
 use Rattle.dns_core.specs.declared.errors.NoMemory.{NoMemory}
 use Rattle.dns_core.specs.declared.net_error.NetError.{NetError}
 use Rattle.resolution.specs.Failing.{ends_walk}
-use Rattle.resolution.specs.Names.{walk as name_walked}
 use Rattle.resolution.specs.declared.verdict.Verdict.{Verdict}
-use Rattle.walk_tables.specs.Lookup as lookup
-use Rattle.walk_tables.specs.declared.lookup.Found.{Found}
-use Rattle.walk_tables.specs.declared.lookup.Found.TheVariants as found
+use Rattle.lookup_facts.specs.declared.found.Found.{Found}
 use Rattle.recursor_walk.specs.declared.counted.Counted.{Counted}
 use Rattle.recursor_types.specs.declared.reply.Reply.{Reply}
 use Rattle.recursor_walk.specs.declared.walk.Course.{Course}
-use Rattle.recursor_walk.specs.declared.walk.Course.TheVariants as course
 use Rattle.recursor_walk.specs.declared.walk.Walk.{Walk}
+use Rattle.resolution.specs.Names.{walk as name_walked}
+use Rattle.walk_tables.specs.Lookup as lookup
+use Rattle.lookup_facts.specs.declared.found.Found.TheVariants as found
+use Rattle.recursor_walk.specs.declared.walk.Course.TheVariants as course
 
 -- how many steps a walk has before it once the lookup of its candidate was heard, beside those by which it gives orders and waits for them, and
 -- those of the question itself; a lookup has fewer than 8

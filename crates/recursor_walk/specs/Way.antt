@@ -11,15 +11,16 @@ use Rattle.resolution.specs.Walking.{NoCut}
 use Rattle.resolution.specs.declared.verdict.Verdict.{Verdict}
 use Rattle.resolver_settings.specs.Access.{Access}
 use Rattle.walk_base.specs.Candidate.{candidate_query}
-use Rattle.walk_tables.specs.Lookup.{LookupHolds, FoundHolds, HasFailedBy}
-use Rattle.walk_tables.specs.Pools.{ArePool, AreFor}
-use Rattle.walk_tables.specs.View.{View, given_of}
-use Rattle.walk_tables.specs.declared.lookup.Found.{Found}
+use Rattle.walk_tables.specs.Lookup.{LookupHolds}
+use Rattle.lookup_facts.specs.Found.{FoundHolds, HasFailedBy}
+use Rattle.lookup_facts.specs.Sought.{ArePool, AreFor}
+use Rattle.lookup_facts.specs.View.{View, given_of}
+use Rattle.lookup_facts.specs.declared.found.Found.{Found}
 use Rattle.recursor_walk.specs.Counted.{Stands}
 use Rattle.recursor_walk.specs.Replies.{CameTo}
 use Rattle.recursor_walk.specs.declared.walk.Course.{Course}
-use Rattle.recursor_walk.specs.declared.walk.Course.TheVariants as course
 use Rattle.recursor_walk.specs.declared.walk.Walk.{Walk}
+use Rattle.recursor_walk.specs.declared.walk.Course.TheVariants as course
 
 -- The log shows no cut below the zone at a candidate of fewer labels than n.
 abbrev pub Passed : View → DomainName → DomainName → ℕ → Type 0

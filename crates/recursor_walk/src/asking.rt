@@ -1,17 +1,19 @@
 //! A question at the servers of a zone: what the cache has for it comes first, then it is asked at all of
 //! them.
 ghost use Rattle.std.specs.Prelude.{◌≡◌, ◌<◌, ℕ, Err, IfOk, IsSome, OnOk, OnErr};
-ghost use Rattle.walk_tables.specs.View.{View};
+ghost use Rattle.lookup_facts.specs.View.{View};
 ghost use Rattle.walk_tables.specs.Lookup.{want_of, want_after};
 ghost use Rattle.walk_tables.specs.Taking.{awaited_by, IfAwaits};
-ghost use Rattle.walk_tables.specs.Pools.{AreFor, PoolsHold, StepGoes, IsStepAt, given_so_far, GivesNext};
-ghost use Rattle.walk_tables.specs.declared.lookup.Want.TheVariants as want;
+ghost use Rattle.lookup_facts.specs.Sought.{AreFor};
+ghost use Rattle.walk_tables.specs.Pools.{PoolsHold, StepGoes, IsStepAt, given_so_far, GivesNext};
 ghost use Rattle.recursor_walk.specs.Asking.{AskingHolds, LastHolds, LastComes, HasFound, SameSite, steps, LeavesFewer};
 ghost use Rattle.recursor_walk.specs.Counted.{Answers, ReadsAt, recalled, answerable};
 ghost use Rattle.recursor_walk.specs.Replies.{RepliesSo, RepliesWith, reply_with};
+ghost use Rattle.walk_tables.specs.declared.lookup.Want.TheVariants as want;
 
 use crate::counted::{Counted, answerable, recalled};
 use dns_core::{DnsRequest, Ips, Name, NetError, NoMemory, Numbers, Query, Question};
+use lookup_facts::Found;
 use recursor_types::{RecursorError, Reply};
 use resolution::Verdict;
 use resolver_cache::ResponseCache;
@@ -19,7 +21,7 @@ use server_core::Tick;
 use std::alloc::Global;
 use std::mem;
 use walk_base::{outcome_of, reply_by};
-use walk_tables::{Found, Lookup, Pools, Stepped};
+use walk_tables::{Lookup, Pools, Stepped};
 
 /// A lookup at the servers of a zone.
 #[derive(Drop, Debug)]

@@ -1,16 +1,16 @@
 //! One question under way, answered, or ended.
 ghost use Rattle.std.specs.Prelude.{◌≡◌, ◌≤◌, ◌<◌, ◌↔◌, ℕ, true, Some, IfOk, IfSome, IsSome, IsErr, OnOk, OnErr, option_copied};
-ghost use Rattle.walk_tables.specs.View.{View};
-ghost use Rattle.walk_tables.specs.Remembered.{CacheHolds};
+ghost use Rattle.lookup_facts.specs.View.{View};
+ghost use Rattle.lookup_facts.specs.Remembered.{CacheHolds};
 ghost use Rattle.walk_tables.specs.Taking.{Leaves, IfAwaits};
 ghost use Rattle.walk_tables.specs.Pools.{PoolsHold, StepGoes, IsStepAt, given_so_far, GivesNext};
-ghost use Rattle.walk_tables.specs.declared.lookup.Want.TheVariants as want;
 ghost use Rattle.recursor_walk.specs.Replies.{Replied};
 ghost use Rattle.recursor_walk.specs.Counted.{ReadsAt, recalled, answerable};
 ghost use Rattle.recursor_walk.specs.Resolving.{want_of, state_steps, steps, open_of, asking_of, asked_of, IsWalking, IsUnder, IsWalked, IsSettled, IsDone, IsOpen, StaysOpen, AsksOn, SameBegun, AsksFor, StepsOn, IsAnswered, IsHeeded, IsHeard};
 ghost use Rattle.recursor_walk.specs.Resolved.{StandsSo, StateHolds, StateComes, AnswerComes, ResolutionHolds};
 ghost use Rattle.recursor_walk.specs.Walk.{begin_steps};
 ghost use Rattle.recursor_walk.specs.Way.{HasRoots, FiltersBy};
+ghost use Rattle.walk_tables.specs.declared.lookup.Want.TheVariants as want;
 
 use crate::asking::{Asking, answer_with};
 use crate::counted::{answerable, recalled};
@@ -314,7 +314,7 @@ impl Resolution {
         match &mut self.state {
             State::Walking(walk) => walk.asking.send(alloc, pools, request, tick),
             State::Asking(asking) => asking.send(alloc, pools, request, tick),
-            _ => Err(NoMemory),
+            _ => unreachable!(),
         }
     }
 
@@ -339,7 +339,7 @@ impl Resolution {
         match &mut self.state {
             State::Walking(walk) => walk.asking.step(alloc, pools, begun, since, tick),
             State::Asking(asking) => asking.step(alloc, pools, begun, since, tick),
-            _ => Err(NoMemory),
+            _ => unreachable!(),
         }
     }
 

@@ -1,7 +1,7 @@
 //! The short way of a question for which the cache has an authoritative message: this is copied once,
 //! into the reply.
 ghost use Rattle.std.specs.Prelude.{ℕ, IfOk, IfSome};
-ghost use Rattle.walk_tables.specs.View.{View};
+ghost use Rattle.lookup_facts.specs.View.{View};
 ghost use Rattle.recursor_walk.specs.Replies.{CameTo, IsReplyKept};
 ghost use Rattle.recursor_walk.specs.Counted.{ReadsAt};
 

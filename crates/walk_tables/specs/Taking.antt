@@ -1,69 +1,35 @@
 -- What the outcome of an order leaves of the pools, and what it writes into the cache.
-use Rattle.std.specs.Prelude.{◌≡◌, ◌⊎◌, ◌==◌, ℕ, Bool, false, nat_lt, length, if◌then◌else◌, Option, Some, None, Ok, Err, IfSome, option_and_then}
+use Rattle.std.specs.Prelude.{◌≡◌, ◌⊎◌, ◌==◌, ℕ, Bool, false, if◌then◌else◌, Option, Some, None, Ok, IfSome, option_and_then}
 use Rattle.server_core.specs.declared.order.After.{After}
-use Rattle.server_core.specs.declared.order.After.TheVariants as after
 use Rattle.server_core.specs.declared.order.Outcome.{Outcome}
 use Rattle.server_core.specs.declared.order.Tick.{Tick}
 use Rattle.resolver_cache.specs.Cached.{Cached}
-use Rattle.resolution.specs.Lookups.{Answered}
-use Rattle.retry_lookup.specs.Asked.{answer_of}
-use Rattle.server_pool.specs.Lookups.{closed_by}
 use Rattle.server_pool.specs.Orders.{IsOpenOrder, open_at}
-use Rattle.server_pool.specs.Shared.{Shared, lookup_at}
 use Rattle.server_pool.specs.Stepping.{HasPut}
 use Rattle.server_pool.specs.declared.open_lookup.OpenLookup.{OpenLookup}
-use Rattle.walk_base.specs.Kept.{kept_of}
-use Rattle.walk_tables.specs.Lookup.{last_of, classified, HasCome}
 use Rattle.walk_tables.specs.Pools.{sought_at, PoolsHold, HasGone}
-use Rattle.walk_tables.specs.Remembered.{CacheHolds, Telling, telling, with_response, remembered}
-use Rattle.walk_tables.specs.View.{View}
-use Rattle.walk_tables.specs.declared.lookup.Found.{Found}
-use Rattle.walk_tables.specs.declared.lookup.Found.TheVariants as found
+use Rattle.lookup_facts.specs.Remembered.{CacheHolds, Telling, remembered}
+use Rattle.lookup_facts.specs.View.{View}
+use Rattle.lookup_facts.specs.declared.found.Found.{Found}
 use Rattle.walk_tables.specs.declared.lookup.Ask.{Ask}
-use Rattle.walk_tables.specs.declared.lookup.Ask.TheVariants as ask
 use Rattle.walk_tables.specs.declared.lookup.Lookup.{Lookup}
-use Rattle.walk_tables.specs.declared.pools.Given.{Given}
+use Rattle.lookup_facts.specs.declared.sought.Given.{Given}
 use Rattle.walk_tables.specs.declared.pools.Pools.{Pools}
-use Rattle.walk_tables.specs.declared.pools.Sought.{Sought}
+use Rattle.lookup_facts.specs.declared.sought.Sought.{Sought}
 use Rattle.walk_tables.specs.declared.pools.Stepped.{Stepped}
+use Rattle.lookup_facts.specs.Coming.{ComesBy, has_more_ends, telling_by}
+use Rattle.server_core.specs.declared.order.After.TheVariants as after
+use Rattle.walk_tables.specs.declared.lookup.Ask.TheVariants as ask
 use Rattle.walk_tables.specs.declared.pools.Stepped.TheVariants as stepped
-
--- what the lookup of the number was answered at its pool, where it is decided
-abbrev pub answer_at : Shared → ℕ → Option Answered
-answer_at shared n = option_and_then (λ (l : OpenLookup). answer_of l.lookup) (lookup_at shared n)
-
--- that answer as it was told for what is sought, by the last of the entries by which its sends ended
-abbrev pub telling_by : Shared → ℕ → Sought → Option Telling
-telling_by shared n s = option_and_then (λ told. telling s.zone s.query (last_of (closed_by (lookup_at shared n))) s.at (classified told)) (answer_at shared n)
 
 -- what the lookup of the number came to, where it came to a response
 abbrev pub telling_at : Pools → ℕ → Option Telling
 telling_at pools n = option_and_then (telling_by pools.shared n) (sought_at pools n)
 
--- One that is sought so came to this by its answer; or to no response.
-abbrev pub ComesBy : Shared → ℕ → Option Found → Sought → Type 0
-ComesBy shared n (Some came) s = HasCome s.zone s.query (lookup_at shared n) came
-ComesBy shared n None s = telling_by shared n s ≡ None
-
 abbrev pub Comes : Pools → ℕ → Option Found → Type 0
 Comes pools n came = IfSome (sought_at pools n) (ComesBy pools.shared n came)
 
--- the cache with what one that is sought so came to, where that is kept
-abbrev pub with_found : Cached → Option Found → Sought → Cached
-with_found cache None s = cache
-with_found cache (Some (found.Error error)) s = cache
-with_found cache (Some (found.Told entry (Err error))) s = cache
-with_found cache (Some (found.Told entry (Ok verdict))) s = with_response cache s.query entry s.at (kept_of verdict)
-
-abbrev pub with_sought : Cached → Option Sought → Option Found → Cached
-with_sought cache None came = cache
-with_sought cache (Some s) came = with_found cache came s
-
 -- ---- an outcome
-
--- one more send of the lookup has ended
-abbrev pub has_more_ends : Shared → Shared → ℕ → Bool
-has_more_ends old new n = nat_lt (length (closed_by (lookup_at old n))) (length (closed_by (lookup_at new n)))
 
 -- it is sought for the same question in the same zone
 abbrev pub IsSoughtStill : Sought → Sought → Type 0

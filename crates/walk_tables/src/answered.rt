@@ -1,9 +1,9 @@
 //! What a lookup comes to by what it was answered.
 ghost use Rattle.std.specs.Prelude.{◌≡◌};
-ghost use Rattle.walk_tables.specs.Lookup.{last_of, class_of_failure, classified, ComesTo};
+ghost use Rattle.lookup_facts.specs.Found.{last_of, class_of_failure, classified, ComesTo};
 
-use crate::lookup::Found;
 use dns_core::{DnsError, Message, Name, NetError, Query};
+use lookup_facts::Found;
 use walk_base::verdict_of_class;
 
 /// The last of these numbers, 0 where there is none.

@@ -1,7 +1,7 @@
 //! What a finished lookup leaves in the cache of responses.
 ghost use Rattle.std.specs.Prelude.{◌≡◌, OnOk, OnErr, IfOk};
 ghost use Rattle.walk_base.specs.Kept.{kept_of};
-ghost use Rattle.walk_tables.specs.Remembered.{with_response};
+ghost use Rattle.lookup_facts.specs.Remembered.{with_response};
 
 use dns_core::{DnsError, Message, NetError, NoMemory, Query, RecordType, TryClone};
 use resolution::Verdict;

@@ -2,13 +2,12 @@
 //! lookups that are under way at these.
 #![tactic(auto)]
 
-mod aims;
 mod answered;
 mod keeping;
 mod lookup;
 mod pools;
 mod threads;
 
-pub use lookup::{Ask, Found, Lookup, Want};
+pub use lookup::{Ask, Lookup, Want};
 pub use pools::{Answer, Pools, Stepped};
 pub use threads::tables_cross_threads;

@@ -3,13 +3,15 @@ ghost use Rattle.std.specs.Prelude.{◌≡◌, ◌<◌, ℕ, IfOk, IsTrue, Match
 ghost use Rattle.dns_core.specs.Name.{DomainName};
 ghost use Rattle.resolution.specs.Names.{is_above, walk};
 ghost use Rattle.walk_tables.specs.Taking.{awaited_by, Leaves, IfAwaits};
-ghost use Rattle.walk_tables.specs.View.{View};
-ghost use Rattle.walk_tables.specs.Pools.{PoolsHold, StepGoes, AreFor, IsStepAt, given_so_far, GivesNext};
-ghost use Rattle.walk_tables.specs.Lookup.{want_of, want_after, steps, LookupHolds, FoundHolds};
+ghost use Rattle.lookup_facts.specs.View.{View};
+ghost use Rattle.walk_tables.specs.Pools.{PoolsHold, StepGoes, IsStepAt, given_so_far, GivesNext};
+ghost use Rattle.lookup_facts.specs.Sought.{AreFor};
+ghost use Rattle.walk_tables.specs.Lookup.{want_of, want_after, steps, LookupHolds};
+ghost use Rattle.lookup_facts.specs.Found.{FoundHolds};
 
 use crate::pools::{Answer, Pools, Stepped};
-use dns_core::{DnsRequest, Name, NetError, NoMemory, Numbers, Query};
-use resolution::Verdict;
+use dns_core::{DnsRequest, Name, NoMemory, Numbers, Query};
+use lookup_facts::Found;
 use server_core::Tick;
 use server_pool::PoolLookup;
 use std::alloc::Global;
@@ -42,17 +44,6 @@ pub struct Lookup {
     pub query: Query,
     pub ask: Ask,
     pub ends: Numbers,
-}
-
-/// What a lookup came to: a response was told by an entry, which counts so for its question or is the
-/// error; or it failed.
-#[derive(Drop, Debug)]
-pub enum Found {
-    Told {
-        entry: u64,
-        verdict: Result<Verdict, NetError>,
-    },
-    Error(NetError),
 }
 
 impl Lookup {

@@ -1,30 +1,31 @@
 //! The servers that were met, each under its address, the pools of them, and the lookups that are under
 //! way at these.
-ghost use Rattle.std.specs.Prelude.{◌≡◌, ◌↔◌, ◌≤◌, ◌<◌, ◌+◌, ◌==◌, ℕ, true, false, length, Some, None, Ok, Err, IfOk, IfSome, IsSome, OnOk, OnErr, IsTrue, option_copied};
+ghost use Rattle.std.specs.Prelude.{◌≡◌, ◌↔◌, ◌<◌, ◌+◌, ◌==◌, ℕ, false, length, Some, None, Ok, Err, IfOk, IfSome, IsSome, OnOk, OnErr, IsTrue, option_copied};
 ghost use Rattle.std.specs.List.{AllZip};
 ghost use Rattle.std.specs.declared.net.ip_addr.IpAddr.{IpAddr};
 ghost use Rattle.dns_core.specs.declared.message.Query.{Query};
 ghost use Rattle.server_core.specs.Servers.{IsFirstDelay};
-ghost use Rattle.walk_tables.specs.Order.{HoldsOn};
-ghost use Rattle.walk_tables.specs.View.{View, Later};
+ghost use Rattle.lookup_facts.specs.Order.{HoldsOn};
+ghost use Rattle.lookup_facts.specs.View.{View, Later};
 ghost use Rattle.recursor_types.specs.Options.{answer_filter_of};
 ghost use Rattle.recursor_setting.specs.Setting.{context_of};
 ghost use Rattle.recursor_setting.specs.declared.setting.Setting.{Setting};
 ghost use Rattle.recursor_setting.specs.Delays.{turn_at, delay_at};
-ghost use Rattle.walk_tables.specs.Pools.{number_of, first_delay_at, sought_at, came_at, IfCame, ServersHold, PoolsHold, IsSentOver, IsFirst, IsOf, IsStill, MayWait, MayTake, MayTakeBy, IsOutcomeOf, is_denial, IsMet, IsGrown, HasForgotten, HasNoted, HasKept, HasLeft, HasGone, noted, with_came, aim_of, sent_to, first_of, polled_by, StepGoes, IsGivenFor, NotesOutcome, Seeks, AreFor, IsStepAt, given_so_far, GivesNext};
+ghost use Rattle.walk_tables.specs.Pools.{number_of, sought_at, came_at, IfCame, ServersHold, PoolsHold, IsOutcomeOf, IsGrown, HasForgotten, HasNoted, HasKept, HasLeft, HasGone, StepGoes, IsGivenFor, NotesOutcome, Seeks, IsStepAt, given_so_far, GivesNext};
+ghost use Rattle.lookup_facts.specs.Sought.{first_delay_at, IsMet, with_came, aim_of, first_of, polled_by, AreFor, noted};
 ghost use Rattle.walk_tables.specs.Lookup.{AnswerHolds};
-ghost use Rattle.walk_tables.specs.Remembered.{remembered};
-ghost use Rattle.walk_tables.specs.Taking.{answer_at, telling_at, Took, Takes, Comes, with_sought, TablesHold, is_open_at, awaited_in, IfAwaits};
+ghost use Rattle.lookup_facts.specs.Remembered.{remembered};
+ghost use Rattle.lookup_facts.specs.Coming.{answer_at, with_sought};
+ghost use Rattle.walk_tables.specs.Taking.{telling_at, Took, Takes, Comes, TablesHold, is_open_at, awaited_in, IfAwaits};
 ghost use Rattle.server_pool.specs.Orders.{open_at};
-ghost use Rattle.walk_tables.specs.declared.pools.Given.{Given};
+ghost use Rattle.lookup_facts.specs.declared.sought.Given.{Given};
 
-use crate::aims::{aim_of, first_of, is_denial, is_identical, is_memory, is_still, polled_by};
 use crate::answered::{found_by, last_of};
 use crate::keeping::write;
-use crate::lookup::Found;
 use dns_core::{
     Boxed, Delays, DnsRequest, Message, Name, NetError, NoMemory, Numbers, Query, TryClone,
 };
+use lookup_facts::{Found, Given, Sought, aim_of, first_of, is_memory, polled_by};
 use recursor_setting::{FirstDelay, first_delay, pool_context};
 use recursor_types::RecursorOptions;
 use resolver_cache::ResponseCache;
@@ -35,38 +36,6 @@ use std::alloc::Global;
 use std::collections::BTreeMap;
 use std::mem;
 use std::net::IpAddr;
-
-/// What an order does: it opens a connection to an address, asks there, or sleeps.
-#[derive(Clone, Copy, Debug, PartialEq, Eq)]
-pub enum Aim {
-    Open { ip: IpAddr },
-    Ask { ip: IpAddr },
-    Sleep,
-}
-
-/// An order that is open: its number, what it does, the greatest number of a log entry that was put
-/// before it was given, and the entry that sent what its polls wait for, once one of them was put.
-#[derive(Clone, Copy, Debug, PartialEq, Eq)]
-pub struct Given {
-    pub number: u64,
-    pub aim: Aim,
-    pub since: u64,
-    pub polled: Option<u64>,
-}
-
-/// What a lookup is for: a question at the servers of a zone, since a moment. `given` is its open order,
-/// `first` the address to which its first send goes, where that is known, `at` the moment of the last
-/// end of a send, and `came` what it came to, where that is known.
-#[derive(Drop, Debug)]
-pub struct Sought {
-    pub query: Query,
-    pub zone: Name,
-    pub start: u64,
-    pub given: Option<Given>,
-    pub first: Option<IpAddr>,
-    pub at: u64,
-    pub came: Option<Found>,
-}
 
 /// What a lookup came to, and the entries of its ends.
 #[derive(Drop, Debug)]
@@ -100,114 +69,6 @@ fn copy_of(alloc: Global, numbers: &[u64]) -> Result<Numbers, NoMemory>
     ensures { IfOk result (λ copy. copy ≡ numbers.now) }
 {
     Ok(Numbers::new(Vec::from_slice(alloc, numbers)?))
-}
-
-impl Sought {
-    /// Whether this was sent for its open order: to the address, and where it asks with the question
-    /// and later than what was put before.
-    fn sends(&self, asks: bool, ip: IpAddr, since: u64, sent: &Sent) -> bool
-        ensures { IsTrue result ↔ IsSentOver asks ip self.now.query since sent.now }
-    {
-        if sent.ip != ip {
-            return false;
-        }
-        match &sent.query {
-            None => !asks,
-            Some(query) => asks && since < sent.of && is_identical(query, &self.query),
-        }
-    }
-
-    /// Whether the first send began with this, at the start of the lookup, or is known to go there.
-    fn begins(&self, ended: bool, sent: &Sent) -> bool
-        ensures { IsTrue result ↔ IsFirst self.now.start self.now.first ended sent.now }
-    {
-        match &self.first {
-            None => sent.moment == self.start,
-            Some(ip) => ended || sent.ip == *ip,
-        }
-    }
-
-    fn is_of(&self, ended: bool, asks: bool, ip: IpAddr, since: u64, sent: &Sent) -> bool
-        ensures { IsTrue result ↔ IsOf self.now.start self.now.query self.now.first ended since asks ip sent.now }
-    {
-        self.sends(asks, ip, since, sent) && self.begins(ended, sent)
-    }
-
-    /// Whether a poll that found nothing is one of its order to open or to ask: it waits for what was
-    /// sent for that order, as those before it did.
-    fn is_polled(
-        &self,
-        ended: bool,
-        asks: bool,
-        ip: IpAddr,
-        given: &Given,
-        of: u64,
-        waits: Option<&Sent>,
-    ) -> bool
-        ensures { IsTrue result ↔ MayWait self.now.start self.now.query self.now.first ended given.now.since given.now.polled asks ip (option_copied waits.entry) of }
-    {
-        match waits {
-            Some(sent) => {
-                sent.of == of
-                    && is_still(given.polled, of)
-                    && self.is_of(ended, asks, ip, given.since, sent)
-            }
-            None => false,
-        }
-    }
-
-    /// Whether this is an outcome of its order to open or to ask: a denial only where it was asked for.
-    fn fits(
-        &self,
-        ended: bool,
-        asks: bool,
-        ip: IpAddr,
-        given: &Given,
-        outcome: &Outcome,
-        waits: Option<&Sent>,
-    ) -> bool
-        ensures { IsTrue result ↔ MayTake self.now.start self.now.query self.now.first ended given.now.since given.now.polled asks ip (option_copied waits.entry) outcome.now }
-    {
-        match outcome {
-            Outcome::Pending { of, .. } => self.is_polled(ended, asks, ip, given, *of, waits),
-            Outcome::Connected { sent, .. } => {
-                !asks && self.is_of(ended, asks, ip, given.since, sent)
-            }
-            Outcome::Told { sent, .. } => asks && self.is_of(ended, asks, ip, given.since, sent),
-            Outcome::Failed {
-                sent,
-                refused,
-                error,
-                ..
-            } => {
-                (!is_denial(error) || asks && !*refused)
-                    && self.is_of(ended, asks, ip, given.since, sent)
-            }
-            Outcome::Slept => false,
-        }
-    }
-
-    /// Whether this is an outcome of an order that it gave; a sleep may end by any.
-    fn may_take(&self, ended: bool, given: &Given, outcome: &Outcome, waits: Option<&Sent>) -> bool
-        ensures { IsTrue result ↔ MayTakeBy self.now ended given.now given.now.aim (option_copied waits.entry) outcome.now }
-    {
-        match &given.aim {
-            Aim::Open { ip } => {
-                outcome.entry() != 0 && self.fits(ended, false, *ip, given, outcome, waits)
-            }
-            Aim::Ask { ip } => {
-                outcome.entry() != 0 && self.fits(ended, true, *ip, given, outcome, waits)
-            }
-            Aim::Sleep => true,
-        }
-    }
-
-    /// Whether it is for this question at the servers of this zone, since no earlier than the moment.
-    fn is_for(&self, query: &Query, zone: &Name, begun: u64) -> bool
-        ensures { IsTrue result → (self.now.query ≡ query.now) × (self.now.zone ≡ zone.now) × (begun ≤ self.now.start) }
-    {
-        begun <= self.start && is_identical(&self.query, query) && self.zone.eq_case(zone)
-    }
 }
 
 impl Pools {
@@ -245,7 +106,7 @@ impl Pools {
         requires { number_of self.old ip ≡ None }
         ensures grown { IsGrown self.old self.new }
         ensures servers { (setting : Setting) → ServersHold setting self.old → ServersHold setting self.new }
-        ensures met { IfOk result (λ number. IsMet self.new ip number) }
+        ensures met { IfOk result (λ number. IsMet self.new.shared.table ip number) }
         ensures delay { IfOk result (λ number. first_delay_at self.new.shared.table number ≡ Some (delay_at self.old.first_delays (turn_at (length self.old.first_delays) self.old.turn))) }
     {
         let config = NameServerConfig::udp_and_tcp(alloc, ip)?;
@@ -261,7 +122,7 @@ impl Pools {
     fn meet(&mut self, alloc: Global, ip: IpAddr) -> Result<u32, NoMemory>
         ensures grown { IsGrown self.old self.new }
         ensures servers { (setting : Setting) → ServersHold setting self.old → ServersHold setting self.new }
-        ensures met { (setting : Setting) → ServersHold setting self.old → IfOk result (λ number. IsMet self.new ip number) }
+        ensures met { (setting : Setting) → ServersHold setting self.old → IfOk result (λ number. IsMet self.new.shared.table ip number) }
     {
         match self.numbers.get(&ip) {
             Some(number) => Ok(*number),
@@ -273,7 +134,7 @@ impl Pools {
     fn meet_all(&mut self, alloc: Global, ips: &[IpAddr]) -> Result<Vec<u32>, NoMemory>
         ensures grown { IsGrown self.old self.new }
         ensures servers { (setting : Setting) → ServersHold setting self.old → ServersHold setting self.new }
-        ensures met { (setting : Setting) → ServersHold setting self.old → IfOk result (λ numbers. AllZip (IsMet self.new) ips.now numbers.items) }
+        ensures met { (setting : Setting) → ServersHold setting self.old → IfOk result (λ numbers. AllZip (IsMet self.new.shared.table) ips.now numbers.items) }
     {
         let mut servers = Vec::with_capacity(alloc, ips.len())?;
         for ip in ips {

@@ -1,6 +1,6 @@
 //! Each type of this crate may go to another thread, and be shared among threads.
 
-use crate::lookup::{Ask, Found, Lookup, Want};
+use crate::lookup::{Ask, Lookup, Want};
 use crate::pools::{Answer, Pools, Stepped};
 
 fn crosses<T: Send + Sync>() {}
@@ -9,7 +9,6 @@ fn crosses<T: Send + Sync>() {}
 pub fn tables_cross_threads() {
     crosses::<Answer>();
     crosses::<Ask>();
-    crosses::<Found>();
     crosses::<Lookup>();
     crosses::<Pools>();
     crosses::<Stepped>();

@@ -1,10 +1,4 @@
-use Rattle.std.proofs.Common.{◌<◌, ◌∙◌, ℕ, length, IfOk, sym, subst}
-use Rattle.order_carrier.specs.Growing.{TellsThat, IsPast}
-use Rattle.recursor_core.specs.Standing.{Standing, run_terms, run_moments, RepliesHold}
-use Rattle.order_carrier.proofs.Moments.{rises_over}
-use Rattle.walk_tables.specs.View.{}
-use Rattle.recursor_setting.specs.Setting.{with_patience}
-use Rattle.recursor_setting.specs.declared.setting.Setting.{Setting}
+use Rattle.recursor_core.proofs.Names.{◌<◌, ◌∙◌, ℕ, length, IfOk, sym, subst, TellsThat, IsPast, Standing, run_terms, run_moments, RepliesHold, rises_over, with_patience, Setting}
 use Rattle.recursor_core.proofs.Standing.{rests_holds, holds_rests}
 use Rattle.recursor_core.proofs.driving.drive.Goals as goal
 

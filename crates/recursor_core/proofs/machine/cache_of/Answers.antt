@@ -1,6 +1,5 @@
-use Rattle.std.proofs.Common.{◌∙◌, ap, []}
+use Rattle.recursor_core.proofs.Names.{◌∙◌, ap, [], Cached}
 use Rattle.resolver_settings.specs.Ttl.{TtlTable}
-use Rattle.resolver_cache.specs.Cached.{Cached}
 use Rattle.recursor_core.proofs.machine.cache_of.Goals as goal
 
 pub returns : goal.returns

@@ -1,7 +1,4 @@
-use Rattle.std.proofs.Common.{◌≡◌, ◌∙◌, ℕ, Option, length, arith, subst, slice_get}
-use Rattle.recursor_core.specs.Turns.{ReplyOf}
-use Rattle.recursor_types.specs.declared.reply.Reply.{Reply}
-use Rattle.recursor_core.specs.declared.plays.Played.{Played}
+use Rattle.recursor_core.proofs.Names.{◌≡◌, ◌∙◌, ℕ, Option, length, arith, subst, slice_get, ReplyOf, Reply, Played}
 use Rattle.recursor_core.proofs.Playing.{each_push}
 use Rattle.recursor_core.proofs.plays.replies.Goals as goal
 

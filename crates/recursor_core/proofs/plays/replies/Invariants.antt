@@ -1,6 +1,4 @@
-use Rattle.std.proofs.Common.{◌≡◌, ◌≤◌, ℕ, Some, slice_get, vec_len}
-use Rattle.recursor_core.specs.Turns.{ReplyOf}
-use Rattle.recursor_types.specs.declared.reply.Reply.{Reply}
+use Rattle.recursor_core.proofs.Names.{◌≡◌, ◌≤◌, ℕ, Some, slice_get, vec_len, ReplyOf, Reply}
 use Rattle.recursor_core.proofs.plays.replies.Given as goal
 
 abbrev pub invariant-loop-place : goal.invariant-loop-place

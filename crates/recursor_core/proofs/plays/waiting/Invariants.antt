@@ -1,4 +1,4 @@
-use Rattle.std.proofs.Common.{◌≡◌, All, vec_len}
+use Rattle.recursor_core.proofs.Names.{◌≡◌, All, vec_len}
 use Rattle.recursor_core.specs.declared.plays.Played.TheVariants as played
 use Rattle.recursor_core.proofs.plays.waiting.Given as goal
 

@@ -1,4 +1,4 @@
-use Rattle.std.proofs.Common.{arith}
+use Rattle.recursor_core.proofs.Names.{arith}
 use Rattle.recursor_core.proofs.Due.{due_later}
 use Rattle.recursor_core.proofs.Standing.{goes_core, goes_run, goes_trans}
 use Rattle.recursor_core.proofs.turns.abandon.Goals as goal

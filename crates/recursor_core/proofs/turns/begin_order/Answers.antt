@@ -1,6 +1,4 @@
-use Rattle.std.proofs.Common.{max, arith}
-use Rattle.order_runner.specs.Runner.{polls_left}
-use Rattle.recursor_core.specs.Machine.{given_by}
+use Rattle.recursor_core.proofs.Names.{max, arith, polls_left, given_by}
 use Rattle.recursor_core.proofs.Due.{due_order}
 use Rattle.recursor_core.proofs.Standing.{goes_nowhere}
 use Rattle.recursor_core.proofs.turns.begin_order.Goals as goal

@@ -1,4 +1,4 @@
-use Rattle.std.proofs.Common.{arith}
+use Rattle.recursor_core.proofs.Names.{arith}
 use Rattle.recursor_core.proofs.Standing.{goes_trans}
 use Rattle.recursor_core.proofs.turns.poll_rest.Goals as goal
 

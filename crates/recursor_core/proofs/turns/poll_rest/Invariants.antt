@@ -1,6 +1,4 @@
-use Rattle.std.proofs.Common.{◌≡◌, ◌≤◌, ◌<◌, MatchBool}
-use Rattle.recursor_core.specs.Standing.{Goes}
-use Rattle.recursor_core.specs.Turns.{due}
+use Rattle.recursor_core.proofs.Names.{◌≡◌, ◌≤◌, ◌<◌, MatchBool, Goes, due}
 use Rattle.recursor_core.proofs.turns.poll_rest.Given as goal
 
 abbrev pub invariant-orders : goal.invariant-orders

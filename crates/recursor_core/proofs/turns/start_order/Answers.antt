@@ -1,6 +1,4 @@
-use Rattle.std.proofs.Common.{◌+◌, max, arith}
-use Rattle.order_runner.specs.Runner.{polls_left}
-use Rattle.recursor_core.specs.Machine.{given_by}
+use Rattle.recursor_core.proofs.Names.{◌+◌, max, arith, polls_left, given_by}
 use Rattle.recursor_core.proofs.Due.{due_more}
 use Rattle.recursor_core.proofs.Standing.{goes_run, goes_trans}
 use Rattle.recursor_core.proofs.turns.start_order.Goals as goal

@@ -1,9 +1,7 @@
-use Rattle.std.proofs.Common.{◌<◌, ⊎_elim, inl, arith}
-use Rattle.recursor_core.specs.Machine.{open_at}
-use Rattle.recursor_core.specs.Turns.{due}
-use Rattle.recursor_core.specs.declared.turns.Turned.TheVariants as turned
+use Rattle.recursor_core.proofs.Names.{◌<◌, ⊎_elim, inl, arith, open_at, due}
 use Rattle.recursor_core.proofs.Due.{was_some, was_none, polled_all}
 use Rattle.recursor_core.proofs.Standing.{goes_trans, told_before}
+use Rattle.recursor_core.specs.declared.turns.Turned.TheVariants as turned
 use Rattle.recursor_core.proofs.turns.turn.Goals as goal
 
 pub returns-in_err-ask-clause-goes : goal.returns-in_err-ask-clause-goes

@@ -1,8 +1,4 @@
-use Rattle.std.proofs.Common.{◌≡◌, ◌≤◌, ◌<◌, ◌⊎◌, ℕ, false}
-use Rattle.std.specs.BTreeSet.{contains}
-use Rattle.std.specs.Ordering.{nat_cmp}
-use Rattle.recursor_core.specs.Standing.{Goes}
-use Rattle.recursor_core.specs.Turns.{due}
+use Rattle.recursor_core.proofs.Names.{◌≡◌, ◌≤◌, ◌<◌, ◌⊎◌, ℕ, false, contains, nat_cmp, Goes, due}
 use Rattle.recursor_core.proofs.turns.turn.Given as goal
 
 abbrev pub invariant-rounds : goal.invariant-rounds

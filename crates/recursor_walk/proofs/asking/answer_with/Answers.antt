@@ -1,5 +1,4 @@
-use Rattle.std.proofs.Common.{sym, subst, [], ◌∷◌}
-use Rattle.recursor_walk.specs.Replies.{OutcomeCame}
+use Rattle.recursor_walk.proofs.Names.{sym, subst, [], ◌∷◌, OutcomeCame}
 use Rattle.recursor_walk.proofs.Denials.{answered-by, replies}
 use Rattle.recursor_walk.proofs.asking.answer_with.Goals as goal
 

@@ -1,9 +1,4 @@
-use Rattle.std.proofs.Common.{◌≡◌, Bool, cond, refl, sym, subst, ap, ◌∙◌, Option, Some, None}
-use Rattle.recursor_walk.specs.Counted.{answerable, recalled}
-use Rattle.recursor_walk.specs.Replies.{IsReplyKept}
-use Rattle.recursor_walk.specs.Resolving.{IsAnswered}
-use Rattle.recursor_walk.specs.declared.counted.Counted.{Counted}
-use Rattle.recursor_walk.specs.declared.resolving.State.TheVariants.{Done}
+use Rattle.recursor_walk.proofs.Names.{◌≡◌, Bool, cond, refl, sym, subst, ap, ◌∙◌, Option, Some, None, answerable, recalled, IsReplyKept, IsAnswered, Counted, Done}
 use Rattle.recursor_walk.proofs.Recalling.{recalled-for, recalled-answers}
 use Rattle.recursor_walk.proofs.resolving.begun.Goals as goal
 

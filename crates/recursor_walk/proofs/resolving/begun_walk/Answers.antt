@@ -1,7 +1,4 @@
-use Rattle.std.proofs.Common.{◌∙◌, ◌≡◌, ℕ, List, length, sym, ap, arith}
-use Rattle.std.proofs.lemmas.Bool.Decides.{nat_tests}
-use Rattle.dns_core.specs.Name.{DomainName}
-use Rattle.resolution.specs.Names.{walk}
+use Rattle.recursor_walk.proofs.Names.{◌∙◌, ◌≡◌, ℕ, List, length, sym, ap, arith, nat_tests, DomainName, walk}
 use Rattle.recursor_walk.proofs.Walks.{at-root}
 use Rattle.recursor_walk.proofs.resolving.begun_walk.Goals as goal
 

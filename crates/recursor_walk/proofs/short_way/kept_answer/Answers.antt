@@ -1,6 +1,4 @@
-use Rattle.std.proofs.Common.{◌≡◌, ◌∙◌, refl, sym, ap, Some, Ok, option_copied}
-use Rattle.resolver_cache.specs.Entry.{current_for}
-use Rattle.resolver_cache.specs.Lowering.{seconds_between, lowered_message}
+use Rattle.recursor_walk.proofs.Names.{◌≡◌, ◌∙◌, refl, sym, ap, Some, Ok, option_copied, current_for, seconds_between, lowered_message}
 use Rattle.recursor_walk.proofs.Denials.{told-answer}
 use Rattle.recursor_walk.proofs.Recalling.{counted-kept, kept-recalled, kept-answers}
 use Rattle.recursor_walk.proofs.short_way.kept_answer.Goals as goal

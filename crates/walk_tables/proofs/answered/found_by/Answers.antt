@@ -1,5 +1,5 @@
-use Rattle.std.proofs.Common.{refl, sym, ◌∙◌}
-use Rattle.walk_tables.proofs.Counting.{counts-as}
+use Rattle.walk_tables.proofs.Names.{refl, sym, ◌∙◌}
+use Rattle.lookup_facts.proofs.Counting.{counts-as}
 use Rattle.walk_tables.proofs.answered.found_by.Goals as goal
 
 pub returns-in-Ok : goal.returns-in-Ok

@@ -1,8 +1,4 @@
-use Rattle.std.proofs.Common.{◌≡◌, ◌-◌, ◌∙◌, ℕ, List, [], ◌∷◌, Option, Some, None, length, refl, sym, ap, arith}
-use Rattle.std.specs.Prelude.{slice_get}
-use Rattle.std.specs.List.{last_or}
-use Rattle.std.specs.Option.{option_copied}
-use Rattle.walk_tables.specs.Lookup.{last_of}
+use Rattle.walk_tables.proofs.Names.{◌≡◌, ◌-◌, ◌∙◌, ℕ, List, [], ◌∷◌, Option, Some, None, length, refl, sym, ap, arith, slice_get, last_or, option_copied, last_of}
 use Rattle.walk_tables.proofs.answered.last_of.Goals as goal
 
 -- the last stands before the end

@@ -1,10 +1,6 @@
-use Rattle.std.proofs.Common.{◌≡◌, ◌∙◌, sym, ap, arith, ℕ}
-use Rattle.order_carrier.proofs.Growing.{Extends-refl}
+use Rattle.recursor_core.proofs.Names.{◌≡◌, ◌∙◌, sym, ap, arith, ℕ, Extends-refl, Setting, Later, seen_by}
 use Rattle.recursor_core.proofs.Later.{derived-later}
 use Rattle.recursor_core.proofs.machine.RecursorCore.begin.Goals as goal
-use Rattle.recursor_setting.specs.declared.setting.Setting.{Setting}
-use Rattle.walk_tables.specs.View.{Later}
-use Rattle.recursor_core.specs.Derived.{seen_by}
 
 pub returns-in-Ok-clause-derived : goal.returns-in-Ok-clause-derived
 returns-in-Ok-clause-derived c log later d =

@@ -1,5 +1,4 @@
-use Rattle.std.proofs.Common.{arith}
-use Rattle.std.proofs.lemmas.Result.{IfOk-from_err}
+use Rattle.recursor_core.proofs.Names.{arith, IfOk-from_err}
 use Rattle.recursor_core.proofs.Cores.{goes-err}
 use Rattle.recursor_core.proofs.machine.RecursorCore.begin_asking.Goals as goal
 

@@ -1,6 +1,4 @@
-use Rattle.std.proofs.Common.{refl}
-use Rattle.std.proofs.lemmas.Result.{on_ok_weaker}
-use Rattle.recursor_core.specs.Derived.{seen_by}
+use Rattle.recursor_core.proofs.Names.{refl, on_ok_weaker, seen_by}
 use Rattle.recursor_core.proofs.Ranks.{sum_falls, kept_at}
 use Rattle.recursor_core.proofs.Cores.{same-at, derived-at}
 use Rattle.recursor_core.proofs.machine.RecursorCore.begin_lookup.Goals as goal

@@ -1,18 +1,7 @@
-use Rattle.std.proofs.Common.{◌≡◌, arith, ℕ, List, Option, Some, length, ap, ◌∙◌, slice_get}
-use Rattle.std.specs.Option.{option_map}
-use Rattle.std.specs.Global.{Box}
-use Rattle.dns_core.specs.declared.request.Question.{Question}
-use Rattle.recursor_core.specs.Machine.{Begun, begun_of, kept_in}
-use Rattle.recursor_walk.specs.declared.resolving.Resolution.{Resolution}
-use Rattle.std.proofs.lemmas.List.Elements.{All-push}
-use Rattle.recursor_core.specs.Derived.{seen_by, KeptHolds}
-use Rattle.walk_tables.specs.View.{seen_at}
-use Rattle.walk_tables.proofs.Later.{cache-later, pools-later, later-by}
-use Rattle.order_carrier.proofs.Growing.{Extends-refl}
+use Rattle.recursor_core.proofs.Names.{◌≡◌, arith, ℕ, List, Option, Some, length, ap, ◌∙◌, slice_get, option_map, Box, Question, Begun, begun_of, kept_in, Resolution, All-push, seen_by, KeptHolds, seen_at, cache-later, later-by, pools-later, Extends-refl, length_push}
 use Rattle.recursor_core.proofs.Later.{resolutions-later}
 use Rattle.recursor_core.proofs.Cores.{begun-push, begun-last}
 use Rattle.recursor_core.proofs.machine.RecursorCore.begin_resolution.Goals as goal
-use Rattle.std.proofs.lemmas.List.{length_push}
 
 pub returns-clause-derived : goal.returns-clause-derived
 returns-clause-derived c log later d =

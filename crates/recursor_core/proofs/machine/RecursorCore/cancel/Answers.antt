@@ -1,7 +1,4 @@
-use Rattle.std.proofs.Common.{◌≤◌, length, None, ap, refl, arith}
-use Rattle.std.proofs.Math.ListN.{set}
-use Rattle.std.proofs.lemmas.Option.{slice_get_read}
-use Rattle.recursor_core.specs.Derived.{seen_by}
+use Rattle.recursor_core.proofs.Names.{◌≤◌, length, None, ap, refl, arith, set, slice_get_read, seen_by}
 use Rattle.recursor_core.proofs.Cores.{ended-at, gone-ended, gone-past, derived-at}
 use Rattle.recursor_core.proofs.machine.RecursorCore.cancel.Goals as goal
 

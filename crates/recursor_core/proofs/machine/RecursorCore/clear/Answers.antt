@@ -1,9 +1,4 @@
-use Rattle.std.proofs.Common.{length, ap, arith, refl}
-use Rattle.recursor_core.specs.Derived.{seen_by}
-use Rattle.walk_tables.specs.View.{Later, seen_at}
-use Rattle.recursor_setting.specs.Setting.{with_patience}
-use Rattle.walk_tables.proofs.Later.{cache-later}
-use Rattle.order_carrier.proofs.Growing.{Extends-refl}
+use Rattle.recursor_core.proofs.Names.{length, ap, arith, refl, seen_by, Later, seen_at, with_patience, cache-later, Extends-refl}
 use Rattle.recursor_core.proofs.machine.RecursorCore.clear.Goals as goal
 
 pub returns-clause-derived : goal.returns-clause-derived

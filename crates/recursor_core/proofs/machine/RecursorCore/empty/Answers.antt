@@ -1,5 +1,4 @@
-use Rattle.std.proofs.Common.{refl, sym, ap, ◌∙◌}
-use Rattle.recursor_setting.specs.declared.setting.Setting.{Setting}
+use Rattle.recursor_core.proofs.Names.{refl, sym, ap, ◌∙◌, Setting}
 use Rattle.recursor_core.proofs.machine.RecursorCore.empty.Goals as goal
 
 pub returns : goal.returns

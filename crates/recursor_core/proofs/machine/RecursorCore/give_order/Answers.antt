@@ -1,8 +1,4 @@
-use Rattle.std.proofs.Common.{◌+◌, sym, subst, arith}
-use Rattle.std.proofs.lemmas.Result.{IfOk-from_err}
-use Rattle.server_core.specs.declared.order.Order.{Order}
-use Rattle.order_carrier.specs.Fits.{GoesToServer}
-use Rattle.walk_tables.specs.View.{given_of}
+use Rattle.recursor_core.proofs.Names.{◌+◌, sym, subst, arith, IfOk-from_err, Order, GoesToServer, given_of}
 use Rattle.recursor_core.proofs.Cores.{goes-err}
 use Rattle.recursor_core.proofs.machine.RecursorCore.give_order.Goals as goal
 

@@ -1,7 +1,4 @@
-use Rattle.std.proofs.Common.{◌≡◌}
-use Rattle.dns_core.specs.Log.{Log}
-use Rattle.recursor_core.specs.Derived.{Derived}
-use Rattle.recursor_core.specs.Machine.{rank, given_by, SameCore}
+use Rattle.recursor_core.proofs.Names.{◌≡◌, Log, Derived, rank, given_by, SameCore}
 use Rattle.recursor_core.proofs.machine.RecursorCore.next.Given as goal
 
 abbrev pub invariant-steps : goal.invariant-steps

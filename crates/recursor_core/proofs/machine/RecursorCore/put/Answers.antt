@@ -1,13 +1,8 @@
-use Rattle.std.proofs.Common.{◌≡◌, Bool, true, false, max, refl, sym, subst, Result, Ok, arith}
-use Rattle.std.specs.Prelude.{option_copied, IsTrue}
-use Rattle.dns_core.specs.declared.errors.NoMemory.{NoMemory}
-use Rattle.server_core.specs.declared.order.After.{After}
-use Rattle.server_core.specs.declared.order.After.TheVariants as after
+use Rattle.recursor_core.proofs.Names.{◌≡◌, Bool, true, false, max, refl, sym, subst, Result, Ok, arith, option_copied, IsTrue, NoMemory, After, IsNext, IsPut, last_entry, seen_with, seen_by}
 use Rattle.server_core.specs.Order.{entry_of}
-use Rattle.walk_tables.specs.Order.{IsNext, IsPut, last_entry, seen_with}
-use Rattle.walk_tables.proofs.Puts.{kept-extends, last-chosen, last-within, later-put}
-use Rattle.recursor_core.specs.Derived.{seen_by}
+use Rattle.lookup_facts.proofs.Puts.{kept-extends, last-chosen, last-within, later-put}
 use Rattle.recursor_core.proofs.Later.{Derived-extends, resolutions-later}
+use Rattle.server_core.specs.declared.order.After.TheVariants as after
 use Rattle.recursor_core.proofs.machine.RecursorCore.put.Goals as goal
 
 -- what is not so is not so

@@ -1,6 +1,4 @@
-use Rattle.std.proofs.Common.{◌≤◌, arith, refl}
-use Rattle.walk_tables.proofs.Later.{later-by}
-use Rattle.order_carrier.proofs.Growing.{Extends-refl}
+use Rattle.recursor_core.proofs.Names.{◌≤◌, arith, refl, later-by, Extends-refl}
 use Rattle.recursor_core.proofs.Later.{derived-later}
 use Rattle.recursor_core.proofs.machine.RecursorCore.reach.Goals as goal
 

@@ -1,4 +1,4 @@
-use Rattle.std.proofs.lemmas.Result.{IfOk-from_err}
+use Rattle.recursor_core.proofs.Names.{IfOk-from_err}
 use Rattle.recursor_core.proofs.machine.RecursorCore.send.Goals as goal
 
 pub returns-in_err-recall-in-Recall-clause-gives : goal.returns-in_err-recall-in-Recall-clause-gives

@@ -1,5 +1,4 @@
-use Rattle.std.proofs.Common.{refl}
-use Rattle.recursor_core.specs.Derived.{seen_by}
+use Rattle.recursor_core.proofs.Names.{refl, seen_by}
 use Rattle.recursor_core.proofs.Ranks.{sum_falls, kept_at}
 use Rattle.recursor_core.proofs.Cores.{same-at, derived-at}
 use Rattle.recursor_core.proofs.machine.RecursorCore.set_out.Goals as goal

@@ -1,4 +1,4 @@
-use Rattle.std.proofs.lemmas.Result.{IfOk-from_err}
+use Rattle.recursor_core.proofs.Names.{IfOk-from_err}
 use Rattle.recursor_core.proofs.machine.RecursorCore.step.Goals as goal
 
 pub returns-in_err-set_out-in-SetOut-clause-gives : goal.returns-in_err-set_out-in-SetOut-clause-gives

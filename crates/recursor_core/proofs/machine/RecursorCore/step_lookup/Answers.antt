@@ -1,7 +1,4 @@
-use Rattle.std.proofs.Common.{refl}
-use Rattle.std.proofs.lemmas.Result.{IfOk-weaker}
-use Rattle.recursor_core.specs.Derived.{seen_by}
-use Rattle.walk_tables.specs.Pools.{IsStepAt}
+use Rattle.recursor_core.proofs.Names.{refl, IfOk-weaker, seen_by, IsStepAt}
 use Rattle.recursor_core.proofs.Ranks.{sum_leaves, kept_at}
 use Rattle.recursor_core.proofs.Cores.{same-at, waits-at, derived-at}
 use Rattle.recursor_core.proofs.machine.RecursorCore.step_lookup.Goals as goal

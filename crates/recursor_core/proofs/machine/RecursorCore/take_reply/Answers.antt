@@ -1,12 +1,6 @@
-use Rattle.std.proofs.Common.{◌∙◌, Option, Some, None, IfSome, ap, sym, subst, refl}
-use Rattle.std.specs.Global.{Box}
-use Rattle.std.proofs.Math.ListN.{set}
-use Rattle.std.specs.Option.{option_map}
-use Rattle.recursor_walk.specs.Replies.{Replied}
-use Rattle.recursor_core.specs.Derived.{seen_by, KeptHolds}
+use Rattle.recursor_core.proofs.Names.{◌∙◌, Option, Some, None, ap, sym, subst, refl, Box, set, option_map, Replied, seen_by, KeptHolds, begun_of, kept_in, Resolution}
+use Rattle.std.proofs.Common.{IfSome}
 use Rattle.recursor_walk.specs.Resolved.{ResolutionHolds}
-use Rattle.recursor_core.specs.Machine.{begun_of, kept_in}
-use Rattle.recursor_walk.specs.declared.resolving.Resolution.{Resolution}
 use Rattle.recursor_core.proofs.Ranks.{need_within, kept_at}
 use Rattle.recursor_core.proofs.Cores.{held-at, ended-at, gone-ended, given-some, derived-at}
 use Rattle.recursor_core.proofs.machine.RecursorCore.take_reply.Goals as goal

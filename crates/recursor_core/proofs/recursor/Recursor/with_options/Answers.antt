@@ -1,5 +1,4 @@
-use Rattle.std.proofs.Common.{◌≡◌, ◌<◌, ◌==◌, ◌∙◌, false, Some, List, [], ◌∷◌, length, sym, arith}
-use Rattle.dns_core.specs.declared.log.LogEntry.{LogEntry}
+use Rattle.recursor_core.proofs.Names.{◌≡◌, ◌<◌, ◌==◌, ◌∙◌, false, Some, List, [], ◌∷◌, length, sym, arith, LogEntry}
 use Rattle.recursor_core.proofs.Standing.{new_rests}
 use Rattle.recursor_core.proofs.recursor.Recursor.with_options.Goals as goal
 

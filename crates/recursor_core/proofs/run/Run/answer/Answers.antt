@@ -1,9 +1,4 @@
-use Rattle.std.proofs.Common.{[], subst}
-use Rattle.std.proofs.lemmas.Result.{IfOk-weaker}
-use Rattle.order_carrier.specs.Growing.{TellsThat}
-use Rattle.walk_tables.specs.View.{}
-use Rattle.recursor_setting.specs.declared.setting.Setting.{Setting}
-use Rattle.recursor_core.specs.Standing.{RepliesHold, run_moments}
+use Rattle.recursor_core.proofs.Names.{[], subst, IfOk-weaker, TellsThat, Setting, RepliesHold, run_moments}
 use Rattle.recursor_core.proofs.Leading.{leads_refl}
 use Rattle.recursor_core.proofs.Playing.{plays_wait, replies_hold}
 use Rattle.recursor_core.proofs.Timed.{run_first}

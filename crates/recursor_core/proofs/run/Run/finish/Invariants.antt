@@ -1,5 +1,4 @@
-use Rattle.std.proofs.Common.{◌≡◌, ◌∷◌, [], vec_len}
-use Rattle.recursor_core.specs.Runs.{Leads, PlaysGoOn, work}
+use Rattle.recursor_core.proofs.Names.{◌≡◌, ◌∷◌, [], vec_len, Leads, PlaysGoOn, work}
 use Rattle.recursor_core.proofs.run.Run.finish.Given as goal
 
 abbrev pub invariant-turns : goal.invariant-turns

@@ -1,4 +1,4 @@
-use Rattle.std.proofs.Common.{◌∷◌, [], Contains, sym, subst}
+use Rattle.recursor_core.proofs.Names.{◌∷◌, [], Contains, sym, subst}
 use Rattle.recursor_core.proofs.Leading.{leads_wider, two_of}
 use Rattle.recursor_core.proofs.Timed.{contains_first}
 use Rattle.recursor_core.proofs.run.Run.make_way.Goals as goal

@@ -1,7 +1,4 @@
-use Rattle.std.proofs.Common.{◌≡◌, ◌≤◌, ℕ, List, [], Contains, arith, subst, max}
-use Rattle.dns_core.specs.declared.request.Turn.{Turn}
-use Rattle.recursor_core.specs.Standing.{last_moment, run_moments}
-use Rattle.recursor_core.specs.Runs.{IsOver}
+use Rattle.recursor_core.proofs.Names.{◌≡◌, ◌≤◌, ℕ, List, [], Contains, arith, subst, max, Turn, last_moment, run_moments, IsOver}
 use Rattle.recursor_core.proofs.Leading.{leads_then, none_later}
 use Rattle.recursor_core.proofs.Timed.{run_last, contains_max}
 use Rattle.recursor_core.proofs.run.Run.play_all.Goals as goal

@@ -1,6 +1,4 @@
-use Rattle.std.proofs.Common.{List, sym, subst}
-use Rattle.recursor_core.specs.Standing.{PlaysHold}
-use Rattle.recursor_core.specs.declared.plays.Played.{Played}
+use Rattle.recursor_core.proofs.Names.{List, sym, subst, PlaysHold, Played}
 use Rattle.recursor_core.proofs.Leading.{leads_goes}
 use Rattle.recursor_core.proofs.Playing.{plays_moved, plays_answered, plays_unanswered}
 use Rattle.recursor_core.proofs.run.Run.play_at.Goals as goal

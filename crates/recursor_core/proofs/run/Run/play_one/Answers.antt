@@ -1,4 +1,4 @@
-use Rattle.std.proofs.Common.{◌∷◌, []}
+use Rattle.recursor_core.proofs.Names.{◌∷◌, []}
 use Rattle.recursor_core.proofs.Leading.{leads_then, none_later, second_of, last_due}
 use Rattle.recursor_core.proofs.run.Run.play_one.Goals as goal
 

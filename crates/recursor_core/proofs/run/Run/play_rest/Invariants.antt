@@ -1,6 +1,4 @@
-use Rattle.std.proofs.Common.{◌≡◌, ◌∷◌, [], ℕ, List, vec_len}
-use Rattle.dns_core.specs.declared.request.Turn.{Turn}
-use Rattle.recursor_core.specs.Runs.{Leads, Plays, IsOver}
+use Rattle.recursor_core.proofs.Names.{◌≡◌, ◌∷◌, [], ℕ, List, vec_len, Turn, Leads, Plays, IsOver}
 use Rattle.recursor_core.proofs.run.Run.play_rest.Given as goal
 
 abbrev pub invariant-loop-q : goal.invariant-loop-q

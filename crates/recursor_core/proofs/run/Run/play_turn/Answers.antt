@@ -1,5 +1,4 @@
-use Rattle.std.proofs.Common.{◌≡◌, ◌≤◌, ◌+◌, ◌-◌, ◌∷◌, [], ℕ, Contains, arith, max, subst}
-use Rattle.recursor_core.specs.Standing.{run_moments}
+use Rattle.recursor_core.proofs.Names.{◌≡◌, ◌≤◌, ◌+◌, ◌-◌, ◌∷◌, [], ℕ, Contains, arith, max, subst, run_moments}
 use Rattle.recursor_core.proofs.Leading.{leads_wider, leads_then, one_of, none_later, turn_due}
 use Rattle.recursor_core.proofs.Playing.{plays_skip}
 use Rattle.recursor_core.proofs.Timed.{contains_first, contains_later, contains_max}

@@ -1,9 +1,4 @@
-use Rattle.std.proofs.Common.{◌<◌, ◌≤◌, ◌+◌, ◌∙◌, List, length, drop, refl, arith, subst}
-use Rattle.std.proofs.Math.ListN.{drop_of_length-le}
-use Rattle.std.proofs.lemmas.List.{drop_more}
-use Rattle.dns_core.specs.declared.request.Turn.{Turn}
-use Rattle.recursor_core.specs.Runs.{Plays}
-use Rattle.recursor_core.specs.Standing.{run_moments}
+use Rattle.recursor_core.proofs.Names.{◌<◌, ◌≤◌, ◌+◌, ◌∙◌, List, length, drop, refl, arith, subst, drop_of_length-le, drop_more, Turn, Plays, run_moments}
 use Rattle.recursor_core.proofs.Leading.{leads_refl, leads_then}
 use Rattle.recursor_core.proofs.Timed.{run_first, run_turns}
 use Rattle.recursor_core.proofs.run.Run.play_turns.Goals as goal

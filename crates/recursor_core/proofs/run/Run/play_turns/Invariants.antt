@@ -1,6 +1,4 @@
-use Rattle.std.proofs.Common.{◌≡◌, drop, vec_len}
-use Rattle.recursor_core.specs.Runs.{Leads, Plays}
-use Rattle.recursor_core.specs.Standing.{run_moments}
+use Rattle.recursor_core.proofs.Names.{◌≡◌, drop, vec_len, Leads, Plays, run_moments}
 use Rattle.recursor_core.proofs.run.Run.play_turns.Given as goal
 
 abbrev pub invariant-loop-turn : goal.invariant-loop-turn

@@ -1,6 +1,4 @@
-use Rattle.std.proofs.Common.{subst}
-use Rattle.dns_core.specs.declared.message.Query.{Query}
-use Rattle.recursor_walk.specs.Counted.{Answers}
+use Rattle.recursor_walk.proofs.Names.{subst, Query, Answers}
 use Rattle.recursor_walk.proofs.Denials.{told-answers, told-no-error}
 use Rattle.recursor_walk.proofs.asking.Asking.answer.Goals as goal
 

@@ -1,8 +1,4 @@
-use Rattle.std.proofs.Common.{subst, Err}
-use Rattle.dns_core.specs.declared.message.Query.{Query}
-use Rattle.resolution.specs.Walking.{Walked}
-use Rattle.recursor_types.specs.declared.error.RecursorError.TheVariants.{Net}
-use Rattle.walk_tables.specs.View.{given_of}
+use Rattle.recursor_walk.proofs.Names.{subst, Err, Query, Walked, Net, given_of}
 use Rattle.recursor_walk.proofs.Denials.{replies, has-failed}
 use Rattle.recursor_walk.proofs.asking.Asking.conclude.Goals as goal
 

@@ -1,4 +1,4 @@
-use Rattle.std.proofs.Common.{◌∙◌}
+use Rattle.recursor_walk.proofs.Names.{◌∙◌}
 use Rattle.recursor_walk.proofs.asking.Asking.hear.Goals as goal
 
 pub returns-clause-holds : goal.returns-clause-holds

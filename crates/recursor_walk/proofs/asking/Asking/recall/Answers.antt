@@ -1,4 +1,4 @@
-use Rattle.std.proofs.Common.{sym, ◌∙◌}
+use Rattle.recursor_walk.proofs.Names.{sym, ◌∙◌}
 use Rattle.recursor_walk.proofs.Recalling.{recalled-for, recalled-answers}
 use Rattle.recursor_walk.proofs.asking.Asking.recall.Goals as goal
 

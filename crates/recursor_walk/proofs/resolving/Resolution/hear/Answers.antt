@@ -1,5 +1,4 @@
-use Rattle.recursor_walk.specs.Walk.{verdict_heard}
-use Rattle.recursor_walk.specs.declared.resolving.State.TheVariants.{Walking}
+use Rattle.recursor_walk.proofs.Names.{verdict_heard, Walking}
 use Rattle.recursor_walk.proofs.Resolved.{follow-falls, follow-hears, falls-from, holds-on}
 use Rattle.recursor_walk.proofs.resolving.Resolution.hear.Goals as goal
 

@@ -1,5 +1,4 @@
-use Rattle.recursor_walk.specs.Counted.{ReadsAt, recalled, answerable}
-use Rattle.recursor_walk.specs.declared.resolving.State.TheVariants.{Walking}
+use Rattle.recursor_walk.proofs.Names.{ReadsAt, recalled, answerable, Walking}
 use Rattle.recursor_walk.proofs.Resolved.{follow-falls, settle-falls, settle-heeds, follow-heeds, falls-from, holds-on}
 use Rattle.recursor_walk.proofs.resolving.Resolution.recall.Goals as goal
 

@@ -1,5 +1,4 @@
-use Rattle.std.proofs.Common.{◌+◌, ◌-◌, ◌*◌, length}
-use Rattle.walk_tables.specs.Lookup.{want_of}
+use Rattle.recursor_walk.proofs.Names.{◌+◌, ◌-◌, ◌*◌, length, want_of}
 use Rattle.recursor_walk.proofs.Resolved.{steps-on, walk-holds, asking-holds}
 use Rattle.recursor_walk.proofs.Walks.{walk-asks}
 use Rattle.recursor_walk.proofs.resolving.Resolution.step.Goals as goal

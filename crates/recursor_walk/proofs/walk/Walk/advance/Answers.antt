@@ -1,4 +1,4 @@
-use Rattle.std.proofs.Common.{◌≡◌, ◌+◌, ℕ, List, length, arith, ap, refl}
+use Rattle.recursor_walk.proofs.Names.{◌≡◌, ◌+◌, ℕ, List, length, arith, ap, refl}
 use Rattle.recursor_walk.proofs.Walks.{goes-further, comes-there}
 use Rattle.recursor_walk.proofs.walk.Walk.advance.Goals as goal
 

@@ -1,6 +1,5 @@
-use Rattle.std.proofs.Common.{sym, subst}
-use Rattle.walk_tables.specs.declared.lookup.Found.{Found}
-use Rattle.recursor_walk.specs.Walk.{EndsIf, verdict_found}
+use Rattle.recursor_walk.proofs.Names.{sym, subst, EndsIf, verdict_found}
+use Rattle.lookup_facts.specs.declared.found.Found.{Found}
 use Rattle.recursor_walk.proofs.walk.Walk.conclude.Goals as goal
 
 pub returns-in-Told-clause-holds : goal.returns-in-Told-clause-holds

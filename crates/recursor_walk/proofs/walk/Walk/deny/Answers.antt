@@ -1,9 +1,4 @@
-use Rattle.std.proofs.Common.{sym, subst, ◌∙◌, [], ◌∷◌, refl, ◌≡◌, true, false}
-use Rattle.dns_core.specs.declared.message.Query.{Query}
-use Rattle.resolution.specs.declared.verdict.Verdict.TheVariants.{Neg}
-use Rattle.walk_base.specs.Answer.{ends_walk}
-use Rattle.recursor_walk.specs.Counted.{Stands}
-use Rattle.recursor_walk.specs.Replies.{CameTo, HasCause}
+use Rattle.recursor_walk.proofs.Names.{sym, subst, ◌∙◌, [], ◌∷◌, refl, ◌≡◌, true, false, Query, Neg, ends_walk, Stands, CameTo, HasCause}
 use Rattle.recursor_walk.proofs.Denials.{answers-on-the-way}
 use Rattle.recursor_walk.proofs.Walks.{candidate-asked, candidate-on-the-way, leaves-told}
 use Rattle.recursor_walk.proofs.walk.Walk.deny.Goals as goal

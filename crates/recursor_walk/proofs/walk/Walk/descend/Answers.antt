@@ -1,8 +1,4 @@
-use Rattle.std.proofs.Common.{◌∙◌, sym, refl, [], Err, arith}
-use Rattle.std.proofs.lemmas.Bool.Decides.{nat_tests}
-use Rattle.recursor_types.specs.declared.error.RecursorError.TheVariants.{NoNameServer}
-use Rattle.recursor_types.specs.declared.error.WalkCause.TheVariants.{NoAddress}
-use Rattle.resolution.specs.declared.verdict.Verdict.TheVariants.{Pos}
+use Rattle.recursor_walk.proofs.Names.{◌∙◌, sym, refl, [], Err, arith, nat_tests, NoNameServer, NoAddress, Pos}
 use Rattle.recursor_walk.proofs.Denials.{glueless-of, stops}
 use Rattle.recursor_walk.proofs.Walks.{cut-way, cut-leaves, candidate-asked, candidate-on-the-way, leaves-told}
 use Rattle.recursor_walk.proofs.walk.Walk.descend.Goals as goal

@@ -1,4 +1,4 @@
-use Rattle.std.proofs.Common.{refl, arith}
+use Rattle.recursor_walk.proofs.Names.{refl, arith}
 use Rattle.recursor_walk.proofs.Walks.{way-looked, past-falls}
 use Rattle.recursor_walk.proofs.walk.Walk.hear.Goals as goal
 

@@ -1,7 +1,4 @@
-use Rattle.std.proofs.Common.{sym, subst, Result}
-use Rattle.dns_core.specs.declared.net_error.NetError.{NetError}
-use Rattle.resolution.specs.declared.verdict.Verdict.{Verdict}
-use Rattle.recursor_walk.specs.Walk.{EndsIf, counting}
+use Rattle.recursor_walk.proofs.Names.{sym, subst, Result, NetError, Verdict, EndsIf, counting}
 use Rattle.recursor_walk.proofs.Denials.{told-stands, told-no-error}
 use Rattle.recursor_walk.proofs.Walks.{candidate-walked}
 use Rattle.recursor_walk.proofs.walk.Walk.hear_told.Goals as goal

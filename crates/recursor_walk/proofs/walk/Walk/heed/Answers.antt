@@ -1,9 +1,4 @@
-use Rattle.std.proofs.Common.{sym, subst, [], ◌∷◌}
-use Rattle.dns_core.specs.declared.message.Query.{Query}
-use Rattle.resolution.specs.declared.verdict.Verdict.TheVariants.{Made}
-use Rattle.walk_base.specs.Answer.{made_negative}
-use Rattle.recursor_walk.specs.Counted.{Stands}
-use Rattle.recursor_walk.specs.Replies.{CameTo, HasCause}
+use Rattle.recursor_walk.proofs.Names.{sym, subst, [], ◌∷◌, Query, Made, made_negative, Stands, CameTo, HasCause}
 use Rattle.recursor_walk.proofs.Denials.{made-on-the-way}
 use Rattle.recursor_walk.proofs.Walks.{candidate-asked, candidate-on-the-way}
 use Rattle.recursor_walk.proofs.walk.Walk.heed.Goals as goal

@@ -1,4 +1,4 @@
-use Rattle.std.proofs.Common.{◌∙◌, sym}
+use Rattle.recursor_walk.proofs.Names.{◌∙◌, sym}
 use Rattle.recursor_walk.proofs.Walks.{at-start}
 use Rattle.recursor_walk.proofs.walk.Walk.new.Goals as goal
 

@@ -1,12 +1,8 @@
-use Rattle.std.proofs.Common.{◌≡◌, refl, [], false, Err}
-use Rattle.dns_core.specs.declared.net_error.NetError.{NetError}
-use Rattle.dns_core.specs.declared.net_error.NetError.TheVariants as net
-use Rattle.resolution.specs.Ending.{is_timeout}
-use Rattle.recursor_types.specs.declared.error.RecursorError.TheVariants.{NoNameServer}
-use Rattle.recursor_types.specs.declared.error.WalkCause.TheVariants.{Timeout}
+use Rattle.recursor_walk.proofs.Names.{◌≡◌, refl, [], false, Err, NetError, is_timeout, NoNameServer, Timeout}
 use Rattle.recursor_walk.proofs.Denials.{stops}
 use Rattle.recursor_walk.proofs.Walks.{timed-out, leaves-failed}
 use Rattle.recursor_walk.proofs.walk.Walk.pass_over.Goals.{in-Timeout, in_default}
+use Rattle.dns_core.specs.declared.net_error.NetError.TheVariants as net
 use Rattle.recursor_walk.proofs.walk.Walk.pass_over.Goals as goal
 
 -- an error that is none is no timeout

@@ -1,7 +1,5 @@
-use Rattle.std.proofs.Common.{Ok, Option, sym, subst, ◌∙◌, refl, arith}
-use Rattle.recursor_walk.specs.Walk.{Recalls}
+use Rattle.recursor_walk.proofs.Names.{Ok, Option, sym, subst, ◌∙◌, refl, arith, Recalls, Counted}
 use Rattle.recursor_walk.specs.declared.walk.Course.TheVariants.{Further}
-use Rattle.recursor_walk.specs.declared.counted.Counted.{Counted}
 use Rattle.recursor_walk.proofs.Recalling.{recalled-for}
 use Rattle.recursor_walk.proofs.Walks.{way-looked, past-falls}
 use Rattle.recursor_walk.proofs.walk.Walk.recall.Goals as goal

@@ -1,14 +1,9 @@
-use Rattle.std.proofs.Common.{◌∙◌, ◌+◌, ◌++◌, ◌∷◌, [], ℕ, List, Some, cond, length, ap}
-use Rattle.std.specs.Map.{lookup}
-use Rattle.std.specs.BTreeMap as tree
+use Rattle.walk_tables.proofs.Names.{◌∙◌, ◌+◌, ◌++◌, ◌∷◌, [], ℕ, List, Some, cond, length, ap, lookup, IpAddr, Server, Shared, config_at, config-before, met-last, delayed-last}
 use Rattle.std.specs.BTreeMap.{BTreeMap}
-use Rattle.std.specs.declared.net.ip_addr.IpAddr.{IpAddr}
+use Rattle.walk_tables.proofs.Pooling.{servers-by, servers-same}
+use Rattle.walk_tables.proofs.Meeting.{servers-added}
+use Rattle.std.specs.BTreeMap as tree
 use Rattle.std.specs.contracts.net.ip_addr.IpAddrOrd.TheImpl as address
-use Rattle.server_core.specs.Servers.{Server}
-use Rattle.server_pool.specs.Shared.{Shared}
-use Rattle.walk_tables.specs.Pools.{config_at}
-use Rattle.walk_tables.proofs.Pooling.{config-before, servers-by, servers-same}
-use Rattle.walk_tables.proofs.Meeting.{met-last, delayed-last, servers-added}
 use Rattle.walk_tables.proofs.pools.Pools.add.Goals as goal
 
 pub returns-in_err-server-clause-servers : goal.returns-in_err-server-clause-servers

@@ -1,13 +1,12 @@
-use Rattle.std.proofs.Common.{◌∙◌, sym, None}
-use Rattle.walk_tables.proofs.Answering.{came-holds}
+use Rattle.walk_tables.proofs.Names.{◌∙◌, sym, None}
 use Rattle.walk_tables.proofs.Pooling.{pools-came}
-use Rattle.walk_tables.proofs.Taking.{kept-comes}
+use Rattle.walk_tables.proofs.Taking.{came-for}
 use Rattle.walk_tables.proofs.pools.Pools.answer.Goals as goal
 
 pub returns-in-Some-clause-answer : goal.returns-in-Some-clause-answer
 returns-in-Some-clause-answer c seen h =
-    came-holds seen c.args.self.now c.args.lookup.now.number c.args.query.now c.args.zone.now c.args.begun c.in-Some.came c.in_ok-ends.ends h
-    (rw c.number-n.ensures at (c.seeks.ensures c.if-not-seeks.false)) (kept-comes seen c.args.self.now _ c.in-Some.came h (rw c.number-n.ensures at (sym c.in-Some.is ∙ c.take_kept.ensures.kept)))
+    came-for seen c.args.self.now c.args.lookup.now.number c.args.query.now c.args.zone.now c.args.begun c.in-Some.came c.in_ok-ends.ends h
+    (rw c.number-n.ensures at (c.seeks.ensures c.if-not-seeks.false)) (rw c.number-n.ensures at (sym c.in-Some.is ∙ c.take_kept.ensures.kept))
     (c.in_ok-ends.ensures ∙ c.ends.ensures.ends)
 
 -- what is kept was taken

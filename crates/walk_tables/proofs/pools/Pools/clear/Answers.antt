@@ -1,11 +1,7 @@
-use Rattle.std.proofs.Common.{◌≡◌, ℕ, List, Some, refl, subst, ap}
-use Rattle.std.specs.BTreeMap as tree
-use Rattle.std.specs.Map.{lookup}
-use Rattle.std.specs.Ordering.{nat_cmp}
-use Rattle.std.proofs.lemmas.Option.{none-some}
-use Rattle.walk_tables.specs.declared.pools.Sought.{Sought}
-use Rattle.walk_tables.proofs.pools.Pools.clear.Goals as goal
+use Rattle.walk_tables.proofs.Names.{◌≡◌, ℕ, List, Some, refl, subst, ap, lookup, nat_cmp, none-some, Sought}
 use Rattle.walk_tables.proofs.Later.{pools-later}
+use Rattle.std.specs.BTreeMap as tree
+use Rattle.walk_tables.proofs.pools.Pools.clear.Goals as goal
 
 -- nothing is sought
 pub returns : goal.returns

@@ -1,6 +1,4 @@
-use Rattle.std.proofs.Common.{◌∙◌}
-use Rattle.walk_tables.specs.Pools.{sought_at}
-use Rattle.walk_tables.proofs.Taking.{comes-writes}
+use Rattle.walk_tables.proofs.Names.{◌∙◌, sought_at, comes-writes}
 use Rattle.walk_tables.proofs.pools.Pools.conclude.Goals as goal
 
 pub returns-clause-ok : goal.returns-clause-ok

@@ -1,4 +1,4 @@
-use Rattle.std.proofs.Common.{Some}
+use Rattle.walk_tables.proofs.Names.{Some}
 use Rattle.walk_tables.proofs.Pooling.{pools-came, pools-forgotten}
 use Rattle.walk_tables.proofs.Taking.{comes-has}
 use Rattle.walk_tables.proofs.pools.Pools.decide.Goals as goal

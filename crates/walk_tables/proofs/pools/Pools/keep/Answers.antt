@@ -1,8 +1,5 @@
-use Rattle.std.proofs.Common.{ℕ, List, refl, ap}
+use Rattle.walk_tables.proofs.Names.{ℕ, List, refl, ap, lookup, nat_cmp, Sought}
 use Rattle.std.specs.BTreeMap as tree
-use Rattle.std.specs.Map.{lookup}
-use Rattle.std.specs.Ordering.{nat_cmp}
-use Rattle.walk_tables.specs.declared.pools.Sought.{Sought}
 use Rattle.walk_tables.proofs.pools.Pools.keep.Goals as goal
 
 pub returns-clause-err : goal.returns-clause-err

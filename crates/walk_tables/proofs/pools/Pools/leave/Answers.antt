@@ -1,6 +1,4 @@
-use Rattle.std.proofs.Common.{refl, ap, ◌∙◌}
-use Rattle.server_pool.specs.Lookups.{after_leave}
-use Rattle.server_pool.specs.Shared.{Shared}
+use Rattle.walk_tables.proofs.Names.{refl, ap, ◌∙◌, after_leave, Shared}
 use Rattle.walk_tables.proofs.Pooling.{pools-forgotten, pools-left}
 use Rattle.walk_tables.proofs.pools.Pools.leave.Goals as goal
 

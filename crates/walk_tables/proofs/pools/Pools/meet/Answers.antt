@@ -1,5 +1,4 @@
-use Rattle.std.proofs.Common.{◌∙◌, sym, ap}
-use Rattle.std.specs.Option.{option_copied}
+use Rattle.walk_tables.proofs.Names.{◌∙◌, sym, ap, option_copied}
 use Rattle.walk_tables.proofs.pools.Pools.meet.Goals as goal
 
 pub returns-in-Some-clause-met : goal.returns-in-Some-clause-met

@@ -1,16 +1,12 @@
-use Rattle.std.proofs.Common.{List, [], subst, sym}
-use Rattle.std.specs.List.{AllZip}
-use Rattle.std.proofs.lemmas.List.{take_all}
-use Rattle.std.specs.declared.net.ip_addr.IpAddr.{IpAddr}
-use Rattle.walk_tables.specs.Pools.{IsMet}
-use Rattle.walk_tables.proofs.Meeting.{grown-refl, grown-trans, all-met-grown, more-met}
+use Rattle.walk_tables.proofs.Names.{List, [], subst, sym, AllZip, take_all, IpAddr, IsMet, more-met}
+use Rattle.walk_tables.proofs.Meeting.{grown-refl, grown-trans, all-met-grown}
 use Rattle.walk_tables.proofs.pools.Pools.meet_all.Goals as goal
 
 pub loop-ip-init : goal.loop-ip-init
 loop-ip-init c = record {
   grown = grown-refl c.args.self.now;
   servers = λ setting h. h;
-  met = λ setting h. subst (AllZip (IsMet c.args.self.now) []) (sym c.in_ok-servers.ensures.items) tt;
+  met = λ setting h. subst (AllZip (IsMet c.args.self.now.shared.table) []) (sym c.in_ok-servers.ensures.items) tt;
 }
 
 pub loop-ip-preserved : goal.loop-ip-preserved
@@ -21,7 +17,7 @@ loop-ip-preserved c =
       grown = grown-trans c.args.self.now c.loop-ip.self c.meet.new.self inv.grown g;
       servers = λ setting h. c.meet.ensures.servers setting (inv.servers setting h);
       met = λ setting h.
-          more-met c.meet.new.self c.args.ips.now c.loop-ip.ip-index _ c.loop-ip.servers.items _ c.in_ok-number.number c.loop-ip-test.true c.in_ok-push.ensures.items
+          more-met c.meet.new.self.shared.table c.args.ips.now c.loop-ip.ip-index _ c.loop-ip.servers.items _ c.in_ok-number.number c.loop-ip-test.true c.in_ok-push.ensures.items
           (all-met-grown c.loop-ip.self c.meet.new.self g _ _ (inv.met setting h)) (c.in_ok-number.ensures.met setting (inv.servers setting h));
     }
 
@@ -33,7 +29,7 @@ returns-in_err-number-clause-servers c setting h = c.meet.ensures.servers settin
 
 pub returns-clause-met : goal.returns-clause-met
 returns-clause-met c setting h =
-    subst (λ (xs : List IpAddr). AllZip (IsMet c.loop-ip.self) xs c.loop-ip.servers.items) (take_all c.loop-ip.ip-index c.args.ips.now c.loop-ip-test.false) (c.loop-ip.invariant.met setting h)
+    subst (λ (xs : List IpAddr). AllZip (IsMet c.loop-ip.self.shared.table) xs c.loop-ip.servers.items) (take_all c.loop-ip.ip-index c.args.ips.now c.loop-ip-test.false) (c.loop-ip.invariant.met setting h)
 
 pub returns-in_err-push-clause-servers : goal.returns-in_err-push-clause-servers
 returns-in_err-push-clause-servers c setting h = c.meet.ensures.servers setting (c.loop-ip.invariant.servers setting h)

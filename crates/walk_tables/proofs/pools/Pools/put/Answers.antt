@@ -1,17 +1,8 @@
-use Rattle.std.proofs.Common.{◌≡◌, ◌∙◌, ℕ, max, inr, sym, refl, ap, subst, Some, None, Ok, Result, arith, rules, Err}
-use Rattle.std.specs.Option.{option_copied}
-use Rattle.dns_core.specs.declared.errors.NoMemory.{NoMemory}
-use Rattle.server_core.specs.declared.order.After.{After}
+use Rattle.walk_tables.proofs.Names.{◌≡◌, ◌∙◌, ℕ, max, inr, sym, refl, ap, subst, Some, None, Ok, Result, arith, rules, Err, option_copied, NoMemory, After, open_at, IsOutcomeOf, closing_of, seen_with, View, seen_at, CacheHolds, remembered, Took, TablesHold, telling_at, later-put, err-last, err-is, was-put, cache-later}
 use Rattle.server_core.specs.declared.order.After.TheVariants.{Late}
-use Rattle.server_pool.specs.Orders.{open_at}
-use Rattle.walk_tables.specs.Pools.{IsOutcomeOf}
-use Rattle.walk_tables.specs.Order.{closing_of, seen_with}
-use Rattle.walk_tables.specs.View.{View, seen_at}
-use Rattle.walk_tables.specs.Remembered.{CacheHolds, remembered}
-use Rattle.walk_tables.specs.Taking.{Took, TablesHold, telling_at}
-use Rattle.walk_tables.proofs.Late.{late-other, open-late}
-use Rattle.walk_tables.proofs.Puts.{later-put, err-last, err-is, was-put}
-use Rattle.walk_tables.proofs.Later.{cache-later, tables-later}
+use Rattle.walk_tables.proofs.Orders.{late-other}
+use Rattle.lookup_facts.proofs.Late.{open-late}
+use Rattle.walk_tables.proofs.Later.{tables-later}
 use Rattle.walk_tables.proofs.Pooling.{pools-came}
 use Rattle.walk_tables.proofs.Taking.{took-came, comes-has, telling-noted, told-kept}
 use Rattle.walk_tables.proofs.pools.Pools.put.Goals as goal

@@ -1,14 +1,7 @@
-use Rattle.std.proofs.Common.{◌≡◌, ℕ, true, refl, sym, ap, ◌∙◌, Some, None, Result, Ok, Err}
-use Rattle.std.specs.Prelude.{is_err}
-use Rattle.dns_core.specs.declared.errors.NoMemory.{NoMemory}
-use Rattle.server_pool.specs.Shared.{Shared}
-use Rattle.walk_tables.specs.Pools.{HasNoted, noted, aim_of, GivesNext}
-use Rattle.walk_tables.specs.declared.pools.Given.{Given}
+use Rattle.walk_tables.proofs.Names.{◌≡◌, ℕ, true, refl, sym, ap, ◌∙◌, Some, None, Result, Ok, Err, is_err, NoMemory, Shared, HasNoted, GivesNext, aim_of, noted, Given, step-count}
 use Rattle.walk_tables.specs.declared.pools.Stepped.{Stepped}
-use Rattle.walk_tables.proofs.Giving.{pools-ordered, pools-done, pools-answer, pools-go}
-use Rattle.walk_tables.proofs.Losing.{pools-waits}
-use Rattle.walk_tables.proofs.Awaited.{awaits-order}
-use Rattle.walk_tables.proofs.Numbering.{step-count}
+use Rattle.walk_tables.proofs.Giving.{pools-ordered, pools-done, pools-answer, pools-go, pools-waits}
+use Rattle.walk_tables.proofs.Orders.{awaits-order}
 use Rattle.walk_tables.proofs.pools.Pools.step.Goals as goal
 
 pub returns-in-Ok-Order-clause-holds : goal.returns-in-Ok-Order-clause-holds
@@ -17,51 +10,51 @@ returns-in-Ok-Order-clause-holds c seen step h =
     let n = c.args.lookup.now.number in
     let note : HasNoted n (noted (Some (record { number = c.in-Ok-Order.number; aim = aim_of c.in-Ok-Order.order; since = seen.greatest; polled = None })) None None) (record old { shared = c.next.new.shared }) c.note.new.self =
     rw (c.number-n.ensures, c.aim_of-aim.ensures, step.since_is) at c.note.ensures in
-    pools-ordered seen n c.in-Ok-Order.field-0 old (record old { shared = c.next.new.shared }) c.note.new.self refl refl h
-    (rw c.number-n.ensures at (sym c.contains_key.ensures ∙ c.if-not-contains_key.false)) (rw step.now_is at c.in-Ok-Order.ensures.steps) c.in-Ok-Order.number c.in-Ok-Order.order c.in-Ok-Order.field-0-is note
+    pools-ordered seen n old c.note.new.self c.next.new.shared h
+    (rw c.number-n.ensures at (sym c.contains_key.ensures ∙ c.if-not-contains_key.false)) c.in-Ok-Order.field-0 (rw step.now_is at c.in-Ok-Order.ensures.steps) c.in-Ok-Order.number c.in-Ok-Order.order c.in-Ok-Order.field-0-is note
 
 pub returns-in-Ok-Order-clause-goes : goal.returns-in-Ok-Order-clause-goes
 returns-in-Ok-Order-clause-goes c seen step h =
     let old = c.args.self.now in
     let n = c.args.lookup.now.number in
-    pools-go seen n c.in-Ok-Order.field-0 old (record old { shared = c.next.new.shared }) c.note.new.self refl refl h
-    (rw c.number-n.ensures at (sym c.contains_key.ensures ∙ c.if-not-contains_key.false)) (rw step.now_is at c.in-Ok-Order.ensures.steps) c.in-Ok-Order.number c.in-Ok-Order.order c.in-Ok-Order.field-0-is
+    pools-go seen n old c.note.new.self c.next.new.shared h
+    (rw c.number-n.ensures at (sym c.contains_key.ensures ∙ c.if-not-contains_key.false)) c.in-Ok-Order.field-0 (rw step.now_is at c.in-Ok-Order.ensures.steps) c.in-Ok-Order.number c.in-Ok-Order.order c.in-Ok-Order.field-0-is
 
 pub returns-in_err-decide-in-Ok-Done-clause-holds : goal.returns-in_err-decide-in-Ok-Done-clause-holds
 returns-in_err-decide-in-Ok-Done-clause-holds c seen step h =
     let old = c.args.self.now in
-    let mid = record old { shared = c.next.new.shared } in
+    let shared = c.next.new.shared in
     let there = rw c.number-n.ensures at (sym c.contains_key.ensures ∙ c.if-not-contains_key.false) in
     let steps = rw step.now_is at c.in-Ok-Done.ensures.steps in
     let note = rw c.number-n.ensures at c.note-in-Ok-Done.ensures in
-    c.decide.ensures.holds seen (rw c.number-n.ensures (pools-answer seen _ c.in-Ok-Done.field-0 old mid _ refl refl h there steps c.in-Ok-Done.told c.in-Ok-Done.field-0-is note))
-    (pools-done seen _ c.in-Ok-Done.field-0 old mid _ refl refl h there steps note)
+    c.decide.ensures.holds seen (rw c.number-n.ensures (pools-answer seen _ old _ shared h there c.in-Ok-Done.field-0 steps c.in-Ok-Done.told c.in-Ok-Done.field-0-is note))
+    (pools-done seen _ old _ shared h there c.in-Ok-Done.field-0 steps note)
 
 pub returns-in_ok-decide-in-Ok-Done-clause-holds : goal.returns-in_ok-decide-in-Ok-Done-clause-holds
 returns-in_ok-decide-in-Ok-Done-clause-holds c seen step h =
     let old = c.args.self.now in
-    let mid = record old { shared = c.next.new.shared } in
+    let shared = c.next.new.shared in
     let there = rw c.number-n.ensures at (sym c.contains_key.ensures ∙ c.if-not-contains_key.false) in
     let steps = rw step.now_is at c.in-Ok-Done.ensures.steps in
     let note = rw c.number-n.ensures at c.note-in-Ok-Done.ensures in
-    c.decide.ensures.holds seen (rw c.number-n.ensures (pools-answer seen _ c.in-Ok-Done.field-0 old mid _ refl refl h there steps c.in-Ok-Done.told c.in-Ok-Done.field-0-is note))
-    (pools-done seen _ c.in-Ok-Done.field-0 old mid _ refl refl h there steps note)
+    c.decide.ensures.holds seen (rw c.number-n.ensures (pools-answer seen _ old _ shared h there c.in-Ok-Done.field-0 steps c.in-Ok-Done.told c.in-Ok-Done.field-0-is note))
+    (pools-done seen _ old _ shared h there c.in-Ok-Done.field-0 steps note)
 
 -- where memory is wanting, or it waits, it is forgotten
 pub returns-in-Ok-Waiting-clause-holds : goal.returns-in-Ok-Waiting-clause-holds
 returns-in-Ok-Waiting-clause-holds c seen step h =
     let old = c.args.self.now in
     let n = c.args.lookup.now.number in
-    pools-waits seen n old (record old { shared = c.next.new.shared }) c.forget.new.self (Ok c.in-Ok-Waiting.field-0) refl refl
-    (rw c.number-n.ensures at (sym c.contains_key.ensures ∙ c.if-not-contains_key.false)) (rw step.now_is at c.in-Ok-Waiting.ensures.steps) c.in-Ok-Waiting.ensures.halts (rw c.number-n.ensures at c.forget.ensures) h
+    pools-waits seen n old c.forget.new.self c.next.new.shared h (rw c.number-n.ensures at (sym c.contains_key.ensures ∙ c.if-not-contains_key.false)) (Ok c.in-Ok-Waiting.field-0)
+    (rw step.now_is at c.in-Ok-Waiting.ensures.steps) c.in-Ok-Waiting.ensures.halts (rw c.number-n.ensures at c.forget.ensures)
 
 pub returns-in-Err-clause-holds : goal.returns-in-Err-clause-holds
 returns-in-Err-clause-holds c seen step h =
     let old = c.args.self.now in
     let n = c.args.lookup.now.number in
     let none = c.in-Err.ensures in
-    pools-waits seen n old (record old { shared = c.next.new.shared }) c.forget-in-Err.new.self (Err c.in-Err.field-0) refl refl
-    (rw c.number-n.ensures at (sym c.contains_key.ensures ∙ c.if-not-contains_key.false)) none.steps (rw step.now_is at none.halts) (rw c.number-n.ensures at c.forget-in-Err.ensures) h
+    pools-waits seen n old c.forget-in-Err.new.self c.next.new.shared h (rw c.number-n.ensures at (sym c.contains_key.ensures ∙ c.if-not-contains_key.false)) (Err c.in-Err.field-0)
+    none.steps (rw step.now_is at none.halts) (rw c.number-n.ensures at c.forget-in-Err.ensures)
 
 -- ---- how many orders were given
 
@@ -108,5 +101,5 @@ returns-in-Ok-Order-clause-waits c =
     let first = c.in-Ok-Order.ensures in
     let given : Given = record { number = c.in-Ok-Order.number; aim = aim_of c.in-Ok-Order.order; since = c.args.since; polled = None } in
     let note : HasNoted n (noted (Some given) None None) mid c.note.new.self = rw (c.number-n.ensures, c.aim_of-aim.ensures) at c.note.ensures in
-    awaits-order n c.args.tick.now old mid c.note.new.self c.in-Ok-Order.field-0 c.in-Ok-Order.number c.in-Ok-Order.order c.in-Ok-Order.field-0-is first.steps (λ none. (first.gone none).0) refl
-    (rw c.number-n.ensures at (sym c.contains_key.ensures ∙ c.if-not-contains_key.false)) given refl note
+    awaits-order n c.args.tick.now old c.note.new.self c.next.new.shared c.in-Ok-Order.field-0 c.in-Ok-Order.number c.in-Ok-Order.order given c.in-Ok-Order.field-0-is first.steps (λ none. (first.gone none).0)
+    (rw c.number-n.ensures at (sym c.contains_key.ensures ∙ c.if-not-contains_key.false)) refl note

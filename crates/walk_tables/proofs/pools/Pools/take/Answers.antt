@@ -1,13 +1,6 @@
-use Rattle.std.proofs.Common.{refl, ap, length, ◌∙◌}
-use Rattle.std.specs.Option.{option_copied}
-use Rattle.server_pool.specs.Shared.{Shared}
-use Rattle.server_pool.proofs.Listed.{opened}
-use Rattle.walk_tables.specs.Pools.{NotesOutcome, first_of, polled_by}
-use Rattle.walk_tables.specs.declared.pools.Given.{Given}
+use Rattle.walk_tables.proofs.Names.{ap, length, ◌∙◌, option_copied, Shared, opened, NotesOutcome, first_of, polled_by, Given, later-put}
 use Rattle.walk_tables.proofs.Later.{pools-later}
-use Rattle.walk_tables.proofs.Losing.{pools-lost}
-use Rattle.walk_tables.proofs.Outcomes.{open-order, its-rest, its-numbered, pools-put}
-use Rattle.walk_tables.proofs.Puts.{later-put}
+use Rattle.walk_tables.proofs.Outcomes.{pools-put, its-order, pools-unput}
 use Rattle.walk_tables.proofs.Taking.{took-by}
 use Rattle.walk_tables.proofs.pools.Pools.take.Goals as goal
 
@@ -25,10 +18,10 @@ returns-in-Ok c =
     rw (c.first_of-first.ensures, c.polled_by.ensures) at c.note_outcome.ensures in
     record {
       given = ap (λ (shared : Shared). shared.given) (note.noted.same.shared ∙ (let at = opened g.number n old.shared c.requires.open in c.in-Ok.ensures.puts n at.0 at.1).is);
-      took = took-by old mid c.note_outcome.new.self n g w c.args.outcome c.args.tick again (first_of g.aim w c.args.outcome) before c.in-Ok.after c.requires.given c.requires.open refl many note c.in-Ok.ensures.puts;
+      took = took-by old c.note_outcome.new.self c.put.new.self n g w c.args.outcome c.args.tick again (first_of g.aim w c.args.outcome) before c.in-Ok.after c.requires.given c.requires.open many note c.in-Ok.ensures.puts;
       holds = λ seen longer put h.
-          pools-put seen longer old mid c.note_outcome.new.self n c.args.tick w c.args.outcome g before c.in-Ok.after put refl refl c.requires.given many note h
-          (c.in-Ok.ensures.puts n _ (open-order seen old n w c.args.outcome g c.requires.given h));
+          pools-put seen old n w c.args.outcome g c.requires.given h c.args.tick c.put.new.self c.note_outcome.new.self longer before c.in-Ok.after put many note
+          (c.in-Ok.ensures.puts n _ (its-order seen old n w c.args.outcome g c.requires.given h));
     }
 
 pub returns-in-Err : goal.returns-in-Err
@@ -41,9 +34,7 @@ returns-in-Err c = record {
       let n = c.args.lookup in
       let w = option_copied c.args.waits in
       let g = c.args.given in
-      let mid = record old { shared = c.put.new.self } in
-      let puts = c.in-Err.ensures.puts n _ (open-order seen old n w c.args.outcome g c.requires.given h) in
       pools-later seen _ (later-put seen c.args.tick w c.args.outcome _ longer put) c.forget.new.self
-      (pools-lost seen n old mid c.forget.new.self (its-rest seen old n w c.args.outcome g c.requires.given h c.args.tick mid _ puts)
-      (its-numbered seen old n w c.args.outcome g c.requires.given h c.args.tick mid _ puts) refl refl c.forget.ensures h);
+      (pools-unput seen old n w c.args.outcome g c.requires.given h c.args.tick c.put.new.self c.forget.new.self _
+      (c.in-Err.ensures.puts n _ (its-order seen old n w c.args.outcome g c.requires.given h)) c.forget.ensures);
 }

@@ -1,0 +1,14 @@
+//! What is known of a lookup, by a log of what was told: what is sought by one that is under way and which
+//! outcomes are those of its open order, what one came to, and what is kept of that. Most of it is
+//! definitions and laws.
+#![tactic(auto)]
+
+mod aims;
+mod found;
+mod sought;
+mod threads;
+
+pub use aims::{aim_of, first_of, is_memory, polled_by};
+pub use found::Found;
+pub use sought::{Aim, Given, Sought};
+pub use threads::facts_cross_threads;
