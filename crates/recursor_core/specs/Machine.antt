@@ -173,10 +173,6 @@ abbrev pub Gives : RecursorCore → Log → ℕ → Progress → Type 0
 Gives core log r progress.Again = Unit {0}
 Gives core log r (progress.Step s) = StepGives core log r s
 
--- what a new machine is refused for
-abbrev pub IsNewError : RecursorError → Type 0
-IsNewError e = (e ≡ error.Message kind.NoRoots) ⊎ (e ≡ error.Message kind.ReversedTtl) ⊎ (e ≡ error.NoMemory)
-
 -- A new machine is set as the roots and the options say, and so are its pools; its cache is empty, nothing has happened, and its pools hold by
 -- any log.
 pub record IsNewCore (roots : List IpAddr) (options : RecursorOptions) (core : RecursorCore) : Type 0 where

@@ -1,10 +1,14 @@
 -- What a new recursor is refused for.
 use Rattle.std.specs.Prelude.{◌≡◌, ◌⊎◌}
-use Rattle.recursor_core.specs.Machine.{IsNewError}
+use Rattle.recursor_types.specs.declared.error.MessageKind.{MessageKind}
 use Rattle.recursor_types.specs.declared.error.RecursorError.{RecursorError}
 use Rattle.recursor_types.specs.declared.error.MessageKind.TheVariants as kind
 use Rattle.recursor_types.specs.declared.error.RecursorError.TheVariants as error
 
--- its first delays, or what a new machine is refused for
+-- by its roots and its options
+abbrev pub IsSetupKind : MessageKind → Type 0
+IsSetupKind k = (k ≡ kind.FirstDelays) ⊎ (k ≡ kind.NoRoots) ⊎ (k ≡ kind.ReversedTtl)
+
+-- for these, or for want of memory
 abbrev pub IsSetupError : RecursorError → Type 0
-IsSetupError e = (e ≡ error.Message kind.FirstDelays) ⊎ IsNewError e
+IsSetupError e = (e ≡ error.Message kind.FirstDelays) ⊎ (e ≡ error.Message kind.NoRoots) ⊎ (e ≡ error.Message kind.ReversedTtl) ⊎ (e ≡ error.NoMemory)

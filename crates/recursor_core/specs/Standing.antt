@@ -13,6 +13,9 @@ use Rattle.server_core.specs.declared.order.Tick.{Tick}
 use Rattle.resolution.specs.Telling.{MomentsRise}
 use Rattle.resolution.specs.Asking.{AsksServers}
 use Rattle.resolution.specs.Timing.{known_to_drive}
+use Rattle.recursor_types.specs.Options.{server_filter_of, answer_filter_of}
+use Rattle.recursor_types.specs.declared.options.RecursorOptions.{RecursorOptions}
+use Rattle.recursor_setting.specs.Setting.{context_of}
 use Rattle.recursor_setting.specs.declared.setting.Setting.{Setting}
 use Rattle.lookup_facts.specs.View.{given_of}
 use Rattle.lookup_facts.specs.Tried.{Timer, machine_timer}
@@ -44,6 +47,19 @@ pub record Standing (P : Type 0) : Type 0 where
   pub context : Context
   pub patience : ℕ
   pub moment : ℕ
+
+-- one that has had no run
+abbrev pub first_standing : {P : Type 0} → P → List IpAddr → RecursorOptions → Standing P
+first_standing provider roots options = record {
+  provider = provider;
+  roots = roots;
+  server_filter = server_filter_of options;
+  answer_filter = answer_filter_of options;
+  lives = options.cache_policy;
+  context = context_of options;
+  patience = 4294967295;
+  moment = 0;
+}
 
 -- what a run is set to with this patience, or with the least one of the runs before
 abbrev pub run_terms : {P : Type 0} → ℕ → Standing P → Setting

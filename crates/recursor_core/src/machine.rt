@@ -12,7 +12,7 @@ ghost use Rattle.recursor_setting.specs.Asking.{connect_of};
 ghost use Rattle.recursor_setting.specs.Setting.{with_patience};
 ghost use Rattle.walk_tables.specs.Pools.{GivesNext, IsOutcomeOf};
 ghost use Rattle.recursor_core.specs.Derived.{seen_by, Derived};
-ghost use Rattle.recursor_core.specs.Machine.{TellsTo, resolution_at, need_at, open_at, given_by, IsRequestAt, rank, IsNearer, GoesOn, Steps, Gives, StepGives, IsNewError, IsBeginError, IsNewCore, SameCore, IsOneMore, LookupGives, IsBegunAt};
+ghost use Rattle.recursor_core.specs.Machine.{TellsTo, resolution_at, need_at, open_at, given_by, IsRequestAt, rank, IsNearer, GoesOn, Steps, Gives, StepGives, IsBeginError, IsNewCore, SameCore, IsOneMore, LookupGives, IsBegunAt};
 ghost use Rattle.walk_tables.specs.declared.lookup.Want.TheVariants as want;
 
 use dns_core::{ConnectOptions, DnsRequest, NoMemory, Question, TryClone};
@@ -92,31 +92,8 @@ fn last_entry(after: &Result<After, NoMemory>, entry: u64, closing: u64) -> u64
 }
 
 impl RecursorCore {
-    /// A machine that begins at these roots, with an empty cache; refused where there is no root, or a
-    /// minimum TTL is above its maximum.
+    /// A machine that begins at these roots, with an empty cache.
     pub fn new(
-        alloc: Global,
-        roots: &[IpAddr],
-        options: RecursorOptions,
-    ) -> Result<RecursorCore, RecursorError>
-        ensures no_roots { (result ≡ Err (RecursorError.Message MessageKind.NoRoots)) ↔ (roots.now ≡ []) }
-        ensures reversed { (result ≡ Err (RecursorError.Message MessageKind.ReversedTtl)) ↔ ((roots.now ≢ []) × IsTrue (has_reversed options.cache_policy)) }
-        ensures only { IfErr result IsNewError }
-        ensures new { IfOk result (IsNewCore roots.now options) }
-    {
-        if roots.is_empty() {
-            return Err(RecursorError::Message(MessageKind::NoRoots));
-        }
-        if options.cache_policy.is_reversed() {
-            return Err(RecursorError::Message(MessageKind::ReversedTtl));
-        }
-        match RecursorCore::empty(alloc, roots, options) {
-            Ok(core) => Ok(core),
-            Err(_) => Err(RecursorError::NoMemory),
-        }
-    }
-
-    fn empty(
         alloc: Global,
         roots: &[IpAddr],
         options: RecursorOptions,

@@ -1,12 +1,12 @@
 //! The recursor: the machine over a provider.
-ghost use Rattle.std.specs.Prelude.{◌≡◌, ◌≢◌, ◌↔◌, IsTrue, false, List, [], Some, Err, IfOk, IfErr};
+ghost use Rattle.std.specs.Prelude.{◌≡◌, ◌≢◌, ◌↔◌, IsTrue, false, List, [], Some, Err, IfOk, IfErr, IfSome};
 ghost use Rattle.dns_core.specs.declared.log.LogEntry.{LogEntry};
 ghost use Rattle.resolver_settings.specs.Ttl.{has_reversed};
-ghost use Rattle.recursor_core.specs.Recursor.{IsSetupError};
+ghost use Rattle.recursor_core.specs.Recursor.{IsSetupError, IsSetupKind};
 ghost use Rattle.recursor_types.specs.Options.{has_bad_first_delays, server_filter_of, answer_filter_of};
 ghost use Rattle.recursor_setting.specs.Setting.{context_of};
 ghost use Rattle.recursor_setting.specs.Asking.{connect_of};
-ghost use Rattle.recursor_core.specs.Standing.{Standing, Rests};
+ghost use Rattle.recursor_core.specs.Standing.{Standing, Rests, first_standing};
 
 use crate::machine::RecursorCore;
 use crate::run::Run;
@@ -35,6 +35,24 @@ impl<P: ConnectionProvider> Model for Recursor<P> {
     ghost invariant = { λ a. Rests P.ConnectionProvider a.run.core a.run.runner };
 }
 
+/// Why a recursor of these roots and options is refused, if it is.
+fn refusal(roots: &[IpAddr], options: &RecursorOptions) -> Option<MessageKind>
+    ensures no_roots { (result ≡ Some MessageKind.NoRoots) ↔ (roots.now ≡ []) }
+    ensures reversed { (result ≡ Some MessageKind.ReversedTtl) ↔ ((roots.now ≢ []) × IsTrue (has_reversed options.now.cache_policy)) }
+    ensures first_delays { (result ≡ Some MessageKind.FirstDelays) ↔ ((roots.now ≢ []) × (has_reversed options.now.cache_policy ≡ false) × IsTrue (has_bad_first_delays options.now.first_delays)) }
+    ensures only { IfSome result IsSetupKind }
+{
+    if roots.is_empty() {
+        Some(MessageKind::NoRoots)
+    } else if options.cache_policy.is_reversed() {
+        Some(MessageKind::ReversedTtl)
+    } else if options.has_bad_first_delays() {
+        Some(MessageKind::FirstDelays)
+    } else {
+        None
+    }
+}
+
 impl<P: ConnectionProvider> Recursor<P> {
     /// A recursor that begins at these roots, over a provider whose log is empty. The filter of the
     /// options is for other servers: no root is left out for it. It is refused where there is no root,
@@ -53,21 +71,29 @@ impl<P: ConnectionProvider> Recursor<P> {
         ensures first_delays { (result ≡ Err (RecursorError.Message MessageKind.FirstDelays)) ↔ ((roots.now ≢ []) × (has_reversed options.cache_policy ≡ false) × IsTrue (has_bad_first_delays options.first_delays)) }
         ensures only { IfErr result IsSetupError }
     {
-        if roots.is_empty() {
-            return Err(RecursorError::Message(MessageKind::NoRoots));
+        match refusal(roots, &options) {
+            Some(kind) => Err(RecursorError::Message(kind)),
+            None => match Recursor::at_rest(alloc, roots, options, provider) {
+                Ok(recursor) => Ok(recursor),
+                Err(_) => Err(RecursorError::NoMemory),
+            },
         }
-        if options.cache_policy.is_reversed() {
-            return Err(RecursorError::Message(MessageKind::ReversedTtl));
-        }
-        if options.has_bad_first_delays() {
-            return Err(RecursorError::Message(MessageKind::FirstDelays));
-        }
-        let Ok(core) = RecursorCore::new(alloc, roots, options) else {
-            return Err(RecursorError::NoMemory);
-        };
-        let Ok(connect) = core.connect_options(alloc) else {
-            return Err(RecursorError::NoMemory);
-        };
+    }
+
+    /// One that is refused for nothing.
+    fn at_rest(
+        alloc: Global,
+        roots: &[IpAddr],
+        options: RecursorOptions,
+        provider: P,
+    ) -> Result<Recursor<P>, NoMemory>
+        requires empty { (es : List LogEntry) → P.log provider ≡ Some es → es ≡ [] }
+        requires some { roots.now ≢ [] }
+        requires ordered { has_reversed options.cache_policy ≡ false }
+        ensures { IfOk result (λ recursor. recursor ≡ first_standing provider roots.now options) }
+    {
+        let core = RecursorCore::new(alloc, roots, options)?;
+        let connect = core.connect_options(alloc)?;
         let run = Run {
             core,
             runner: Runner::new(alloc, Carrier::new(alloc, provider, connect)),

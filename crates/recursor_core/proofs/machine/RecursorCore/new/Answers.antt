@@ -1,5 +1,5 @@
 use Rattle.recursor_core.proofs.Names.{refl, sym, ap, ◌∙◌, Setting}
-use Rattle.recursor_core.proofs.machine.RecursorCore.empty.Goals as goal
+use Rattle.recursor_core.proofs.machine.RecursorCore.new.Goals as goal
 
 pub returns : goal.returns
 returns c =
