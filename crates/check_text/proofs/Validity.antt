@@ -4,7 +4,7 @@ use Rattle.std.specs.Prelude.{◌↔◌, IsTrue}
 use Rattle.std.proofs.lemmas.List.{take_more}
 use Rattle.dns_core.specs.declared.request.Question.{Question}
 use Rattle.zone_worlds.specs.Valid.{IsValid}
-use Rattle.zone_worlds.specs.declared.world.World.{World}
+use Rattle.zone_rules.specs.declared.world.World.{World}
 use Rattle.check_text.specs.Checking.{AreValid}
 
 valid_more : (w : World) (d e : ℕ) (qs : List Question) (valid : List Bool) (q : Question) (v : Bool) → AreValid w d e qs valid → (IsTrue v ↔ IsValid w d e q.query)

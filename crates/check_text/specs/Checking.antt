@@ -10,7 +10,7 @@ use Rattle.world_check.specs.declared.filters.WorldFilters.{WorldFilters}
 use Rattle.world_check.specs.declared.verdict.Verdict.{Verdict}
 use Rattle.world_check.specs.declared.verdict.Verdict.TheVariants.{Yes, No}
 use Rattle.zone_worlds.specs.Valid.{IsValid}
-use Rattle.zone_worlds.specs.declared.world.World.{World}
+use Rattle.zone_rules.specs.declared.world.World.{World}
 
 -- the filters that options say
 abbrev pub filters_of : RecursorOptions → WorldFilters

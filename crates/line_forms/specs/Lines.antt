@@ -14,7 +14,7 @@ use Rattle.dns_core.specs.declared.net_error.NetError.{NetError}
 use Rattle.dns_core.specs.declared.net_error.NetError.TheVariants.{Busy, Io, Timeout, NoConnections, QueryCaseMismatch}
 use Rattle.dns_core.specs.declared.request.Question.{Question}
 use Rattle.dns_core.specs.declared.request.Turn.{Turn}
-use Rattle.recursor_world.specs.declared.script.ScriptLine.TheVariants.{Connect, Refuse, Reply}
+use Rattle.script_lines.specs.declared.script.ScriptLine.TheVariants.{Connect, Refuse, Reply}
 use Rattle.line_forms.specs.declared.lines.Form.{Form}
 use Rattle.line_forms.specs.declared.lines.Form.TheVariants as form
 use Rattle.line_forms.specs.declared.rules.Counts.{Counts}

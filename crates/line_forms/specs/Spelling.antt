@@ -20,8 +20,8 @@ use Rattle.dns_core.specs.declared.request.Turn.{Turn}
 use Rattle.resolver_settings.specs.Recommended.{special_nets}
 use Rattle.resolver_settings.specs.Ttl.{TtlTable, one_day}
 use Rattle.recursor_types.specs.declared.options.RecursorOptions.{RecursorOptions}
-use Rattle.recursor_world.specs.declared.script.ScriptLine.{ScriptLine}
-use Rattle.recursor_world.specs.declared.script.ScriptLine.TheVariants.{Connect, Refuse, Reply}
+use Rattle.script_lines.specs.declared.script.ScriptLine.{ScriptLine}
+use Rattle.script_lines.specs.declared.script.ScriptLine.TheVariants.{Connect, Refuse, Reply}
 use Rattle.line_forms.specs.declared.option_form.Bounds.{Bounds}
 use Rattle.line_forms.specs.declared.option_form.OptionLine.{OptionLine}
 use Rattle.line_forms.specs.declared.option_form.OptionLine.TheVariants.{ResponseCacheSize, RecursionLimit, NsRecursionLimit, AllowAnswers, DenyAnswers, AllowServer, DenyServer, AvoidLocalUdpPorts, PositiveTtl, NegativeTtl, CaseRandomization, EdnsPayloadLen, FirstDelays}

@@ -3,8 +3,8 @@ use Rattle.std.proofs.Common.{◌≡◌, ◌≤◌, ℕ, List, length, Some, Non
 use Rattle.std.specs.Prelude.{IfOk}
 use Rattle.text_words.specs.Pieces.{pieces}
 use Rattle.text_words.proofs.Binds.{some_is}
-use Rattle.zone_worlds.specs.declared.world.World.{World}
-use Rattle.recursor_world.specs.declared.script.Script.{Script}
+use Rattle.zone_rules.specs.declared.world.World.{World}
+use Rattle.script_lines.specs.declared.script.Script.{Script}
 use Rattle.recursor_text.specs.declared.scenario.Scenario.{Scenario}
 use Rattle.recursor_text.specs.declared.scenario.Upstream.TheVariants.{Script as FromScript, World as FromWorld}
 use Rattle.recursor_text.specs.Reading.{scenario_in}

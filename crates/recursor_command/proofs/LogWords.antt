@@ -11,15 +11,15 @@ use Rattle.dns_core.specs.declared.net_error.NetError.{NetError}
 use Rattle.dns_core.specs.declared.net_error.NetError.TheVariants.{Io}
 use Rattle.dns_core.specs.declared.log.LogEntry.{LogEntry}
 use Rattle.dns_core.specs.declared.log.LogEntry.TheVariants.{Opened, Asked, Waited, Told, GaveUp}
-use Rattle.recursor_world.specs.Course.{reply_course, connect_course}
-use Rattle.recursor_world.specs.Script.{Gives, Fits, course_after, refuses, connects, replies, asks, asking_of, connection_course, question_course_for, waits}
-use Rattle.recursor_world.specs.declared.course.Course.{Course}
-use Rattle.recursor_world.specs.declared.course.Course.TheVariants.{Never, After}
-use Rattle.recursor_world.specs.declared.index.Asking.{Asking}
-use Rattle.recursor_world.specs.declared.index.Endpoint.{Endpoint}
-use Rattle.recursor_world.specs.declared.script.Script.{Script}
-use Rattle.recursor_world.specs.declared.script.ScriptLine.{ScriptLine}
-use Rattle.recursor_world.specs.declared.script.ScriptLine.TheVariants.{Connect, Refuse, Reply}
+use Rattle.script_book.specs.Course.{reply_course, connect_course}
+use Rattle.script_book.specs.Giving.{Gives, Fits, course_after, refuses, connects, replies, asks, asking_of, connection_course, question_course_for, waits}
+use Rattle.script_book.specs.declared.course.Course.{Course}
+use Rattle.script_book.specs.declared.course.Course.TheVariants.{Never, After}
+use Rattle.script_book.specs.declared.index.Asking.{Asking}
+use Rattle.script_book.specs.declared.index.Endpoint.{Endpoint}
+use Rattle.script_lines.specs.declared.script.Script.{Script}
+use Rattle.script_lines.specs.declared.script.ScriptLine.{ScriptLine}
+use Rattle.script_lines.specs.declared.script.ScriptLine.TheVariants.{Connect, Refuse, Reply}
 use Rattle.text_words.specs.Texts.{has_error_word}
 use Rattle.transcript_printer.specs.Log.{has_refusal_word, has_outcome_words, has_entry_words, has_log_words}
 use Rattle.line_forms.specs.Spelling.{IsScriptLine}

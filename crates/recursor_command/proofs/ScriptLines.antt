@@ -6,7 +6,7 @@ use Rattle.std.proofs.lemmas.List.{nil_from_length, append-nil}
 use Rattle.text_words.specs.Pieces.{pieces}
 use Rattle.text_words.specs.Spelling.{spelled}
 use Rattle.text_words.proofs.Cuts.{split_cons}
-use Rattle.recursor_world.specs.declared.script.Script.{Script}
+use Rattle.script_lines.specs.declared.script.Script.{Script}
 use Rattle.line_forms.specs.declared.option_form.OptionLine.{OptionLine}
 use Rattle.line_forms.specs.Spelling.{script_lines, question_line, turn_line, end_words}
 use Rattle.recursor_text.specs.declared.reading.whole.WholeDraft.{WholeDraft}

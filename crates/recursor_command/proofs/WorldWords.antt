@@ -6,9 +6,9 @@ use Rattle.dns_core.specs.declared.net_error.NetError.{NetError}
 use Rattle.dns_core.specs.declared.log.LogEntry.{LogEntry}
 use Rattle.dns_core.specs.declared.log.LogEntry.TheVariants.{Opened, Asked, Waited, Told, GaveUp}
 use Rattle.dns_core.specs.declared.log.ToldOutcome.TheVariants.{Connected, Message, Error}
-use Rattle.recursor_world.specs.Script.{waits}
+use Rattle.script_book.specs.Giving.{waits}
 use Rattle.world_upstream.specs.Giving.{delay, ComesTo, Fits, Gives}
-use Rattle.zone_worlds.specs.declared.world.World.{World}
+use Rattle.zone_rules.specs.declared.world.World.{World}
 use Rattle.transcript_printer.specs.Log.{has_refusal_word, has_entry_words}
 
 -- no entry is told an error

@@ -19,7 +19,7 @@ use Rattle.line_forms.specs.Lines.{form_of, forms_of, told_of}
 use Rattle.line_forms.specs.RecordLines.{records_of, record_head}
 use Rattle.line_forms.specs.Spelling.{question_line, turn_line, end_words, options_with, IsTurn}
 use Rattle.line_forms.proofs.LineLaws.{form_words, IsForm, form_plain, form_again}
-use Rattle.zone_worlds.specs.declared.world.World.{World}
+use Rattle.zone_rules.specs.declared.world.World.{World}
 use Rattle.world_lines.specs.declared.draft.OpenZone.{OpenZone}
 use Rattle.world_lines.specs.declared.draft.WorldDraft.{WorldDraft}
 use Rattle.world_lines.specs.Lines.{world_form_of, starts_world, is_world_line}

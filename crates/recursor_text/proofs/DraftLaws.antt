@@ -8,7 +8,7 @@ use Rattle.std.specs.declared.net.ip_addr.IpAddr.{IpAddr}
 use Rattle.dns_core.specs.declared.record.Record.{Record}
 use Rattle.dns_core.specs.declared.request.Question.{Question}
 use Rattle.dns_core.specs.declared.request.Turn.{Turn}
-use Rattle.recursor_world.specs.declared.script.ScriptLine.{ScriptLine}
+use Rattle.script_lines.specs.declared.script.ScriptLine.{ScriptLine}
 use Rattle.line_forms.specs.declared.lines.Form.{Form}
 use Rattle.line_forms.specs.declared.lines.Form.TheVariants as form
 use Rattle.line_forms.specs.declared.option_form.OptionLine.{OptionLine}

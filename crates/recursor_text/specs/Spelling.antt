@@ -5,7 +5,7 @@ use Rattle.std.specs.declared.net.ip_addr.IpAddr.{IpAddr}
 use Rattle.dns_core.specs.declared.request.Question.{Question}
 use Rattle.dns_core.specs.declared.request.Turn.{Turn}
 use Rattle.recursor_types.specs.declared.options.RecursorOptions.{RecursorOptions}
-use Rattle.recursor_world.specs.declared.script.ScriptLine.{ScriptLine}
+use Rattle.script_lines.specs.declared.script.ScriptLine.{ScriptLine}
 use Rattle.line_forms.specs.declared.option_form.OptionLine.{OptionLine}
 use Rattle.world_lines.specs.Spelling.{world_lines, IsWorld}
 use Rattle.recursor_text.specs.declared.scenario.Scenario.{Scenario}

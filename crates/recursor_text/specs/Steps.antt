@@ -2,8 +2,8 @@
 use Rattle.std.specs.Prelude.{ℕ, ◌-◌, List, [], ◌∷◌, ◌++◌, length, ◌&&◌, ◌==◌, nat_lt, nat_le, Bool, true, false, Option, Some, None, Ok, if◌then◌else◌}
 use Rattle.dns_core.specs.declared.record.Record.{Record}
 use Rattle.dns_core.specs.declared.request.Question.{Question}
-use Rattle.recursor_world.specs.declared.script.ScriptLine.{ScriptLine}
-use Rattle.recursor_world.specs.declared.script.ScriptLine.TheVariants.{Reply}
+use Rattle.script_lines.specs.declared.script.ScriptLine.{ScriptLine}
+use Rattle.script_lines.specs.declared.script.ScriptLine.TheVariants.{Reply}
 use Rattle.recursor_text.specs.declared.scenario.Scenario.{Scenario}
 use Rattle.recursor_text.specs.declared.scenario.Upstream.TheVariants.{Script as FromScript}
 use Rattle.line_forms.specs.declared.lines.Form.{Form}

@@ -5,22 +5,14 @@
 //! gives (`Gives`).
 #![tactic(auto)]
 
-mod book;
-mod copies;
-mod course;
-mod index;
-mod late;
 mod laws;
 mod provider;
-mod qualified;
-mod script;
 mod threads;
 mod upstream;
 
-pub use index::Endpoint;
-pub use late::{Late, Room, push_or_back};
 pub use laws::fronts_are_given;
 pub use provider::{ScriptExchange, ScriptOpening};
-pub use script::{Script, ScriptLine};
+pub use script_book::Endpoint;
+pub use script_lines::{Late, Room, Script, ScriptLine, push_or_back};
 pub use threads::scripts_cross_threads;
 pub use upstream::ScriptUpstream;

@@ -1,9 +1,9 @@
-//! Each type of this crate that holds values may go to another thread, and be shared among threads.
+//! Each type that this crate exports and that holds values may go to another thread, and be shared among threads.
 
-use crate::index::Endpoint;
 use crate::provider::{ScriptExchange, ScriptOpening};
-use crate::script::{Script, ScriptLine};
 use crate::upstream::ScriptUpstream;
+use script_book::Endpoint;
+use script_lines::{Script, ScriptLine};
 
 fn crosses<T: Send + Sync>() {}
 

@@ -5,12 +5,9 @@ ghost use Rattle.dns_core.specs.declared.net_error.NetError.TheVariants.{Io};
 ghost use Rattle.dns_core.specs.declared.net_error.IoKind.TheVariants.{Refused};
 ghost use Rattle.dns_core.specs.declared.log.LogEntry.TheVariants.{Opened, Asked, GaveUp};
 
-use crate::book::Book;
-use crate::course::Stage;
-use crate::index::Endpoint;
-use crate::late::Room;
-use crate::script::Script;
 use dns_core::{Log, NoMemory, Poll, Query, ToldOutcome};
+use script_book::{Book, Endpoint, Stage};
+use script_lines::{Room, Script};
 use std::alloc::Global;
 use std::marker::Model;
 
@@ -26,7 +23,7 @@ pub struct ScriptUpstream {
 
 impl Model for ScriptUpstream {
     ghost use Rattle.recursor_world.specs.Upstream.{Upstream};
-    ghost use Rattle.recursor_world.specs.Book.{Holds};
+    ghost use Rattle.script_book.specs.Book.{Holds};
 
     ghost Value = { Upstream };
 
@@ -37,8 +34,9 @@ impl Model for ScriptUpstream {
 
 impl ScriptUpstream {
     ghost use Rattle.recursor_world.specs.Upstream.{told_by, Notes, NotesNothing, Polls};
-    ghost use Rattle.recursor_world.specs.Script.{is_qualified_script, refusal, Gives};
-    ghost use Rattle.recursor_world.specs.Stage.{TellsConnection, TellsQuestion};
+    ghost use Rattle.script_lines.specs.Script.{is_qualified_script};
+    ghost use Rattle.script_book.specs.Giving.{refusal, Gives};
+    ghost use Rattle.script_book.specs.Stage.{TellsConnection, TellsQuestion};
 
     /// An upstream of a script, with an empty log. Its index of the lines wants memory.
     pub fn new(alloc: Global, script: Script) -> Result<Self, NoMemory>

@@ -11,8 +11,8 @@ use Rattle.dns_core.specs.declared.record.Record.{Record}
 use Rattle.resolution.specs.Names.{is_above}
 use Rattle.resolution.proofs.Above.{labels_equiv}
 use Rattle.resolution.proofs.Members.{Has}
-use Rattle.zone_worlds.specs.Tree.{qualified, zone_at, first_cut}
-use Rattle.zone_worlds.specs.declared.world.Zone.{Zone}
+use Rattle.zone_rules.specs.Tree.{qualified, zone_at, first_cut}
+use Rattle.zone_rules.specs.declared.world.Zone.{Zone}
 use Rattle.zone_worlds.proofs.Indexing.{suffix_step}
 use Rattle.world_check.specs.Layout.{left_name, is_below, is_ds_at, is_left_by}
 

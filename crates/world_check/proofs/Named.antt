@@ -10,11 +10,11 @@ use Rattle.std.proofs.lemmas.List.Folds.{list_any-append, list_all-append}
 use Rattle.dns_core.specs.Name.{DomainName, same_names}
 use Rattle.dns_core.specs.declared.record.Record.{Record}
 use Rattle.resolution.specs.Records.{cname_target, address}
-use Rattle.zone_worlds.specs.Choosing.{is_alias}
+use Rattle.zone_rules.specs.Choosing.{is_alias}
 use Rattle.zone_worlds.specs.Index.{all_records}
-use Rattle.zone_worlds.specs.Tree.{serves}
-use Rattle.zone_worlds.specs.declared.world.Zone.{Zone}
-use Rattle.zone_worlds.specs.declared.world.World.{World}
+use Rattle.zone_rules.specs.Tree.{serves}
+use Rattle.zone_rules.specs.declared.world.Zone.{Zone}
+use Rattle.zone_rules.specs.declared.world.World.{World}
 use Rattle.world_check.specs.Naming.{is_aliased, owns_one}
 use Rattle.world_check.specs.Serving.{is_served_by, is_served_at}
 

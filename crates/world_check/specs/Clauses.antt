@@ -5,7 +5,7 @@ use Rattle.world_check.specs.Serving.{has_served_root, is_delegated_well, has_se
 use Rattle.world_check.specs.Layout.{is_laid_out}
 use Rattle.world_check.specs.Naming.{has_sound_names}
 use Rattle.world_check.specs.Filters.{has_allowed_addresses}
-use Rattle.zone_worlds.specs.declared.world.World.{World}
+use Rattle.zone_rules.specs.declared.world.World.{World}
 use Rattle.world_check.specs.declared.filters.WorldFilters.{WorldFilters}
 use Rattle.world_check.specs.declared.verdict.Verdict.{Verdict}
 use Rattle.world_check.specs.declared.verdict.Verdict.TheVariants.{Yes, No}

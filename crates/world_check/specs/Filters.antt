@@ -4,7 +4,7 @@ use Rattle.std.specs.List.{list_all}
 use Rattle.dns_core.specs.declared.record.Record.{Record}
 use Rattle.resolution.specs.Records.{address}
 use Rattle.resolver_settings.specs.Access.{denies}
-use Rattle.zone_worlds.specs.declared.world.World.{World}
+use Rattle.zone_rules.specs.declared.world.World.{World}
 use Rattle.world_check.specs.declared.filters.WorldFilters.{WorldFilters}
 
 -- an address that the record holds is denied by neither filter

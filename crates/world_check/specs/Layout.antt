@@ -5,8 +5,8 @@ use Rattle.dns_core.specs.Name.{DomainName, same_names}
 use Rattle.dns_core.specs.Classifying.{is_soa, is_ns}
 use Rattle.dns_core.specs.declared.record.Record.{Record}
 use Rattle.resolution.specs.Names.{is_above, is_root, base}
-use Rattle.zone_worlds.specs.declared.world.Zone.{Zone}
-use Rattle.zone_worlds.specs.declared.world.World.{World}
+use Rattle.zone_rules.specs.declared.world.Zone.{Zone}
+use Rattle.zone_rules.specs.declared.world.World.{World}
 
 -- the second zone lies below the first
 abbrev pub is_below : Zone → Zone → Bool

@@ -5,8 +5,8 @@ use Rattle.dns_core.specs.Name.{DomainName, same_names}
 use Rattle.dns_core.specs.declared.record.Record.{Record}
 use Rattle.dns_core.specs.declared.record.RData.{RData}
 use Rattle.dns_core.specs.declared.record.RData.TheVariants.{NS, CNAME, SOA}
-use Rattle.zone_worlds.specs.Choosing.{is_alias}
-use Rattle.zone_worlds.specs.declared.world.World.{World}
+use Rattle.zone_rules.specs.Choosing.{is_alias}
+use Rattle.zone_rules.specs.declared.world.World.{World}
 
 abbrev pub is_aliased : World → DomainName → Bool
 is_aliased world name = list_any (λ zone. list_any (is_alias name) zone.records) world.zones

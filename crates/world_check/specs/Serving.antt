@@ -8,9 +8,9 @@ use Rattle.dns_core.specs.declared.record.Record.{Record}
 use Rattle.dns_core.specs.declared.record.RData.TheVariants.{NS}
 use Rattle.resolution.specs.Names.{is_above, is_root}
 use Rattle.resolution.specs.Records.{address}
-use Rattle.zone_worlds.specs.Tree.{serves}
-use Rattle.zone_worlds.specs.declared.world.Zone.{Zone}
-use Rattle.zone_worlds.specs.declared.world.World.{World}
+use Rattle.zone_rules.specs.Tree.{serves}
+use Rattle.zone_rules.specs.declared.world.Zone.{Zone}
+use Rattle.zone_rules.specs.declared.world.World.{World}
 
 -- there is a root zone, and every root address is a host that serves it
 abbrev pub has_served_root : World → List IpAddr → Bool

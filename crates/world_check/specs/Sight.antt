@@ -1,5 +1,5 @@
 -- The world that is seen, plainly or with its index.
-use Rattle.zone_worlds.specs.declared.world.World.{World}
+use Rattle.zone_rules.specs.declared.world.World.{World}
 use Rattle.world_check.specs.declared.sight.Sight.{Sight}
 use Rattle.world_check.specs.declared.sight.Sight.TheVariants.{Plain, Indexed}
 

@@ -2,7 +2,7 @@
 ghost use Rattle.std.specs.Prelude.{◌≡◌, ◌&&◌, ◌==◌, not, length, filter, nat_le};
 ghost use Rattle.std.specs.List.{list_any, list_all};
 ghost use Rattle.dns_core.specs.Name.{same_names};
-ghost use Rattle.zone_worlds.specs.Choosing.{is_alias};
+ghost use Rattle.zone_rules.specs.Choosing.{is_alias};
 ghost use Rattle.world_check.specs.Sight.{world_of};
 ghost use Rattle.world_check.specs.Naming.{is_aliased, owns_one, is_star, has_star, is_soundly_held, is_soundly_named, has_sound_names};
 

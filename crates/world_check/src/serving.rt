@@ -4,7 +4,7 @@ ghost use Rattle.std.specs.List.{list_any, list_all};
 ghost use Rattle.dns_core.specs.Classifying.{is_glue_for};
 ghost use Rattle.resolution.specs.Names.{is_root};
 ghost use Rattle.resolution.specs.Records.{address};
-ghost use Rattle.zone_worlds.specs.Tree.{serves};
+ghost use Rattle.zone_rules.specs.Tree.{serves};
 ghost use Rattle.world_check.specs.Sight.{world_of};
 ghost use Rattle.world_check.specs.Serving.{has_served_root, is_own_server, has_own_server, is_delegated_well, is_served_by, is_served_at, is_served_as_named, has_served_zones};
 

@@ -1,6 +1,6 @@
 //! How a world is seen: by its zones, or through an index too.
 ghost use Rattle.std.specs.Prelude.{◌≡◌};
-ghost use Rattle.zone_worlds.specs.Tree.{serves};
+ghost use Rattle.zone_rules.specs.Tree.{serves};
 ghost use Rattle.world_check.specs.Sight.{world_of};
 
 use dns_core::Label;

@@ -10,8 +10,8 @@ use Rattle.text_words.specs.Codes.{class_in}
 use Rattle.text_words.specs.Spelling.{spelled, IsFullName}
 use Rattle.line_forms.specs.RecordLines.{record_of}
 use Rattle.line_forms.specs.Spelling.{record_text, most_delay}
-use Rattle.zone_worlds.specs.declared.world.Zone.{Zone}
-use Rattle.zone_worlds.specs.declared.world.Host.{Host}
+use Rattle.zone_rules.specs.declared.world.Zone.{Zone}
+use Rattle.zone_rules.specs.declared.world.Host.{Host}
 use Rattle.world_lines.specs.declared.lines.ZoneHead.{ZoneHead}
 use Rattle.world_lines.specs.declared.lines.WorldForm.{WorldForm}
 use Rattle.world_lines.specs.declared.lines.WorldForm.TheVariants as form

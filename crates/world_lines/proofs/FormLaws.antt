@@ -4,7 +4,7 @@ use Rattle.std.specs.Prelude.{codes, decimal}
 use Rattle.std.specs.Str.{bytes_eq}
 use Rattle.std.specs.declared.net.ip_addr.IpAddr.{IpAddr}
 use Rattle.dns_core.specs.NameText.{text_of as name_text}
-use Rattle.zone_worlds.specs.declared.world.Host.{Host}
+use Rattle.zone_rules.specs.declared.world.Host.{Host}
 use Rattle.text_words.specs.Addresses.{ip_of}
 use Rattle.text_words.specs.Fields.{Fields, field, in_table, whole}
 use Rattle.text_words.specs.Numbers.{◌>>=◌, number_within}

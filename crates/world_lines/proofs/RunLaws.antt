@@ -16,9 +16,9 @@ use Rattle.text_words.specs.Spelling.{spelled}
 use Rattle.text_words.proofs.Binds.{bind_some}
 use Rattle.line_forms.specs.Spelling.{record_text}
 use Rattle.line_forms.proofs.RecordLaws.{record_again}
-use Rattle.zone_worlds.specs.declared.world.Zone.{Zone}
-use Rattle.zone_worlds.specs.declared.world.Host.{Host}
-use Rattle.zone_worlds.specs.declared.world.World.{World}
+use Rattle.zone_rules.specs.declared.world.Zone.{Zone}
+use Rattle.zone_rules.specs.declared.world.Host.{Host}
+use Rattle.zone_rules.specs.declared.world.World.{World}
 use Rattle.world_lines.specs.declared.lines.ZoneHead.{ZoneHead}
 use Rattle.world_lines.specs.declared.lines.WorldForm.{WorldForm}
 use Rattle.world_lines.specs.declared.lines.WorldForm.TheVariants as form

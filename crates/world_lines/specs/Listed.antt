@@ -6,8 +6,8 @@ use Rattle.std.specs.declared.net.ip_addr.IpAddr.{IpAddr}
 use Rattle.std.specs.contracts.net.ip_addr.IpAddrPartialEq.TheImpl as address
 use Rattle.std.specs.contracts.net.ip_addr.IpAddrOrd.TheImpl as address_order
 use Rattle.dns_core.specs.Name.{DomainName, same_names, names_cmp}
-use Rattle.zone_worlds.specs.declared.world.Zone.{Zone}
-use Rattle.zone_worlds.specs.declared.world.Host.{Host}
+use Rattle.zone_rules.specs.declared.world.Zone.{Zone}
+use Rattle.zone_rules.specs.declared.world.Host.{Host}
 
 -- a zone has this apex, without case
 abbrev pub has_apex : List Zone → DomainName → Bool

@@ -1,6 +1,6 @@
 -- What a reader makes of the lines of a world.
 use Rattle.std.specs.Prelude.{◌≡◌, ℕ, true, List, ◌++◌, Some}
-use Rattle.zone_worlds.specs.declared.world.World.{World}
+use Rattle.zone_rules.specs.declared.world.World.{World}
 use Rattle.world_lines.specs.declared.draft.WorldDraft.{WorldDraft}
 use Rattle.world_lines.specs.Steps.{start, run, may_close, world_of}
 use Rattle.world_lines.specs.Spelling.{world_lines, IsWorld}

@@ -8,9 +8,9 @@ use Rattle.text_words.specs.Codes.{class_in}
 use Rattle.text_words.specs.Texts.{ip_text}
 use Rattle.text_words.specs.Spelling.{spelled, IsFullName, IsAddress}
 use Rattle.line_forms.specs.Spelling.{record_text, IsRecord, most_delay}
-use Rattle.zone_worlds.specs.declared.world.Zone.{Zone}
-use Rattle.zone_worlds.specs.declared.world.Host.{Host}
-use Rattle.zone_worlds.specs.declared.world.World.{World}
+use Rattle.zone_rules.specs.declared.world.Zone.{Zone}
+use Rattle.zone_rules.specs.declared.world.Host.{Host}
+use Rattle.zone_rules.specs.declared.world.World.{World}
 use Rattle.world_lines.specs.Counts.{numeral}
 use Rattle.world_lines.specs.Lines.{most_zones}
 use Rattle.world_lines.specs.Listed.{has_apex, has_address}

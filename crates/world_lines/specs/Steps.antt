@@ -6,7 +6,7 @@ use Rattle.text_words.specs.declared.words.LineError.{LineError}
 use Rattle.text_words.specs.declared.words.LineError.TheVariants.{Refused, NoMemory}
 use Rattle.text_words.specs.Numbers.{◌>>=◌}
 use Rattle.line_forms.specs.RecordLines.{record_of}
-use Rattle.zone_worlds.specs.declared.world.World.{World}
+use Rattle.zone_rules.specs.declared.world.World.{World}
 use Rattle.world_lines.specs.declared.lines.ZoneHead.{ZoneHead}
 use Rattle.world_lines.specs.declared.lines.WorldForm.{WorldForm}
 use Rattle.world_lines.specs.declared.lines.WorldForm.TheVariants as form

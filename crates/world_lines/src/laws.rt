@@ -1,6 +1,6 @@
 //! What the steps of a draft come to, whatever the lines.
 ghost use Rattle.std.specs.Prelude.{◌≡◌, ℕ, List, [], ◌∷◌, ◌++◌, Some, None};
-ghost use Rattle.zone_worlds.specs.declared.world.World.{World};
+ghost use Rattle.zone_rules.specs.declared.world.World.{World};
 ghost use Rattle.world_lines.specs.declared.draft.WorldDraft.{WorldDraft};
 ghost use Rattle.world_lines.specs.Reading.{IsRead, CanStand};
 ghost use Rattle.world_lines.specs.Spelling.{world_lines, IsWorld};

@@ -24,7 +24,7 @@ pub struct ZoneList {
 
 impl Model for ZoneList {
     ghost use Rattle.std.specs.Prelude.{List};
-    ghost use Rattle.zone_worlds.specs.declared.world.Zone.{Zone};
+    ghost use Rattle.zone_rules.specs.declared.world.Zone.{Zone};
     ghost use Rattle.world_lines.specs.Listed.{AreApexes};
 
     ghost Value = { List Zone };
@@ -43,7 +43,7 @@ pub struct HostList {
 
 impl Model for HostList {
     ghost use Rattle.std.specs.Prelude.{List};
-    ghost use Rattle.zone_worlds.specs.declared.world.Host.{Host};
+    ghost use Rattle.zone_rules.specs.declared.world.Host.{Host};
     ghost use Rattle.world_lines.specs.Listed.{AreAddresses};
 
     ghost Value = { List Host };

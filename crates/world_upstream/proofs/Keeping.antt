@@ -8,12 +8,12 @@ use Rattle.dns_core.specs.Log.{numbered}
 use Rattle.dns_core.specs.declared.log.LogEntry.{LogEntry}
 use Rattle.dns_core.specs.declared.log.LogEntry.TheVariants.{Opened, Asked, Waited, Told, GaveUp}
 use Rattle.dns_core.specs.declared.log.ToldOutcome.{ToldOutcome}
-use Rattle.recursor_world.specs.Script.{waits, waits_of, ends}
+use Rattle.script_book.specs.Giving.{waits, waits_of, ends}
 use Rattle.world_upstream.specs.Giving.{Gives, Fits, ComesTo, delay}
 use Rattle.world_upstream.specs.Qualified.{is_qualified_world}
 use Rattle.world_upstream.specs.Book.{told, open_at, IsKept, Awaits, Begins, Holds}
 use Rattle.world_upstream.specs.declared.book.Book.{Book}
-use Rattle.zone_worlds.specs.declared.world.World.{World}
+use Rattle.zone_rules.specs.declared.world.World.{World}
 use Rattle.world_upstream.proofs.Logs.{gives_more, some_within, some_front, some_both, one_if, waits_more, waits_same, waits_none, slice_get-end, first_unended, unended_more}
 
 -- the entry leaves the entry of this number as it is

@@ -11,9 +11,9 @@ use Rattle.std.proofs.lemmas.Bool.Decides.{nat_tests}
 use Rattle.dns_core.specs.Log.{numbered}
 use Rattle.dns_core.specs.declared.log.LogEntry.{LogEntry}
 use Rattle.dns_core.specs.declared.log.LogEntry.TheVariants.{Opened, Asked, Waited, Told, GaveUp}
-use Rattle.recursor_world.specs.Script.{waits, waits_of, ends, HasNoEnd}
+use Rattle.script_book.specs.Giving.{waits, waits_of, ends, HasNoEnd}
 use Rattle.world_upstream.specs.Giving.{Gives, Fits, delay}
-use Rattle.zone_worlds.specs.declared.world.World.{World}
+use Rattle.zone_rules.specs.declared.world.World.{World}
 
 -- an item of the longer list is one of the shorter, or the new one
 slice_get-push : {X : Type 0} (xs : List X) (x y : X) (i : ℕ) (P : Type 0) → slice_get (xs ++ x ∷ []) i ≡ Some y → (slice_get xs i ≡ Some y → i < length xs → P) → (i ≡ length xs → x ≡ y → P) → P

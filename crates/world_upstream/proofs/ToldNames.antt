@@ -14,17 +14,18 @@ use Rattle.dns_core.specs.declared.message.Query.{Query}
 use Rattle.dns_core.specs.declared.message.Message.{Message}
 use Rattle.dns_core.specs.declared.record.Record.{Record}
 use Rattle.resolution.specs.Names.{is_above, walk}
-use Rattle.zone_worlds.specs.Tree.{qualified, zone_at, nearest, first_cut, host_of, numbered, has_apex, zone_among}
-use Rattle.zone_worlds.specs.Choosing.{is_of, owned, is_alias, alias_in, soa_of, servers, names_server, server_addresses}
-use Rattle.zone_worlds.specs.Telling.{zone_asked, reply, referral, negative, positive, next_alias, Follows, AnswersByAlias, Replies, Tells}
+use Rattle.zone_rules.specs.Tree.{qualified, zone_at, nearest, first_cut, host_of, numbered, has_apex, zone_among}
+use Rattle.zone_rules.specs.Choosing.{is_of, owned, is_alias, alias_in, soa_of, servers, names_server, server_addresses}
+use Rattle.zone_worlds.specs.Telling.{zone_asked, reply, referral, negative, positive, Follows, AnswersByAlias, Replies, Tells}
+use Rattle.zone_rules.specs.Aliases.{next_alias}
 use Rattle.zone_worlds.specs.Telling.Follows.{ends, leads}
 use Rattle.zone_worlds.specs.Telling.AnswersByAlias.{alone, chained}
 use Rattle.zone_worlds.specs.Telling.IsByAlias.{is_by_alias}
 use Rattle.zone_worlds.specs.Telling.Replies.{denies, by_alias, gives, lacks}
 use Rattle.zone_worlds.specs.Telling.Tells.{refuses, refers, answers}
-use Rattle.zone_worlds.specs.declared.world.Zone.{Zone}
-use Rattle.zone_worlds.specs.declared.world.Host.{Host}
-use Rattle.zone_worlds.specs.declared.world.World.{World}
+use Rattle.zone_rules.specs.declared.world.Zone.{Zone}
+use Rattle.zone_rules.specs.declared.world.Host.{Host}
+use Rattle.zone_rules.specs.declared.world.World.{World}
 use Rattle.world_upstream.specs.Qualified.{is_qualified_world}
 
 -- ---- what all elements pass

@@ -5,11 +5,11 @@ use Rattle.dns_core.specs.Log.{numbered}
 use Rattle.dns_core.specs.declared.log.LogEntry.{LogEntry}
 use Rattle.dns_core.specs.declared.log.LogEntry.TheVariants.{Opened, Asked, Waited, Told, GaveUp}
 use Rattle.dns_core.specs.declared.log.ToldOutcome.{ToldOutcome}
-use Rattle.recursor_world.specs.Script.{waits, HasNoEnd}
+use Rattle.script_book.specs.Giving.{waits, HasNoEnd}
 use Rattle.world_upstream.specs.Giving.{Gives, ComesTo, delay}
 use Rattle.world_upstream.specs.Qualified.{is_qualified_world}
 use Rattle.world_upstream.specs.declared.book.Book.{Book}
-use Rattle.zone_worlds.specs.declared.world.World.{World}
+use Rattle.zone_rules.specs.declared.world.World.{World}
 
 -- the whole log: what found memory, and what waits for it
 abbrev pub told : Book → List LogEntry

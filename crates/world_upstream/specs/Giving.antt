@@ -7,9 +7,9 @@ use Rattle.dns_core.specs.declared.log.ToldOutcome.{ToldOutcome}
 use Rattle.dns_core.specs.declared.log.ToldOutcome.TheVariants.{Connected, Message, Error}
 use Rattle.dns_core.specs.declared.log.LogEntry.{LogEntry}
 use Rattle.dns_core.specs.declared.log.LogEntry.TheVariants.{Opened, Asked, Waited, Told, GaveUp}
-use Rattle.recursor_world.specs.Script.{waits, HasNoEnd}
+use Rattle.script_book.specs.Giving.{waits, HasNoEnd}
 use Rattle.zone_worlds.specs.Telling.{Tells}
-use Rattle.zone_worlds.specs.declared.world.World.{World}
+use Rattle.zone_rules.specs.declared.world.World.{World}
 
 -- how many polls find nothing yet: none of a connection, and of a question the delay of the world
 abbrev pub delay : World → LogEntry → ℕ

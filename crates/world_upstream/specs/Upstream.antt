@@ -9,7 +9,7 @@ use Rattle.dns_core.specs.declared.provider.Poll.TheVariants.{Ready, Pending}
 use Rattle.dns_core.specs.declared.log.ToldOutcome.TheVariants.{Message}
 use Rattle.dns_core.specs.declared.log.LogEntry.{LogEntry}
 use Rattle.dns_core.specs.declared.log.LogEntry.TheVariants.{Waited, Told}
-use Rattle.zone_worlds.specs.declared.world.World.{World}
+use Rattle.zone_rules.specs.declared.world.World.{World}
 
 -- the world, the log that is lent, the give-ups that wait for memory, and how many polls found nothing yet
 pub record Upstream : Type 0 where

@@ -6,11 +6,11 @@ use Rattle.dns_core.specs.declared.errors.NoMemory.{NoMemory}
 use Rattle.dns_core.specs.declared.message.Query.{Query}
 use Rattle.dns_core.specs.declared.message.Message.{Message}
 use Rattle.dns_core.specs.declared.record.Record.{Record}
-use Rattle.zone_worlds.specs.Choosing.{alias_in, owned}
+use Rattle.zone_rules.specs.Choosing.{alias_in, owned}
 use Rattle.zone_worlds.specs.Telling.{reply, Follows, AnswersByAlias, IsByAlias}
 use Rattle.zone_worlds.specs.Telling.AnswersByAlias.{alone, chained}
 use Rattle.zone_worlds.specs.Telling.IsByAlias.{is_by_alias}
-use Rattle.zone_worlds.specs.declared.world.Zone.{Zone}
+use Rattle.zone_rules.specs.declared.world.Zone.{Zone}
 
 pub alone_made : {z : Zone} {q : Query} {c : Record} {rs : List Record} → alias_in z q.name ≡ Some c → rs ≡ c ∷ [] → AnswersByAlias z q false rs
 alone_made {z} {q} e m = subst (λ (xs : List Record). AnswersByAlias z q false xs) (sym m) (alone refl e)

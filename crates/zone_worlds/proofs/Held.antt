@@ -10,7 +10,7 @@ use Rattle.std.proofs.lemmas.List.Elements.{filter-append}
 use Rattle.dns_core.specs.Name.{DomainName, same_names}
 use Rattle.dns_core.specs.NameLaws.{same_names_equiv}
 use Rattle.dns_core.specs.declared.record.Record.{Record}
-use Rattle.zone_worlds.specs.declared.world.Zone.{Zone}
+use Rattle.zone_rules.specs.declared.world.Zone.{Zone}
 use Rattle.zone_worlds.specs.Index.{all_records, held, FindsRecords}
 
 abbrev pub records_in : Option (List Record) → List Record

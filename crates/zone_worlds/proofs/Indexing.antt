@@ -18,10 +18,10 @@ use Rattle.resolution.specs.Names.{is_above, base}
 use Rattle.resolution.proofs.Above.{labels_equiv}
 use Rattle.resolution.proofs.Caseless.{length-same}
 use Rattle.zone_worlds.specs.Index.{FindsZones, FindsHosts}
-use Rattle.zone_worlds.specs.Tree.{exists_in}
-use Rattle.zone_worlds.specs.declared.world.Zone.{Zone}
-use Rattle.zone_worlds.specs.declared.world.Host.{Host}
-use Rattle.zone_worlds.specs.declared.world.World.{World}
+use Rattle.zone_rules.specs.Tree.{exists_in}
+use Rattle.zone_rules.specs.declared.world.Zone.{Zone}
+use Rattle.zone_rules.specs.declared.world.Host.{Host}
+use Rattle.zone_rules.specs.declared.world.World.{World}
 
 -- ---- a name is that name or lies above its base
 

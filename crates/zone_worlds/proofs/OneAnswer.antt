@@ -7,8 +7,8 @@ use Rattle.resolution.specs.Answering.{with_name}
 use Rattle.zone_worlds.specs.Answer.{Leads, found, after, Answers}
 use Rattle.zone_worlds.specs.Answer.Leads.{arrives, goes_on}
 use Rattle.zone_worlds.specs.Answer.Answers.{ends, never_ends}
-use Rattle.zone_worlds.specs.declared.world.World.{World}
-use Rattle.zone_worlds.specs.declared.world.WorldAnswer.{WorldAnswer}
+use Rattle.zone_rules.specs.declared.world.World.{World}
+use Rattle.zone_rules.specs.declared.world.WorldAnswer.{WorldAnswer}
 
 -- a question's way is one: its aliases, all names on it, and the last of these
 pub record OneWay (cs ds : List Record) (xs ys : List DomainName) (a b : DomainName) : Type 0 where

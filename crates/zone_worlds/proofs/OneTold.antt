@@ -5,15 +5,15 @@ use Rattle.dns_core.specs.Name.{DomainName}
 use Rattle.dns_core.specs.declared.message.Query.{Query}
 use Rattle.dns_core.specs.declared.message.Message.{Message}
 use Rattle.dns_core.specs.declared.record.Record.{Record}
-use Rattle.zone_worlds.specs.Choosing.{owned}
+use Rattle.zone_rules.specs.Choosing.{owned}
 use Rattle.zone_worlds.specs.Telling.{child_of, reply, referral, Follows, AnswersByAlias, IsByAlias, Replies, Tells}
 use Rattle.zone_worlds.specs.Telling.Follows.{ends, leads}
 use Rattle.zone_worlds.specs.Telling.AnswersByAlias.{alone, chained}
 use Rattle.zone_worlds.specs.Telling.IsByAlias.{is_by_alias}
 use Rattle.zone_worlds.specs.Telling.Replies.{denies, by_alias, gives, lacks}
 use Rattle.zone_worlds.specs.Telling.Tells.{refuses, refers, answers}
-use Rattle.zone_worlds.specs.declared.world.Zone.{Zone}
-use Rattle.zone_worlds.specs.declared.world.World.{World}
+use Rattle.zone_rules.specs.declared.world.Zone.{Zone}
+use Rattle.zone_rules.specs.declared.world.World.{World}
 
 -- the aliases of a zone and the records at their end
 abbrev whole : Zone → Query → List Record → DomainName → List Record

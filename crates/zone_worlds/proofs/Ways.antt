@@ -9,13 +9,14 @@ use Rattle.dns_core.specs.declared.record.Record.{Record}
 use Rattle.resolution.specs.Names.{is_above}
 use Rattle.resolution.specs.Records.{cname_target}
 use Rattle.resolution.specs.Answering.{with_name}
-use Rattle.zone_worlds.specs.Choosing.{alias_in}
-use Rattle.zone_worlds.specs.Telling.{next_alias, Follows}
+use Rattle.zone_rules.specs.Choosing.{alias_in}
+use Rattle.zone_rules.specs.Aliases.{next_alias}
+use Rattle.zone_worlds.specs.Telling.{Follows}
 use Rattle.zone_worlds.specs.Telling.Follows.{ends, leads}
 use Rattle.zone_worlds.specs.Answer.{alias_for, next_alias_for, Leads, NoWay}
 use Rattle.zone_worlds.specs.Answer.Leads.{arrives, goes_on}
-use Rattle.zone_worlds.specs.declared.world.Zone.{Zone}
-use Rattle.zone_worlds.specs.declared.world.World.{World}
+use Rattle.zone_rules.specs.declared.world.Zone.{Zone}
+use Rattle.zone_rules.specs.declared.world.World.{World}
 use Rattle.zone_worlds.proofs.MetNames.{unmet, fewer_unmet}
 use Rattle.zone_worlds.proofs.ZonesFound.{alias_in_Has, alias_in_owner, all_records, alias_for_Has, alias_for_owner}
 

@@ -6,11 +6,11 @@ use Rattle.dns_core.specs.declared.message.Query.{Query}
 use Rattle.dns_core.specs.declared.record.Record.{Record}
 use Rattle.resolution.specs.Records.{cname_target}
 use Rattle.resolution.specs.Answering.{with_name}
-use Rattle.zone_worlds.specs.Tree.{zone_of, exists_in}
-use Rattle.zone_worlds.specs.Choosing.{owned, alias_in}
-use Rattle.zone_worlds.specs.declared.world.World.{World}
-use Rattle.zone_worlds.specs.declared.world.WorldAnswer.{WorldAnswer}
-use Rattle.zone_worlds.specs.declared.world.WorldAnswer.TheVariants.{Records, NxDomain, NoData}
+use Rattle.zone_rules.specs.Tree.{zone_of, exists_in}
+use Rattle.zone_rules.specs.Choosing.{owned, alias_in}
+use Rattle.zone_rules.specs.declared.world.World.{World}
+use Rattle.zone_rules.specs.declared.world.WorldAnswer.{WorldAnswer}
+use Rattle.zone_rules.specs.declared.world.WorldAnswer.TheVariants.{Records, NxDomain, NoData}
 
 -- the alias of a question's name, in the deepest zone at or above it, for DS at or above the base name; a question for CNAME asks for the alias itself
 abbrev pub alias_for : World → Query → Option Record

@@ -9,9 +9,9 @@ use Rattle.std.specs.HashSet as set
 use Rattle.dns_core.specs.Name.{DomainName, same_names}
 use Rattle.dns_core.specs.declared.record.Record.{Record}
 use Rattle.resolution.specs.Names.{is_above}
-use Rattle.zone_worlds.specs.declared.world.Zone.{Zone}
-use Rattle.zone_worlds.specs.declared.world.Host.{Host}
-use Rattle.zone_worlds.specs.declared.world.World.{World}
+use Rattle.zone_rules.specs.declared.world.Zone.{Zone}
+use Rattle.zone_rules.specs.declared.world.Host.{Host}
+use Rattle.zone_rules.specs.declared.world.World.{World}
 use Rattle.zone_worlds.specs.declared.index.Index.{Index}
 
 -- among all zones, the first of those that were seen with this apex stands at the place under it

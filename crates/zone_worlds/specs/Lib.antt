@@ -1,5 +1,3 @@
-pub mod Tree
-pub mod Choosing
 pub mod Telling
 pub mod Answer
 pub mod Valid

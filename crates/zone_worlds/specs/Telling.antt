@@ -1,17 +1,17 @@
 -- What an address tells for a question (RFC 1034 section 4.3.2).
-use Rattle.std.specs.Prelude.{◌≡◌, ℕ, Bool, true, false, not, ◌&&◌, ◌||◌, ◌==◌, List, [], ◌∷◌, ◌++◌, length, if◌then◌else◌, Option, Some, None}
-use Rattle.std.specs.List.{list_any}
+use Rattle.std.specs.Prelude.{◌≡◌, ℕ, Bool, true, false, ◌||◌, ◌==◌, List, [], ◌∷◌, ◌++◌, length, if◌then◌else◌, Option, Some, None}
 use Rattle.std.specs.declared.net.IpAddr.{IpAddr}
-use Rattle.dns_core.specs.Name.{DomainName, same_names}
+use Rattle.dns_core.specs.Name.{DomainName}
 use Rattle.dns_core.specs.declared.message.Query.{Query}
 use Rattle.dns_core.specs.declared.message.Message.{Message}
 use Rattle.dns_core.specs.declared.record.Record.{Record}
-use Rattle.resolution.specs.Names.{is_above, walk}
+use Rattle.resolution.specs.Names.{walk}
 use Rattle.resolution.specs.Records.{cname_target}
-use Rattle.zone_worlds.specs.Tree.{nearest, first_cut, host_of, zone_among, exists_in}
-use Rattle.zone_worlds.specs.Choosing.{owned, alias_in, soa_of, servers, server_addresses}
-use Rattle.zone_worlds.specs.declared.world.Zone.{Zone}
-use Rattle.zone_worlds.specs.declared.world.World.{World}
+use Rattle.zone_rules.specs.Tree.{nearest, first_cut, host_of, zone_among, exists_in}
+use Rattle.zone_rules.specs.Choosing.{owned, alias_in, soa_of, servers, server_addresses}
+use Rattle.zone_rules.specs.Aliases.{next_alias}
+use Rattle.zone_rules.specs.declared.world.Zone.{Zone}
+use Rattle.zone_rules.specs.declared.world.World.{World}
 
 -- The deepest zone at or above the question's name that the address serves; for DS the name itself does not count, since its records are the parent's (RFC 4035 section 3.1.4.1).
 abbrev pub zone_asked : World → IpAddr → Query → Option Zone
@@ -51,10 +51,6 @@ positive z q answers = reply q 0 true answers [] (if q.query_type.code == 2 then
 -- the alias by which the zone answers: a question for CNAME or for all types asks for the alias itself
 abbrev pub alias_of : Zone → Query → Option Record
 alias_of z q = if q.query_type.code == 5 || q.query_type.code == 255 then None else alias_in z q.name
-
--- the next alias of the zone from a name on, unless the name lies outside the zone or was met
-abbrev pub next_alias : Zone → List DomainName → DomainName → Option Record
-next_alias z met n = if is_above z.apex n && not (list_any (same_names n) met) then alias_in z n else None
 
 -- These aliases of the zone lead from a name on, after names that were met, to a last target.
 pub data Follows (z : Zone) : List DomainName → DomainName → List Record → DomainName → Type 0 where

@@ -1,26 +1,16 @@
 -- Questions that a recursor must answer as the world does.
-use Rattle.std.specs.Prelude.{ℕ, ◌+◌, ◌<◌, ◌≤◌, ◌==◌, ◌&&◌, not, IsTrue, Bool, List, [], length, sum_by}
+use Rattle.std.specs.Prelude.{ℕ, ◌==◌, ◌&&◌, not, IsTrue, Bool, List, []}
 use Rattle.dns_core.specs.Name.{DomainName}
 use Rattle.dns_core.specs.Codes.{is_data_type}
 use Rattle.dns_core.specs.declared.message.Query.{Query}
 use Rattle.dns_core.specs.declared.record.Record.{Record}
 use Rattle.zone_worlds.specs.Answer.{Leads}
-use Rattle.zone_worlds.specs.declared.world.World.{World}
+use Rattle.zone_rules.specs.Short.{IsShort}
+use Rattle.zone_rules.specs.declared.world.World.{World}
 
 -- of class IN, of a fully qualified name, for data other than SOA
 abbrev pub is_askable : Query → Bool
 is_askable q = q.query_class.code == 1 && (q.name).fqdn && is_data_type q.query_type && not (q.query_type.code == 6)
-
--- the labels of these names, and their number
-abbrev pub weight : List DomainName → ℕ
-weight names = sum_by (λ n. length n.labels) names + length names
-
--- the names on a way are so few, with so few labels, that no limit is met
-pub record IsShort (names : List DomainName) (recursion_limit ns_recursion_limit : ℕ) : Type 0 where
-  pub few : length names ≤ 65
-  pub light : weight names ≤ 200
-  pub below_limit : weight names < recursion_limit
-  pub below_ns_limit : weight names < ns_recursion_limit
 
 -- The question may be asked, and the names on the way of its aliases end and are short.
 pub record IsValid (w : World) (recursion_limit ns_recursion_limit : ℕ) (q : Query) : Type 0 where

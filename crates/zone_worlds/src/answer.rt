@@ -5,13 +5,11 @@ ghost use Rattle.resolution.specs.Answering.{with_name};
 ghost use Rattle.zone_worlds.specs.Index.{IsIndex};
 ghost use Rattle.zone_worlds.specs.Answer.{alias_for, next_alias_for, Leads, NoWay, data_of, found, after, Answers};
 
-use crate::choosing::{Alias, alias_in, owned};
 use crate::index::Index;
-use crate::telling::is_met;
 use crate::way::Way;
-use crate::world::{World, WorldAnswer};
 use dns_core::{Items, Name, NoMemory, Query, Record};
 use std::alloc::Global;
+use zone_rules::{Alias, World, WorldAnswer, alias_in, is_met, owned};
 
 /// The alias of a name in that zone. A question for CNAME asks for the alias itself.
 fn alias_for<'w>(

@@ -9,16 +9,16 @@ ghost use Rattle.std.specs.HashSet.{contains};
 ghost use Rattle.dns_core.specs.Name.{DomainName, same_names};
 ghost use Rattle.resolution.specs.Names.{is_above, walk};
 ghost use Rattle.resolution.specs.Answering.{with_name};
-ghost use Rattle.zone_worlds.specs.Tree.{host_of, zone_at, nearest, first_cut, zone_of, exists_in};
+ghost use Rattle.zone_rules.specs.Tree.{host_of, zone_at, nearest, first_cut, zone_of, exists_in};
 ghost use Rattle.zone_worlds.specs.Telling.{child_of};
 ghost use Rattle.zone_worlds.specs.Index.{FindsZones, FindsHosts, FindsNames, IsIndex, all_records};
 
 use crate::records::held_by;
-use crate::world::{Host, World, Zone};
 use dns_core::{Name, NoMemory, Query, Record, Records, TryClone};
 use std::alloc::Global;
 use std::collections::{HashMap, HashSet};
 use std::net::IpAddr;
+use zone_rules::{Host, World, Zone};
 
 /// The place of the first zone of each apex, and of the first host of each address, each name at or below which a record is owned, and the
 /// records of each name.
@@ -167,7 +167,7 @@ impl Index {
         }
     }
 
-    #[tactic(auto, using(crate::proofs::ZonesFound::nearest_here, crate::proofs::ZonesFound::nearest_none, crate::proofs::ZonesFound::nearest_above))]
+    #[tactic(auto, using(zone_rules::proofs::NameSteps::nearest_here, zone_rules::proofs::NameSteps::nearest_none, zone_rules::proofs::NameSteps::nearest_above))]
     /// The deepest of the zones at or above the name.
     fn nearest<'w>(
         &self,
@@ -207,7 +207,7 @@ impl Index {
         self.nearest(alloc, world, &at)
     }
 
-    #[tactic(auto, using(crate::proofs::ZonesFound::first_cut_above, crate::proofs::ZonesFound::first_cut_higher, crate::proofs::ZonesFound::first_cut_here))]
+    #[tactic(auto, using(zone_rules::proofs::NameSteps::first_cut_above, zone_rules::proofs::NameSteps::first_cut_higher, zone_rules::proofs::NameSteps::first_cut_here))]
     /// The highest of the zones at or above the name that has more labels than `apex`.
     pub fn first_cut<'w>(
         &self,

@@ -2,7 +2,7 @@
 ghost use Rattle.std.specs.Prelude.{◌≡◌, ◌↔◌, filter, IfOk, IsTrue};
 ghost use Rattle.std.specs.Option.{option_copied};
 ghost use Rattle.dns_core.specs.Name.{same_names};
-ghost use Rattle.zone_worlds.specs.Tree.{first_cut, serves};
+ghost use Rattle.zone_rules.specs.Tree.{first_cut, serves};
 ghost use Rattle.zone_worlds.specs.Index.{all_records};
 ghost use Rattle.zone_worlds.specs.Telling.{Tells};
 ghost use Rattle.zone_worlds.specs.Answer.{Answers};
@@ -11,13 +11,12 @@ ghost use Rattle.zone_worlds.specs.Valid.{IsValid};
 use crate::answer::answer_of;
 use crate::index::Index;
 use crate::telling::{referral, refusal, reply_of, zone_asked};
-use crate::tree::zone_among;
 use crate::valid::is_valid;
-use crate::world::{World, WorldAnswer, Zone};
 use dns_core::{Label, Message, Name, NoMemory, Query, Record};
 use std::alloc::Global;
 use std::marker::Model;
 use std::net::IpAddr;
+use zone_rules::{World, WorldAnswer, Zone, zone_among};
 
 /// A world with an index of its zones and names, which contracts see as the world.
 #[derive(Drop)]
@@ -27,7 +26,7 @@ pub struct IndexedWorld {
 }
 
 impl Model for IndexedWorld {
-    ghost use Rattle.zone_worlds.specs.declared.world.World.{World};
+    ghost use Rattle.zone_rules.specs.declared.world.World.{World};
     ghost use Rattle.zone_worlds.specs.Index.{IsIndex};
 
     ghost Value = { World };

@@ -5,8 +5,8 @@ ghost use Rattle.dns_core.specs.declared.message.Query.{Query};
 ghost use Rattle.dns_core.specs.declared.message.Message.{Message};
 ghost use Rattle.zone_worlds.specs.Telling.{Tells};
 ghost use Rattle.zone_worlds.specs.Answer.{Answers};
-ghost use Rattle.zone_worlds.specs.declared.world.World.{World};
-ghost use Rattle.zone_worlds.specs.declared.world.WorldAnswer.{WorldAnswer};
+ghost use Rattle.zone_rules.specs.declared.world.World.{World};
+ghost use Rattle.zone_rules.specs.declared.world.WorldAnswer.{WorldAnswer};
 
 /// Law: an address tells one message for a question.
 pub fn an_address_tells_one_message()

@@ -7,25 +7,19 @@
 #![tactic(auto)]
 
 mod answer;
-mod choosing;
-mod copies;
 mod index;
 mod indexed;
 mod laws;
 mod records;
 mod telling;
 mod threads;
-mod tree;
 mod valid;
 mod way;
-mod world;
 
 pub use answer::world_answer;
-pub use choosing::{is_alias, is_ns_of, is_soa_of};
 pub use indexed::IndexedWorld;
 pub use laws::{a_world_answers_once, an_address_tells_one_message};
 pub use telling::told;
 pub use threads::worlds_cross_threads;
-pub use tree::is_above;
 pub use valid::valid_question;
-pub use world::{Host, World, WorldAnswer, Zone};
+pub use zone_rules::{Host, World, WorldAnswer, Zone, is_above, is_alias, is_ns_of, is_soa_of};

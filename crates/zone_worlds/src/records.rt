@@ -5,10 +5,10 @@ ghost use Rattle.dns_core.specs.Name.{DomainName, same_names};
 ghost use Rattle.dns_core.specs.declared.record.Record.{Record};
 ghost use Rattle.zone_worlds.specs.Index.{all_records, held, FindsRecords};
 
-use crate::world::Zone;
 use dns_core::{Items, Name, NoMemory, Record, Records, TryClone};
 use std::alloc::Global;
 use std::collections::HashMap;
+use zone_rules::Zone;
 
 /// Takes out the records of a name.
 fn take_held(kept: &mut HashMap<Name, Records>, alloc: Global, name: &Name) -> Records

@@ -1,22 +1,21 @@
 //! What an address tells for a question (RFC 1034 section 4.3.2).
 ghost use Rattle.std.specs.Prelude.{◌≡◌, ◌==◌, ◌||◌, Bool, true, false, [], ◌∷◌, length, IfOk, IfSome, IfNone, Some, None};
 ghost use Rattle.std.specs.Option.{option_copied};
-ghost use Rattle.std.specs.List.{list_any};
-ghost use Rattle.dns_core.specs.Name.{same_names};
 ghost use Rattle.resolution.specs.Records.{cname_target};
-ghost use Rattle.zone_worlds.specs.Tree.{host_of, exists_in};
-ghost use Rattle.zone_worlds.specs.Choosing.{owned, alias_in};
-ghost use Rattle.zone_worlds.specs.Telling.{zone_asked, child_of, reply, refusal, referral, negative, positive, alias_of, next_alias, Follows, AnswersByAlias, IsByAlias, Replies, Tells};
+ghost use Rattle.zone_rules.specs.Tree.{host_of, exists_in};
+ghost use Rattle.zone_rules.specs.Choosing.{owned, alias_in};
+ghost use Rattle.zone_worlds.specs.Telling.{zone_asked, child_of, reply, refusal, referral, negative, positive, alias_of, Follows, AnswersByAlias, IsByAlias, Replies, Tells};
 
-use crate::choosing::{Alias, alias_in, owned, server_addresses, servers, soa_of};
-use crate::tree::{first_cut, is_above, nearest, walked};
 use crate::way::Way;
-use crate::world::{Host, World, Zone};
 use dns_core::{
     Items, Message, Name, NoMemory, Query, Record, RecordType, Records, ResponseCode, TryClone,
 };
 use std::alloc::Global;
 use std::net::IpAddr;
+use zone_rules::{
+    Alias, Host, World, Zone, alias_in, first_cut, nearest, next_alias, owned, server_addresses,
+    servers, soa_of, walked,
+};
 
 /// The deepest zone at or above the question's name that the address serves, for DS strictly above, where
 /// it is known which host has the address.
@@ -133,25 +132,6 @@ fn positive(
         Items::empty(alloc)
     };
     answer(alloc, query, answers, additionals)
-}
-
-/// Whether the name is one of those that were met.
-pub(crate) fn is_met(met: &[Name], name: &Name) -> bool
-    ensures { result ≡ list_any (same_names name.now) met.now }
-{
-    met.iter().any(|n| *name == *n)
-}
-
-fn next_alias<'w>(zone: &'w Zone, met: &[Name], name: &Name) -> Option<Alias<'w>>
-    ensures some { IfSome result (λ alias. next_alias zone.now met.now name.now ≡ Some alias.record.now) }
-    ensures leads { IfSome result (λ alias. cname_target alias.record.now ≡ Some alias.target.now) }
-    ensures none { IfNone result (next_alias zone.now met.now name.now ≡ None) }
-{
-    if is_above(&zone.apex, name) && !is_met(met, name) {
-        alias_in(zone, name)
-    } else {
-        None
-    }
 }
 
 /// The aliases of the zone from a name on, and the name to which the last of them leads.

@@ -1,7 +1,7 @@
-//! Each type of this crate that holds values may go to another thread, and be shared among threads.
+//! Each type that this crate exports and that holds values may go to another thread, and be shared among threads.
 
 use crate::indexed::IndexedWorld;
-use crate::world::{Host, World, WorldAnswer, Zone};
+use zone_rules::{Host, World, WorldAnswer, Zone};
 
 fn crosses<T: Send + Sync>() {}
 

@@ -1,14 +1,14 @@
 //! Which questions a recursor must answer as the world does.
-ghost use Rattle.std.specs.Prelude.{◌≡◌, ◌↔◌, ◌&&◌, ◌+◌, ◌*◌, ◌<◌, ◌≤◌, ◌==◌, not, length, sum_by, take, IfOk, IsTrue};
+ghost use Rattle.std.specs.Prelude.{◌≡◌, ◌↔◌, ◌&&◌, ◌==◌, not, IfOk, IsTrue};
 ghost use Rattle.dns_core.specs.Codes.{is_data_type};
 ghost use Rattle.zone_worlds.specs.Index.{IsIndex};
-ghost use Rattle.zone_worlds.specs.Valid.{weight, is_askable, IsShort, IsValid};
+ghost use Rattle.zone_worlds.specs.Valid.{is_askable, IsValid};
 
 use crate::answer::way_of;
 use crate::index::Index;
-use crate::world::World;
-use dns_core::{Name, NoMemory, Query};
+use dns_core::{NoMemory, Query};
 use std::alloc::Global;
+use zone_rules::{World, is_short};
 
 /// Whether the question is of class IN, of a fully qualified name, for data other than SOA.
 fn is_askable(query: &Query) -> bool
@@ -18,29 +18,6 @@ fn is_askable(query: &Query) -> bool
         && query.name.is_fqdn()
         && query.query_type.is_data()
         && query.query_type.code != 6
-}
-
-/// The labels of these names, and their number.
-fn weight(names: &[Name]) -> usize
-    requires { length names.now ≤ 65 }
-    ensures { result ≡ weight names.now }
-{
-    let mut labels: usize = 0;
-    for name in names {
-        labels += name.labels().len();
-    }
-    labels + names.len()
-}
-
-/// Whether the names on a way are so few, with so few labels, that no limit is met.
-fn is_short(names: &[Name], recursion_limit: u8, ns_recursion_limit: u8) -> bool
-    ensures { IsTrue result ↔ IsShort names.now recursion_limit ns_recursion_limit }
-{
-    if names.len() > 65 {
-        return false;
-    }
-    let total = weight(names);
-    total <= 200 && total < recursion_limit as usize && total < ns_recursion_limit as usize
 }
 
 /// Whether a question is valid, found by the index of the world.

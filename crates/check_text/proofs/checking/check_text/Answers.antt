@@ -1,6 +1,6 @@
 use Rattle.std.proofs.Common.{◌∙◌, subst}
 use Rattle.std.specs.Prelude.{IfOk}
-use Rattle.zone_worlds.specs.declared.world.World.{World}
+use Rattle.zone_rules.specs.declared.world.World.{World}
 use Rattle.check_text.specs.Checking.{Tells}
 use Rattle.check_text.proofs.checking.check_text.Goals as goal
 

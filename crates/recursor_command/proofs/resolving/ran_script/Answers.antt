@@ -1,8 +1,8 @@
 use Rattle.std.proofs.Common.{◌≡◌, List, Some, ap, sym, subst}
 use Rattle.recursor_types.specs.declared.reply.Reply.{Reply}
-use Rattle.recursor_world.specs.Script.{Gives}
+use Rattle.script_book.specs.Giving.{Gives}
 use Rattle.recursor_world.specs.Upstream.{Upstream}
-use Rattle.recursor_world.specs.declared.script.Script.{Script}
+use Rattle.script_lines.specs.declared.script.Script.{Script}
 use Rattle.recursor_command.specs.Command.{terms_by, Resolves}
 use Rattle.recursor_command.proofs.resolving.ran_script.Goals as goal
 

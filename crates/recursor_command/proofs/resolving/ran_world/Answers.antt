@@ -2,7 +2,7 @@ use Rattle.std.proofs.Common.{◌≡◌, List, Some, ap, sym, subst}
 use Rattle.recursor_types.specs.declared.reply.Reply.{Reply}
 use Rattle.world_upstream.specs.Giving.{Gives}
 use Rattle.world_upstream.specs.Upstream.{Upstream}
-use Rattle.zone_worlds.specs.declared.world.World.{World}
+use Rattle.zone_rules.specs.declared.world.World.{World}
 use Rattle.recursor_command.specs.Command.{terms_by, Resolves}
 use Rattle.recursor_command.proofs.resolving.ran_world.Goals as goal
 

@@ -1,7 +1,7 @@
 use Rattle.std.proofs.Common.{List, ap, ◌∙◌}
 use Rattle.std.specs.List.{list_any}
 use Rattle.dns_core.specs.declared.record.Record.{Record}
-use Rattle.zone_worlds.specs.Choosing.{is_alias}
+use Rattle.zone_rules.specs.Choosing.{is_alias}
 use Rattle.world_check.proofs.Named.{aliased_named}
 use Rattle.world_check.proofs.naming.is_aliased_by.Goals as goal
 

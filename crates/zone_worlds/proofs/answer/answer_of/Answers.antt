@@ -4,7 +4,7 @@ use Rattle.resolution.specs.Answering.{with_name}
 use Rattle.zone_worlds.specs.Answer.{Leads, NoWay, found, after, Answers}
 use Rattle.zone_worlds.specs.Answer.Answers.{ends, never_ends}
 use Rattle.zone_worlds.specs.declared.way.Way.{Way}
-use Rattle.zone_worlds.specs.declared.world.WorldAnswer.{WorldAnswer}
+use Rattle.zone_rules.specs.declared.world.WorldAnswer.{WorldAnswer}
 use Rattle.zone_worlds.proofs.answer.answer_of.Goals as goal
 
 pub returns-in_default : goal.returns-in_default

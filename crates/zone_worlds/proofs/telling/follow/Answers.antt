@@ -1,6 +1,6 @@
 use Rattle.std.proofs.Common.{◌≡◌, List, Some, None, subst}
 use Rattle.dns_core.specs.Name.{DomainName}
-use Rattle.zone_worlds.specs.Telling.{next_alias}
+use Rattle.zone_rules.specs.Aliases.{next_alias}
 use Rattle.zone_worlds.proofs.Ways.{way-begins, way-kept, way-falls, way-ends}
 use Rattle.zone_worlds.proofs.telling.follow.Goals as goal
 

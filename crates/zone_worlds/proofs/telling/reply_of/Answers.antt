@@ -1,8 +1,8 @@
 use Rattle.std.proofs.Common.{◌≡◌, List, true, false, length, subst}
 use Rattle.std.specs.Prelude.{◌==◌, IfOk}
 use Rattle.dns_core.specs.declared.record.Record.{Record}
-use Rattle.zone_worlds.specs.Tree.{exists_in}
-use Rattle.zone_worlds.specs.Choosing.{owned}
+use Rattle.zone_rules.specs.Tree.{exists_in}
+use Rattle.zone_rules.specs.Choosing.{owned}
 use Rattle.zone_worlds.specs.Telling.{negative, positive, IsByAlias, Replies}
 use Rattle.zone_worlds.specs.Telling.Replies.{denies, by_alias, gives, lacks}
 use Rattle.zone_worlds.proofs.AliasAnswers.{if_ok, if_ok_so}

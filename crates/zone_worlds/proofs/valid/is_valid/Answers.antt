@@ -2,7 +2,7 @@ use Rattle.std.proofs.Common.{[], List, Option, sym, subst, ◌∙◌}
 use Rattle.std.specs.Prelude.{IfSome, IfNone}
 use Rattle.dns_core.specs.Name.{DomainName}
 use Rattle.zone_worlds.specs.Answer.{Leads, NoWay}
-use Rattle.zone_worlds.specs.Valid.{IsShort}
+use Rattle.zone_rules.specs.Short.{IsShort}
 use Rattle.zone_worlds.specs.declared.way.Way.{Way}
 use Rattle.zone_worlds.proofs.OneAnswer.{way-one}
 use Rattle.zone_worlds.proofs.valid.is_valid.Goals as goal

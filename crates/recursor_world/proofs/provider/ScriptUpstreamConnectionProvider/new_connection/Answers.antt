@@ -1,6 +1,6 @@
 use Rattle.std.proofs.Common.{◌≡◌, ap, ◌∙◌, subst}
-use Rattle.recursor_world.specs.Script.{Gives}
-use Rattle.recursor_world.specs.declared.script.Script.{Script}
+use Rattle.script_book.specs.Giving.{Gives}
+use Rattle.script_lines.specs.declared.script.Script.{Script}
 use Rattle.recursor_world.proofs.provider.ScriptUpstreamConnectionProvider.new_connection.Goals as goal
 
 pub returns-in-Ok-clause-vouches : goal.returns-in-Ok-clause-vouches

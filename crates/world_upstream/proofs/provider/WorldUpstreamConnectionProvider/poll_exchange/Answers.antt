@@ -1,6 +1,6 @@
 use Rattle.std.proofs.Common.{ap, ◌∙◌, subst}
 use Rattle.world_upstream.specs.Giving.{Gives}
-use Rattle.zone_worlds.specs.declared.world.World.{World}
+use Rattle.zone_rules.specs.declared.world.World.{World}
 use Rattle.world_upstream.proofs.provider.WorldUpstreamConnectionProvider.poll_exchange.Goals as goal
 
 pub returns-in-Pending-clause-vouches : goal.returns-in-Pending-clause-vouches

@@ -3,7 +3,7 @@ use Rattle.std.specs.Prelude.{IfOk}
 use Rattle.std.specs.Option.{option_copied}
 use Rattle.zone_worlds.specs.Telling.{zone_asked, child_of, refusal, referral, Replies, Tells}
 use Rattle.zone_worlds.specs.Telling.Tells.{refuses, refers, answers}
-use Rattle.zone_worlds.specs.declared.world.World.{World}
+use Rattle.zone_rules.specs.declared.world.World.{World}
 use Rattle.zone_worlds.proofs.AliasAnswers.{if_ok, if_ok_so}
 use Rattle.zone_worlds.proofs.indexed.IndexedWorld.told.Goals as goal
 

@@ -1,0 +1,4 @@
+pub mod Tree
+pub mod Choosing
+pub mod Aliases
+pub mod Short
