@@ -105,9 +105,15 @@ impl<T: Eq> Eq for Items<T> {
 }
 
 /// A text, which contracts see as its bytes.
-#[derive(Drop, Debug)]
+#[derive(Debug)]
 pub struct Text {
     text: String,
+}
+
+impl Drop for Text {
+    fn drop(self) {
+        let Text { text: _ } = self;
+    }
 }
 
 impl Model for Text {

@@ -92,9 +92,15 @@ impl Hash for Letter {
 }
 
 /// A label: bytes compared without ASCII case.
-#[derive(Drop, Debug)]
+#[derive(Debug)]
 pub struct Label {
     letters: Vec<Letter>,
+}
+
+impl Drop for Label {
+    fn drop(self) {
+        let Label { letters: _ } = self;
+    }
 }
 
 impl Model for Label {

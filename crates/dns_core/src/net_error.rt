@@ -18,10 +18,16 @@ pub enum IoKind {
 }
 
 /// An NS record with the addresses that are known for its target.
-#[derive(Drop, Debug, PartialEq, Eq)]
+#[derive(Debug, PartialEq, Eq)]
 pub struct ForwardNsData {
     pub ns: Record,
     pub glue: Records,
+}
+
+impl Drop for ForwardNsData {
+    fn drop(self) {
+        let ForwardNsData { ns: _, glue: _ } = self;
+    }
 }
 
 /// A response without the records asked for (RFC 2308 section 2): its question, its SOA, the

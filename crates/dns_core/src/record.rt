@@ -36,7 +36,7 @@ pub enum RData {
 }
 
 /// A record. Its type is that of its data; its TTL is in seconds.
-#[derive(Drop, Debug, PartialEq, Eq)]
+#[derive(Debug, PartialEq, Eq)]
 pub struct Record {
     pub name: Name,
     pub ttl: u32,
@@ -44,4 +44,34 @@ pub struct Record {
     pub record_type: RecordType,
     pub rdata: RData,
     pub ghost typed: { IsTrue (is_typed record_type rdata) },
+}
+
+impl Drop for Record {
+    fn drop(self) {
+        let Record {
+            name: _,
+            ttl: _,
+            dns_class: _,
+            record_type: _,
+            rdata: _,
+        } = self;
+    }
+}
+
+impl Record {
+    ghost use Rattle.std.specs.Prelude.{◌≡◌};
+
+    /// Its name, which is all that is left of it.
+    pub fn into_name(self) -> Name
+        ensures { result ≡ self.name }
+    {
+        let Record {
+            name,
+            ttl: _,
+            dns_class: _,
+            record_type: _,
+            rdata: _,
+        } = self;
+        name
+    }
 }

@@ -5,7 +5,7 @@ ghost use Rattle.lookup_facts.specs.Sought.{IsSentOver, IsFirst, IsOf, MayWait, 
 use crate::aims::{is_denial, is_identical, is_still};
 use crate::found::Found;
 use dns_core::{Name, Query};
-use server_core::{Outcome, Sent};
+use server_core::{Outcome, Sent, same_address};
 use std::net::IpAddr;
 
 /// What an order does: it opens a connection to an address, asks there, or sleeps.
@@ -46,7 +46,7 @@ impl Sought {
     fn sends(&self, asks: bool, ip: IpAddr, since: u64, sent: &Sent) -> bool
         ensures { IsTrue result ↔ IsSentOver asks ip self.now.query since sent.now }
     {
-        if sent.ip != ip {
+        if !same_address(sent.ip, ip) {
             return false;
         }
         match &sent.query {
@@ -61,7 +61,7 @@ impl Sought {
     {
         match &self.first {
             None => sent.moment == self.start,
-            Some(ip) => ended || sent.ip == *ip,
+            Some(ip) => ended || same_address(sent.ip, *ip),
         }
     }
 

@@ -22,13 +22,24 @@ use std::collections::BTreeMap;
 use std::mem;
 
 /// What stands under the number and the form of each order, and how many entries the log has.
-#[derive(Drop)]
 pub struct Carrier<P: ConnectionProvider> {
     pub(crate) alloc: Global,
     pub(crate) provider: P,
     pub(crate) options: ConnectOptions,
     pub(crate) slots: BTreeMap<OrderKey, Slot<P>>,
     pub(crate) entries: u64,
+}
+
+impl<P: ConnectionProvider> Drop for Carrier<P> {
+    fn drop(self) {
+        let Carrier {
+            alloc: _,
+            provider: _,
+            options: _,
+            slots: _,
+            entries: _,
+        } = self;
+    }
 }
 
 /// Puts a value in the place of the one that stands under a key, if one does.

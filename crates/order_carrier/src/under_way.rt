@@ -5,7 +5,7 @@ ghost use Rattle.order_carrier.specs.Awaited.Aim.{Reaches};
 
 use crate::awaited::Awaited;
 use dns_core::{ConnectionProvider, Protocol};
-use server_core::Order;
+use server_core::{Order, same_address};
 use std::net::IpAddr;
 
 /// An order, and what it waits for. That may be polled, goes where the order goes, and was sent for it.
@@ -37,7 +37,7 @@ impl<P: ConnectionProvider> Connection<P> {
         let Order::Open { ip: at, config } = &*self.order else {
             return None;
         };
-        if *at == ip && config.protocol.to_protocol() == protocol {
+        if same_address(*at, ip) && config.protocol.to_protocol() == protocol {
             Some(self.conn)
         } else {
             None

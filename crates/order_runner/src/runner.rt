@@ -21,10 +21,18 @@ pub struct Running {
 }
 
 /// What carries orders out, and the orders that it was given and that were neither closed nor given up.
-#[derive(Drop)]
 pub struct Runner<P: ConnectionProvider> {
     pub(crate) carrier: Carrier<P>,
     pub(crate) held: BTreeMap<u64, Running>,
+}
+
+impl<P: ConnectionProvider> Drop for Runner<P> {
+    fn drop(self) {
+        let Runner {
+            carrier: _,
+            held: _,
+        } = self;
+    }
 }
 
 impl<P: ConnectionProvider> Runner<P> {

@@ -14,7 +14,7 @@ use std::net::IpAddr;
 /// The roots, which are asked whatever the filter says, the filter of the addresses that delegations
 /// give, that of the addresses that answers give, the bounds of the lives of responses, what the pools
 /// are set to, and the least number of polls at which an order is given up.
-#[derive(Drop, Debug)]
+#[derive(Debug)]
 pub struct Setting {
     pub roots: Ips,
     pub server_filter: AccessControlSet,
@@ -22,6 +22,19 @@ pub struct Setting {
     pub lives: TtlConfig,
     pub context: PoolContext,
     pub patience: u32,
+}
+
+impl Drop for Setting {
+    fn drop(self) {
+        let Setting {
+            roots: _,
+            server_filter: _,
+            answer_filter: _,
+            lives: _,
+            context: _,
+            patience: _,
+        } = self;
+    }
 }
 
 /// The filter of servers that the options say.

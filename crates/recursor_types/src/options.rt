@@ -14,7 +14,7 @@ use std::alloc::Global;
 /// limit is no valid one. An address that a delegation gives is asked, and one of an answer stands there,
 /// where it is in no denied network or in an allowed one. The payload is that of EDNS, in bytes; the ports rise. Servers start with the
 /// first delays in turn, each from 1 to 31 microseconds, of which there is at least one.
-#[derive(Drop, Debug, PartialEq, Eq)]
+#[derive(Debug, PartialEq, Eq)]
 pub struct RecursorOptions {
     pub response_cache_size: u64,
     pub recursion_limit: u8,
@@ -28,6 +28,25 @@ pub struct RecursorOptions {
     pub case_randomization: bool,
     pub edns_payload_len: u16,
     pub first_delays: Delays,
+}
+
+impl Drop for RecursorOptions {
+    fn drop(self) {
+        let RecursorOptions {
+            response_cache_size: _,
+            recursion_limit: _,
+            ns_recursion_limit: _,
+            allow_answers: _,
+            deny_answers: _,
+            allow_server: _,
+            deny_server: _,
+            avoid_local_udp_ports: _,
+            cache_policy: _,
+            case_randomization: _,
+            edns_payload_len: _,
+            first_delays: _,
+        } = self;
+    }
 }
 
 /// Whether a server may start with this delay, in microseconds.

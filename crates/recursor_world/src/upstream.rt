@@ -13,12 +13,22 @@ use std::marker::Model;
 
 /// An upstream that answers as its script says. Contracts see the script, the log with the entries
 /// that wait for memory, and how many calls failed and how many polls found nothing yet.
-#[derive(Drop)]
 pub struct ScriptUpstream {
     pub(crate) alloc: Global,
     pub(crate) book: Book,
     pub(crate) faults: u64,
     pub(crate) pendings: u64,
+}
+
+impl Drop for ScriptUpstream {
+    fn drop(self) {
+        let ScriptUpstream {
+            alloc: _,
+            book: _,
+            faults: _,
+            pendings: _,
+        } = self;
+    }
 }
 
 impl Model for ScriptUpstream {

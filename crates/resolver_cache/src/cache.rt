@@ -20,11 +20,21 @@ use std::alloc::Global;
 use std::marker::Model;
 
 /// Responses under their questions, each until its expiry, and no more of them than the size.
-#[derive(Drop, Debug)]
+#[derive(Debug)]
 pub struct ResponseCache {
     size: u64,
     config: TtlConfig,
     index: Index,
+}
+
+impl Drop for ResponseCache {
+    fn drop(self) {
+        let ResponseCache {
+            size: _,
+            config: _,
+            index: _,
+        } = self;
+    }
 }
 
 impl Model for ResponseCache {

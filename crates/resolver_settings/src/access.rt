@@ -28,11 +28,21 @@ impl Model for AccessControlSetBuilder {
 }
 
 /// Networks that are denied, and networks that are allowed all the same.
-#[derive(Drop, Debug)]
+#[derive(Debug)]
 pub struct AccessControlSet {
     name: &'static str,
     allow: Vec<IpNet>,
     deny: Vec<IpNet>,
+}
+
+impl Drop for AccessControlSet {
+    fn drop(self) {
+        let AccessControlSet {
+            name: _,
+            allow: _,
+            deny: _,
+        } = self;
+    }
 }
 
 impl Model for AccessControlSet {

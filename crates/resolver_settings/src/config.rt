@@ -10,11 +10,21 @@ use std::marker::Model;
 
 /// The domain of the host, the domains in which a name is looked for (RFC 1123 section 6.1.4.3), and
 /// the servers that are asked, each in their order.
-#[derive(Drop, Debug)]
+#[derive(Debug)]
 pub struct ResolverConfig {
     domain: Option<Name>,
     search: Names,
     name_servers: Vec<NameServerConfig>,
+}
+
+impl Drop for ResolverConfig {
+    fn drop(self) {
+        let ResolverConfig {
+            domain: _,
+            search: _,
+            name_servers: _,
+        } = self;
+    }
 }
 
 impl Model for ResolverConfig {

@@ -12,7 +12,7 @@ use std::net::IpAddr;
 pub type ConnectionConfigs = Items<ConnectionConfig>;
 
 /// A server, and how it is reached.
-#[derive(Drop, Debug)]
+#[derive(Debug)]
 pub struct NameServerConfig {
     pub ip: IpAddr,
 
@@ -21,6 +21,16 @@ pub struct NameServerConfig {
 
     /// The ways to reach it, in the order in which they are tried.
     pub connections: ConnectionConfigs,
+}
+
+impl Drop for NameServerConfig {
+    fn drop(self) {
+        let NameServerConfig {
+            ip: _,
+            trust_negative_responses: _,
+            connections: _,
+        } = self;
+    }
 }
 
 impl Model for NameServerConfig {

@@ -30,7 +30,7 @@ impl Default for ServerOrderingStrategy {
 }
 
 /// How a resolver asks.
-#[derive(Drop, Debug, PartialEq, Eq)]
+#[derive(Debug, PartialEq, Eq)]
 pub struct ResolverOpts {
     /// With how many dots a name is tried as it stands before the search list is.
     pub ndots: usize,
@@ -74,6 +74,28 @@ pub struct ResolverOpts {
     pub avoid_local_udp_ports: Ports,
 
     pub enable_per_name_server_metrics: bool,
+}
+
+impl Drop for ResolverOpts {
+    fn drop(self) {
+        let ResolverOpts {
+            ndots: _,
+            timeout: _,
+            attempts: _,
+            edns0: _,
+            edns_payload_len: _,
+            num_concurrent_reqs: _,
+            server_ordering_strategy: _,
+            recursion_desired: _,
+            preserve_intermediates: _,
+            try_tcp_on_error: _,
+            case_randomization: _,
+            max_active_requests: _,
+            os_port_selection: _,
+            avoid_local_udp_ports: _,
+            enable_per_name_server_metrics: _,
+        } = self;
+    }
 }
 
 impl ResolverOpts {

@@ -28,10 +28,19 @@ impl TtlBounds {
 }
 
 /// The bounds of each type: its own, or else the general ones.
-#[derive(Drop, Debug)]
+#[derive(Debug)]
 pub struct TtlConfig {
     general: TtlBounds,
     by_type: BTreeMap<RecordType, TtlBounds>,
+}
+
+impl Drop for TtlConfig {
+    fn drop(self) {
+        let TtlConfig {
+            general: _,
+            by_type: _,
+        } = self;
+    }
 }
 
 impl Model for TtlConfig {

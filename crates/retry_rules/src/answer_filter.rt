@@ -159,9 +159,9 @@ pub(crate) fn foreign_class(r: Record) -> NetError
     ensures { result ≡ foreign_class r }
 {
     NetError::ForeignClassRecord {
-        record_name: r.name,
         record_class: r.dns_class,
         record_type: r.record_type,
+        record_name: r.into_name(),
     }
 }
 

@@ -18,13 +18,24 @@ use std::alloc::Global;
 use std::collections::HashMap;
 
 /// A script, where its lines are, what each open entry still comes to, and the log.
-#[derive(Drop)]
 pub struct Book {
     pub script: Script,
     pub index: Index,
     pub open: HashMap<u64, Course>,
     pub log: Log,
     pub late: Late,
+}
+
+impl Drop for Book {
+    fn drop(self) {
+        let Book {
+            script: _,
+            index: _,
+            open: _,
+            log: _,
+            late: _,
+        } = self;
+    }
 }
 
 /// Knows what the entry of a number comes to that opened or asked, and notes it, or does neither.

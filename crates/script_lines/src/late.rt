@@ -84,9 +84,14 @@ impl Room {
 }
 
 /// Entries that wait for memory, which contracts see as a list, the oldest first.
-#[derive(Drop)]
 pub struct Late {
     chain: Chain,
+}
+
+impl Drop for Late {
+    fn drop(self) {
+        let Late { chain: _ } = self;
+    }
 }
 
 impl Model for Late {

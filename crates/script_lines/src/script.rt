@@ -31,7 +31,13 @@ pub enum ScriptLine {
 
 /// Lines, in an order that matters only among lines of one kind with the same address, protocol,
 /// name and type.
-#[derive(Drop, Debug)]
+#[derive(Debug)]
 pub struct Script {
     pub lines: Items<ScriptLine>,
+}
+
+impl Drop for Script {
+    fn drop(self) {
+        let Script { lines: _ } = self;
+    }
 }

@@ -5,6 +5,7 @@ use dns_core::{Items, NoMemory, Protocol};
 use resolver_settings::{ConnectionConfigs, NameServerConfig, ServerOrderingStrategy};
 use server_core::{Connection, DecayingSrtt, NameServer, PoolContext, Status};
 use std::alloc::Global;
+use std::mem;
 
 pub fn context(alloc: Global) -> Result<PoolContext, NoMemory> {
     Ok(PoolContext::new(options(alloc)?))
@@ -60,17 +61,17 @@ fn known(alloc: Global) -> Result<NameServer, NoMemory> {
     Ok(server)
 }
 
-/// The same in the other order.
-fn turned(connections: ConnectionConfigs) -> ConnectionConfigs {
-    let mut connections = connections.into_vec();
-    connections.reverse();
-    Items::new(connections)
+/// Puts them in the other order.
+fn turn(alloc: Global, connections: &mut ConnectionConfigs) {
+    let mut turned = mem::replace(connections, ConnectionConfigs::empty(alloc)).into_vec();
+    turned.reverse();
+    *connections = Items::new(turned);
 }
 
 /// A server that is reached over TCP first, and then over UDP.
 fn of_tcp_and_udp(alloc: Global) -> Result<NameServer, NoMemory> {
     let mut config = plain(alloc)?;
-    config.connections = turned(config.connections);
+    turn(alloc, &mut config.connections);
     unopened(alloc, config)
 }
 

@@ -10,11 +10,21 @@ use std::marker::Model;
 /// The options of a pool of servers, how many probes may go on at a time, and the set of the addresses
 /// that answers may have. How encryption is tried, and what is known of the encrypted transports of
 /// each server, is no part of it as long as connections are not encrypted.
-#[derive(Drop, Debug)]
+#[derive(Debug)]
 pub struct PoolContext {
     options: ResolverOpts,
     probe_budget: u8,
     answer_address_filter: Option<AccessControlSet>,
+}
+
+impl Drop for PoolContext {
+    fn drop(self) {
+        let PoolContext {
+            options: _,
+            probe_budget: _,
+            answer_address_filter: _,
+        } = self;
+    }
 }
 
 impl Model for PoolContext {

@@ -30,6 +30,7 @@ pub use name_server::{Connection, NameServer};
 pub use order::{After, Order, Outcome, Sent, Tick};
 pub use policy::ConnectionPolicy;
 pub use protocols::Protocols;
+pub use same_orders::same_address;
 pub use server_send::{Asked, SendStep, ServerSend, Stage};
 pub use server_table::ServerTable;
 pub use status::{Status, a_status_is_read_back};

@@ -27,12 +27,23 @@ pub struct Connection {
 }
 
 /// A name server: how it is reached, the connections that are kept to it, and its delay.
-#[derive(Drop, Debug)]
+#[derive(Debug)]
 pub struct NameServer {
     config: NameServerConfig,
     connections: Vec<Connection>,
     delay: DecayingSrtt,
     first_delay: u8,
+}
+
+impl Drop for NameServer {
+    fn drop(self) {
+        let NameServer {
+            config: _,
+            connections: _,
+            delay: _,
+            first_delay: _,
+        } = self;
+    }
 }
 
 impl Model for NameServer {

@@ -3,7 +3,7 @@
 ghost use Rattle.std.specs.Prelude.{◌≡◌, ◌↔◌, IsTrue};
 ghost use Rattle.server_core.specs.Order.{entry_of};
 
-use crate::same_orders::{same_config, same_request};
+use crate::same_orders::{same_address, same_config, same_request};
 use dns_core::{
     ConnectionConfig, DnsRequest, Message, NetError, NoMemory, Protocol, Query, TryClone,
 };
@@ -48,7 +48,7 @@ impl Order {
                     ip: other_ip,
                     config: other_config,
                 },
-            ) => *ip == *other_ip && same_config(config, other_config),
+            ) => same_address(*ip, *other_ip) && same_config(config, other_config),
             (
                 Order::Ask {
                     conn,
@@ -64,7 +64,7 @@ impl Order {
                 },
             ) => {
                 *conn == *other_conn
-                    && *ip == *other_ip
+                    && same_address(*ip, *other_ip)
                     && *protocol == *other_protocol
                     && same_request(request, other_request)
             }

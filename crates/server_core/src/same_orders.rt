@@ -55,3 +55,20 @@ pub(crate) fn same_config(left: &ConnectionConfig, right: &ConnectionConfig) -> 
         && left.bind_addr == right.bind_addr
         && same_protocol(&left.protocol, &right.protocol)
 }
+
+/// Whether both are equal, octet by octet.
+fn same_octets(left: [u8; 4], right: [u8; 4]) -> bool
+    ensures { IsTrue result ↔ (left ≡ right) }
+{
+    left[0] == right[0] && left[1] == right[1] && left[2] == right[2] && left[3] == right[3]
+}
+
+/// Whether two addresses are equal.
+pub fn same_address(left: IpAddr, right: IpAddr) -> bool
+    ensures { IsTrue result ↔ (left ≡ right) }
+{
+    match (left, right) {
+        (IpAddr::V4(left), IpAddr::V4(right)) => same_octets(left.octets(), right.octets()),
+        (left, right) => left == right,
+    }
+}

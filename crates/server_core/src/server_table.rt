@@ -13,9 +13,15 @@ use std::alloc::Global;
 use std::marker::Model;
 
 /// Servers, numbered from 1 in the order in which they were added.
-#[derive(Drop, Debug)]
+#[derive(Debug)]
 pub struct ServerTable {
     servers: Vec<NameServer>,
+}
+
+impl Drop for ServerTable {
+    fn drop(self) {
+        let ServerTable { servers: _ } = self;
+    }
 }
 
 impl Model for ServerTable {

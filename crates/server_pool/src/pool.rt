@@ -8,12 +8,23 @@ use std::alloc::Global;
 /// The numbers of servers in a table, in the order of their configuration; the zone that they serve,
 /// where they were found for one; and the last moment at which they are good, in microseconds, where
 /// there is one. `number` is that of the pool: its copies share it, and with it whose turn it is.
-#[derive(Drop, Debug)]
+#[derive(Debug)]
 pub struct NameServerPool {
     number: u64,
     servers: Vec<u32>,
     zone: Option<Name>,
     last: Option<u64>,
+}
+
+impl Drop for NameServerPool {
+    fn drop(self) {
+        let NameServerPool {
+            number: _,
+            servers: _,
+            zone: _,
+            last: _,
+        } = self;
+    }
 }
 
 impl NameServerPool {

@@ -18,10 +18,19 @@ use std::alloc::Global;
 
 /// A lookup that waits for its answer together with others of its key, by its number, and the numbers of
 /// the servers of its pool.
-#[derive(Drop, Debug)]
+#[derive(Debug)]
 pub struct PoolLookup {
     number: u64,
     servers: Vec<u32>,
+}
+
+impl Drop for PoolLookup {
+    fn drop(self) {
+        let PoolLookup {
+            number: _,
+            servers: _,
+        } = self;
+    }
 }
 
 /// A copy of the numbers of servers.

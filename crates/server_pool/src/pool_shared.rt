@@ -62,7 +62,7 @@ impl TryClone for PoolStep {
 /// The servers, the settings of all pools, the lookups that are under way by their numbers, the lookup of
 /// each order that was given and has not ended, whose turn it is in each pool that takes turns, and how
 /// many pools were numbered, requests were sent and orders were given so far.
-#[derive(Drop, Debug)]
+#[derive(Debug)]
 pub struct PoolShared {
     table: ServerTable,
     context: PoolContext,
@@ -72,6 +72,21 @@ pub struct PoolShared {
     turns: BTreeMap<u64, usize>,
     sent: u64,
     given: u64,
+}
+
+impl Drop for PoolShared {
+    fn drop(self) {
+        let PoolShared {
+            table: _,
+            context: _,
+            pools: _,
+            lookups: _,
+            orders: _,
+            turns: _,
+            sent: _,
+            given: _,
+        } = self;
+    }
 }
 
 impl Model for PoolShared {

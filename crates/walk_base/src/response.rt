@@ -15,9 +15,9 @@ fn foreign_class(r: Record) -> NetError
     ensures { result ≡ NetError.ForeignClassRecord r.name r.dns_class r.record_type }
 {
     NetError::ForeignClassRecord {
-        record_name: r.name,
         record_class: r.dns_class,
         record_type: r.record_type,
+        record_name: r.into_name(),
     }
 }
 

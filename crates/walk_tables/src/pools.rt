@@ -55,13 +55,25 @@ pub enum Stepped {
 /// What the pools share, the number of each server under its address, and what is sought by each lookup
 /// that is under way, under its number. New servers take the first delays in turn, of which `turn` is
 /// the next.
-#[derive(Drop, Debug)]
+#[derive(Debug)]
 pub struct Pools {
     shared: PoolShared,
     numbers: BTreeMap<IpAddr, u32>,
     first_delays: Delays,
     turn: usize,
     sought: BTreeMap<u64, Boxed<Sought>>,
+}
+
+impl Drop for Pools {
+    fn drop(self) {
+        let Pools {
+            shared: _,
+            numbers: _,
+            first_delays: _,
+            turn: _,
+            sought: _,
+        } = self;
+    }
 }
 
 /// A copy of numbers.

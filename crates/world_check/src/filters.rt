@@ -10,10 +10,19 @@ use std::alloc::Global;
 use zone_worlds::{World, Zone};
 
 /// The addresses that are never asked, and those that no answer may hold.
-#[derive(Drop, Debug)]
+#[derive(Debug)]
 pub struct WorldFilters {
     pub server: AccessControlSet,
     pub answer: AccessControlSet,
+}
+
+impl Drop for WorldFilters {
+    fn drop(self) {
+        let WorldFilters {
+            server: _,
+            answer: _,
+        } = self;
+    }
 }
 
 impl TryClone for WorldFilters {

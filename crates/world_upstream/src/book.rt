@@ -13,12 +13,22 @@ use std::collections::HashMap;
 use zone_worlds::IndexedWorld;
 
 /// A world, how many polls of each open entry find nothing yet, and the log.
-#[derive(Drop)]
 pub struct Book {
     pub world: IndexedWorld,
     pub open: HashMap<u64, u32>,
     pub log: Log,
     pub late: Late,
+}
+
+impl Drop for Book {
+    fn drop(self) {
+        let Book {
+            world: _,
+            open: _,
+            log: _,
+            late: _,
+        } = self;
+    }
 }
 
 impl Book {

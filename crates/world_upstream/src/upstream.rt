@@ -13,11 +13,20 @@ use zone_worlds::{IndexedWorld, World};
 
 /// An upstream that answers as its world does. Contracts see the world, the log with the entries that
 /// wait for memory, and how many polls found nothing yet.
-#[derive(Drop)]
 pub struct WorldUpstream {
     pub(crate) alloc: Global,
     pub(crate) book: Book,
     pub(crate) pendings: u64,
+}
+
+impl Drop for WorldUpstream {
+    fn drop(self) {
+        let WorldUpstream {
+            alloc: _,
+            book: _,
+            pendings: _,
+        } = self;
+    }
 }
 
 impl Model for WorldUpstream {

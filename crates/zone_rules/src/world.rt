@@ -19,12 +19,23 @@ pub struct Host {
 
 /// A tree of zones with its hosts. With `chain`, an answer follows the aliases inside a zone. Each
 /// question waits for `delay` polls.
-#[derive(Drop, Debug)]
+#[derive(Debug)]
 pub struct World {
     pub zones: Items<Zone>,
     pub hosts: Items<Host>,
     pub chain: bool,
     pub delay: u32,
+}
+
+impl Drop for World {
+    fn drop(self) {
+        let World {
+            zones: _,
+            hosts: _,
+            chain: _,
+            delay: _,
+        } = self;
+    }
 }
 
 /// What a world answers to a question.

@@ -19,10 +19,15 @@ use std::net::IpAddr;
 use zone_rules::{World, WorldAnswer, Zone, zone_among};
 
 /// A world with an index of its zones and names, which contracts see as the world.
-#[derive(Drop)]
 pub struct IndexedWorld {
     world: World,
     index: Index,
+}
+
+impl Drop for IndexedWorld {
+    fn drop(self) {
+        let IndexedWorld { world: _, index: _ } = self;
+    }
 }
 
 impl Model for IndexedWorld {
