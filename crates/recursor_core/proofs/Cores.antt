@@ -1,10 +1,18 @@
 -- The machine after a step of one of its resolutions.
-use Rattle.recursor_core.proofs.Names.{◌≡◌, ◌≤◌, ◌<◌, ◌+◌, ℕ, zero, suc, List, [], ◌∷◌, ◌++◌, length, All, ◌⊎◌, inl, inr, ⊎_elim, Option, Some, None, Result, Ok, Err, refl, sym, ◌∙◌, ap, subst, arith, Box, IfSome, IsErr, All-set, set, option_map, Log, Question, NoMemory, GoesToServer, View, seen_at, given_of, Replied, seen_by, Derived, KeptHolds, SameBegun, open_of, IfAwaits, Stepped, get_or_from_slice_get, slice_get_within, kept_in, Begun, begun_of, begun_at, IsOneMore, given_by, open_in, GoesOn, StepIs, Steps, ReplyGiven, StepGives, SameCore, Setting, RecursorCore, Step, Reply, Resolution, PoolsHold, CacheHolds, length-set}
-use Rattle.std.specs.Prelude.{slice_get}
+use Rattle.recursor_core.proofs.Names.{IfOk, ◌≡◌, ◌≤◌, ◌<◌, ◌+◌, ℕ, zero, suc, List, [], ◌∷◌, ◌++◌, length, All, ◌⊎◌, inl, inr, ⊎_elim, Option, Some, None, Result, Ok, Err, refl, sym, ◌∙◌, ap, subst, arith, Box, All-set, set, option_map, Log, Question, NoMemory, View, seen_by, Derived, KeptHolds, SameBegun, open_of, get_or_from_slice_get, slice_get_within, kept_in, Begun, begun_of, begun_at, IsOneMore, need_in, open_in, StepFor, ReplyGiven, StepGives, SameCore, RecursorCore, Step, Resolution, PoolsHold, CacheHolds, length-set}
+use Rattle.std.specs.Prelude.{slice_get, MatchResult, option_and_then}
 use Rattle.walk_tables.specs.declared.pools.Pools.{Pools}
 use Rattle.recursor_core.proofs.Places.{slice_get-set_same}
-use Rattle.recursor_core.specs.declared.machine.Progress.{Progress}
-use Rattle.recursor_core.specs.declared.machine.Step.TheVariants as step
+use Rattle.walk_tables.specs.Pools.{given_so_far}
+use Rattle.walk_tables.specs.Taking.{awaited_by}
+use Rattle.recursor_walk.specs.Resolving.{want_of, state_want, asking_of}
+use Rattle.recursor_walk.specs.declared.asking.Asking.{Asking as AtServers}
+use Rattle.recursor_walk.specs.declared.resolving.Need.{Need}
+use Rattle.recursor_walk.specs.declared.resolving.State.{State}
+use Rattle.recursor_walk.specs.declared.resolving.State.TheVariants.{New, Walking, Asking, Done, Ended}
+use Rattle.recursor_walk.specs.Steps as one
+use Rattle.recursor_walk.specs.declared.resolving.Need.TheVariants as need
+use Rattle.recursor_walk.specs.declared.steps.Step.TheVariants as step
 
 -- what holds of all holds of the one that is kept at a place
 pub held-at : (P : Option (Box Resolution) → Type 0) (xs : List (Option (Box Resolution))) (i : ℕ) (x : Option (Box Resolution)) → slice_get xs i ≡ Some x → All P xs → P x
@@ -31,12 +39,6 @@ begun-ended (x ∷ xs) zero within zero = inr (refl, refl)
 begun-ended (x ∷ xs) zero within (suc k) = inl refl
 begun-ended (x ∷ xs) (suc i) within zero = inl refl
 begun-ended (x ∷ xs) (suc i) within (suc k) = ⊎_elim inl (λ h. inr (ap suc h.0, h.1)) (begun-ended xs i (omega arith) k)
-
--- what a resolution waits for its place waits for
-pub waits-at : (pools : Pools) (xs : List (Option (Box Resolution))) (i : ℕ) (b : Box Resolution) (g : Resolution) (s : Stepped) → slice_get xs i ≡ Some (Some b)
-    → IfAwaits (open_of pools g) s → IfAwaits (open_in pools (kept_in (slice_get (set xs i (Some (record b { value = g }))) i))) s
-waits-at pools xs i b g s at h =
-    subst (λ (o : Option (Option (Box Resolution))). IfAwaits (open_in pools (kept_in o)) s) (sym (slice_get-set_same xs i (Some (record b { value = g })) (slice_get_within xs i (Some b) at))) h
 
 -- where one has ended nothing is kept
 pub gone-ended : (xs : List (Option (Box Resolution))) (i : ℕ) → i < length xs → kept_in (slice_get (set xs i None) i) ≡ None
@@ -107,34 +109,6 @@ derived-at core new log i x y at is items d step =
           (subst (All (KeptHolds seen)) (sym items) (All-set (KeptHolds seen) core.resolutions.items i y stepped.0 d.resolutions));
     }
 
--- a reply that holds is one that a step gives
-pub given-some : (seen : View) (reply : Option (Box Reply)) (here : Option Begun) (b : Begun) → here ≡ Some b → IfSome reply (λ given. Replied seen b.moment b.question given.value)
-    → IfSome reply (λ given. ReplyGiven seen here given.value)
-given-some seen None here b is h = tt
-given-some seen (Some reply) here b is h = subst (λ (o : Option Begun). ReplyGiven seen o reply.value) (sym is) h
-
--- two machines that agree see the same
-pub same-seen : (old mid : RecursorCore) (log : Log) (r : ℕ) → SameCore r old mid → seen_by mid log ≡ seen_by old log
-same-seen old mid log r same =
-    ap (λ (s : Setting). seen_at s mid.greatest mid.moment log) same.setting ∙ ap (λ (g : ℕ). seen_at old.setting g mid.moment log) same.greatest
-    ∙ ap (λ (m : ℕ). seen_at old.setting old.greatest m log) same.moment
-
--- a reply is one of a question that has not ended
-reply-before : (seen : View) (r k : ℕ) (old mid : Option Begun) (reply : Reply) → (mid ≡ old) ⊎ ((k ≡ r) × (mid ≡ None)) → ReplyGiven seen mid reply → ReplyGiven seen old reply
-reply-before seen r k old mid reply (inl same) h = subst (λ (o : Option Begun). ReplyGiven seen o reply) same h
-reply-before seen r k old mid reply (inr ended) h = absurd (subst (λ (o : Option Begun). ReplyGiven seen o reply) ended.1 h)
-
--- what a step gives holds by the machine before it too, where the two agree
-pub gives-before : (old mid : RecursorCore) (log : Log) (r : ℕ) (s : Step) → SameCore r old mid
-    → StepGives mid log r s → StepGives old log r s
-gives-before old mid log r (step.Order number order) same h =
-    subst (λ (seen : View). GoesToServer (given_of seen.setting) log (seen.greatest + 1) order.value) (same-seen old mid log r same) h
-gives-before old mid log r (step.Waiting number) same h = tt
-gives-before old mid log r (step.Done reply) same h =
-    subst (λ (seen : View). ReplyGiven seen (begun_at old r) reply.value) (same-seen old mid log r same)
-    (reply-before (seen_by mid log) r r (begun_at old r) (begun_at mid r) reply.value (same.begun r) h)
-gives-before old mid log r step.Ended same h = tt
-
 -- one question after two steps
 begun-trans : (k r : ℕ) (a b c : Option Begun) → (b ≡ a) ⊎ ((k ≡ r) × (b ≡ None)) → (c ≡ b) ⊎ ((k ≡ r) × (c ≡ None)) → (c ≡ a) ⊎ ((k ≡ r) × (c ≡ None))
 begun-trans k r a b c (inl x) (inl y) = inl (y ∙ x)
@@ -152,19 +126,52 @@ same-trans r a b c x y = record {
   begun = λ k. begun-trans k r (begun_at a k) (begun_at b k) (begun_at c k) (x.begun k) (y.begun k);
 }
 
--- on want of memory no number comes back
-pub goes-err : (old new : RecursorCore) (r : ℕ) (result : Result Progress NoMemory) → IsErr result → given_by old ≤ given_by new → GoesOn old new r result
-goes-err old new r (Ok p) e h = cc
-goes-err old new r (Err e) is h = h
+-- no step
+pub same-refl : (r : ℕ) (core : RecursorCore) → SameCore r core core
+same-refl r core = record { setting = refl; cache = refl; greatest = refl; moment = refl; count = refl; begun = λ k. inl refl }
 
--- so with a step
-pub steps-err : (old new : RecursorCore) (r : ℕ) (result : Result Step NoMemory) → IsErr result → given_by old ≤ given_by new → Steps old new r result
-steps-err old new r (Ok s) e h = cc
-steps-err old new r (Err e) is h = h
+-- what a step of one resolution comes to
+step-at : (old new : Pools) (was g : Resolution) (s : Step) → one.StepIs old new was g s → StepFor (given_so_far old) (given_so_far new) (want_of was) (want_of g) (open_of new g) s
+step-at old new was g (step.Order number order) h = h
+step-at old new was g (step.Waiting number) h = h
+step-at old new was g (step.Done reply) h = (h.0, ap state_want h.1)
+step-at old new was g step.Ended h = (h.0, ap state_want h.1)
 
--- a step after one that gave no order
-pub step-after : (old mid new : RecursorCore) (r : ℕ) (s : Step) → given_by mid ≡ given_by old → StepIs mid new r s → StepIs old new r s
-step-after old mid new r (step.Order number order) same h = (h.0 ∙ ap (λ (n : ℕ). n + 1) same, h.1 ∙ ap (λ (n : ℕ). n + 1) same, h.2)
-step-after old mid new r (step.Waiting number) same h = (h.0 ∙ same, h.1)
-step-after old mid new r (step.Done reply) same h = (h.0 ∙ same, h.1)
-step-after old mid new r step.Ended same h = h ∙ same
+-- so it does for the place at which it is kept
+pub steps-at : (old new : Pools) (xs : List (Option (Box Resolution))) (i : ℕ) (b : Box Resolution) (g : Resolution) (result : Result Step NoMemory) → slice_get xs i ≡ Some (Some b)
+    → IfOk result (one.StepIs old new b.value g) → given_so_far old ≤ given_so_far new
+    → MatchResult result (StepFor (given_so_far old) (given_so_far new) (need_in (kept_in (slice_get xs i))) (need_in (kept_in (slice_get (set xs i (Some (record b { value = g }))) i)))
+    (open_in new (kept_in (slice_get (set xs i (Some (record b { value = g }))) i)))) (λ e. given_so_far old ≤ given_so_far new)
+steps-at old new xs i b g (Err e) at h given = given
+steps-at old new xs i b g (Ok s) at h given =
+    subst (λ (o : Option (Option (Box Resolution))). StepFor (given_so_far old) (given_so_far new) (need_in (kept_in (slice_get xs i))) (need_in (kept_in o)) (open_in new (kept_in o)) s)
+    (sym (slice_get-set_same xs i (Some (record b { value = g })) (slice_get_within xs i (Some b) at)))
+    (subst (λ (o : Option (Option (Box Resolution))). StepFor (given_so_far old) (given_so_far new) (need_in (kept_in o)) (want_of g) (open_of new g) s) (sym at) (step-at old new b.value g s h))
+
+-- what a step of one gives is derived
+pub gives-at : (core : RecursorCore) (log : Log) (r : ℕ) (b : Box Resolution) (s : Step) → slice_get core.resolutions.items r ≡ Some (Some b)
+    → one.StepGives (seen_by core log) b.value s → StepGives core log r s
+gives-at core log r b (step.Order number order) at h = h
+gives-at core log r b (step.Waiting number) at h = tt
+gives-at core log r b (step.Done reply) at h =
+    subst (λ (o : Option (Option (Box Resolution))). ReplyGiven (seen_by core log) (option_map begun_of (kept_in o)) reply.value) (sym at) h
+gives-at core log r b step.Ended at h = tt
+
+-- a step is so where no more than what had ended is forgotten after it
+pub step-kept : (before after kept : ℕ) (was left stays : Need) (waits awaited : Option ℕ) (s : Step) → kept ≡ after → stays ≡ left → awaited ≡ waits
+    → StepFor before after was left waits s → StepFor before kept was stays awaited s
+step-kept before after kept was left stays waits awaited s given need waited h =
+    subst (λ (n : ℕ). StepFor before n was stays awaited s) (sym given)
+    (subst (λ (w : Need). StepFor before after was w awaited s) (sym need) (subst (λ (o : Option ℕ). StepFor before after was left o s) (sym waited) h))
+
+-- one that has ended waits for nothing
+ended-state : (pools : Pools) (r : Resolution) (s : State) → r.state ≡ s → state_want s ≡ need.Nothing → open_of pools r ≡ None
+ended-state pools r Ended is h = ap (λ (s : State). option_and_then (λ (a : AtServers). awaited_by pools a.lookup) (asking_of s)) is
+ended-state pools r New is h = cc
+ended-state pools r (Walking w) is h = cc
+ended-state pools r (Asking a) is h = cc
+ended-state pools r (Done reply) is h = cc
+
+pub ended-waits : (pools : Pools) (o : Option Resolution) → need_in o ≡ need.Nothing → open_in pools o ≡ None
+ended-waits pools None h = refl
+ended-waits pools (Some r) h = ended-state pools r r.state refl h

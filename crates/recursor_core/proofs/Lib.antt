@@ -6,6 +6,5 @@ pub mod Later
 pub mod Leading
 pub mod Places
 pub mod Playing
-pub mod Ranks
 pub mod Standing
 pub mod Timed

@@ -19,7 +19,7 @@ pub use Rattle.dns_core.specs.declared.errors.NoMemory.{NoMemory}
 pub use Rattle.order_carrier.specs.Fits.{GoesToServer}
 pub use Rattle.lookup_facts.specs.View.{View, seen_at, given_of, Later}
 pub use Rattle.recursor_walk.specs.Replies.{Replied, ReplyHolds}
-pub use Rattle.recursor_walk.specs.Resolving.{SameBegun, open_of, steps}
+pub use Rattle.recursor_walk.specs.Resolving.{SameBegun, open_of}
 pub use Rattle.walk_tables.specs.Taking.{IfAwaits, TablesHold}
 pub use Rattle.walk_tables.specs.declared.pools.Stepped.{Stepped}
 pub use Rattle.recursor_setting.specs.declared.setting.Setting.{Setting}
@@ -50,8 +50,8 @@ pub use Rattle.server_core.specs.declared.order.After.{After}
 pub use Rattle.recursor_core.specs.Turns.{open_play, open_plays, Begins, BeginsIf, BeginsAt, IsRefused, ReplyOf, due}
 pub use Rattle.recursor_core.specs.declared.plays.Played.{Played}
 pub use Rattle.recursor_core.specs.Derived.{seen_by, Derived, KeptHolds}
-pub use Rattle.recursor_core.specs.Machine.{kept_in, Begun, begun_of, begun_at, IsOneMore, given_by, open_in, GoesOn, StepIs, Steps, ReplyGiven, StepGives, SameCore, need_in, steps_of, IsNewCore, TellsTo, rank, open_at}
+pub use Rattle.recursor_core.specs.Machine.{kept_in, Begun, begun_of, begun_at, IsOneMore, given_by, open_in, StepFor, StepIs, Steps, ReplyGiven, StepGives, SameCore, need_in, need_at, IsNewCore, TellsTo, open_at}
 pub use Rattle.recursor_core.specs.declared.machine.RecursorCore.{RecursorCore}
-pub use Rattle.recursor_core.specs.declared.machine.Step.{Step}
+pub use Rattle.recursor_walk.specs.declared.steps.Step.{Step}
 pub use Rattle.recursor_core.specs.Runs.{Leading, IsDue, IsOver, Leads, PlaysGoOn, work, Plays}
 pub use Rattle.recursor_core.specs.Standing.{Holds, Goes, Moves, ReplyTold, first_moment, last_moment, begin_moment, run_moments, run_timer, PlayHolds, PlaysHold, RepliesHold, ReplyFor, Rests, Ready, TurnedTold, KeepsTo, Standing, run_terms}

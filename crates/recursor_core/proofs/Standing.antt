@@ -14,7 +14,7 @@ use Rattle.order_carrier.proofs.Asking.{AsksServers-patience, GoesToServer-later
 use Rattle.order_runner.proofs.Carried.{waits-still}
 use Rattle.recursor_core.proofs.Later.{Derived-extends}
 use Rattle.recursor_setting.specs.Setting.{with_patience as setting_with}
-use Rattle.recursor_core.specs.declared.machine.Step.TheVariants as step
+use Rattle.recursor_walk.specs.declared.steps.Step.TheVariants as step
 use Rattle.recursor_core.specs.declared.turns.Turned.TheVariants as turned
 
 -- ---- growing logs

@@ -1,12 +1,10 @@
 -- The machine as a whole.
-use Rattle.std.specs.Prelude.{length, ◌≡◌, ◌≤◌, ◌<◌, ◌+◌, ℕ, List, [], Option, Some, None, Result, Ok, Err, slice_get, sum_by, ◌⊎◌}
+use Rattle.std.specs.Prelude.{length, ◌≡◌, ◌≤◌, ◌<◌, ◌+◌, ℕ, List, [], Option, Some, None, Result, MatchResult, slice_get, ◌⊎◌}
 use Rattle.std.specs.Option.{option_map}
 use Rattle.std.specs.Global.{Box}
 use Rattle.std.specs.declared.net.ip_addr.IpAddr.{IpAddr}
 use Rattle.dns_core.specs.Log.{Log}
-use Rattle.dns_core.specs.declared.message.Query.{Query}
 use Rattle.dns_core.specs.declared.request.Question.{Question}
-use Rattle.dns_core.specs.declared.request.DnsRequest.{DnsRequest}
 use Rattle.order_carrier.specs.Fits.{GoesToServer}
 use Rattle.server_core.specs.declared.order.After.{After}
 use Rattle.server_core.specs.declared.order.Outcome.{Outcome}
@@ -15,28 +13,24 @@ use Rattle.server_core.specs.declared.order.Tick.{Tick}
 use Rattle.lookup_facts.specs.Order.{TellsOn}
 use Rattle.lookup_facts.specs.View.{View, given_of}
 use Rattle.recursor_walk.specs.Replies.{Replied}
-use Rattle.walk_tables.specs.Pools.{StepGoes, PoolsHold, given_so_far}
+use Rattle.walk_tables.specs.Pools.{PoolsHold, given_so_far}
 use Rattle.walk_tables.specs.declared.pools.Pools.{Pools}
-use Rattle.walk_tables.specs.declared.pools.Stepped.{Stepped}
 use Rattle.recursor_core.specs.Derived.{seen_by}
 use Rattle.recursor_types.specs.declared.reply.Reply.{Reply}
 use Rattle.dns_core.specs.declared.errors.NoMemory.{NoMemory}
-use Rattle.recursor_setting.specs.Asking.{request_options_of}
 use Rattle.recursor_types.specs.Options.{answer_filter_of}
 use Rattle.recursor_setting.specs.Setting.{setting_of}
 use Rattle.recursor_types.specs.declared.options.RecursorOptions.{RecursorOptions}
 use Rattle.recursor_types.specs.declared.error.RecursorError.{RecursorError}
 use Rattle.recursor_walk.specs.declared.resolving.Need.{Need}
 use Rattle.recursor_walk.specs.declared.resolving.Resolution.{Resolution}
-use Rattle.recursor_core.specs.declared.machine.Step.{Step}
-use Rattle.recursor_core.specs.declared.machine.Progress.{Progress}
+use Rattle.recursor_walk.specs.declared.steps.Step.{Step}
 use Rattle.recursor_core.specs.declared.machine.RecursorCore.{RecursorCore}
 use Rattle.recursor_walk.specs.Resolving as one
 use Rattle.recursor_types.specs.declared.error.MessageKind.TheVariants as kind
 use Rattle.recursor_types.specs.declared.error.RecursorError.TheVariants as error
 use Rattle.recursor_walk.specs.declared.resolving.Need.TheVariants as need
-use Rattle.recursor_core.specs.declared.machine.Step.TheVariants as step
-use Rattle.recursor_core.specs.declared.machine.Progress.TheVariants as progress
+use Rattle.recursor_walk.specs.declared.steps.Step.TheVariants as step
 
 abbrev pub need_in : Option Resolution → Need
 need_in None = need.Nothing
@@ -54,23 +48,6 @@ resolution_at core r = kept_in (slice_get core.resolutions.items r)
 -- what the resolution at a place needs
 abbrev pub need_at : RecursorCore → ℕ → Need
 need_at core r = need_in (resolution_at core r)
-
-abbrev pub asked_in : Option Resolution → Option Query
-asked_in None = None
-asked_in (Some r) = one.asked_of r.state
-
--- the question that it asks now
-abbrev pub asked_at : RecursorCore → ℕ → Option Query
-asked_at core r = asked_in (resolution_at core r)
-
--- the request asks what the resolution at a place asks now
-abbrev pub AsksForAt : DnsRequest → RecursorCore → ℕ → Type 0
-AsksForAt request core r = asked_at core r ≡ Some request.query
-
--- it is the request of that: with the options that all requests have
-pub record IsRequestAt (request : DnsRequest) (core : RecursorCore) (r : ℕ) : Type 0 where
-  pub asks : AsksForAt request core r
-  pub options : request.options ≡ request_options_of core.setting.context.options
 
 -- a question, and the moment at which it began
 pub record Begun : Type 0 where
@@ -117,37 +94,22 @@ open_at core r = open_in core.pools (resolution_at core r)
 abbrev pub given_by : RecursorCore → ℕ
 given_by core = given_so_far core.pools
 
--- ---- how much is left
+-- ---- a step
 
-abbrev pub steps_of : Option (Box Resolution) → ℕ
-steps_of None = 0
-steps_of (Some r) = one.steps r.value
+-- An order has the next number; no other step gives one. What is there waits for the order that is given, or for the one that it is said to wait for; with its
+-- reply nothing is needed any more, and nothing more comes where nothing was needed.
+abbrev pub StepFor : ℕ → ℕ → Need → Need → Option ℕ → Step → Type 0
+StepFor before after was left waits (step.Order number order) = (number ≡ before + 1) × (after ≡ before + 1) × (waits ≡ Some number)
+StepFor before after was left waits (step.Waiting number) = (after ≡ before) × (waits ≡ Some number)
+StepFor before after was left waits (step.Done reply) = (after ≡ before) × (left ≡ need.Nothing)
+StepFor before after was left waits step.Ended = (after ≡ before) × (was ≡ need.Nothing)
 
--- how many steps are before the machine, at most, till it gives an order, or waits
-abbrev pub rank : RecursorCore → ℕ
-rank core = sum_by steps_of core.resolutions.items
-
--- An order has the next number; no other step gives one. The resolution waits for the order that is given, or for the one that it is
--- said to wait for; with its reply nothing of it is left.
 abbrev pub StepIs : RecursorCore → RecursorCore → ℕ → Step → Type 0
-StepIs old new r (step.Order number order) = (number ≡ given_by old + 1) × (given_by new ≡ given_by old + 1) × (open_at new r ≡ Some number)
-StepIs old new r (step.Waiting number) = (given_by new ≡ given_by old) × (open_at new r ≡ Some number)
-StepIs old new r (step.Done reply) = (given_by new ≡ given_by old) × (resolution_at new r ≡ None)
-StepIs old new r step.Ended = given_by new ≡ given_by old
+StepIs old new r s = StepFor (given_by old) (given_by new) (need_at old r) (need_at new r) (open_at new r) s
 
 -- For want of memory an order may be lost.
 abbrev pub Steps : RecursorCore → RecursorCore → ℕ → Result Step NoMemory → Type 0
-Steps old new r (Ok s) = StepIs old new r s
-Steps old new r (Err e) = given_by old ≤ given_by new
-
--- Fewer steps are before it, and it gave no order.
-abbrev pub IsNearer : RecursorCore → RecursorCore → Type 0
-IsNearer old new = (rank new < rank old) × (given_by new ≡ given_by old)
-
-abbrev pub GoesOn : RecursorCore → RecursorCore → ℕ → Result Progress NoMemory → Type 0
-GoesOn old new r (Ok progress.Again) = IsNearer old new
-GoesOn old new r (Ok (progress.Step s)) = StepIs old new r s
-GoesOn old new r (Err e) = given_by old ≤ given_by new
+Steps old new r result = MatchResult result (StepIs old new r) (λ e. given_by old ≤ given_by new)
 
 -- A log goes on to tell an outcome to the machine, whose patience is no greater.
 pub record TellsTo (core : RecursorCore) (log : Log) (tick : Tick) (waits : Option Sent) (o : Outcome) (result : Result After NoMemory) (longer : Log) : Type 0 where
@@ -164,14 +126,6 @@ StepGives core log r (step.Order number order) = GoesToServer (given_of core.set
 StepGives core log r (step.Waiting number) = Unit {0}
 StepGives core log r (step.Done reply) = ReplyGiven (seen_by core log) (begun_at core r) reply.value
 StepGives core log r step.Ended = Unit {0}
-
--- what a step of a lookup gives is derived: an order goes to a server by what was put before
-abbrev pub LookupGives : RecursorCore → Log → Stepped → Type 0
-LookupGives core log given = StepGoes (seen_by core log) given
-
-abbrev pub Gives : RecursorCore → Log → ℕ → Progress → Type 0
-Gives core log r progress.Again = Unit {0}
-Gives core log r (progress.Step s) = StepGives core log r s
 
 -- A new machine is set as the roots and the options say, and so are its pools; its cache is empty, nothing has happened, and its pools hold by
 -- any log.

@@ -1,47 +1,29 @@
 //! The machine: it gives orders and is fed their outcomes, and knows neither a provider nor a log.
-ghost use Rattle.std.specs.Prelude.{◌≡◌, ◌≢◌, ◌≤◌, ◌<◌, ◌⊎◌, ◌↔◌, ℕ, [], true, false, max, length, None, Some, Ok, Err, IfOk, IfSome, IfNone, IfErr, IsSome, OnOk, IsTrue, option_copied, if◌then◌else◌};
+ghost use Rattle.std.specs.Prelude.{◌≡◌, ◌≤◌, ◌<◌, ◌⊎◌, ◌↔◌, ℕ, [], true, false, max, length, None, Some, Ok, Err, IfOk, IfSome, IfNone, IfErr, IsSome, OnOk, IsTrue, option_copied, if◌then◌else◌};
 ghost use Rattle.dns_core.specs.Log.{Log};
 ghost use Rattle.server_core.specs.Order.{entry_of};
 ghost use Rattle.lookup_facts.specs.Order.{IsNext, is_given_up, closing_of, last_entry};
-ghost use Rattle.walk_tables.specs.Lookup.{LeavesLess};
-ghost use Rattle.walk_tables.specs.Taking.{Takes, TablesHold, IfAwaits};
+ghost use Rattle.walk_tables.specs.Taking.{Takes, TablesHold};
 ghost use Rattle.std.specs.BTreeSet.{contains};
 ghost use Rattle.std.specs.Ordering.{nat_cmp};
 ghost use Rattle.resolver_settings.specs.Ttl.{has_reversed};
 ghost use Rattle.recursor_setting.specs.Asking.{connect_of};
 ghost use Rattle.recursor_setting.specs.Setting.{with_patience};
-ghost use Rattle.walk_tables.specs.Pools.{GivesNext, IsOutcomeOf};
+ghost use Rattle.walk_tables.specs.Pools.{IsOutcomeOf};
 ghost use Rattle.recursor_core.specs.Derived.{seen_by, Derived};
-ghost use Rattle.recursor_core.specs.Machine.{TellsTo, resolution_at, need_at, open_at, given_by, IsRequestAt, rank, IsNearer, GoesOn, Steps, Gives, StepGives, IsBeginError, IsNewCore, SameCore, IsOneMore, LookupGives, IsBegunAt};
-ghost use Rattle.walk_tables.specs.declared.lookup.Want.TheVariants as want;
+ghost use Rattle.recursor_core.specs.Machine.{TellsTo, resolution_at, need_at, open_at, given_by, Steps, StepGives, IsBeginError, IsNewCore, SameCore, IsOneMore, IsBegunAt};
 
-use dns_core::{ConnectOptions, DnsRequest, NoMemory, Question, TryClone};
-use recursor_setting::{Setting, connect_options, request_options};
-use recursor_types::{MessageKind, RecursorError, RecursorOptions, Reply};
-use recursor_walk::{Need, Resolution};
+use dns_core::{ConnectOptions, NoMemory, Question, TryClone};
+use recursor_setting::{Setting, connect_options};
+use recursor_types::{MessageKind, RecursorError, RecursorOptions};
+use recursor_walk::{Need, Resolution, Step};
 use resolver_cache::ResponseCache;
-use server_core::{After, Order, Outcome, PoolContext, Sent, Tick};
+use server_core::{After, Outcome, PoolContext, Sent, Tick};
 use std::alloc::Global;
 use std::collections::BTreeSet;
 use std::mem;
 use std::net::IpAddr;
-use walk_tables::{Pools, Stepped, Want};
-
-/// What a resolution has for whoever steps it.
-#[derive(Drop, Debug)]
-pub enum Step {
-    Order { number: u64, order: Box<Order> },
-    Waiting { number: u64 },
-    Done(Box<Reply>),
-    Ended,
-}
-
-/// A step inside the machine, after which another is due, or a step of the resolution.
-#[derive(Drop, Debug)]
-pub enum Progress {
-    Again,
-    Step(Step),
-}
+use walk_tables::Pools;
 
 /// The resolutions, in the order of their beginning, each kept until it has ended, and what they share: the
 /// cache of responses, the servers that were met and the lookups at them, the greatest moment handed in so
@@ -225,48 +207,15 @@ impl RecursorCore {
         }
     }
 
-    /// Answers a resolution with what the cache has for its question, or begins its walk.
-    fn set_out(&mut self, alloc: Global, r: usize) -> Result<(), NoMemory>
-        requires { need_at self.old r ≡ Need.SetOut }
-        ensures nearer { IsNearer self.old self.new }
-        ensures derived { (log : Log) → Derived self.old log → Derived self.new log }
-        ensures same { SameCore r self.old self.new }
+    /// Whether nothing is needed at a place.
+    fn has_ended(&self, r: usize) -> bool
+        ensures { IsTrue result ↔ (need_at self.now r ≡ Need.Nothing) }
     {
-        let now = self.moment;
-        match &mut self.resolutions[r] {
-            Some(resolution) => resolution.set_out(alloc, &self.setting.roots, &self.cache, now),
-            None => unreachable!(),
-        }
-    }
-
-    /// Goes by what the cache has for the present lookup of a resolution.
-    fn recall(&mut self, alloc: Global, r: usize) -> Result<(), NoMemory>
-        requires { need_at self.old r ≡ Need.Send want.Recall }
-        ensures nearer { IsNearer self.old self.new }
-        ensures derived { (log : Log) → Derived self.old log → Derived self.new log }
-        ensures same { SameCore r self.old self.new }
-    {
-        let now = self.moment;
-        match &mut self.resolutions[r] {
-            Some(resolution) => resolution.recall(
-                alloc,
-                &self.setting.server_filter,
-                &self.cache,
-                now,
-            ),
-            None => unreachable!(),
-        }
-    }
-
-    fn hear(&mut self, alloc: Global, r: usize) -> Result<(), NoMemory>
-        requires { need_at self.old r ≡ Need.Send want.Hear }
-        ensures nearer { IsNearer self.old self.new }
-        ensures derived { (log : Log) → Derived self.old log → Derived self.new log }
-        ensures same { SameCore r self.old self.new }
-    {
-        match &mut self.resolutions[r] {
-            Some(resolution) => resolution.hear(alloc, &self.setting.server_filter),
-            None => unreachable!(),
+        match self.need(r) {
+            Need::Nothing => true,
+            Need::SetOut => false,
+            Need::Send(_) => false,
+            Need::Reply => false,
         }
     }
 
@@ -280,160 +229,56 @@ impl RecursorCore {
         }
     }
 
-    /// The present lookup of a resolution begins at the servers of its zone.
-    fn begin_lookup(&mut self, alloc: Global, r: usize, request: DnsRequest) -> Result<(), NoMemory>
-        requires want { need_at self.old r ≡ Need.Send want.Begin }
-        requires asks { IsRequestAt request self.old r }
-        ensures falls { OnOk result (rank self.new < rank self.old) }
-        ensures given { given_by self.new ≡ given_by self.old }
-        ensures derived { (log : Log) → Derived self.old log → Derived self.new log }
-        ensures same { SameCore r self.old self.new }
-    {
-        let tick = self.tick();
-        match &mut self.resolutions[r] {
-            Some(resolution) => resolution.send(alloc, &mut self.pools, request, tick),
-            None => unreachable!(),
-        }
-    }
-
-    /// What the present lookup of a resolution has next: an order with its number, one that it waits for,
-    /// or its answer.
-    fn step_lookup(&mut self, alloc: Global, r: usize) -> Result<Stepped, NoMemory>
-        requires { need_at self.old r ≡ Need.Send want.Step }
-        ensures falls { IfOk result (LeavesLess (rank self.old) (rank self.new)) }
-        ensures given { GivesNext (given_by self.old) (given_by self.new) result }
-        ensures derived { (log : Log) → Derived self.old log → Derived self.new log × IfOk result (LookupGives self.old log) }
-        ensures same { SameCore r self.old self.new }
-        ensures waits { IfOk result (IfAwaits (open_at self.new r)) }
-    {
-        let since = self.greatest;
-        let tick = self.tick();
-        match &mut self.resolutions[r] {
-            Some(resolution) => resolution.step(alloc, &mut self.pools, since, tick),
-            None => unreachable!(),
-        }
-    }
-
-    fn take_reply(&mut self, r: usize) -> Option<Box<Reply>>
-        requires { need_at self.old r ≡ Need.Reply }
-        ensures given { given_by self.new ≡ given_by self.old }
-        ensures ended { resolution_at self.new r ≡ None }
-        ensures some { IsSome result }
-        ensures derived { (log : Log) → Derived self.old log → Derived self.new log × IfSome result (λ reply. StepGives self.old log r (Step.Done reply)) }
-        ensures same { SameCore r self.old self.new }
-    {
-        match mem::replace(&mut self.resolutions[r], None) {
-            Some(resolution) => Box::into_inner(resolution).into_reply(),
-            None => unreachable!(),
-        }
-    }
-
-    /// The request of what a resolution asks now.
-    fn request(&self, alloc: Global, r: usize) -> Result<DnsRequest, NoMemory>
-        ensures { IfOk result (λ request. IsRequestAt request self.now r) }
-    {
-        let query = match self.resolution(r) {
-            Some(resolution) => resolution.query(alloc)?,
-            None => None,
-        };
-        let options = request_options(self.setting.context.options());
-        match query {
-            Some(query) => Ok(DnsRequest { query, options }),
-            None => Err(NoMemory),
-        }
-    }
-
-    /// Begins the present lookup at the servers of its zone.
-    fn begin_asking(&mut self, alloc: Global, r: usize) -> Result<Progress, NoMemory>
-        requires { need_at self.old r ≡ Need.Send want.Begin }
-        ensures goes { GoesOn self.old self.new r result }
-        ensures gives { (log : Log) → Derived self.old log → Derived self.new log × IfOk result (Gives self.old log r) }
-        ensures same { SameCore r self.old self.new }
-    {
-        let request = self.request(alloc, r)?;
-        self.begin_lookup(alloc, r, request)?;
-        Ok(Progress::Again)
-    }
-
-    /// Gives the next order of the present lookup, or the one that it waits for; or goes on where it has
-    /// its answer.
-    fn give_order(&mut self, alloc: Global, r: usize) -> Result<Progress, NoMemory>
-        requires { need_at self.old r ≡ Need.Send want.Step }
-        ensures goes { GoesOn self.old self.new r result }
-        ensures gives { (log : Log) → Derived self.old log → Derived self.new log × IfOk result (Gives self.old log r) }
-        ensures same { SameCore r self.old self.new }
-    {
-        match self.step_lookup(alloc, r)? {
-            Stepped::Order { number, order } => {
-                let order = Box::new(alloc, order)?;
-                Ok(Progress::Step(Step::Order { number, order }))
-            }
-            Stepped::Waiting { number } => Ok(Progress::Step(Step::Waiting { number })),
-            Stepped::Done => Ok(Progress::Again),
-        }
-    }
-
-    fn reply(&mut self, r: usize) -> Progress
-        requires { need_at self.old r ≡ Need.Reply }
-        ensures goes { GoesOn self.old self.new r (Ok result) }
-        ensures gives { (log : Log) → Derived self.old log → Derived self.new log × Gives self.old log r result }
-        ensures same { SameCore r self.old self.new }
-    {
-        match self.take_reply(r) {
-            Some(reply) => Progress::Step(Step::Done(reply)),
-            None => unreachable!(),
-        }
-    }
-
-    /// One step of a send.
-    fn send(&mut self, alloc: Global, r: usize, want: Want) -> Result<Progress, NoMemory>
-        requires { need_at self.old r ≡ Need.Send want }
-        ensures goes { GoesOn self.old self.new r result }
-        ensures gives { (log : Log) → Derived self.old log → Derived self.new log × IfOk result (Gives self.old log r) }
-        ensures same { SameCore r self.old self.new }
-    {
-        match want {
-            Want::Recall => {
-                self.recall(alloc, r)?;
-                Ok(Progress::Again)
-            }
-            Want::Begin => self.begin_asking(alloc, r),
-            Want::Step => self.give_order(alloc, r),
-            Want::Hear => {
-                self.hear(alloc, r)?;
-                Ok(Progress::Again)
-            }
-        }
-    }
-
-    fn step(&mut self, alloc: Global, r: usize) -> Result<Progress, NoMemory>
-        ensures goes { GoesOn self.old self.new r result }
-        ensures gives { (log : Log) → Derived self.old log → Derived self.new log × IfOk result (Gives self.old log r) }
-        ensures same { SameCore r self.old self.new }
-    {
-        match self.need(r) {
-            Need::SetOut => {
-                self.set_out(alloc, r)?;
-                Ok(Progress::Again)
-            }
-            Need::Send(want) => self.send(alloc, r, want),
-            Need::Reply => Ok(self.reply(r)),
-            Need::Nothing => Ok(Progress::Step(Step::Ended)),
-        }
-    }
-
-    /// What a resolution has next: an order, one that it waits for, its reply once, or nothing more.
-    pub fn next(&mut self, alloc: Global, r: usize) -> Result<Step, NoMemory>
+    /// What the resolution that is kept at a place has next.
+    fn step(&mut self, alloc: Global, r: usize) -> Result<Step, NoMemory>
+        requires { IsSome (resolution_at self.old r) }
         ensures steps { Steps self.old self.new r result }
         ensures gives { (log : Log) → Derived self.old log → Derived self.new log × IfOk result (StepGives self.old log r) }
         ensures same { SameCore r self.old self.new }
     {
-        'steps: loop {
-            match self.step(alloc, r)? {
-                Progress::Again => {}
-                Progress::Step(step) => return Ok(step),
-            }
+        let since = self.greatest;
+        let tick = self.tick();
+        match &mut self.resolutions[r] {
+            Some(resolution) => resolution.next(
+                alloc,
+                &self.setting,
+                &self.cache,
+                &mut self.pools,
+                since,
+                tick,
+            ),
+            None => unreachable!(),
         }
+    }
+
+    /// Keeps nothing of a resolution that has ended.
+    fn forget(&mut self, r: usize)
+        ensures ended { need_at self.new r ≡ Need.Nothing → resolution_at self.new r ≡ None }
+        ensures need { need_at self.new r ≡ need_at self.old r }
+        ensures waits { open_at self.new r ≡ open_at self.old r }
+        ensures given { given_by self.new ≡ given_by self.old }
+        ensures derived { (log : Log) → Derived self.old log → Derived self.new log }
+        ensures same { SameCore r self.old self.new }
+    {
+        if r < self.resolutions.len() && self.has_ended(r) {
+            self.resolutions[r] = None;
+        }
+    }
+
+    /// What a resolution has next: an order, one that it waits for, its reply once, or nothing more. Of one
+    /// that has ended nothing is kept.
+    pub fn next(&mut self, alloc: Global, r: usize) -> Result<Step, NoMemory>
+        ensures steps { Steps self.old self.new r result }
+        ensures ended { OnOk result (need_at self.new r ≡ Need.Nothing → resolution_at self.new r ≡ None) }
+        ensures gives { (log : Log) → Derived self.old log → Derived self.new log × IfOk result (StepGives self.old log r) }
+        ensures same { SameCore r self.old self.new }
+    {
+        if self.resolution(r).is_none() {
+            return Ok(Step::Ended);
+        }
+        let step = self.step(alloc, r)?;
+        self.forget(r);
+        Ok(step)
     }
 
     /// Whether an entry is later than all that were put before, or there is none.

@@ -22,9 +22,14 @@ use std::net::IpAddr;
 /// A recursor over a provider. Contracts see the provider, the roots, the filters of other servers and of
 /// the addresses of answers, the bounds of the lives of responses, what its pools are set to, the least patience of its runs and the greatest moment handed in so
 /// far. What it keeps, its cache of responses too, is derived from the provider's log.
-#[derive(Drop)]
 pub struct Recursor<P: ConnectionProvider> {
     pub(crate) run: Run<P>,
+}
+
+impl<P: ConnectionProvider> Drop for Recursor<P> {
+    fn drop(self) {
+        let Recursor { run: _ } = self;
+    }
 }
 
 impl<P: ConnectionProvider> Model for Recursor<P> {

@@ -10,11 +10,11 @@ ghost use Rattle.recursor_core.specs.declared.machine.RecursorCore.{RecursorCore
 ghost use Rattle.recursor_core.specs.Standing.{Holds, Ready, Goes, ReplyTold, TurnedTold};
 ghost use Rattle.recursor_core.specs.Turns.{due, TurnFalls, AskFalls, AllPolled};
 
-use crate::machine::{RecursorCore, Step};
+use crate::machine::RecursorCore;
 use dns_core::{ConnectionProvider, NoMemory};
 use order_runner::Runner;
 use recursor_types::Reply;
-use recursor_walk::Need;
+use recursor_walk::{Need, Step};
 use server_core::{After, Order, Outcome, Tick};
 use std::alloc::Global;
 use std::collections::BTreeSet;

@@ -4,5 +4,6 @@ pub mod Denials
 pub mod Recalling
 pub mod Walks
 pub mod Resolved
+pub mod Stepping
 pub mod Later
 pub mod Earlier

@@ -7,3 +7,4 @@ pub mod Walk
 pub mod Way
 pub mod Resolving
 pub mod Resolved
+pub mod Steps

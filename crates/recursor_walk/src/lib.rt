@@ -7,10 +7,12 @@ mod asking;
 mod counted;
 mod resolving;
 mod short_way;
+mod steps;
 mod threads;
 mod walk;
 
 pub use asking::Asking;
 pub use resolving::{Need, Resolution, State};
+pub use steps::Step;
 pub use threads::walks_cross_threads;
 pub use walk::{Course, Walk};

@@ -1,12 +1,11 @@
 //! One question under way, answered, or ended.
-ghost use Rattle.std.specs.Prelude.{◌≡◌, ◌≤◌, ◌<◌, ◌↔◌, ℕ, true, Some, IfOk, IfSome, IsSome, IsErr, OnOk, OnErr, option_copied};
+ghost use Rattle.std.specs.Prelude.{◌≡◌, ◌≤◌, ◌<◌, ◌↔◌, ℕ, true, IfOk, IfSome, IsSome, IsErr, OnOk, OnErr, option_copied};
 ghost use Rattle.lookup_facts.specs.View.{View};
 ghost use Rattle.lookup_facts.specs.Remembered.{CacheHolds};
 ghost use Rattle.walk_tables.specs.Taking.{Leaves, IfAwaits};
 ghost use Rattle.walk_tables.specs.Pools.{PoolsHold, StepGoes, IsStepAt, given_so_far, GivesNext};
-ghost use Rattle.recursor_walk.specs.Replies.{Replied};
 ghost use Rattle.recursor_walk.specs.Counted.{ReadsAt, recalled, answerable};
-ghost use Rattle.recursor_walk.specs.Resolving.{want_of, state_steps, steps, open_of, asking_of, asked_of, IsWalking, IsUnder, IsWalked, IsSettled, IsDone, IsOpen, StaysOpen, AsksOn, SameBegun, AsksFor, StepsOn, IsAnswered, IsHeeded, IsHeard};
+ghost use Rattle.recursor_walk.specs.Resolving.{want_of, state_steps, steps, open_of, asking_of, IsWalking, IsUnder, IsWalked, IsSettled, IsDone, IsOpen, StaysOpen, AsksOn, SameBegun, AsksFor, StepsOn, IsAnswered, IsHeeded, IsHeard};
 ghost use Rattle.recursor_walk.specs.Resolved.{StandsSo, StateHolds, StateComes, AnswerComes, ResolutionHolds};
 ghost use Rattle.recursor_walk.specs.Walk.{begin_steps};
 ghost use Rattle.recursor_walk.specs.Way.{HasRoots, FiltersBy};
@@ -16,7 +15,7 @@ use crate::asking::{Asking, answer_with};
 use crate::counted::{answerable, recalled};
 use crate::short_way::kept_answer;
 use crate::walk::{Course, Walk};
-use dns_core::{DnsRequest, Ips, Name, NoMemory, Query, Question, TryClone};
+use dns_core::{DnsRequest, Ips, Name, NoMemory, Question, TryClone};
 use recursor_types::Reply;
 use resolver_cache::ResponseCache;
 use resolver_settings::AccessControlSet;
@@ -97,7 +96,7 @@ fn begun(
 
 impl State {
     /// What is asked now, and where.
-    fn asking(&self) -> Option<&Asking>
+    pub(crate) fn asking(&self) -> Option<&Asking>
         ensures { option_copied result ≡ asking_of self.now }
     {
         match self {
@@ -142,16 +141,6 @@ impl Resolution {
         match self.state.asking() {
             Some(asking) => asking.lookup.open_order(pools),
             None => None,
-        }
-    }
-
-    /// A copy of the question that is to be asked now.
-    pub fn query(&self, alloc: Global) -> Result<Option<Query>, NoMemory>
-        ensures { IfOk result (λ query. query ≡ asked_of self.now.state) }
-    {
-        match self.state.asking() {
-            Some(asking) => Ok(Some(asking.lookup.query.try_clone(alloc)?)),
-            None => Ok(None),
         }
     }
 
@@ -340,24 +329,6 @@ impl Resolution {
             State::Walking(walk) => walk.asking.step(alloc, pools, begun, since, tick),
             State::Asking(asking) => asking.step(alloc, pools, begun, since, tick),
             _ => unreachable!(),
-        }
-    }
-
-    /// Its reply, which is all that is left of it.
-    pub fn into_reply(self) -> Option<Box<Reply>>
-        requires { want_of self ≡ Need.Reply }
-        ensures some { IsSome result }
-        ensures is { IfSome result (λ reply. self.state ≡ State.Done reply) }
-        ensures holds { (seen : View) → ResolutionHolds seen self → IfSome result (λ reply. Replied seen self.begun self.question reply.value) }
-    {
-        let Resolution {
-            question: _,
-            begun: _,
-            state,
-        } = self;
-        match state {
-            State::Done(reply) => Some(reply),
-            _ => None,
         }
     }
 
