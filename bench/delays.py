@@ -4,8 +4,8 @@
 
 Runs 1,000 steps that a linear congruential generator makes from SEED, by default 1: records, failures, some at a moment
 before the last one, and readings, some after very long times. Prints the delay after the last step and a checksum of all
-that was read. The test `a_thousand_steps_give_the_checksum_of_exact_integers` of crates/server_call_tests/src/delay_tests.rt
-runs the same steps from the seed 1 and compares both numbers."""
+that was read. The case `a thousand steps come to the delay and the checksum of exact integers` of
+crates/cases/data/delays.cases runs the same steps from the seeds 1, 2 and 3 and compares both numbers."""
 import sys
 
 ONE = 1 << 60

@@ -1,8 +1,8 @@
 //! Addresses against the recommended networks.
 
+use crate::failure::Failure;
 use dns_core::NoMemory;
 use resolver_settings::{AccessControlSet, AccessControlSetBuilder, recommended_server_filters};
-use scenario_runs::Failure;
 use std::alloc::Global;
 use std::net::{IpAddr, Ipv4Addr, Ipv6Addr};
 

@@ -1,12 +1,12 @@
 //! The cache of responses alone, with so many entries, and its calls.
 
+use crate::failure::Failure;
 use dns_core::{
     DnsClass, Message, Name, NetError, NoMemory, Query, RData, Record, RecordType, Records,
     ResponseCode, TryClone,
 };
 use resolver_cache::ResponseCache;
 use resolver_settings::TtlConfig;
-use scenario_runs::Failure;
 use std::alloc::Global;
 use std::net::Ipv4Addr;
 

@@ -3,11 +3,13 @@
 #![tactic(auto)]
 
 mod access;
+mod driving;
+mod failure;
 mod kept;
 mod runs;
 mod scripts;
 mod ways;
 mod worlds;
 
+pub use failure::Failure;
 pub use runs::{EACH, Run, go, run_of};
-pub use scenario_runs::Failure;

@@ -11,11 +11,12 @@
 //!   that is there: `get`, `put`, or `make`, where a question and an answer are made for nothing;
 //! - `held ANSWERS`: so many of the same answers without a cache.
 
+use crate::driving::{answers, answers_of_one_run};
+use crate::failure::Failure;
 use crate::kept::{Call, Calls};
 use crate::ways::Way;
 use crate::worlds::World;
 use crate::{access, kept, worlds};
-use scenario_runs::{Failure, answers, answers_of_one_run};
 use std::alloc::Global;
 
 /// A run that the words name, and how often it goes.

@@ -1,6 +1,6 @@
 //! Lines of scenarios.
 
-use scenario_runs::Failure;
+use crate::failure::Failure;
 use std::alloc::Global;
 
 /// The first addresses of the first network, so many, as roots.

@@ -1,8 +1,8 @@
 //! Ways down zones that lie each in the one before. Each zone, the root included, has one server, and
 //! the question is for the name of the last. The cache keeps nothing.
 
+use crate::failure::Failure;
 use crate::scripts::{Delegation, put_question, roots_of};
-use scenario_runs::Failure;
 use std::alloc::Global;
 
 /// The zones that a question goes down, the root included, and how many rules the script has beside

@@ -3,8 +3,8 @@
 //! `com.` and 4 of `example.com.`, and a question for a name within the zone. Each server below the
 //! roots has an address of IPv4 and one of IPv6.
 
+use crate::failure::Failure;
 use crate::scripts::{Delegation, put_question, roots_of};
-use scenario_runs::Failure;
 use std::alloc::Global;
 
 /// The name that is asked for, how many servers the three zones have, and whether the cache keeps what

@@ -133,12 +133,46 @@ fn unescaped(alloc: Global, text: &str) -> Result<Vec<u8>, AllocError> {
     Ok(bytes)
 }
 
+/// How often a line `times <number>: <line>` says that a line is to stand, and that line.
+fn repeated(line: &str) -> Option<(u32, &str)> {
+    let (times, repeated) = line.strip_prefix("times ")?.split_once(": ")?;
+    Some((times.parse().ok()?, repeated))
+}
+
+/// Appends a line, or so many as it stands for.
+fn put_line(to: &mut String, line: &str) -> Result<(), AllocError> {
+    let (times, line) = repeated(line).unwrap_or((1, line));
+    for _ in 0..times {
+        to.push_str(line)?;
+        to.push_str("\n")?;
+    }
+    Ok(())
+}
+
+/// The lines of a text, each with its end, and in place of each line that stands for others these.
+fn written_out(alloc: Global, text: &str) -> Result<String, AllocError> {
+    let mut lines = String::new(alloc);
+    for line in text.split('\n') {
+        put_line(&mut lines, line)?;
+    }
+    Ok(lines)
+}
+
+/// The text, without its last line end where it is cut there.
+fn to_the_cut(text: &str, is_cut: bool) -> &str {
+    if !is_cut {
+        return text;
+    }
+    text.strip_suffix('\n').unwrap_or("")
+}
+
 /// What is handed in where this row stands in place of `<line>`.
 pub fn given_with(alloc: Global, case: Case<'_>, row: &str) -> Result<Vec<u8>, AllocError> {
-    let lines = row.replace(alloc, "; ", "\n")?;
-    let mut text = case.given.replace(alloc, "<line>", &lines)?;
-    if !text.is_empty() && !case.is_cut {
-        text.push_str("\n")?;
+    let rows = row.replace(alloc, "; ", "\n")?;
+    let text = case.given.replace(alloc, "<line>", &rows)?;
+    if text.is_empty() {
+        return Ok(Vec::new(alloc));
     }
-    unescaped(alloc, &text)
+    let lines = written_out(alloc, &text)?;
+    unescaped(alloc, to_the_cut(&lines, case.is_cut))
 }

@@ -4,6 +4,7 @@
 mod case_text;
 mod cases;
 mod comparing;
+mod faults;
 mod run;
 mod subject;
 
@@ -13,8 +14,10 @@ use std::{fs, io};
 use subject::Subject;
 
 /// The files of cases, and what each has cases of.
-const FILES: [(&str, Subject); 20] = [
+const FILES: [(&str, Subject); 23] = [
     ("words.cases", Subject::Words),
+    ("faults.cases", Subject::Faults),
+    ("fault_texts.cases", Subject::FaultTexts),
     ("worked_runs.cases", Subject::Run),
     ("runs.cases", Subject::Run),
     ("answers.cases", Subject::Run),
@@ -22,6 +25,7 @@ const FILES: [(&str, Subject); 20] = [
     ("worlds.cases", Subject::Run),
     ("check.cases", Subject::Check),
     ("scenario.cases", Subject::Scenario),
+    ("many.cases", Subject::Scenario),
     ("bad_lines.cases", Subject::Scenario),
     ("bad_options.cases", Subject::Scenario),
     ("not_built.cases", Subject::Scenario),

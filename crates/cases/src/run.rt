@@ -16,7 +16,7 @@ fn told(alloc: Global, written: &[u8], code: u8) -> Result<String, NoMemory> {
 }
 
 /// The words of a command line, which spaces part.
-fn words_of(alloc: Global, line: &str) -> Result<Vec<Text>, NoMemory> {
+pub fn words_of(alloc: Global, line: &str) -> Result<Vec<Text>, NoMemory> {
     let mut words = Vec::new(alloc);
     for word in line.split_whitespace() {
         words.push(Text::new(String::from_str(alloc, word)?))?;

@@ -1,6 +1,6 @@
 //! What cases are of: each is a text that is handed in, and a text that comes of it.
 
-use crate::run;
+use crate::{faults, run};
 use dns_core::NoMemory;
 use reading_subjects::{networks, resolver, scenario};
 use std::alloc::{AllocError, Global};
@@ -15,6 +15,10 @@ pub enum Subject {
     Check,
     /// The words of the command, and what it writes for an empty text.
     Words,
+    /// Calls that fail, commands and their text, and what the commands write.
+    Faults,
+    /// Faults, and their texts.
+    FaultTexts,
     /// A scenario, and what is read of it but its options.
     Scenario,
     /// A scenario, and how it sets a recursor.
@@ -42,6 +46,8 @@ impl Subject {
             Subject::Run => run::answer(alloc, given),
             Subject::Check => run::check(alloc, given),
             Subject::Words => run::answer_to_words(alloc, given),
+            Subject::Faults => faults::answer(alloc, given),
+            Subject::FaultTexts => faults::texts(alloc, given),
             Subject::Scenario => scenario::answer(alloc, given),
             Subject::Options => scenario::options(alloc, given),
             Subject::Names => names::answer(alloc, given),

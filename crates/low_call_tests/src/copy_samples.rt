@@ -1,11 +1,14 @@
 //! Values of all types that are copied, with all that each may hold.
 
-use call_samples::{address, alias, authority, both, ip, name_server, put, query, record, v4};
+use call_samples::{
+    address, alias, authority, both, ip, name_server, put, query, record, request, v4,
+};
 use dns_core::{
     Boxed, Bytes, ConnectOptions, ConnectionConfig, DnsClass, DnsError, ForwardNsData, Items,
     LogEntry, Message, Name, NameError, NetError, NoMemory, NoRecords, Protocol, ProtocolConfig,
     Question, RData, Record, RecordType, Records, ResponseCode, Text, ToldOutcome,
 };
+use server_core::Order;
 use std::alloc::Global;
 use std::net::Ipv6Addr;
 
@@ -19,12 +22,21 @@ fn opaque(alloc: Global) -> Result<Record, NameError> {
     record(alloc, "a.", 60, RecordType::TXT, rdata)
 }
 
-fn signature(alloc: Global) -> Result<Record, NameError> {
-    let rdata = RData::RRSIG {
-        covered: RecordType::A,
-        rest: Bytes::empty(alloc),
-    };
-    record(alloc, "a.", 60, RecordType::RRSIG, rdata)
+/// A signature of class CH.
+pub fn signature(alloc: Global) -> Result<Record, NameError> {
+    let mut rest = Bytes::empty(alloc);
+    rest.push(0x0f)?;
+    rest.push(0xa0)?;
+    Ok(Record {
+        name: Name::parse(alloc, "a.")?,
+        ttl: 4_294_967_295,
+        dns_class: DnsClass::CH,
+        record_type: RecordType::RRSIG,
+        rdata: RData::RRSIG {
+            covered: RecordType::A,
+            rest,
+        },
+    })
 }
 
 fn put_addresses(alloc: Global, to: &mut Records) -> Result<(), NameError> {
@@ -156,5 +168,15 @@ pub fn question(alloc: Global) -> Result<Question, NameError> {
     Ok(Question {
         query: query(alloc, "a.")?,
         dnssec_ok: true,
+    })
+}
+
+/// A question is to be asked.
+pub fn ask(alloc: Global) -> Result<Order, NameError> {
+    Ok(Order::Ask {
+        conn: 1,
+        ip: ip(1),
+        protocol: Protocol::Udp,
+        request: request(alloc, "a.", false)?,
     })
 }

@@ -1,7 +1,7 @@
 //! Copies of values of all types.
 
 use crate::copy_samples::{
-    addresses, asked, config, connect_options, denial, foreign, forward, message, no_records,
+    addresses, ask, asked, config, connect_options, denial, foreign, forward, message, no_records,
     others, question, text, told,
 };
 use crate::settings_samples::{bounds, encrypted, resolver_config};
@@ -11,6 +11,7 @@ use dns_core::{
     ToldOutcome, TryClone, try_clone_all,
 };
 use resolver_settings::{AccessControlSet, IpNet};
+use server_core::Order;
 use std::alloc::Global;
 use std::fmt;
 use std::net::{IpAddr, Ipv4Addr};
@@ -77,6 +78,13 @@ impl Same for AccessControlSet {
 impl Same for Name {
     fn is_same(&self, other: &Self) -> bool {
         self.eq_case(other)
+    }
+}
+
+/// An order with the names in it in their case.
+impl Same for Order {
+    fn is_same(&self, other: &Self) -> bool {
+        self.identical(other)
     }
 }
 
@@ -149,4 +157,16 @@ fn settings_are_copied(rt: HostRuntime) -> Result<(), Fail> {
     is_made_and_copied(alloc, resolver_config(alloc))?;
     is_made_and_copied(alloc, options(alloc))?;
     is_made_and_copied(alloc, bounds(alloc))
+}
+
+#[test]
+fn orders_are_copied(rt: HostRuntime) -> Result<(), Fail> {
+    let alloc = rt.alloc();
+    is_same_again(alloc, ask(alloc)?)?;
+    let open = Order::Open {
+        ip: ip(1),
+        config: config(ProtocolConfig::Udp),
+    };
+    is_same_again(alloc, open)?;
+    is_same_again(alloc, Order::Sleep { until: 9 })
 }

@@ -73,19 +73,17 @@ fn causes_print_their_texts(rt: HostRuntime) -> Result<(), Fail> {
     Ok(())
 }
 
-fn unserved(alloc: Global) -> Result<RecursorError, NameError> {
-    let zone = Name::parse(alloc, "example.com.")?;
-    Ok(RecursorError::NoNameServer {
-        zone,
-        cause: WalkCause::Timeout,
-    })
+/// That a zone has no server, by this cause.
+pub fn unserved(alloc: Global, zone: &str, cause: WalkCause) -> Result<RecursorError, NameError> {
+    let zone = Name::parse(alloc, zone)?;
+    Ok(RecursorError::NoNameServer { zone, cause })
 }
 
 #[test]
 fn a_zone_without_servers_is_named(rt: HostRuntime) -> Result<(), Fail> {
     prints_once(
         rt.alloc(),
-        unserved(rt.alloc()),
+        unserved(rt.alloc(), "example.com.", WalkCause::Timeout),
         "no nameserver found for example.com.: net error: Timeout",
     )
 }

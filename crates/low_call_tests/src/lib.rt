@@ -1,9 +1,11 @@
-//! Tests of what only calls show, below the servers: copies, names, streams, settings, and texts of
-//! errors. Each call that may want memory is called once here, where there is memory.
+//! Tests of what only calls show, below the pools: copies, streams, settings, what a response is, and what
+//! is printed. Each call that may want memory is called once here, where there is memory.
 //!
 //! They stand here and not in the layers, since a crate with tests is proved once more with them.
 #![tactic(auto)]
 
+#[cfg(test)]
+mod class_tests;
 #[cfg(test)]
 mod copy_samples;
 #[cfg(test)]
@@ -11,7 +13,7 @@ mod copy_tests;
 #[cfg(test)]
 mod error_text_tests;
 #[cfg(test)]
-mod name_tests;
+mod printing_tests;
 #[cfg(test)]
 mod settings_samples;
 #[cfg(test)]

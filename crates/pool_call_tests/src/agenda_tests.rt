@@ -2,27 +2,13 @@
 ghost use Rattle.pool_call_tests.specs.Agenda.{IsWithin};
 ghost use Rattle.retry_rules.specs.Agenda.{HasRoom};
 
+use crate::sights::End;
 use call_samples::{Machine, Sight, denial, message, query, runs, seen};
 use dns_core::{IoKind, Message, NameError, NetError, NoMemory};
 use retry_rules::{Agenda, Candidate, Hearing};
 use std::alloc::Global;
 use std::marker::Model;
 use std::test::Fail;
-
-/// What a send ends with, and what a lookup answers.
-#[derive(Clone, Copy, Debug, PartialEq)]
-enum End {
-    Answer,
-    Cut,
-    Denial,
-    Busy,
-    Refused,
-    Timeout,
-    Mismatch,
-    Truncated,
-    NoConnections,
-    Other,
-}
 
 /// The next server is asked, and its send ends so; a sleep passes; or the lookup gives up. Moments make no
 /// difference to an agenda: they number the calls.
@@ -51,27 +37,13 @@ fn outcome(alloc: Global, end: End) -> Result<Result<Message, NetError>, NameErr
         End::Cut => Ok(Ok(message(alloc, true)?)),
         End::Denial => Ok(Err(denial(alloc)?)),
         End::Busy => Ok(Err(NetError::Busy)),
+        End::Closed => Ok(Err(NetError::Io(IoKind::Closed))),
         End::Refused => Ok(Err(NetError::Io(IoKind::Refused))),
         End::Timeout => Ok(Err(NetError::Timeout)),
         End::Mismatch => Ok(Err(NetError::QueryCaseMismatch)),
         End::Truncated => Ok(Err(NetError::Truncated)),
         End::NoConnections => Ok(Err(NetError::NoConnections)),
         End::Other => Ok(Err(NetError::NoMemory)),
-    }
-}
-
-impl Sight<End> for NetError {
-    fn sight(&self) -> End {
-        match self {
-            NetError::Dns(_) => End::Denial,
-            NetError::Busy => End::Busy,
-            NetError::Io(_) => End::Refused,
-            NetError::Timeout => End::Timeout,
-            NetError::QueryCaseMismatch => End::Mismatch,
-            NetError::Truncated => End::Truncated,
-            NetError::NoConnections => End::NoConnections,
-            _ => End::Other,
-        }
     }
 }
 

@@ -1,6 +1,8 @@
 //! Lookups at pools, step by step.
 
-use crate::pool_samples::{Call, Course, Seen, What};
+use crate::outcome_samples::What;
+use crate::pool_samples::{Call, Course};
+use crate::sights::{End, Seen};
 use call_samples::runs;
 use dns_core::Protocol;
 use server_core::After;
@@ -64,7 +66,7 @@ const GIVEN_UP: [(u64, Call, Seen); 10] = [
     (8, Call::Open(0), Seen::Numbers(1, Some(1), None)),
     (8, Call::Put(1, What::Pending), Seen::Has(After::GiveUp)),
     (8, Call::Put(1, What::Pending), Seen::Has(After::Late)),
-    (9, Call::Next(0), Seen::Fails),
+    (9, Call::Next(0), Seen::Ends(End::Timeout)),
     (9, Call::Ends(0), Seen::Numbers(1, Some(11), None)),
 ];
 

@@ -1,46 +1,13 @@
-//! Pools of servers that are reached over UDP and TCP, lookups at them, and what is seen of both.
+//! Pools of servers that are reached over UDP and TCP, and lookups at them.
 
-use call_samples::{Machine, Sight, ip, message, options, plain, query, request, seen};
-use dns_core::{
-    Delays, DnsRequest, DnsRequestOptions, Message, NameError, NetError, NoMemory, Protocol,
-};
-use server_core::{After, NameServer, Order, Outcome, PoolContext, Sent, Tick};
-use server_pool::{NameServerPool, PoolLookup, PoolShared, PoolStep};
+use crate::outcome_samples::{What, outcome, tick};
+use crate::server_samples::{context, unopened};
+use crate::sights::Seen;
+use call_samples::{Machine, plain, query, request, seen};
+use dns_core::{Delays, DnsRequest, DnsRequestOptions, NameError, NoMemory};
+use server_pool::{NameServerPool, PoolLookup, PoolShared};
 use std::alloc::Global;
 use std::mem;
-
-/// What is seen of a call: the number of a server, how many there are, a pool by the place of the first
-/// that has its number, with how many servers it has, a lookup by the place of the first that has its
-/// number, orders with their numbers, what an outcome did, and numbers, at most two.
-#[derive(Clone, Copy, Debug, PartialEq)]
-pub enum Seen {
-    Nothing,
-    Server(u32),
-    Servers(u32),
-    Pool(usize, usize),
-    Lookup(usize),
-    Opens(u64, Protocol),
-    Asks(u64, Protocol),
-    Sleeps(u64, u64),
-    Waits,
-    Answers,
-    Fails,
-    Has(After),
-    IsUndecided,
-    Numbers(usize, Option<u64>, Option<u64>),
-    Withdrawn(Option<u64>),
-}
-
-/// What comes of an order.
-#[derive(Clone, Copy)]
-pub enum What {
-    Pending,
-    Connected,
-    Slept,
-    Busy,
-    Cut,
-    Answer,
-}
 
 /// Calls. Pools and lookups are called by their places, from 0 on.
 #[derive(Clone, Copy)]
@@ -77,89 +44,8 @@ pub enum Call {
     Replace,
 }
 
-fn tick(now: u64) -> Tick {
-    Tick { now, patience: 3 }
-}
-
-fn none(alloc: Global) -> Result<PoolShared, NoMemory> {
-    Ok(PoolShared::new(alloc, PoolContext::new(options(alloc)?)))
-}
-
-fn sent() -> Sent {
-    Sent {
-        of: 1,
-        ip: ip(1),
-        moment: 0,
-        query: None,
-    }
-}
-
-fn told(alloc: Global, entry: u64, truncation: bool) -> Result<Outcome, NameError> {
-    let message = message(alloc, truncation)?;
-    Ok(Outcome::Told {
-        entry,
-        sent: sent(),
-        message,
-    })
-}
-
-fn outcome(alloc: Global, what: What, entry: u64) -> Result<Outcome, NameError> {
-    match what {
-        What::Pending => Ok(Outcome::Pending { entry, of: 1 }),
-        What::Connected => Ok(Outcome::Connected {
-            entry,
-            sent: sent(),
-        }),
-        What::Slept => Ok(Outcome::Slept),
-        What::Busy => Ok(Outcome::Failed {
-            entry,
-            sent: sent(),
-            refused: false,
-            error: NetError::Busy,
-        }),
-        What::Cut => told(alloc, entry, true),
-        What::Answer => told(alloc, entry, false),
-    }
-}
-
-fn sight_of_order(number: u64, order: &Order) -> Seen {
-    match order {
-        Order::Open { config, .. } => Seen::Opens(number, config.protocol.to_protocol()),
-        Order::Ask { protocol, .. } => Seen::Asks(number, *protocol),
-        Order::Sleep { until } => Seen::Sleeps(number, *until),
-    }
-}
-
-fn sight_of_answer(answer: &Result<Message, NetError>) -> Seen {
-    match answer {
-        Ok(_) => Seen::Answers,
-        Err(_) => Seen::Fails,
-    }
-}
-
-impl Sight<Seen> for PoolStep {
-    fn sight(&self) -> Seen {
-        match self {
-            PoolStep::Order { number, order } => sight_of_order(*number, order),
-            PoolStep::Waiting => Seen::Waits,
-            PoolStep::Done(answer) => sight_of_answer(answer),
-        }
-    }
-}
-
-impl Sight<Seen> for Option<Result<Message, NetError>> {
-    fn sight(&self) -> Seen {
-        match self {
-            Some(answer) => sight_of_answer(answer),
-            None => Seen::IsUndecided,
-        }
-    }
-}
-
-/// A server that is reached over UDP and TCP, to which no connection was opened.
-pub fn unopened(alloc: Global) -> Result<NameServer, NoMemory> {
-    let options = options(alloc)?;
-    NameServer::new(alloc, Vec::new(alloc), plain(alloc)?, &options, 10)
+fn none(alloc: Global) -> Result<PoolShared, NameError> {
+    Ok(PoolShared::new(alloc, context(alloc)?))
 }
 
 fn numbers(found: &[u64]) -> Seen {
@@ -209,7 +95,7 @@ pub struct Course {
 
 impl Course {
     /// Without servers, pools and lookups.
-    pub fn new(alloc: Global) -> Result<Course, NoMemory> {
+    pub fn new(alloc: Global) -> Result<Course, NameError> {
         Ok(Course {
             shared: none(alloc)?,
             pools: Vec::new(alloc),
@@ -330,7 +216,7 @@ impl Course {
         Seen::Nothing
     }
 
-    fn replace(&mut self, alloc: Global) -> Result<Seen, NoMemory> {
+    fn replace(&mut self, alloc: Global) -> Result<Seen, NameError> {
         drop(mem::replace(&mut self.shared, none(alloc)?));
         Ok(Seen::Nothing)
     }
@@ -356,7 +242,7 @@ impl Machine<Call, Seen> for Course {
             Call::Ends(at) => Ok(self.ends(at)),
             Call::Leave => Ok(self.leave()),
             Call::Withdraw => Ok(Seen::Withdrawn(self.shared.take_withdrawn())),
-            Call::Replace => Ok(self.replace(alloc)?),
+            Call::Replace => self.replace(alloc),
         }
     }
 }

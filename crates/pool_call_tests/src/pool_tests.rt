@@ -1,6 +1,8 @@
 //! Pools, the order of their servers, and what is left of an answer, where there is memory.
 
-use crate::pool_samples::{Call, Course, Seen, unopened};
+use crate::pool_samples::{Call, Course};
+use crate::server_samples::unopened;
+use crate::sights::Seen;
 use call_samples::{comes_to, filter, is_wanted, message, options, query, runs};
 use dns_core::{Message, NetError, NoMemory};
 use resolver_settings::{AccessControlSet, IpNet, ResolverOpts, ServerOrderingStrategy};

@@ -1,6 +1,8 @@
 //! Lookups that several requests share, at two pools of one server.
 
-use crate::pool_samples::{Call, Course, Seen, What};
+use crate::outcome_samples::What;
+use crate::pool_samples::{Call, Course};
+use crate::sights::Seen;
 use call_samples::runs;
 use dns_core::Protocol;
 use server_core::After;

@@ -1,15 +1,18 @@
 //! The text of a resolver, below a line with the name of its host; and search domains as text.
 
 use crate::owned::{Lines, lines_of};
-use dns_core::{ConnectionConfig, Name, NameError, Names, NoMemory, ProtocolConfig};
+use dns_core::{
+    ConnectionConfig, Items, MemorySource, Name, NameError, Names, NoMemory, Numbers,
+    ProtocolConfig,
+};
 use resolver_settings::{
-    ConfError, NameServerConfig, ResolverConfig, ResolverOpts, parse_resolv_conf,
-    parse_search_domains,
+    ConfError, NameServerConfig, ResolverConfig, ResolverOpts, parse_search_domains,
+    read_system_conf,
 };
 use std::alloc::Global;
 use std::fmt::Write;
 use std::net::IpAddr;
-use value_subjects::{put_ip, put_name};
+use value_subjects::{first_line, put_ip, put_name};
 
 /// What a resolver's text says.
 #[derive(Drop)]
@@ -93,36 +96,35 @@ fn fault_text(alloc: Global, error: ConfError) -> Result<String, NoMemory> {
     Ok(format!(in alloc; "{name}\n{error}\n")?)
 }
 
-/// What a text says for a host.
-fn text_answer(alloc: Global, text: &[u8], host: &str) -> Result<String, NoMemory> {
-    if text.len() > 100_000 {
-        return fault_text(alloc, ConfError::TooLong);
-    }
-    match parse_resolv_conf(alloc, text, host) {
+/// A source of a text whose call of this number fails; none has the number 0.
+fn source_of(alloc: Global, text: &[u8], call: u64) -> Result<MemorySource, NoMemory> {
+    let held = Items::new(Vec::from_slice(alloc, text)?);
+    let mut failing = Numbers::empty(alloc);
+    failing.push(call)?;
+    Ok(MemorySource::new(alloc, held, failing))
+}
+
+/// What the text of a source says for a host.
+fn source_answer(
+    alloc: Global,
+    source: Result<MemorySource, NoMemory>,
+    host: &str,
+) -> Result<String, NoMemory> {
+    let mut source = source?;
+    match read_system_conf(alloc, &mut source, host) {
         Ok((config, options)) => lines_of(alloc, Said { config, options }),
         Err(error) => fault_text(alloc, error),
     }
 }
 
-/// Where the first line ends.
-fn line_end(bytes: &[u8]) -> usize {
-    bytes
-        .iter()
-        .position(|b| *b == b'\n')
-        .unwrap_or(bytes.len())
-}
-
-/// What a resolver's text says. Its first line is `host` with a name behind it, or without one.
+/// What a resolver's text says. Its first line is `host` with a name behind it, or without one, and where a
+/// call of its source fails, ` failing <call>` behind the name.
 pub fn answer(alloc: Global, given: &[u8]) -> Result<String, NoMemory> {
-    let end = line_end(given).min(given.len());
-    let (line, rest) = given.split_at(end);
-    let line = std::str::from_utf8(line).unwrap_or("");
-    let host = line.strip_prefix("host ").unwrap_or("");
-    let text = match rest {
-        [_, text @ ..] => text,
-        [] => rest,
-    };
-    text_answer(alloc, text, host)
+    let (line, text) = first_line(given);
+    let named = line.strip_prefix("host ").unwrap_or("");
+    let (host, call) = named.split_once(" failing ").unwrap_or((named, ""));
+    let source = source_of(alloc, text, call.parse().unwrap_or(0));
+    source_answer(alloc, source, host)
 }
 
 fn domains_text(alloc: Global, read: Result<Names, NameError>) -> Result<String, NoMemory> {

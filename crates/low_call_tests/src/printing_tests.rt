@@ -1,15 +1,17 @@
-//! Texts of errors, records and logs that no run comes to yet.
+//! Texts of errors, records, messages and logs that no run comes to yet.
 
-use crate::samples::is_text;
-use call_samples::{ip, put, query};
+use crate::copy_samples::signature;
+use crate::error_text_tests::unserved;
+use call_samples::{answer, ip, is_wanted, put, query, shown, v4};
 use dns_core::{
-    Bytes, DnsClass, IoKind, Log, LogEntry, Name, NameError, NetError, NoMemory, Protocol, RData,
-    Record, RecordType,
+    IoKind, Log, LogEntry, Message, NameError, NetError, NoMemory, Protocol, Record, RecordType,
 };
-use recursor_core::{RecursorError, WalkCause};
-use recursor_text::{has_log_words, has_words, print_error, print_log, print_record};
+use recursor_types::{RecursorError, WalkCause};
 use std::alloc::Global;
 use std::test::Fail;
+use transcript_printer::{
+    has_log_words, has_words, print_error, print_log, print_message, print_record,
+};
 
 /// What has a text.
 trait Prints: Drop {
@@ -31,6 +33,12 @@ impl Prints for Record {
     }
 }
 
+impl Prints for Message {
+    fn print(&self, alloc: Global, out: &mut Vec<u8>) -> Result<(), NoMemory> {
+        print_message(alloc, self, out)
+    }
+}
+
 impl Prints for Log {
     fn print(&self, alloc: Global, out: &mut Vec<u8>) -> Result<(), NoMemory> {
         if !has_log_words(self) {
@@ -40,57 +48,33 @@ impl Prints for Log {
     }
 }
 
-/// What is handed in is printed as this text.
-fn is_printed<T: Prints>(alloc: Global, value: T, wanted: &str) -> Result<(), Fail> {
+/// What is handed in, as it was made or not made, is printed as this text.
+fn is_printed<T: Prints>(
+    alloc: Global,
+    made: Result<T, NameError>,
+    wanted: &str,
+) -> Result<(), Fail> {
+    let value = made?;
     let mut out = Vec::new(alloc);
     value.print(alloc, &mut out)?;
-    is_text(out, wanted)
-}
-
-fn too_many(code: u16) -> RecursorError {
-    RecursorError::MaxRecordLimitExceeded {
-        count: 257,
-        record_type: RecordType { code },
-    }
-}
-
-fn unserved(alloc: Global, cause: WalkCause) -> RecursorError {
-    RecursorError::NoNameServer {
-        zone: Name::root(alloc),
-        cause,
-    }
+    is_wanted(shown(&out), wanted)
 }
 
 #[test]
 fn errors_are_printed(rt: HostRuntime) -> Result<(), Fail> {
     let alloc = rt.alloc();
-    is_printed(alloc, too_many(999), "MaxRecordLimitExceeded 257 TYPE999\n")?;
+    let many = RecursorError::MaxRecordLimitExceeded {
+        count: 257,
+        record_type: RecordType { code: 999 },
+    };
+    is_printed(alloc, Ok(many), "MaxRecordLimitExceeded 257 TYPE999\n")?;
     let deep = RecursorError::RecursionLimitExceeded { count: 24 };
-    is_printed(alloc, deep, "RecursionLimitExceeded 24\n")?;
-    is_printed(
-        alloc,
-        RecursorError::QueryBudgetExceeded,
-        "QueryBudgetExceeded\n",
-    )?;
-    is_printed(alloc, RecursorError::NoMemory, "NoMemory\n")?;
-    let wide = unserved(alloc, WalkCause::ZoneEntries);
+    is_printed(alloc, Ok(deep), "RecursionLimitExceeded 24\n")?;
+    let costly = RecursorError::QueryBudgetExceeded;
+    is_printed(alloc, Ok(costly), "QueryBudgetExceeded\n")?;
+    is_printed(alloc, Ok(RecursorError::NoMemory), "NoMemory\n")?;
+    let wide = unserved(alloc, ".", WalkCause::ZoneEntries);
     is_printed(alloc, wide, "NoNameServer . ZoneEntries\n")
-}
-
-fn signature(alloc: Global) -> Result<Record, NameError> {
-    let mut rest = Bytes::empty(alloc);
-    rest.push(0x0f)?;
-    rest.push(0xa0)?;
-    Ok(Record {
-        name: Name::parse(alloc, "a.")?,
-        ttl: 4_294_967_295,
-        dns_class: DnsClass::CH,
-        record_type: RecordType::RRSIG,
-        rdata: RData::RRSIG {
-            covered: RecordType::A,
-            rest,
-        },
-    })
 }
 
 const REFUSALS: &str = "log 3
@@ -130,8 +114,14 @@ fn refusals(alloc: Global) -> Result<Log, NameError> {
 }
 
 #[test]
-fn signatures_and_refusals_are_printed(rt: HostRuntime) -> Result<(), Fail> {
+fn signatures_messages_and_refusals_are_printed(rt: HostRuntime) -> Result<(), Fail> {
     let alloc = rt.alloc();
-    is_printed(alloc, signature(alloc)?, "a. 4294967295 CH RRSIG A 0fa0\n")?;
-    is_printed(alloc, refusals(alloc)?, REFUSALS)
+    is_printed(alloc, signature(alloc), "a. 4294967295 CH RRSIG A 0fa0\n")?;
+    let message = answer(alloc, "a.", 60, v4(2));
+    is_printed(
+        alloc,
+        message,
+        "message NOERROR aa 1 0 0\na. 60 IN A 11.0.0.2\n",
+    )?;
+    is_printed(alloc, refusals(alloc), REFUSALS)
 }

@@ -2,7 +2,7 @@ use Rattle.std.proofs.Common.{◌∙◌, ap, length}
 use Rattle.server_core.specs.declared.server_send.ServerSend.{ServerSend}
 use Rattle.server_core.proofs.Changing.{changed_length}
 use Rattle.server_core.proofs.Coming.{come_same}
-use Rattle.server_call_tests.proofs.send_samples.put_to.Goals as goal
+use Rattle.pool_call_tests.proofs.send_samples.put_to.Goals as goal
 
 pub returns-clause-table : goal.returns-clause-table
 returns-clause-table c = ap length c.in_ok-put.ensures.table ∙ changed_length _ _ _

@@ -1,8 +1,6 @@
-//! A thousand steps of a delay.
+//! So many steps of a delay, which a number says.
 
-use call_samples::is_wanted;
 use server_core::DecayingSrtt;
-use std::test::Fail;
 
 /// The number after a number, of a linear congruential generator.
 fn following(number: u64) -> u64 {
@@ -40,7 +38,7 @@ fn reading_pause(i: u32, number: u64) -> u64 {
 }
 
 /// The delay after so many steps from a seed, and a checksum of all that was read.
-fn delay_after(steps: u32, seed: u64) -> (u32, u64) {
+pub fn delay_after(steps: u32, seed: u64) -> (u32, u64) {
     let mut delay = DecayingSrtt::new(10);
     let mut number = seed;
     let mut now: u64 = 0;
@@ -55,10 +53,4 @@ fn delay_after(steps: u32, seed: u64) -> (u32, u64) {
         checksum = checksum.wrapping_mul(31).wrapping_add(low);
     }
     (delay.as_micros(), checksum)
-}
-
-/// Both numbers are those that `python3 bench/delays.py` prints.
-#[test]
-fn a_thousand_steps_give_the_checksum_of_exact_integers(_rt: HostRuntime) -> Result<(), Fail> {
-    is_wanted(delay_after(1_000, 1), (332_692, 9_389_125_836_336_319_244))
 }

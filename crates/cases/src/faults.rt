@@ -1,0 +1,84 @@
+//! Commands over a source and a sink of which calls fail, and the texts of faults.
+
+use crate::run::words_of;
+use dns_core::{Items, MemorySink, MemorySource, NoMemory, Numbers, Sink, Source};
+use recursor_command::{Fault, run};
+use std::alloc::Global;
+use std::fmt::Write;
+use value_subjects::first_line;
+
+/// That the call of this number fails; none has the number 0, for which every word stands that is no number.
+fn failing(alloc: Global, call: &str) -> Result<Numbers, NoMemory> {
+    let mut numbers = Numbers::empty(alloc);
+    numbers.push(call.parse().unwrap_or(0))?;
+    Ok(numbers)
+}
+
+/// Runs these commands, which commas part, one after another, and gives the status of each.
+fn statuses<S: Source, K: Sink>(
+    alloc: Global,
+    commands: &str,
+    source: &mut S,
+    sink: &mut K,
+) -> Result<String, NoMemory> {
+    let mut out = String::new(alloc);
+    for line in commands.split(',') {
+        let words = words_of(alloc, line)?;
+        let code = run(alloc, words.as_slice(), source, sink).code();
+        writeln!(out, "status {code}")?;
+    }
+    Ok(out)
+}
+
+/// What the sink took, and behind it the statuses.
+fn told(alloc: Global, written: &[u8], statuses: &str) -> Result<String, NoMemory> {
+    let text = std::str::from_utf8(written).unwrap_or("no text\n");
+    Ok(format!(in alloc; "{text}{statuses}")?)
+}
+
+/// What comes of commands over one source and one sink. The first line is `failing <call of the source>
+/// <call of the sink>: <words>, <words>`, and the source has what stands below it.
+pub fn answer(alloc: Global, given: &[u8]) -> Result<String, NoMemory> {
+    let (line, below) = first_line(given);
+    let (calls, commands) = line.split_once(": ").unwrap_or((line, ""));
+    let calls = calls.strip_prefix("failing ").unwrap_or(calls);
+    let (of_source, of_sink) = calls.split_once(' ').unwrap_or((calls, ""));
+    let held = Items::new(Vec::from_slice(alloc, below)?);
+    let mut source = MemorySource::new(alloc, held, failing(alloc, of_source)?);
+    let mut sink = MemorySink::new(alloc, failing(alloc, of_sink)?);
+    let statuses = statuses(alloc, commands, &mut source, &mut sink)?;
+    told(alloc, sink.written(), &statuses)
+}
+
+/// The fault that a line says.
+fn fault_in(line: &str) -> Option<Fault> {
+    let (words, number) = line.rsplit_once(' ').unwrap_or((line, ""));
+    match words {
+        "words" => Some(Fault::Words),
+        "line" => Some(Fault::Line(number.parse().ok()?)),
+        "not built" => Some(Fault::NotBuilt(number.parse().ok()?)),
+        "read" => Some(Fault::Read),
+        "memory" => Some(Fault::Memory),
+        _ => None,
+    }
+}
+
+/// The text of a fault, and the status with which it ends a run.
+fn fault_text(alloc: Global, fault: Fault) -> Result<String, NoMemory> {
+    let text = fault.text(alloc)?;
+    let code = fault.status().code();
+    let text = std::str::from_utf8(&text).unwrap_or("no text\n");
+    Ok(format!(in alloc; "{text}status {code}\n")?)
+}
+
+/// The texts of the faults that the lines say.
+pub fn texts(alloc: Global, given: &[u8]) -> Result<String, NoMemory> {
+    let mut out = String::new(alloc);
+    for line in std::str::from_utf8(given).unwrap_or("").lines() {
+        match fault_in(line) {
+            Some(fault) => out.push_str(&fault_text(alloc, fault)?)?,
+            None => out.push_str("no fault\n")?,
+        }
+    }
+    Ok(out)
+}
