@@ -154,7 +154,7 @@ pub gives-at : (core : RecursorCore) (log : Log) (r : ℕ) (b : Box Resolution) 
 gives-at core log r b (step.Order number order) at h = h
 gives-at core log r b (step.Waiting number) at h = tt
 gives-at core log r b (step.Done reply) at h =
-    subst (λ (o : Option (Option (Box Resolution))). ReplyGiven (seen_by core log) (option_map begun_of (kept_in o)) reply.value) (sym at) h
+    subst (λ (o : Option (Option (Box Resolution))). ReplyGiven (seen_by core log) (option_map begun_of (kept_in o)) reply.value) (sym at) h.0
 gives-at core log r b step.Ended at h = tt
 
 -- a step is so where no more than what had ended is forgotten after it

@@ -1,5 +1,5 @@
 -- What a question has next, step by step.
-use Rattle.recursor_walk.proofs.Names.{◌≡◌, ◌≤◌, ◌+◌, ◌∙◌, ℕ, Option, Some, None, Result, Ok, Err, IfOk, IfSome, IsErr, refl, sym, ap, subst, arith, inl, inr, Question, NoMemory, View, Reply, Replied, reply_with, Counted, recalled, answerable, IsOpen, SameBegun, IsDoneWith, State, Resolution}
+use Rattle.recursor_walk.proofs.Names.{◌≡◌, ◌≤◌, ◌+◌, ◌∙◌, ℕ, Option, Some, None, Result, Ok, Err, IfOk, IfSome, IsErr, refl, sym, ap, subst, arith, inl, inr, Question, NoMemory, View, Reply, CameTo, reply_with, Counted, recalled, answerable, IsOpen, SameBegun, IsDoneWith, State, Resolution}
 use Rattle.std.specs.Prelude.{◌⊎◌}
 use Rattle.walk_tables.specs.Pools.{given_so_far}
 use Rattle.walk_tables.specs.declared.pools.Pools.{Pools}
@@ -27,7 +27,7 @@ pub gives-before : (seen : View) (was at : Resolution) (s : Step) → SameBegun 
 gives-before seen was at (step.Order number order) same h = h
 gives-before seen was at (step.Waiting number) same h = tt
 gives-before seen was at (step.Done reply) same h =
-    subst (λ (t0 : ℕ). Replied seen t0 was.question reply.value) same.1 (subst (λ (q : Question). Replied seen at.begun q reply.value) same.0 h)
+    subst (λ (t0 : ℕ). CameTo seen t0 was.question reply.value) same.1 (subst (λ (q : Question). CameTo seen at.begun q reply.value) same.0 h)
 gives-before seen was at step.Ended same h = tt
 
 -- no step takes a number back

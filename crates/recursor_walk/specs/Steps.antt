@@ -11,7 +11,7 @@ use Rattle.lookup_facts.specs.View.{View}
 use Rattle.lookup_facts.specs.Remembered.{CacheHolds}
 use Rattle.walk_tables.specs.Pools.{PoolsHold, StepGoes, IsStepAt, given_so_far}
 use Rattle.walk_tables.specs.declared.pools.Pools.{Pools}
-use Rattle.recursor_walk.specs.Replies.{Replied}
+use Rattle.recursor_walk.specs.Replies.{CameTo}
 use Rattle.recursor_walk.specs.Resolving.{steps, open_of, AsksFor, IsOpen, IsAnswered}
 use Rattle.recursor_walk.specs.Resolved.{ResolutionHolds}
 use Rattle.recursor_types.specs.declared.reply.Reply.{Reply}
@@ -44,11 +44,11 @@ GoesOn old new was r (Ok progress.Again) = (steps r < steps was) × (given_so_fa
 GoesOn old new was r (Ok (progress.Step s)) = StepIs old new was r s
 GoesOn old new was r (Err e) = given_so_far old ≤ given_so_far new
 
--- what a step gives is derived: an order goes to a server by what was put before, and a reply holds
+-- what a step gives is derived: an order goes to a server by what was put before, and a reply holds, for which memory was not wanting
 abbrev pub StepGives : View → Resolution → Step → Type 0
 StepGives seen was (step.Order number order) = StepGoes seen (stepped.Order number order.value)
 StepGives seen was (step.Waiting number) = Unit {0}
-StepGives seen was (step.Done reply) = Replied seen was.begun was.question reply.value
+StepGives seen was (step.Done reply) = CameTo seen was.begun was.question reply.value
 StepGives seen was step.Ended = Unit {0}
 
 abbrev pub Gives : View → Resolution → Progress → Type 0

@@ -172,7 +172,8 @@ impl Resolution {
 
     /// What it has next, at the moment of the tick, after the greatest entry so far: an order, one that it
     /// waits for, its reply once, or nothing more. It is lent what the recursor is set to, the cache, and
-    /// the pools. One that sets out is answered with what the cache has for it, where that may be answered.
+    /// the pools. One that sets out is answered with what the cache has for it, where that may be answered;
+    /// the reply of one that has it is handed out as it is.
     pub fn next(
         &mut self,
         alloc: Global,
@@ -189,6 +190,7 @@ impl Resolution {
             → ResolutionHolds seen self.old → StepsWell seen self.old self.new pools.new result }
         ensures recalls { want_of self.old ≡ Need.SetOut → IfSome (answerable (recalled cache.now self.old.question.query tick.now))
             (λ counted. IfOk result (HandsOut (reply_with self.old.question counted))) }
+        ensures replies { (reply : Reply) → IsDoneWith reply self.old.state → IfOk result (HandsOut reply) }
     {
         'steps: loop {
             match self.step_on(alloc, setting, cache, pools, since, tick)? {

@@ -69,6 +69,7 @@ steps-preserved c =
           so-far-again was.question (answerable (recalled c.args.cache.now was.question.query c.args.tick.now)) was c.steps.self r (c.steps.invariant.recalls new)
           (λ is. sets-out-at c.args.cache.now c.args.tick.now was c.steps.self r.state progress.Again is new (λ out. rw c.in-Again.is at c.in_ok-step_on.ensures.sets_out out))
           (λ reply done. rw c.in-Again.is at c.in_ok-step_on.ensures.replies reply done);
+      replies = λ reply done. absurd (rw c.in-Again.is at c.in_ok-step_on.ensures.replies reply (c.steps.invariant.replies reply done));
     }
 
 pub returns-in_err-step_on-clause-recalls : goal.returns-in_err-step_on-clause-recalls
@@ -83,3 +84,9 @@ returns-in-Step-clause-recalls c new =
     so-far-step was.question (answerable (recalled c.args.cache.now was.question.query c.args.tick.now)) was c.steps.self r c.in-Step.step (c.steps.invariant.recalls new)
     (λ is. sets-out-at c.args.cache.now c.args.tick.now was c.steps.self r.state (progress.Step c.in-Step.step) is new (λ out. rw c.in-Step.is at c.in_ok-step_on.ensures.sets_out out))
     (λ reply done. rw c.in-Step.is at c.in_ok-step_on.ensures.replies reply done)
+
+pub returns-in_err-step_on-clause-replies : goal.returns-in_err-step_on-clause-replies
+returns-in_err-step_on-clause-replies c reply done = IfOk-from_err c.from_residual.result _ c.from_residual.ensures.0
+
+pub returns-in-Step-clause-replies : goal.returns-in-Step-clause-replies
+returns-in-Step-clause-replies c reply done = rw c.in-Step.is at c.in_ok-step_on.ensures.replies reply (c.steps.invariant.replies reply done)

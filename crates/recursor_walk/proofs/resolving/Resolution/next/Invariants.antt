@@ -1,4 +1,4 @@
-use Rattle.recursor_walk.proofs.Names.{◌≡◌, View, recalled, answerable, SameBegun, IsOpen, steps, ResolutionHolds}
+use Rattle.recursor_walk.proofs.Names.{◌≡◌, View, Reply, IsDoneWith, recalled, answerable, SameBegun, IsOpen, steps, ResolutionHolds}
 use Rattle.std.specs.Prelude.{◌⊎◌}
 use Rattle.walk_tables.specs.Pools.{PoolsHold, given_so_far}
 use Rattle.recursor_walk.specs.Steps.{SteppedBy}
@@ -16,6 +16,7 @@ invariant-steps l = record {
       → ResolutionHolds seen l.self × PoolsHold seen l.pools;
   recalls : want_of l.fn.self ≡ need.SetOut
       → AnswersSoFar l.fn.self.question (answerable (recalled l.cache l.fn.self.question.query l.tick.now)) l.fn.self l.self;
+  replies : (reply : Reply) → IsDoneWith reply l.fn.self.state → IsDoneWith reply l.self.state;
 }
 
 abbrev pub decreases-steps : goal.decreases-steps
