@@ -5,7 +5,7 @@ use resolution::Verdict;
 
 /// What a lookup came to: a response was told by an entry, which counts so for its question or is the
 /// error; or it failed.
-#[derive(Drop, Debug)]
+#[derive(Drop)]
 pub enum Found {
     Told {
         entry: u64,

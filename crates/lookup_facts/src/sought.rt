@@ -29,7 +29,7 @@ pub struct Given {
 /// What a lookup is for: a question at the servers of a zone, since a moment. `given` is its open order,
 /// `first` the address to which its first send goes, where that is known, `at` the moment of the last
 /// end of a send, and `came` what it came to, where that is known.
-#[derive(Drop, Debug)]
+#[derive(Drop)]
 pub struct Sought {
     pub query: Query,
     pub zone: Name,

@@ -14,7 +14,7 @@ use std::alloc::Global;
 use std::collections::BTreeMap;
 
 /// An order that was given, and how often it was polled.
-#[derive(Drop, Debug)]
+#[derive(Drop)]
 pub struct Running {
     pub order: Box<Order>,
     pub polls: u32,

@@ -28,7 +28,7 @@ use walk_tables::Pools;
 /// The resolutions, in the order of their beginning, each kept until it has ended, and what they share: the
 /// cache of responses, the servers that were met and the lookups at them, the greatest moment handed in so
 /// far, and the greatest number of a log entry.
-#[derive(Drop, Debug)]
+#[derive(Drop)]
 pub struct RecursorCore {
     setting: Setting,
     cache: ResponseCache,

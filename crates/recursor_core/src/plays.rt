@@ -14,7 +14,7 @@ use std::mem;
 
 /// A question: not begun, under way as the resolution at a place, answered, or without an answer for want
 /// of memory.
-#[derive(Drop, Debug)]
+#[derive(Drop)]
 pub enum Played {
     Waiting,
     Begun { place: usize },

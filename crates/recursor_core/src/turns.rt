@@ -20,7 +20,7 @@ use std::alloc::Global;
 use std::collections::BTreeSet;
 
 /// What became of a turn of a question: it waits for an order, has its reply, or has ended without one.
-#[derive(Drop, Debug)]
+#[derive(Drop)]
 pub enum Turned {
     Pending,
     Done(Box<Reply>),

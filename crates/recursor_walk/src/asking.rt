@@ -24,7 +24,7 @@ use walk_base::{outcome_of, reply_by};
 use walk_tables::{Lookup, Pools, Stepped};
 
 /// A lookup at the servers of a zone.
-#[derive(Drop, Debug)]
+#[derive(Drop)]
 pub struct Asking {
     pub zone: Name,
     pub servers: Ips,

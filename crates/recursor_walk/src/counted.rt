@@ -9,7 +9,7 @@ use std::alloc::Global;
 use walk_base::verdict_kept;
 
 /// What counts, and the number of the log entry that told it.
-#[derive(Drop, Debug)]
+#[derive(Drop)]
 pub struct Counted {
     pub entry: u64,
     pub verdict: Verdict,

@@ -26,7 +26,7 @@ use walk_base::walked_name;
 use walk_tables::{Pools, Stepped, Want};
 
 /// Not begun, on the walk to its servers, asked at these, answered, or ended.
-#[derive(Drop, Debug)]
+#[derive(Drop)]
 pub enum State {
     New,
     Walking(Box<Walk>),
@@ -36,7 +36,7 @@ pub enum State {
 }
 
 /// What a resolution needs next: to set out, a step of a send, or that its reply is taken.
-#[derive(Clone, Copy, Debug)]
+#[derive(Clone, Copy)]
 pub enum Need {
     SetOut,
     Send(Want),
@@ -45,7 +45,7 @@ pub enum Need {
 }
 
 /// A question, the moment at which it began, in microseconds, and where it stands.
-#[derive(Drop, Debug)]
+#[derive(Drop)]
 pub struct Resolution {
     pub question: Question,
     pub begun: u64,

@@ -22,7 +22,7 @@ use std::mem;
 use walk_tables::{Pools, Stepped, Want};
 
 /// What a resolution has for whoever steps it.
-#[derive(Drop, Debug)]
+#[derive(Drop)]
 pub enum Step {
     Order { number: u64, order: Box<Order> },
     Waiting { number: u64 },

@@ -30,7 +30,7 @@ use walk_tables::Lookup;
 
 /// A walk to a name: the NS records of the candidate that has the last `labels` labels of the name are
 /// looked for at the servers of the deepest zone that was found at or above the name.
-#[derive(Drop, Debug)]
+#[derive(Drop)]
 pub struct Walk {
     pub name: Name,
     pub labels: usize,
@@ -39,7 +39,7 @@ pub struct Walk {
 
 /// Where a walk goes by a step: further, to the servers of its name, at which it has come, or to a reply
 /// of the question that is walked for.
-#[derive(Drop, Debug)]
+#[derive(Drop)]
 pub enum Course {
     Further,
     Arrived,

@@ -18,7 +18,7 @@ use std::alloc::Global;
 
 /// An attempt in flight: the server that is tried, the number of its last order, 0 before the first, and
 /// its send.
-#[derive(Drop, Debug)]
+#[derive(Drop)]
 pub struct Attempt {
     pub candidate: Candidate,
     pub order: u64,
@@ -26,7 +26,7 @@ pub struct Attempt {
 }
 
 /// What an outcome did to its order, and what the attempt ended with, if it did.
-#[derive(Drop, Debug)]
+#[derive(Drop)]
 pub(crate) struct Put {
     pub(crate) after: After,
     pub(crate) end: Option<Result<Message, NetError>>,

@@ -16,7 +16,7 @@ use std::alloc::Global;
 
 /// What a lookup does next: it gives an order of the number that it was handed, waits for the outcome of
 /// one that is open, or has its answer.
-#[derive(Drop, Debug)]
+#[derive(Drop)]
 pub enum LookupStep {
     Order(Order),
     Waiting,
@@ -25,7 +25,7 @@ pub enum LookupStep {
 
 /// What a lookup comes to next: the attempt at a place goes on, the first server of the round that is
 /// left is asked, it backs off, waits for an order that is open, or tells its answer.
-#[derive(Clone, Copy, Debug)]
+#[derive(Clone, Copy)]
 pub enum Want {
     Resume { place: usize },
     Begin { candidate: Candidate },

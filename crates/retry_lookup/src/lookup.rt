@@ -16,7 +16,7 @@ use std::marker::Model;
 
 /// What a lookup is at: it asks; it backs off until a moment, under an order that was given, after so
 /// many polls of it that found nothing; or a step of a moment decided it.
-#[derive(Drop, Debug)]
+#[derive(Drop)]
 pub enum State {
     Asking,
     BackingOff {
@@ -32,7 +32,7 @@ pub enum State {
 
 /// A lookup of a request at the servers of a pool. Moments and times are in microseconds. Its memory is
 /// taken when it is made, but for the orders that it gives and what is made of a response.
-#[derive(Drop, Debug)]
+#[derive(Drop)]
 pub struct Lookup {
     pub(crate) request: DnsRequest,
     pub(crate) servers: Vec<Candidate>,

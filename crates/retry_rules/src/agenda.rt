@@ -26,7 +26,7 @@ const MOST_SLEEPS: u8 = 4;
 /// The servers that are to be asked, in their order, those that were busy, over which protocols they
 /// are asked, the error that is kept, and how often the lookup slept. Both queues have room for all
 /// places of the pool from the start, so that no later step wants memory.
-#[derive(Drop, Debug)]
+#[derive(Drop)]
 pub struct Agenda {
     waiting: VecDeque<Candidate>,
     busy: VecDeque<Candidate>,

@@ -21,7 +21,7 @@ pub enum Ending {
 }
 
 /// What an end that was heard came to: the lookup goes on, or answers this.
-#[derive(Drop, Debug)]
+#[derive(Drop)]
 pub enum Hearing {
     GoesOn,
     Answers(Result<Message, NetError>),

@@ -21,7 +21,7 @@ use std::alloc::Global;
 use std::collections::BTreeMap;
 
 /// A lookup at the pool of a number, and how many wait for it.
-#[derive(Drop, Debug)]
+#[derive(Drop)]
 pub struct OpenLookup {
     pub(crate) pool: u64,
     pub(crate) waiters: u64,

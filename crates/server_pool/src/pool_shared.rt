@@ -29,7 +29,7 @@ use std::marker::Model;
 
 /// What a lookup at a pool does next: it gives an order with its number, waits for the outcome of one
 /// that is open, or has its answer.
-#[derive(Drop, Debug)]
+#[derive(Drop)]
 pub enum PoolStep {
     Order { number: u64, order: Order },
     Waiting,
@@ -62,7 +62,6 @@ impl TryClone for PoolStep {
 /// The servers, the settings of all pools, the lookups that are under way by their numbers, the lookup of
 /// each order that was given and has not ended, whose turn it is in each pool that takes turns, and how
 /// many pools were numbered, requests were sent and orders were given so far.
-#[derive(Debug)]
 pub struct PoolShared {
     table: ServerTable,
     context: PoolContext,

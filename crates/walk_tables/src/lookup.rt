@@ -20,7 +20,7 @@ use std::net::IpAddr;
 
 /// Where a lookup stands. At first the cache was not looked at; then it is to begin, or is under way at
 /// a pool; at last it came to something, which is to be heard.
-#[derive(Drop, Debug)]
+#[derive(Drop)]
 pub enum Ask {
     Fresh,
     Ready,
@@ -30,7 +30,7 @@ pub enum Ask {
 
 /// What a lookup wants next: what the cache has, to begin at its servers, its next step there, or that
 /// what it came to is heard.
-#[derive(Clone, Copy, Debug)]
+#[derive(Clone, Copy)]
 pub enum Want {
     Recall,
     Begin,
@@ -39,7 +39,7 @@ pub enum Want {
 }
 
 /// A lookup: its question, where it stands, and the entries by which its sends ended.
-#[derive(Drop, Debug)]
+#[derive(Drop)]
 pub struct Lookup {
     pub query: Query,
     pub ask: Ask,

@@ -38,14 +38,14 @@ use std::mem;
 use std::net::IpAddr;
 
 /// What a lookup came to, and the entries of its ends.
-#[derive(Drop, Debug)]
+#[derive(Drop)]
 pub struct Answer {
     pub came: Found,
     pub ends: Numbers,
 }
 
 /// What a lookup has next: an order with its number, one that it waits for, or its answer.
-#[derive(Drop, Debug)]
+#[derive(Drop)]
 pub enum Stepped {
     Order { number: u64, order: Order },
     Waiting { number: u64 },
@@ -55,7 +55,6 @@ pub enum Stepped {
 /// What the pools share, the number of each server under its address, and what is sought by each lookup
 /// that is under way, under its number. New servers take the first delays in turn, of which `turn` is
 /// the next.
-#[derive(Debug)]
 pub struct Pools {
     shared: PoolShared,
     numbers: BTreeMap<IpAddr, u32>,
