@@ -20,7 +20,7 @@ def best(program, words, runs):
     least = None
     for _ in range(runs):
         t = time.perf_counter()
-        done = subprocess.run([program] + words, stdout=subprocess.DEVNULL, stderr=subprocess.DEVNULL)
+        done = subprocess.run([program] + words, stdin=subprocess.DEVNULL, stdout=subprocess.DEVNULL, stderr=subprocess.DEVNULL)
         t = time.perf_counter() - t
         if done.returncode != 0:
             sys.exit("%s %s ended with status %d" % (program, " ".join(words), done.returncode))

@@ -16,47 +16,51 @@ import subprocess
 import sys
 import time
 
+from scenarios import as_the_dns, held, small
+
 RUNS = 2000
-WORLDS = (("one server a zone", "small"), ("shape of the DNS", "dns"))
+WORLDS = (("one server a zone", small), ("shape of the DNS", as_the_dns))
 
 
-def run(command):
-    done = subprocess.run(command, stdout=subprocess.DEVNULL, stderr=subprocess.PIPE)
+def run(command, scenario):
+    with open(scenario, "rb") as text:
+        done = subprocess.run(command, stdin=text, stdout=subprocess.DEVNULL, stderr=subprocess.PIPE)
     if done.returncode != 0:
         sys.exit("%s ended with status %d" % (" ".join(command), done.returncode))
     return done.stderr.decode()
 
 
-def seconds(program, words):
+def seconds(program, scenario, times):
     least = None
     for _ in range(40):
         t = time.perf_counter()
-        run([program] + words)
+        run([program, "answers", str(times)], scenario)
         t = time.perf_counter() - t
         least = t if least is None else min(least, t)
     return least
 
 
-def instructions(program, words):
-    told = run(["valgrind", "--tool=callgrind", "--callgrind-out-file=/dev/null", program] + words)
-    return int(re.search(r"Collected : (\d+)", told).group(1))
+def instructions(program, scenario, times):
+    counted = ["valgrind", "--tool=callgrind", "--callgrind-out-file=/dev/null", program, "answers", str(times)]
+    return int(re.search(r"Collected : (\d+)", run(counted, scenario)).group(1))
 
 
-def compare(measure, program, name):
-    once = measure(program, [name, "1"])
-    cached = (measure(program, [name, str(RUNS)]) - once) / (RUNS - 1)
-    walked = (measure(program, [name + "-unkept", str(RUNS)]) - once) / (RUNS - 1)
+def compare(measure, program, world):
+    with held(world(True)) as kept, held(world(False)) as unkept:
+        once = measure(program, kept, 1)
+        cached = (measure(program, kept, RUNS) - once) / (RUNS - 1)
+        walked = (measure(program, unkept, RUNS) - once) / (RUNS - 1)
     return cached, walked, walked / cached
 
 
 def main():
     program = sys.argv[1]
     ratio = None
-    for label, name in WORLDS:
-        cached, walked, ratio = compare(seconds, program, name)
+    for label, world in WORLDS:
+        cached, walked, ratio = compare(seconds, program, world)
         print("%s: from the cache %.2f us, walked for %.2f us, %.1f times as long" % (label, cached * 1e6, walked * 1e6, ratio))
         if shutil.which("valgrind"):
-            print("%s: from the cache %.0f instructions, walked for %.0f, %.1f times as many" % ((label,) + compare(instructions, program, name)))
+            print("%s: from the cache %.0f instructions, walked for %.0f, %.1f times as many" % ((label,) + compare(instructions, program, world)))
     sys.exit(1 if ratio < 100 else 0)
 
 

@@ -22,14 +22,14 @@ ENTRIES = (1_000, 32_000, 1_048_576)
 
 def instructions(program, words):
     command = ["valgrind", "--tool=callgrind", "--callgrind-out-file=/dev/null", program] + words
-    done = subprocess.run(command, stdout=subprocess.DEVNULL, stderr=subprocess.PIPE)
+    done = subprocess.run(command, stdin=subprocess.DEVNULL, stdout=subprocess.DEVNULL, stderr=subprocess.PIPE)
     if done.returncode != 0:
         sys.exit("%s ended with status %d" % (" ".join(words), done.returncode))
     return int(re.search(r"Collected : (\d+)", done.stderr.decode()).group(1))
 
 
 def resident(program, words):
-    child = subprocess.Popen([program] + words, stdout=subprocess.DEVNULL)
+    child = subprocess.Popen([program] + words, stdin=subprocess.DEVNULL, stdout=subprocess.DEVNULL)
     _, status, used = os.wait4(child.pid, 0)
     child.returncode = os.waitstatus_to_exitcode(status)
     if child.returncode != 0:

@@ -12,6 +12,8 @@ import shutil
 import subprocess
 import sys
 
+from scenarios import held, way
+
 ZONES = 3
 RUNS = (1000, 4000, 16000)
 LIMIT = 1.1
@@ -19,12 +21,13 @@ LIMIT = 1.1
 
 def instructions(program, questions):
     """The instructions of a run, all of whose questions are answered."""
-    words = ["many", str(ZONES), str(questions)]
+    words = ["many", str(questions)]
     command = ["valgrind", "--tool=callgrind", "--callgrind-out-file=/dev/null", program] + words
-    done = subprocess.run(command, stdout=subprocess.PIPE, stderr=subprocess.PIPE, text=True)
+    with held(way(ZONES)) as scenario, open(scenario, "rb") as text:
+        done = subprocess.run(command, stdin=text, stdout=subprocess.PIPE, stderr=subprocess.PIPE, text=True)
     if done.returncode != 0:
         sys.exit("%s ended with status %d" % (" ".join(words), done.returncode))
-    if done.stdout != "many %d %d: %d are answered\n" % (ZONES, questions, questions):
+    if done.stdout != "many %d: %d are answered\n" % (questions, questions):
         sys.exit("%s: %s" % (" ".join(words), done.stdout))
     return int(re.search(r"Collected : (\d+)", done.stderr).group(1))
 

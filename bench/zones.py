@@ -15,19 +15,23 @@ import shutil
 import subprocess
 import sys
 
+from scenarios import held, way
+
 RUNS = 2000
-WAYS = (("1 zone", "1", "0"), ("3 zones", "3", "0"), ("10 zones", "10", "0"), ("3 zones, 10,000 more rules", "3", "10000"))
+WAYS = (("1 zone", 1, 0), ("3 zones", 3, 0), ("10 zones", 10, 0), ("3 zones, 10,000 more rules", 3, 10000))
 
 
-def run(command):
-    done = subprocess.run(command, stdout=subprocess.DEVNULL, stderr=subprocess.PIPE)
+def run(command, scenario):
+    with open(scenario, "rb") as text:
+        done = subprocess.run(command, stdin=text, stdout=subprocess.DEVNULL, stderr=subprocess.PIPE)
     if done.returncode != 0:
         sys.exit("%s ended with status %d" % (" ".join(command), done.returncode))
     return done.stderr.decode()
 
 
-def processor_time(command):
-    child = subprocess.Popen(command, stdout=subprocess.DEVNULL, stderr=subprocess.DEVNULL)
+def processor_time(command, scenario):
+    with open(scenario, "rb") as text:
+        child = subprocess.Popen(command, stdin=text, stdout=subprocess.DEVNULL, stderr=subprocess.DEVNULL)
     _, status, used = os.wait4(child.pid, 0)
     child.returncode = os.waitstatus_to_exitcode(status)
     if child.returncode != 0:
@@ -35,20 +39,20 @@ def processor_time(command):
     return used.ru_utime + used.ru_stime
 
 
-def seconds(program, words):
-    return min(processor_time([program] + words) for _ in range(20))
+def seconds(program, scenario, times):
+    return min(processor_time([program, "answers", str(times)], scenario) for _ in range(20))
 
 
-def instructions(program, words):
-    told = run(["valgrind", "--tool=callgrind", "--callgrind-out-file=/dev/null", program] + words)
-    return int(re.search(r"Collected : (\d+)", told).group(1))
+def instructions(program, scenario, times):
+    counted = ["valgrind", "--tool=callgrind", "--callgrind-out-file=/dev/null", program, "answers", str(times)]
+    return int(re.search(r"Collected : (\d+)", run(counted, scenario)).group(1))
 
 
 def costs(measure, program):
     found = []
     for _, zones, unused in WAYS:
-        way = ["way", zones, unused]
-        found.append((measure(program, way + [str(RUNS)]) - measure(program, way + ["1"])) / (RUNS - 1))
+        with held(way(zones, unused)) as scenario:
+            found.append((measure(program, scenario, RUNS) - measure(program, scenario, 1)) / (RUNS - 1))
     return found
 
 

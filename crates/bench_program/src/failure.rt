@@ -1,6 +1,6 @@
 //! Why a run stops.
 
-use dns_core::NoMemory;
+use dns_core::{NoMemory, ReadError};
 use std::alloc::{AllocError, AllocFailed};
 use std::io;
 
@@ -9,9 +9,9 @@ use std::io;
 pub enum Failure {
     /// The words name no run.
     Words,
-    /// A line of a scenario that was written here is none.
+    /// This line of the scenario is none, or not built.
     Line(u32),
-    /// A name of a scenario is not fully qualified.
+    /// A name of the scenario is not fully qualified.
     Unqualified,
     /// The recursor is refused.
     Refused,
@@ -35,6 +35,15 @@ impl From<AllocError> for Failure {
 impl<T: Drop> From<AllocFailed<T>> for Failure {
     fn from(_e: AllocFailed<T>) -> Failure {
         Failure::NoMemory
+    }
+}
+
+impl From<ReadError> for Failure {
+    fn from(e: ReadError) -> Failure {
+        match e {
+            ReadError::Failed => Failure::System,
+            ReadError::NoMemory => Failure::NoMemory,
+        }
     }
 }
 

@@ -45,8 +45,8 @@ fn bench_over(alloc: Global, scenario: Scenario) -> Result<Bench, Failure> {
     }
 }
 
-fn bench_of(alloc: Global, text: &str) -> Result<Bench, Failure> {
-    match read_scenario(alloc, text.as_bytes()) {
+fn bench_of(alloc: Global, scenario: &[u8]) -> Result<Bench, Failure> {
+    match read_scenario(alloc, scenario) {
         Ok(scenario) => bench_over(alloc, scenario),
         Err(error) => Err(Failure::Line(error.line)),
     }
@@ -75,8 +75,8 @@ fn count_answers(alloc: Global, bench: &mut Bench, times: u32) -> Result<usize, 
     Ok(answers)
 }
 
-/// Drives the question of a scenario so often, each time in a run of its own, and counts its answers.
-pub fn answers(alloc: Global, scenario: &str, times: u32) -> Result<usize, Failure> {
+/// Drives the questions of a scenario so often, each time in a run of their own, and counts the answers.
+pub fn answers(alloc: Global, scenario: &[u8], times: u32) -> Result<usize, Failure> {
     let mut bench = bench_of(alloc, scenario)?;
     count_answers(alloc, &mut bench, times)
 }
@@ -104,7 +104,7 @@ fn count_in_one_run(alloc: Global, bench: &mut Bench, count: u32) -> Result<usiz
 }
 
 /// Drives the first question of a scenario so many times, in one run, and counts its answers.
-pub fn answers_of_one_run(alloc: Global, scenario: &str, count: u32) -> Result<usize, Failure> {
+pub fn answers_of_one_run(alloc: Global, scenario: &[u8], count: u32) -> Result<usize, Failure> {
     let mut bench = bench_of(alloc, scenario)?;
     count_in_one_run(alloc, &mut bench, count)
 }
