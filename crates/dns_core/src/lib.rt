@@ -53,5 +53,5 @@ pub use request::{DnsRequest, DnsRequestOptions, Question, Turn};
 pub use std_streams::{StdSink, StdSource};
 pub use streams::{Sink, Source};
 pub use stripping::strip;
-pub use threads::{lists_cross_threads, streams_cross_threads, values_cross_threads};
+pub use threads::CrossesThreads;
 pub use whole_streams::{ReadError, read_all, write_all};

@@ -1,5 +1,5 @@
-//! Each type of this crate that holds values may go to another thread, and be shared among threads,
-//! where its parameters may.
+//! Which types may go to another thread, and be shared among threads. Of each public type that holds values
+//! its crate says so, where its parameters may.
 
 use crate::boxed::Boxed;
 use crate::codes::{DnsClass, RecordType, ResponseCode};
@@ -7,7 +7,7 @@ use crate::connection::{ConnectOptions, ConnectionConfig, Protocol, ProtocolConf
 use crate::errors::{Failed, NoMemory};
 use crate::items::{Items, Text};
 use crate::label::{Label, Letter};
-use crate::log::{Log, LogEntry, ToldOutcome};
+use crate::log::{LogEntry, ToldOutcome};
 use crate::memory_streams::{MemorySink, MemorySource};
 use crate::message::{Message, Query};
 use crate::name::Name;
@@ -19,59 +19,81 @@ use crate::request::{DnsRequest, DnsRequestOptions, Question, Turn};
 use crate::std_streams::{StdSink, StdSource};
 use crate::whole_streams::ReadError;
 
-fn crosses<T: Send + Sync>() {}
+/// What may go to another thread, and be shared among threads.
+pub trait CrossesThreads: Send + Sync {}
 
-/// The types without parameters cross threads.
-pub fn values_cross_threads() {
-    crosses::<Name>();
-    crosses::<Label>();
-    crosses::<Letter>();
-    crosses::<Text>();
-    crosses::<RecordType>();
-    crosses::<DnsClass>();
-    crosses::<ResponseCode>();
-    crosses::<RData>();
-    crosses::<Soa>();
-    crosses::<Record>();
-    crosses::<Query>();
-    crosses::<Message>();
-    crosses::<DnsRequestOptions>();
-    crosses::<DnsRequest>();
-    crosses::<Question>();
-    crosses::<Turn>();
-    crosses::<Protocol>();
-    crosses::<ProtocolConfig>();
-    crosses::<ConnectionConfig>();
-    crosses::<ConnectOptions>();
-    crosses::<ToldOutcome>();
-    crosses::<LogEntry>();
-    crosses::<Log>();
-    errors_cross_threads();
-}
+impl CrossesThreads for Name {}
 
-fn errors_cross_threads() {
-    crosses::<IoKind>();
-    crosses::<ForwardNsData>();
-    crosses::<NoRecords>();
-    crosses::<DnsError>();
-    crosses::<NetError>();
-    crosses::<NameError>();
-    crosses::<ReadError>();
-    crosses::<NoMemory>();
-    crosses::<Failed>();
-}
+impl CrossesThreads for Label {}
 
-/// A list crosses threads with its items, a box with its value, and a poll with what it answers.
-pub fn lists_cross_threads<T: Send + Sync>() {
-    crosses::<Items<T>>();
-    crosses::<Boxed<T>>();
-    crosses::<Poll<T>>();
-}
+impl CrossesThreads for Letter {}
 
-/// The streams in memory cross threads, and those of the system with their reader or writer.
-pub fn streams_cross_threads<S: Send + Sync>() {
-    crosses::<MemorySource>();
-    crosses::<MemorySink>();
-    crosses::<StdSource<S>>();
-    crosses::<StdSink<S>>();
-}
+impl CrossesThreads for Text {}
+
+impl CrossesThreads for RecordType {}
+
+impl CrossesThreads for DnsClass {}
+
+impl CrossesThreads for ResponseCode {}
+
+impl CrossesThreads for RData {}
+
+impl CrossesThreads for Soa {}
+
+impl CrossesThreads for Record {}
+
+impl CrossesThreads for Query {}
+
+impl CrossesThreads for Message {}
+
+impl CrossesThreads for DnsRequestOptions {}
+
+impl CrossesThreads for DnsRequest {}
+
+impl CrossesThreads for Question {}
+
+impl CrossesThreads for Turn {}
+
+impl CrossesThreads for Protocol {}
+
+impl CrossesThreads for ProtocolConfig {}
+
+impl CrossesThreads for ConnectionConfig {}
+
+impl CrossesThreads for ConnectOptions {}
+
+impl CrossesThreads for ToldOutcome {}
+
+impl CrossesThreads for LogEntry {}
+
+impl CrossesThreads for IoKind {}
+
+impl CrossesThreads for ForwardNsData {}
+
+impl CrossesThreads for NoRecords {}
+
+impl CrossesThreads for DnsError {}
+
+impl CrossesThreads for NetError {}
+
+impl CrossesThreads for NameError {}
+
+impl CrossesThreads for ReadError {}
+
+impl CrossesThreads for NoMemory {}
+
+impl CrossesThreads for Failed {}
+
+impl CrossesThreads for MemorySource {}
+
+impl CrossesThreads for MemorySink {}
+
+impl<T: Send + Sync> CrossesThreads for Items<T> {}
+
+impl<T: Send + Sync> CrossesThreads for Boxed<T> {}
+
+impl<T: Send + Sync> CrossesThreads for Poll<T> {}
+
+impl<S: Send + Sync> CrossesThreads for StdSource<S> {}
+
+impl<S: Send + Sync> CrossesThreads for StdSink<S> {}

@@ -5,6 +5,7 @@ mod lines;
 mod option_form;
 mod record_lines;
 mod rules;
+mod threads;
 
 pub use lines::{Form, answered, connected, delay, dnssec_word, form_line};
 pub use option_form::{Bounds, OptionLine, last_rank, ns_recursion_limit, options_with};

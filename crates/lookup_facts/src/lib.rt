@@ -11,4 +11,3 @@ mod threads;
 pub use aims::{aim_of, first_of, is_memory, polled_by};
 pub use found::Found;
 pub use sought::{Aim, Given, Sought};
-pub use threads::facts_cross_threads;

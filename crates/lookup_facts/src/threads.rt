@@ -1,14 +1,13 @@
-//! Each type of this crate may go to another thread, and be shared among threads.
+//! Which types of this crate may go to another thread, and be shared among threads.
 
 use crate::found::Found;
 use crate::sought::{Aim, Given, Sought};
+use dns_core::CrossesThreads;
 
-fn crosses<T: Send + Sync>() {}
+impl CrossesThreads for Aim {}
 
-/// The types cross threads.
-pub fn facts_cross_threads() {
-    crosses::<Aim>();
-    crosses::<Found>();
-    crosses::<Given>();
-    crosses::<Sought>();
-}
+impl CrossesThreads for Found {}
+
+impl CrossesThreads for Given {}
+
+impl CrossesThreads for Sought {}

@@ -17,4 +17,3 @@ mod threads;
 mod under_way;
 
 pub use carrier::Carrier;
-pub use threads::carriers_cross_threads;

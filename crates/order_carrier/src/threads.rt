@@ -1,16 +1,11 @@
-//! A carrier may go to another thread, and be shared among threads, where its parameters may.
+//! Which types of this crate may go to another thread, and be shared among threads.
 
 use crate::carrier::Carrier;
-use dns_core::ConnectionProvider;
+use dns_core::{ConnectionProvider, CrossesThreads};
 
-fn crosses<T: Send + Sync>() {}
-
-/// A carrier crosses threads with its provider, the connections and what is under way.
-pub fn carriers_cross_threads<P: ConnectionProvider + Send + Sync>()
+impl<P: ConnectionProvider + Send + Sync> CrossesThreads for Carrier<P>
 where
     P::Conn: Send + Sync,
     P::FutureConn: Send + Sync,
     P::Exchange: Send + Sync,
-{
-    crosses::<Carrier<P>>();
-}
+{}

@@ -8,4 +8,3 @@ mod runner;
 mod threads;
 
 pub use runner::{Runner, Running};
-pub use threads::runners_cross_threads;

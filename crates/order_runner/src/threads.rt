@@ -1,16 +1,13 @@
-//! A runner may go to another thread, and be shared among threads, where its parameters may.
+//! Which types of this crate may go to another thread, and be shared among threads.
 
-use crate::runner::Runner;
-use dns_core::ConnectionProvider;
+use crate::runner::{Runner, Running};
+use dns_core::{ConnectionProvider, CrossesThreads};
 
-fn crosses<T: Send + Sync>() {}
-
-/// A runner crosses threads with its provider, the connections and what is under way.
-pub fn runners_cross_threads<P: ConnectionProvider + Send + Sync>()
+impl<P: ConnectionProvider + Send + Sync> CrossesThreads for Runner<P>
 where
     P::Conn: Send + Sync,
     P::FutureConn: Send + Sync,
     P::Exchange: Send + Sync,
-{
-    crosses::<Runner<P>>();
-}
+{}
+
+impl CrossesThreads for Running {}

@@ -7,6 +7,7 @@ mod kept;
 mod plain_base;
 mod plain_serving;
 mod setting;
+mod threads;
 
 pub use plain_base::base;
 pub use plain_serving::serves;

@@ -7,6 +7,7 @@ mod command;
 mod faults;
 mod resolving;
 mod status;
+mod threads;
 mod words;
 
 pub use command::run;

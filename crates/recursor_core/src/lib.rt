@@ -14,4 +14,3 @@ pub use recursor::Recursor;
 pub use recursor_types::{
     AuthorityData, MessageKind, RecursorError, RecursorOptions, Reply, WalkCause,
 };
-pub use threads::recursors_cross_threads;

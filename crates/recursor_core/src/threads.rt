@@ -1,17 +1,11 @@
-//! A recursor may go to another thread, and be shared among threads, where its provider may. Options,
-//! errors and replies are those of `recursor_types`, which says it of them.
+//! Which types of this crate may go to another thread, and be shared among threads.
 
 use crate::recursor::Recursor;
-use dns_core::ConnectionProvider;
+use dns_core::{ConnectionProvider, CrossesThreads};
 
-fn crosses<T: Send + Sync>() {}
-
-/// A recursor crosses threads with its provider, the connections and what is under way.
-pub fn recursors_cross_threads<P: ConnectionProvider + Send + Sync>()
+impl<P: ConnectionProvider + Send + Sync> CrossesThreads for Recursor<P>
 where
     P::Conn: Send + Sync,
     P::FutureConn: Send + Sync,
     P::Exchange: Send + Sync,
-{
-    crosses::<Recursor<P>>();
-}
+{}

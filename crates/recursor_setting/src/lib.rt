@@ -10,4 +10,3 @@ mod threads;
 pub use asking::{connect_options, request_options, resolver_options};
 pub use delays::{FirstDelay, first_delay};
 pub use setting::{Setting, pool_context};
-pub use threads::settings_cross_threads;

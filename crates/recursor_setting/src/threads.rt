@@ -1,12 +1,9 @@
-//! What a recursor is set to may go to another thread, and be shared among threads.
+//! Which types of this crate may go to another thread, and be shared among threads.
 
 use crate::delays::FirstDelay;
 use crate::setting::Setting;
+use dns_core::CrossesThreads;
 
-fn crosses<T: Send + Sync>() {}
+impl CrossesThreads for Setting {}
 
-/// Settings cross threads.
-pub fn settings_cross_threads() {
-    crosses::<Setting>();
-    crosses::<FirstDelay>();
-}
+impl CrossesThreads for FirstDelay {}

@@ -11,7 +11,6 @@ mod scenario;
 mod threads;
 
 pub use scenario::{Cause, Scenario, ScenarioError, Upstream, one_reading, read_scenario};
-pub use threads::texts_cross_threads;
 pub use transcript_printer::{
     Transcript, has_log_words, has_transcript_words, has_words, print_error, print_log,
     print_message, print_record, print_transcript,

@@ -1,15 +1,12 @@
-//! Each type of scenarios and transcripts may go to another thread, and be shared among threads.
+//! Which types of this crate may go to another thread, and be shared among threads.
 
 use crate::scenario::{Cause, Scenario, ScenarioError, Upstream};
-use transcript_printer::Transcript;
+use dns_core::CrossesThreads;
 
-fn crosses<T: Send + Sync>() {}
+impl CrossesThreads for Scenario {}
 
-/// Scenarios and transcripts cross threads.
-pub fn texts_cross_threads() {
-    crosses::<Scenario>();
-    crosses::<Upstream>();
-    crosses::<Cause>();
-    crosses::<ScenarioError>();
-    crosses::<Transcript>();
-}
+impl CrossesThreads for Upstream {}
+
+impl CrossesThreads for Cause {}
+
+impl CrossesThreads for ScenarioError {}

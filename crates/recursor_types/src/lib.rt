@@ -12,4 +12,3 @@ mod threads;
 pub use error::{AuthorityData, MessageKind, RecursorError, WalkCause};
 pub use options::RecursorOptions;
 pub use reply::Reply;
-pub use threads::replies_cross_threads;

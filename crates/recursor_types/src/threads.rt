@@ -1,17 +1,18 @@
-//! Each type of this crate may go to another thread, and be shared among threads.
+//! Which types of this crate may go to another thread, and be shared among threads.
 
 use crate::error::{AuthorityData, MessageKind, RecursorError, WalkCause};
 use crate::options::RecursorOptions;
 use crate::reply::Reply;
+use dns_core::CrossesThreads;
 
-fn crosses<T: Send + Sync>() {}
+impl CrossesThreads for RecursorOptions {}
 
-/// Options, errors and replies cross threads.
-pub fn replies_cross_threads() {
-    crosses::<RecursorOptions>();
-    crosses::<MessageKind>();
-    crosses::<WalkCause>();
-    crosses::<AuthorityData>();
-    crosses::<RecursorError>();
-    crosses::<Reply>();
-}
+impl CrossesThreads for MessageKind {}
+
+impl CrossesThreads for WalkCause {}
+
+impl CrossesThreads for AuthorityData {}
+
+impl CrossesThreads for RecursorError {}
+
+impl CrossesThreads for Reply {}

@@ -14,5 +14,4 @@ mod walk;
 pub use asking::Asking;
 pub use resolving::{Need, Resolution, State};
 pub use steps::Step;
-pub use threads::walks_cross_threads;
 pub use walk::{Course, Walk};

@@ -1,19 +1,24 @@
-//! Each type of this crate may go to another thread, and be shared among threads.
+//! Which types of this crate may go to another thread, and be shared among threads.
 
 use crate::asking::Asking;
 use crate::counted::Counted;
 use crate::resolving::{Need, Resolution, State};
+use crate::steps::Step;
 use crate::walk::{Course, Walk};
+use dns_core::CrossesThreads;
 
-fn crosses<T: Send + Sync>() {}
+impl CrossesThreads for Asking {}
 
-/// The types cross threads.
-pub fn walks_cross_threads() {
-    crosses::<Asking>();
-    crosses::<Counted>();
-    crosses::<Course>();
-    crosses::<Need>();
-    crosses::<Resolution>();
-    crosses::<State>();
-    crosses::<Walk>();
-}
+impl CrossesThreads for Counted {}
+
+impl CrossesThreads for Course {}
+
+impl CrossesThreads for Need {}
+
+impl CrossesThreads for Resolution {}
+
+impl CrossesThreads for State {}
+
+impl CrossesThreads for Walk {}
+
+impl CrossesThreads for Step {}

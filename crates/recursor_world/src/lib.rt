@@ -14,5 +14,4 @@ pub use laws::fronts_are_given;
 pub use provider::{ScriptExchange, ScriptOpening};
 pub use script_book::Endpoint;
 pub use script_lines::{Late, Room, Script, ScriptLine, push_or_back};
-pub use threads::scripts_cross_threads;
 pub use upstream::ScriptUpstream;

@@ -1,22 +1,11 @@
-//! Each type that this crate exports and that holds values may go to another thread, and be shared among threads.
+//! Which types of this crate may go to another thread, and be shared among threads.
 
 use crate::provider::{ScriptExchange, ScriptOpening};
 use crate::upstream::ScriptUpstream;
-use script_book::Endpoint;
-use script_lines::{Script, ScriptLine};
+use dns_core::CrossesThreads;
 
-fn crosses<T: Send + Sync>() {}
+impl CrossesThreads for ScriptOpening {}
 
-/// Scripts cross threads, and so do upstreams with what they are asked.
-pub fn scripts_cross_threads() {
-    crosses::<ScriptLine>();
-    crosses::<Script>();
-    crosses::<Endpoint>();
-    calls_cross_threads();
-}
+impl CrossesThreads for ScriptExchange {}
 
-fn calls_cross_threads() {
-    crosses::<ScriptOpening>();
-    crosses::<ScriptExchange>();
-    crosses::<ScriptUpstream>();
-}
+impl CrossesThreads for ScriptUpstream {}

@@ -12,6 +12,7 @@ mod growing;
 mod inventing;
 mod orders;
 mod strangers;
+mod threads;
 mod verdict;
 
 pub use base_script::{an_alias_is_answered, the_base_script_is_answered};

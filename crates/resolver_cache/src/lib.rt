@@ -24,4 +24,3 @@ pub use kept_entry::KeptEntry;
 pub use laws::{a_write_adds_one_response_alone, what_is_read_is_current};
 pub use lowering::seconds_between;
 pub use reading::read_message;
-pub use threads::caches_cross_threads;

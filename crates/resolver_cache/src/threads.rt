@@ -1,17 +1,17 @@
-//! Each type of this crate that holds values may go to another thread, and be shared among threads.
+//! Which types of this crate may go to another thread, and be shared among threads.
 
 use crate::bounds::ReversedTtl;
 use crate::cache::ResponseCache;
 use crate::entry::{CachedResponse, Entry};
 use crate::kept_entry::KeptEntry;
+use dns_core::CrossesThreads;
 
-fn crosses<T: Send + Sync>() {}
+impl CrossesThreads for ResponseCache {}
 
-/// The types of this crate cross threads.
-pub fn caches_cross_threads() {
-    crosses::<ResponseCache>();
-    crosses::<Entry>();
-    crosses::<KeptEntry>();
-    crosses::<CachedResponse>();
-    crosses::<ReversedTtl>();
-}
+impl CrossesThreads for Entry {}
+
+impl CrossesThreads for KeptEntry {}
+
+impl CrossesThreads for CachedResponse {}
+
+impl CrossesThreads for ReversedTtl {}

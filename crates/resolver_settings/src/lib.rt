@@ -34,5 +34,4 @@ pub use recommended::recommended_server_filters;
 pub use resolver_text::parse_resolv_conf;
 pub use search_domains::parse_search_domains;
 pub use system_conf::read_system_conf;
-pub use threads::settings_cross_threads;
 pub use ttl::{TtlBounds, TtlConfig};

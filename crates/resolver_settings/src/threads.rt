@@ -1,31 +1,37 @@
-//! Each type of this crate that holds values may go to another thread, and be shared among threads.
+//! Which types of this crate may go to another thread, and be shared among threads.
 
-use crate::access::{AccessControlSet, AccessControlSetBuilder, Nets};
+use crate::access::{AccessControlSet, AccessControlSetBuilder};
 use crate::conf_error::ConfError;
 use crate::config::ResolverConfig;
-use crate::name_server::{ConnectionConfigs, NameServerConfig};
+use crate::name_server::NameServerConfig;
 use crate::net::{IpNet, PrefixTooLong};
 use crate::opportunistic::{OpportunisticEncryption, OpportunisticEncryptionConfig};
 use crate::options::{ResolverOpts, ServerOrderingStrategy};
 use crate::ttl::{TtlBounds, TtlConfig};
+use dns_core::CrossesThreads;
 
-fn crosses<T: Send + Sync>() {}
+impl CrossesThreads for IpNet {}
 
-/// The types of this crate cross threads.
-pub fn settings_cross_threads() {
-    crosses::<IpNet>();
-    crosses::<Nets>();
-    crosses::<AccessControlSetBuilder>();
-    crosses::<AccessControlSet>();
-    crosses::<ConnectionConfigs>();
-    crosses::<NameServerConfig>();
-    crosses::<ResolverConfig>();
-    crosses::<ServerOrderingStrategy>();
-    crosses::<ResolverOpts>();
-    crosses::<TtlBounds>();
-    crosses::<TtlConfig>();
-    crosses::<OpportunisticEncryption>();
-    crosses::<OpportunisticEncryptionConfig>();
-    crosses::<ConfError>();
-    crosses::<PrefixTooLong>();
-}
+impl CrossesThreads for AccessControlSetBuilder {}
+
+impl CrossesThreads for AccessControlSet {}
+
+impl CrossesThreads for NameServerConfig {}
+
+impl CrossesThreads for ResolverConfig {}
+
+impl CrossesThreads for ServerOrderingStrategy {}
+
+impl CrossesThreads for ResolverOpts {}
+
+impl CrossesThreads for TtlBounds {}
+
+impl CrossesThreads for TtlConfig {}
+
+impl CrossesThreads for OpportunisticEncryption {}
+
+impl CrossesThreads for OpportunisticEncryptionConfig {}
+
+impl CrossesThreads for ConfError {}
+
+impl CrossesThreads for PrefixTooLong {}

@@ -28,4 +28,3 @@ pub use running_laws::{
     a_lookup_is_decided_by_a_step, a_lookup_opens_what_it_gives, a_lookup_sends_to_its_servers,
     a_lookup_stands_by_its_ends, an_order_that_is_kept_stays_open,
 };
-pub use threads::lookups_cross_threads;

@@ -1,16 +1,16 @@
-//! Each type of this crate may go to another thread, and be shared among threads.
+//! Which types of this crate may go to another thread, and be shared among threads.
 
 use crate::attempt::Attempt;
 use crate::giving::{LookupStep, Want};
 use crate::lookup::{Lookup, State};
+use dns_core::CrossesThreads;
 
-fn crosses<T: Send + Sync>() {}
+impl CrossesThreads for Attempt {}
 
-/// The types of this crate cross threads.
-pub fn lookups_cross_threads() {
-    crosses::<Attempt>();
-    crosses::<State>();
-    crosses::<Lookup>();
-    crosses::<LookupStep>();
-    crosses::<Want>();
-}
+impl CrossesThreads for State {}
+
+impl CrossesThreads for Lookup {}
+
+impl CrossesThreads for LookupStep {}
+
+impl CrossesThreads for Want {}

@@ -20,4 +20,3 @@ pub use kept_error::most_specific;
 pub use kept_error_laws::{the_earlier_negative_is_kept, the_kept_error_is_what_is_left};
 pub use ordering::{ordered, side_by_side};
 pub use statistics::sort_servers_by_query_statistics;
-pub use threads::rules_cross_threads;

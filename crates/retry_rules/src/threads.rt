@@ -1,14 +1,13 @@
-//! Each type of this crate may go to another thread, and be shared among threads.
+//! Which types of this crate may go to another thread, and be shared among threads.
 
 use crate::agenda::Agenda;
 use crate::candidate::{Candidate, Ending, Hearing};
+use dns_core::CrossesThreads;
 
-fn crosses<T: Send + Sync>() {}
+impl CrossesThreads for Candidate {}
 
-/// The types of this crate cross threads.
-pub fn rules_cross_threads() {
-    crosses::<Candidate>();
-    crosses::<Ending>();
-    crosses::<Hearing>();
-    crosses::<Agenda>();
-}
+impl CrossesThreads for Ending {}
+
+impl CrossesThreads for Hearing {}
+
+impl CrossesThreads for Agenda {}

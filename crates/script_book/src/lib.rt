@@ -8,6 +8,7 @@
 mod book;
 mod course;
 mod index;
+mod threads;
 
 pub use book::Book;
 pub use course::{Course, Stage};

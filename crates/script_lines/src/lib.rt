@@ -6,6 +6,7 @@ mod copies;
 mod late;
 mod qualified;
 mod script;
+mod threads;
 
 pub use late::{Late, Room, let_go, push_or_back};
 pub use script::{Script, ScriptLine};

@@ -34,4 +34,3 @@ pub use same_orders::same_address;
 pub use server_send::{Asked, SendStep, ServerSend, Stage};
 pub use server_table::ServerTable;
 pub use status::{Status, a_status_is_read_back};
-pub use threads::servers_cross_threads;

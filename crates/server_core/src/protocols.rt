@@ -5,7 +5,7 @@ ghost use Rattle.server_core.specs.Protocols.{protocols_of};
 use dns_core::{ConnectionConfig, Protocol};
 
 /// The protocols over which a server is reached, one after the other.
-#[derive(Drop, Debug)]
+#[derive(Drop)]
 pub struct Protocols<'a> {
     pub left: &'a [ConnectionConfig],
 }

@@ -32,7 +32,7 @@ pub struct Asked {
 }
 
 /// Where a send stands. `polls` counts the polls of its order that found nothing.
-#[derive(Drop, Debug)]
+#[derive(Drop)]
 pub enum Stage {
     Ready,
     Opening {
@@ -54,7 +54,7 @@ pub enum Stage {
 
 /// What a send does next: it gives an order, waits for the outcome of one, or is done. It tells once
 /// that it is done, and waits from then on.
-#[derive(Drop, Debug)]
+#[derive(Drop)]
 pub enum SendStep {
     Order(Order),
     Waiting,
@@ -63,7 +63,7 @@ pub enum SendStep {
 
 /// A send of a request to a server of a table, over the connections that a policy allows. `retried`
 /// tells whether a connection that was used again was closed.
-#[derive(Drop, Debug)]
+#[derive(Drop)]
 pub struct ServerSend {
     pub server: u32,
     pub request: DnsRequest,
@@ -73,7 +73,7 @@ pub struct ServerSend {
 }
 
 /// What a stage comes to next.
-#[derive(Clone, Copy, Debug)]
+#[derive(Clone, Copy)]
 enum Want {
     Begin,
     Ask { protocol: Protocol, conn: u64 },

@@ -1,4 +1,4 @@
-//! Each type of this crate that holds values may go to another thread, and be shared among threads.
+//! Which types of this crate may go to another thread, and be shared among threads.
 
 use crate::context::PoolContext;
 use crate::delays::DecayingSrtt;
@@ -10,27 +10,40 @@ use crate::protocols::Protocols;
 use crate::server_send::{Asked, SendStep, ServerSend, Stage};
 use crate::server_table::ServerTable;
 use crate::status::Status;
+use dns_core::CrossesThreads;
 
-fn crosses<T: Send + Sync>() {}
+impl CrossesThreads for DecayingSrtt {}
 
-/// The types of this crate cross threads.
-pub fn servers_cross_threads() {
-    crosses::<DecayingSrtt>();
-    crosses::<Status>();
-    crosses::<Heard>();
-    crosses::<Connection>();
-    crosses::<NameServer>();
-    crosses::<Protocols<'static>>();
-    crosses::<ServerTable>();
-    crosses::<ConnectionPolicy>();
-    crosses::<PoolContext>();
-    crosses::<Tick>();
-    crosses::<Order>();
-    crosses::<Sent>();
-    crosses::<Outcome>();
-    crosses::<After>();
-    crosses::<Asked>();
-    crosses::<Stage>();
-    crosses::<SendStep>();
-    crosses::<ServerSend>();
-}
+impl CrossesThreads for Status {}
+
+impl CrossesThreads for Heard {}
+
+impl CrossesThreads for Connection {}
+
+impl CrossesThreads for NameServer {}
+
+impl CrossesThreads for Protocols<'_> {}
+
+impl CrossesThreads for ServerTable {}
+
+impl CrossesThreads for ConnectionPolicy {}
+
+impl CrossesThreads for PoolContext {}
+
+impl CrossesThreads for Tick {}
+
+impl CrossesThreads for Order {}
+
+impl CrossesThreads for Sent {}
+
+impl CrossesThreads for Outcome {}
+
+impl CrossesThreads for After {}
+
+impl CrossesThreads for Asked {}
+
+impl CrossesThreads for Stage {}
+
+impl CrossesThreads for SendStep {}
+
+impl CrossesThreads for ServerSend {}

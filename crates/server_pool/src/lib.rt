@@ -17,7 +17,7 @@ mod table_laws;
 mod threads;
 
 pub use open_lookup::OpenLookup;
-pub use order_carrier::{Carrier, carriers_cross_threads};
+pub use order_carrier::Carrier;
 pub use pool::NameServerPool;
 pub use pool_laws::a_pool_expires_after_its_ttl;
 pub use pool_lookup::PoolLookup;
@@ -30,4 +30,3 @@ pub use retry_rules::{
 pub use table_laws::{
     a_lookup_runs_by_its_ends, a_step_changes_one_lookup, an_order_goes_to_a_server,
 };
-pub use threads::pools_cross_threads;

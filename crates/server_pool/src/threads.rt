@@ -1,18 +1,17 @@
-//! Each type of this crate may go to another thread, and be shared among threads, where its parameters
-//! may.
+//! Which types of this crate may go to another thread, and be shared among threads.
 
 use crate::open_lookup::OpenLookup;
 use crate::pool::NameServerPool;
 use crate::pool_lookup::PoolLookup;
 use crate::pool_shared::{PoolShared, PoolStep};
+use dns_core::CrossesThreads;
 
-fn crosses<T: Send + Sync>() {}
+impl CrossesThreads for NameServerPool {}
 
-/// The types without parameters cross threads.
-pub fn pools_cross_threads() {
-    crosses::<NameServerPool>();
-    crosses::<OpenLookup>();
-    crosses::<PoolLookup>();
-    crosses::<PoolShared>();
-    crosses::<PoolStep>();
-}
+impl CrossesThreads for OpenLookup {}
+
+impl CrossesThreads for PoolLookup {}
+
+impl CrossesThreads for PoolShared {}
+
+impl CrossesThreads for PoolStep {}

@@ -9,6 +9,7 @@ mod networks;
 mod number_lists;
 mod numbers;
 mod pieces;
+mod threads;
 mod words;
 
 pub use pieces::cut;

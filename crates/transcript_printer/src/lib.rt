@@ -11,6 +11,7 @@ mod errors;
 mod log;
 mod records;
 mod replies;
+mod threads;
 mod transcript;
 mod words;
 

@@ -10,4 +10,3 @@ mod threads;
 
 pub use lookup::{Ask, Lookup, Want};
 pub use pools::{Answer, Pools, Stepped};
-pub use threads::tables_cross_threads;

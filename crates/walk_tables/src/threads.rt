@@ -1,16 +1,17 @@
-//! Each type of this crate may go to another thread, and be shared among threads.
+//! Which types of this crate may go to another thread, and be shared among threads.
 
 use crate::lookup::{Ask, Lookup, Want};
 use crate::pools::{Answer, Pools, Stepped};
+use dns_core::CrossesThreads;
 
-fn crosses<T: Send + Sync>() {}
+impl CrossesThreads for Answer {}
 
-/// The types cross threads.
-pub fn tables_cross_threads() {
-    crosses::<Answer>();
-    crosses::<Ask>();
-    crosses::<Lookup>();
-    crosses::<Pools>();
-    crosses::<Stepped>();
-    crosses::<Want>();
-}
+impl CrossesThreads for Ask {}
+
+impl CrossesThreads for Lookup {}
+
+impl CrossesThreads for Pools {}
+
+impl CrossesThreads for Stepped {}
+
+impl CrossesThreads for Want {}

@@ -11,7 +11,8 @@ mod looked_up;
 mod naming;
 mod serving;
 mod sight;
+mod threads;
 mod verdict;
 
 pub use filters::WorldFilters;
-pub use verdict::{Verdict, check_indexed, check_world, verdicts_cross_threads};
+pub use verdict::{Verdict, check_indexed, check_world};

@@ -88,11 +88,3 @@ pub fn check_indexed(
     let laid_out = looked_up::is_laid_out(alloc, world)?;
     Ok(verdict_of(Sight::Indexed(world), laid_out, roots, options, patience))
 }
-
-fn crosses<T: Send + Sync>() {}
-
-/// Verdicts cross threads, and so do filters.
-pub fn verdicts_cross_threads() {
-    crosses::<Verdict>();
-    crosses::<WorldFilters>();
-}

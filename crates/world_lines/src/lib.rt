@@ -6,6 +6,7 @@ mod draft;
 mod laws;
 mod lines;
 mod listed;
+mod threads;
 
 pub use counts::Count;
 pub use draft::{OpenZone, WorldDraft, WorldStage};

@@ -15,5 +15,4 @@ mod upstream;
 pub use laws::fronts_are_given;
 pub use provider::{WorldExchange, WorldOpening};
 pub use qualified::is_qualified_world;
-pub use threads::upstreams_cross_threads;
 pub use upstream::WorldUpstream;

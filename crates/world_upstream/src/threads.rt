@@ -1,13 +1,11 @@
-//! Each type of this crate that holds values may go to another thread, and be shared among threads.
+//! Which types of this crate may go to another thread, and be shared among threads.
 
 use crate::provider::{WorldExchange, WorldOpening};
 use crate::upstream::WorldUpstream;
+use dns_core::CrossesThreads;
 
-fn crosses<T: Send + Sync>() {}
+impl CrossesThreads for WorldOpening {}
 
-/// Upstreams cross threads, and so does what they are asked.
-pub fn upstreams_cross_threads() {
-    crosses::<WorldOpening>();
-    crosses::<WorldExchange>();
-    crosses::<WorldUpstream>();
-}
+impl CrossesThreads for WorldExchange {}
+
+impl CrossesThreads for WorldUpstream {}

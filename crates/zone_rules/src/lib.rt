@@ -6,6 +6,7 @@ mod aliases;
 mod choosing;
 mod copies;
 mod short;
+mod threads;
 mod tree;
 mod world;
 

@@ -20,6 +20,5 @@ pub use answer::world_answer;
 pub use indexed::IndexedWorld;
 pub use laws::{a_world_answers_once, an_address_tells_one_message};
 pub use telling::told;
-pub use threads::worlds_cross_threads;
 pub use valid::valid_question;
 pub use zone_rules::{Host, World, WorldAnswer, Zone, is_above, is_alias, is_ns_of, is_soa_of};

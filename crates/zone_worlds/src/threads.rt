@@ -1,15 +1,6 @@
-//! Each type that this crate exports and that holds values may go to another thread, and be shared among threads.
+//! Which types of this crate may go to another thread, and be shared among threads.
 
 use crate::indexed::IndexedWorld;
-use zone_rules::{Host, World, WorldAnswer, Zone};
+use dns_core::CrossesThreads;
 
-fn crosses<T: Send + Sync>() {}
-
-/// Worlds cross threads, and so do their answers.
-pub fn worlds_cross_threads() {
-    crosses::<Zone>();
-    crosses::<Host>();
-    crosses::<World>();
-    crosses::<IndexedWorld>();
-    crosses::<WorldAnswer>();
-}
+impl CrossesThreads for IndexedWorld {}
