@@ -4,7 +4,7 @@ ghost use Rattle.lookup_facts.specs.Sought.{IsSentOver, IsFirst, IsOf, MayWait, 
 
 use crate::aims::{is_denial, is_identical, is_still};
 use crate::found::Found;
-use dns_core::{Name, Query};
+use dns_core::{Boxed, Name, Query};
 use server_core::{Outcome, Sent, same_address};
 use std::net::IpAddr;
 
@@ -37,7 +37,7 @@ pub struct Sought {
     pub given: Option<Given>,
     pub first: Option<IpAddr>,
     pub at: u64,
-    pub came: Option<Found>,
+    pub came: Option<Boxed<Found>>,
 }
 
 impl Sought {

@@ -313,6 +313,7 @@ impl RecursorCore {
     {
         let entry = outcome.entry();
         if !self.is_next(entry) {
+            drop(outcome);
             return Ok(After::Late);
         }
         let closing = closing_of(&outcome, waits);

@@ -8,7 +8,6 @@ use Rattle.recursor_walk.specs.Resolving.{want_of}
 use Rattle.recursor_walk.specs.Steps.{StepIs, StepGives, SetsOut, HandsOut, GivesReply}
 use Rattle.recursor_walk.specs.declared.steps.Step.{Step}
 use Rattle.recursor_walk.specs.declared.steps.Progress.{Progress}
-use Rattle.recursor_walk.specs.declared.resolving.State.TheVariants.{Ended}
 use Rattle.recursor_walk.specs.declared.resolving.Need.TheVariants as need
 use Rattle.recursor_walk.specs.declared.steps.Step.TheVariants as step
 use Rattle.recursor_walk.specs.declared.steps.Progress.TheVariants as progress

@@ -45,11 +45,20 @@ pub enum Need {
 }
 
 /// A question, the moment at which it began, in microseconds, and where it stands.
-#[derive(Drop)]
 pub struct Resolution {
     pub question: Question,
     pub begun: u64,
     pub state: State,
+}
+
+impl Drop for Resolution {
+    fn drop(self) {
+        let Resolution {
+            question: _,
+            begun: _,
+            state: _,
+        } = self;
+    }
 }
 
 /// Where a question stands whose walk begins at the roots. The root itself is theirs.
@@ -333,19 +342,14 @@ impl Resolution {
     }
 
     /// Ends without a reply: its lookup is left.
-    pub fn leave(self, pools: &mut Pools)
+    pub fn leave(mut self, pools: &mut Pools)
         ensures left { IfSome (asking_of self.state) (λ asking. Leaves asking.lookup.ask pools.old pools.new) }
         ensures given { given_so_far pools.new ≡ given_so_far pools.old }
         ensures holds { (seen : View) → PoolsHold seen pools.old → PoolsHold seen pools.new }
     {
-        let Resolution {
-            question: _,
-            begun: _,
-            state,
-        } = self;
-        match state {
-            State::Walking(mut walk) => walk.asking.lookup.leave(pools),
-            State::Asking(mut asking) => asking.lookup.leave(pools),
+        match &mut self.state {
+            State::Walking(walk) => walk.asking.lookup.leave(pools),
+            State::Asking(asking) => asking.lookup.leave(pools),
             _ => {}
         }
     }

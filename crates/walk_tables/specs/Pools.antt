@@ -5,12 +5,10 @@ use Rattle.std.specs.declared.net.ip_addr.IpAddr.{IpAddr}
 use Rattle.dns_core.specs.Name.{DomainName}
 use Rattle.dns_core.specs.declared.errors.NoMemory.{NoMemory}
 use Rattle.dns_core.specs.declared.message.Query.{Query}
-use Rattle.resolution.specs.Ending.{waits}
 use Rattle.server_core.specs.Servers.{Server}
 use Rattle.server_core.specs.declared.order.After.{After}
 use Rattle.server_core.specs.declared.order.Sent.{Sent}
 use Rattle.server_core.specs.declared.order.Tick.{Tick}
-use Rattle.server_core.specs.declared.order.Order.{Order}
 use Rattle.server_core.specs.declared.order.Outcome.{Outcome}
 use Rattle.order_carrier.specs.Fits.{GoesToServer}
 use Rattle.server_pool.specs.Lookups.{is_last, after_leave, closed_by}

@@ -10,7 +10,7 @@ ghost use Rattle.walk_tables.specs.Lookup.{want_of, want_after, steps, LookupHol
 ghost use Rattle.lookup_facts.specs.Found.{FoundHolds};
 
 use crate::pools::{Answer, Pools, Stepped};
-use dns_core::{DnsRequest, Name, NoMemory, Numbers, Query};
+use dns_core::{Boxed, DnsRequest, Name, NoMemory, Numbers, Query};
 use lookup_facts::Found;
 use server_core::Tick;
 use server_pool::PoolLookup;
@@ -25,7 +25,7 @@ pub enum Ask {
     Fresh,
     Ready,
     Under(PoolLookup),
-    Came(Found),
+    Came(Boxed<Found>),
 }
 
 /// What a lookup wants next: what the cache has, to begin at its servers, its next step there, or that
@@ -39,11 +39,20 @@ pub enum Want {
 }
 
 /// A lookup: its question, where it stands, and the entries by which its sends ended.
-#[derive(Drop)]
 pub struct Lookup {
     pub query: Query,
     pub ask: Ask,
     pub ends: Numbers,
+}
+
+impl Drop for Lookup {
+    fn drop(self) {
+        let Lookup {
+            query: _,
+            ask: _,
+            ends: _,
+        } = self;
+    }
 }
 
 impl Lookup {
@@ -178,7 +187,7 @@ impl Lookup {
         ensures query { self.new.query ≡ self.old.query }
     {
         match mem::replace(&mut self.ask, Ask::Ready) {
-            Ask::Came(found) => found,
+            Ask::Came(found) => found.into_inner(),
             _ => unreachable!(),
         }
     }

@@ -40,7 +40,7 @@ use std::net::IpAddr;
 /// What a lookup came to, and the entries of its ends.
 #[derive(Drop)]
 pub struct Answer {
-    pub came: Found,
+    pub came: Boxed<Found>,
     pub ends: Numbers,
 }
 
@@ -318,7 +318,7 @@ impl Pools {
             }
             Ok(PoolStep::Done(told)) => {
                 self.note(n, None, None, None);
-                self.decide(n, told)?;
+                self.decide(alloc, n, told)?;
                 Ok(Stepped::Done)
             }
             Ok(PoolStep::Waiting) => {
@@ -409,24 +409,33 @@ impl Pools {
     }
 
     /// What a lookup came to that was answered so. Want of memory is nothing that it came to.
-    fn found(&self, lookup: u64, told: Result<Message, NetError>) -> Option<Found>
-        ensures comes { answer_at self.now.shared lookup ≡ Some told → Comes self.now lookup result }
-        ensures sought { IsSome result → IsSome (sought_at self.now lookup) }
+    fn found(
+        &self,
+        alloc: Global,
+        lookup: u64,
+        told: Result<Message, NetError>,
+    ) -> Result<Option<Boxed<Found>>, NoMemory>
+        ensures comes { answer_at self.now.shared lookup ≡ Some told → IfOk result (Comes self.now lookup) }
+        ensures sought { IfOk result (λ came. IsSome came → IsSome (sought_at self.now lookup)) }
     {
-        let sought = self.sought.get(&lookup)?.get();
+        let Some(sought) = self.sought.get(&lookup) else {
+            return Ok(None);
+        };
         if is_memory(&told) {
-            return None;
+            return Ok(None);
         }
+        let sought = sought.get();
         let entry = last_of(self.shared.ends(lookup));
-        Some(found_by(entry, told, &sought.query, &sought.zone))
+        let found = Boxed::new(alloc, found_by(entry, told, &sought.query, &sought.zone))?;
+        Ok(Some(found))
     }
 
     /// What a lookup came to by its answer, where it was answered.
-    fn comes(&self, alloc: Global, lookup: u64) -> Result<Option<Found>, NoMemory>
+    fn comes(&self, alloc: Global, lookup: u64) -> Result<Option<Boxed<Found>>, NoMemory>
         ensures { IfOk result (Comes self.now lookup) }
     {
         match self.shared.answer(alloc, lookup)? {
-            Some(told) => Ok(self.found(lookup, told)),
+            Some(told) => self.found(alloc, lookup, told),
             None => Ok(None),
         }
     }
@@ -437,7 +446,7 @@ impl Pools {
         alloc: Global,
         cache: &mut ResponseCache,
         lookup: u64,
-        came: &Option<Found>,
+        came: &Option<Boxed<Found>>,
     ) -> Result<(), NoMemory>
         ensures ok { OnOk result (cache.new ≡ with_sought cache.old (sought_at self.now lookup) came.now) }
         ensures err { OnErr result (cache.new ≡ cache.old) }
@@ -445,22 +454,20 @@ impl Pools {
         let Some(sought) = self.sought.get(&lookup) else {
             return Ok(());
         };
+        let Some(came) = came else {
+            return Ok(());
+        };
         let sought = sought.get();
-        match came {
-            Some(
-                Found::Told {
-                    entry,
-                    verdict: Ok(verdict),
-                },
-            ) => write(alloc, cache, &sought.query, *entry, sought.at, verdict),
-            Some(
-                Found::Told {
-                    verdict: Err(_),
-                    ..
-                },
-            ) => Ok(()),
-            Some(Found::Error(_)) => Ok(()),
-            None => Ok(()),
+        match came.get() {
+            Found::Told {
+                entry,
+                verdict: Ok(verdict),
+            } => write(alloc, cache, &sought.query, *entry, sought.at, verdict),
+            Found::Told {
+                verdict: Err(_),
+                ..
+            } => Ok(()),
+            Found::Error(_) => Ok(()),
         }
     }
 
@@ -471,7 +478,7 @@ impl Pools {
         alloc: Global,
         cache: &mut ResponseCache,
         lookup: u64,
-    ) -> Result<Option<Found>, NoMemory>
+    ) -> Result<Option<Boxed<Found>>, NoMemory>
         ensures ok { OnOk result (cache.new ≡ remembered cache.old (telling_at self.now lookup)) }
         ensures comes { IfOk result (Comes self.now lookup) }
         ensures err { OnErr result (cache.new ≡ cache.old) }
@@ -482,7 +489,7 @@ impl Pools {
     }
 
     /// Keeps what a lookup came to, or that nothing is known of it.
-    fn keep_came(&mut self, lookup: u64, came: Option<Found>)
+    fn keep_came(&mut self, lookup: u64, came: Option<Boxed<Found>>)
         ensures { HasNoted lookup (with_came came) self.old self.new }
     {
         match self.sought.get_mut(&lookup) {
@@ -493,17 +500,22 @@ impl Pools {
 
     /// Keeps what a lookup came to that was answered so. Where memory was wanting for it, it is no longer
     /// under way.
-    fn decide(&mut self, lookup: u64, told: Result<Message, NetError>) -> Result<(), NoMemory>
+    fn decide(
+        &mut self,
+        alloc: Global,
+        lookup: u64,
+        told: Result<Message, NetError>,
+    ) -> Result<(), NoMemory>
         ensures came { OnOk result (IsSome (came_at self.new lookup)) }
         ensures holds { (seen : View) → answer_at self.old.shared lookup ≡ Some told → PoolsHold seen self.old → PoolsHold seen self.new }
         ensures given { given_so_far self.new ≡ given_so_far self.old }
     {
-        match self.found(lookup, told) {
-            Some(found) => {
+        match self.found(alloc, lookup, told) {
+            Ok(Some(found)) => {
                 self.keep_came(lookup, Some(found));
                 Ok(())
             }
-            None => {
+            Ok(None) | Err(NoMemory) => {
                 self.forget(lookup);
                 Err(NoMemory)
             }
@@ -531,9 +543,11 @@ impl Pools {
         ensures holds { HoldsOn tick (option_copied waits.entry) outcome result (λ seen. TablesHold seen cache.old self.old) (λ seen. TablesHold seen cache.new self.new) }
     {
         let Some(lookup) = self.shared.open_at(number) else {
+            drop(outcome);
             return Ok(After::Late);
         };
         let Some(given) = self.given_for(lookup, number, &outcome, waits) else {
+            drop(outcome);
             return Ok(After::Late);
         };
         let after = self.take(alloc, lookup, given, outcome, waits, tick)?;
@@ -554,7 +568,7 @@ impl Pools {
     }
 
     /// Takes what is kept of what a lookup came to.
-    fn take_kept(&mut self, lookup: u64) -> Option<Found>
+    fn take_kept(&mut self, lookup: u64) -> Option<Boxed<Found>>
         ensures noted { HasNoted lookup (with_came None) self.old self.new }
         ensures kept { result ≡ came_at self.old lookup }
     {
