@@ -5,6 +5,19 @@ use crate::errors::NoMemory;
 use std::alloc::Global;
 use std::marker::Model;
 
+/// A value in a box. Where memory is wanting the value is let go.
+pub fn in_box<T: Drop>(alloc: Global, value: T) -> Result<Box<T>, NoMemory>
+    ensures { IfOk result (λ b. b.value ≡ value) }
+{
+    match Box::new(alloc, value) {
+        Ok(b) => Ok(b),
+        Err(failed) => {
+            drop(failed);
+            Err(NoMemory)
+        }
+    }
+}
+
 /// A value in memory of its own: however large it is, it moves as one pointer.
 #[derive(Drop, Debug)]
 pub struct Boxed<T> {
@@ -50,7 +63,7 @@ impl<T: Drop> Boxed<T> {
     pub fn new(alloc: Global, value: T) -> Result<Self, NoMemory>
         ensures { IfOk result (λ boxed. boxed ≡ value) }
     {
-        let at = Box::new(alloc, value)?;
+        let at = in_box(alloc, value)?;
         Ok(Boxed { at })
     }
 }

@@ -30,7 +30,7 @@ mod stripping;
 mod threads;
 mod whole_streams;
 
-pub use boxed::Boxed;
+pub use boxed::{Boxed, in_box};
 pub use classifying::classify;
 pub use codes::{DnsClass, RecordType, ResponseCode};
 pub use connection::{ConnectOptions, ConnectionConfig, Protocol, ProtocolConfig};

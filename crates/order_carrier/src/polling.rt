@@ -57,6 +57,7 @@ fn poll_connection<P: ConnectionProvider>(
         }
         Poll::Ready(Err(error)) => {
             if error.is_memory() {
+                drop(error);
                 let awaited = Awaited::Connection { future, sent };
                 let slot = Slot::UnderWay(UnderWay { order, awaited });
                 let heard = Heard::OutOfMemory;
@@ -96,6 +97,7 @@ fn poll_answer<P: ConnectionProvider>(
         }
         Poll::Ready(Err(error)) => {
             if error.is_memory() {
+                drop(error);
                 let awaited = Awaited::Answer { exchange, sent };
                 let slot = Slot::UnderWay(UnderWay { order, awaited });
                 let heard = Heard::OutOfMemory;

@@ -15,7 +15,7 @@ use crate::carrier::Carrier;
 use crate::key::{Form, OrderKey};
 use crate::slot::Slot;
 use crate::under_way::UnderWay;
-use dns_core::{ConnectionProvider, NetError, NoMemory, Protocol, Query, TryClone};
+use dns_core::{ConnectionProvider, NetError, NoMemory, Protocol, Query, TryClone, in_box};
 use server_core::{Order, Outcome, Sent};
 use std::alloc::Global;
 use std::net::IpAddr;
@@ -31,6 +31,14 @@ fn question(alloc: Global, order: &Order) -> Result<Option<Query>, NoMemory>
         }
         Order::Open { .. } | Order::Sleep { .. } => Ok(None),
     }
+}
+
+/// A copy of an order, in memory of its own.
+fn boxed_copy(alloc: Global, order: &Order) -> Result<Box<Order>, NoMemory>
+    ensures { IfOk result (λ copy. copy.value ≡ order.now) }
+{
+    let copy = order.try_clone(alloc)?;
+    in_box(alloc, copy)
 }
 
 impl<P: ConnectionProvider> Carrier<P> {
@@ -83,13 +91,22 @@ impl<P: ConnectionProvider> Carrier<P> {
         ensures room { OnOk result (HasNumbers self.old.entries × IsSome (slot_at self.new.slots key)) }
         ensures copies { IfOk result (λ copies. (copies.0.value ≡ order.now) × (copies.1 ≡ query_of order.now)) }
     {
-        let copy = Box::new(self.alloc, order.try_clone(self.alloc)?)?;
-        let query = question(self.alloc, order)?;
         if !self.has_numbers() {
             return Err(NoMemory);
         }
-        let _before = self.slots.insert(key, Slot::Fresh)?;
-        Ok((copy, query))
+        let query = question(self.alloc, order)?;
+        let copy = boxed_copy(self.alloc, order)?;
+        match self.slots.insert(key, Slot::Fresh) {
+            Ok(before) => {
+                drop(before);
+                Ok((copy, query))
+            }
+            Err(failed) => {
+                drop(failed);
+                drop(copy);
+                Err(NoMemory)
+            }
+        }
     }
 
     /// An order was refused by an entry of its own, and is over.

@@ -13,7 +13,7 @@ ghost use Rattle.walk_tables.specs.Pools.{IsOutcomeOf};
 ghost use Rattle.recursor_core.specs.Derived.{seen_by, Derived};
 ghost use Rattle.recursor_core.specs.Machine.{TellsTo, resolution_at, need_at, open_at, given_by, Steps, StepGives, IsBeginError, IsNewCore, SameCore, IsOneMore, IsBegunAt};
 
-use dns_core::{ConnectOptions, NoMemory, Question, TryClone};
+use dns_core::{ConnectOptions, NoMemory, Question, TryClone, in_box};
 use recursor_setting::{Setting, connect_options};
 use recursor_types::{MessageKind, RecursorError, RecursorOptions};
 use recursor_walk::{Need, Resolution, Step};
@@ -183,7 +183,7 @@ impl RecursorCore {
         ensures err { IfErr result (λ e. self.new.resolutions.items ≡ self.old.resolutions.items) }
     {
         let place = self.resolutions.len();
-        let resolution = Box::new(alloc, Resolution::begin(question, now))?;
+        let resolution = in_box(alloc, Resolution::begin(question, now))?;
         self.resolutions.push(Some(resolution))?;
         Ok(place)
     }

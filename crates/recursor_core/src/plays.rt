@@ -7,7 +7,7 @@ ghost use Rattle.recursor_core.specs.Turns.{open_plays, is_waiting, IsBegunAt, I
 ghost use Rattle.recursor_types.specs.declared.reply.Reply.{Reply};
 
 use crate::machine::RecursorCore;
-use dns_core::{NoMemory, Numbers, Question, TryClone};
+use dns_core::{NoMemory, Numbers, Question, TryClone, in_box};
 use recursor_types::{RecursorError, Reply};
 use std::alloc::Global;
 use std::mem;
@@ -50,9 +50,9 @@ pub fn begun(alloc: Global, core: &mut RecursorCore, question: &Question, now: u
                 outcome: Err(error),
                 grounds: Numbers::empty(alloc),
             };
-            match Box::new(alloc, reply) {
+            match in_box(alloc, reply) {
                 Ok(reply) => Played::Answered(reply),
-                Err(_) => Played::Unanswered,
+                Err(NoMemory) => Played::Unanswered,
             }
         }
     }

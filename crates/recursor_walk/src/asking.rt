@@ -12,7 +12,7 @@ ghost use Rattle.recursor_walk.specs.Replies.{RepliesSo, RepliesWith, reply_with
 ghost use Rattle.walk_tables.specs.declared.lookup.Want.TheVariants as want;
 
 use crate::counted::{Counted, answerable, recalled};
-use dns_core::{DnsRequest, Ips, Name, NetError, NoMemory, Numbers, Query, Question};
+use dns_core::{DnsRequest, Ips, Name, NetError, NoMemory, Numbers, Query, Question, in_box};
 use lookup_facts::Found;
 use recursor_types::{RecursorError, Reply};
 use resolution::Verdict;
@@ -183,6 +183,6 @@ impl Asking {
             outcome: Err(RecursorError::Net(error)),
             grounds,
         };
-        Ok(Box::new(alloc, reply)?)
+        in_box(alloc, reply)
     }
 }

@@ -15,7 +15,7 @@ use crate::asking::{Asking, answer_with};
 use crate::counted::{answerable, recalled};
 use crate::short_way::kept_answer;
 use crate::walk::{Course, Walk};
-use dns_core::{DnsRequest, Ips, Name, NoMemory, Question, TryClone};
+use dns_core::{DnsRequest, Ips, Name, NoMemory, Question, TryClone, in_box};
 use recursor_types::Reply;
 use resolver_cache::ResponseCache;
 use resolver_settings::AccessControlSet;
@@ -73,10 +73,10 @@ fn begun_walk(alloc: Global, question: &Question, roots: &Ips) -> Result<State, 
     if name.labels().is_empty() {
         let query = question.query.try_clone(alloc)?;
         let asking = Asking::new(alloc, Name::root(alloc), servers, query);
-        return Ok(State::Asking(Box::new(alloc, asking)?));
+        return Ok(State::Asking(in_box(alloc, asking)?));
     }
     let walk = Walk::new(alloc, name, servers)?;
-    Ok(State::Walking(Box::new(alloc, walk)?))
+    Ok(State::Walking(in_box(alloc, walk)?))
 }
 
 /// Where a question stands that begins: it is answered with what the cache has for it, where this may
@@ -190,7 +190,7 @@ impl Resolution {
         };
         let query = self.question.query.try_clone(alloc)?;
         let asking = Box::into_inner(walk).into_asking(alloc, query);
-        self.state = State::Asking(Box::new(alloc, asking)?);
+        self.state = State::Asking(in_box(alloc, asking)?);
         Ok(())
     }
 

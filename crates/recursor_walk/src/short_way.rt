@@ -5,7 +5,7 @@ ghost use Rattle.lookup_facts.specs.View.{View};
 ghost use Rattle.recursor_walk.specs.Replies.{CameTo, IsReplyKept};
 ghost use Rattle.recursor_walk.specs.Counted.{ReadsAt};
 
-use dns_core::{NoMemory, Question};
+use dns_core::{NoMemory, Question, in_box};
 use recursor_types::Reply;
 use resolver_cache::{ResponseCache, read_message, seconds_between};
 use std::alloc::Global;
@@ -35,7 +35,7 @@ pub(crate) fn kept_answer(
     let seconds = seconds_between(entry.written(), now);
     let answer = read_message(alloc, message, seconds, question.dnssec_ok)?;
     let grounds = just(alloc, entry.source())?;
-    let reply = Box::new(
+    let reply = in_box(
         alloc,
         Reply {
             outcome: Ok(answer),

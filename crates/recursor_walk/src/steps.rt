@@ -12,7 +12,7 @@ ghost use Rattle.walk_tables.specs.declared.pools.Pools.{Pools};
 ghost use Rattle.walk_tables.specs.declared.lookup.Want.TheVariants as want;
 
 use crate::resolving::{Need, Resolution, State};
-use dns_core::{DnsRequest, NoMemory, TryClone};
+use dns_core::{DnsRequest, NoMemory, TryClone, in_box};
 use recursor_setting::{Setting, request_options};
 use recursor_types::Reply;
 use resolver_cache::ResponseCache;
@@ -88,7 +88,7 @@ impl Resolution {
     {
         match self.step(alloc, pools, since, tick)? {
             Stepped::Order { number, order } => {
-                let order = Box::new(alloc, order)?;
+                let order = in_box(alloc, order)?;
                 Ok(Progress::Step(Step::Order { number, order }))
             }
             Stepped::Waiting { number } => Ok(Progress::Step(Step::Waiting { number })),

@@ -16,7 +16,9 @@ ghost use Rattle.recursor_walk.specs.Asking as asking;
 
 use crate::asking::Asking;
 use crate::counted::{Counted, recalled};
-use dns_core::{Ips, Message, Name, NetError, NoMemory, NoRecords, Numbers, Query, TryClone};
+use dns_core::{
+    Ips, Message, Name, NetError, NoMemory, NoRecords, Numbers, Query, TryClone, in_box,
+};
 use lookup_facts::Found;
 use recursor_types::{RecursorError, Reply, WalkCause};
 use resolution::Verdict;
@@ -235,7 +237,7 @@ impl Walk {
             outcome: Err(RecursorError::NoNameServer { zone, cause }),
             grounds: Numbers::empty(alloc),
         };
-        Ok(Course::Reply(Box::new(alloc, reply)?))
+        Ok(Course::Reply(in_box(alloc, reply)?))
     }
 
     /// The question itself at the servers of the name, at which the walk has come.

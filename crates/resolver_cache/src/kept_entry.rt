@@ -6,7 +6,7 @@ ghost use Rattle.resolver_cache.specs.Lowering.{lowered};
 
 use crate::entry::Entry;
 use crate::lowering::{lowered, lowered_message};
-use dns_core::{Message, NetError, NoMemory, Query, TryClone};
+use dns_core::{Message, NetError, NoMemory, Query, TryClone, in_box};
 use std::alloc::Global;
 use std::marker::Model;
 
@@ -52,7 +52,7 @@ fn is_identical(left: &Query, right: &Query) -> bool
 fn other_of(alloc: Global, entry: Entry) -> Result<Kept, NoMemory>
     ensures { IfOk result (λ kept. entry_of kept ≡ entry) }
 {
-    Ok(Kept::Other(Box::new(alloc, entry)?))
+    Ok(Kept::Other(in_box(alloc, entry)?))
 }
 
 fn kept_of(alloc: Global, entry: Entry) -> Result<Kept, NoMemory>
@@ -169,7 +169,7 @@ impl KeptEntry {
     pub(crate) fn new(alloc: Global, entry: Entry) -> Result<Self, NoMemory>
         ensures { IfOk result (λ kept. kept ≡ entry) }
     {
-        let kept = Box::new(alloc, kept_of(alloc, entry)?)?;
+        let kept = in_box(alloc, kept_of(alloc, entry)?)?;
         Ok(KeptEntry { kept })
     }
 
@@ -219,7 +219,7 @@ impl KeptEntry {
 
 impl TryClone for KeptEntry {
     fn try_clone(&self, alloc: Global) -> Result<Self, NoMemory> {
-        let kept = Box::new(alloc, self.kept.copied(alloc)?)?;
+        let kept = in_box(alloc, self.kept.copied(alloc)?)?;
         Ok(KeptEntry { kept })
     }
 }

@@ -42,7 +42,7 @@ impl Lookup {
         ensures { self.new ≡ woken now self.old }
     {
         self.queue.wake();
-        self.state = State::Asking;
+        self.enter(State::Asking);
         self.settle(now);
     }
 
@@ -50,11 +50,11 @@ impl Lookup {
     fn back_off(&mut self, until: u64, order: Option<u64>, polls: u32)
         ensures { self.new ≡ record self.old { state = State.BackingOff until order polls } }
     {
-        self.state = State::BackingOff {
+        self.enter(State::BackingOff {
             until,
             order,
             polls,
-        };
+        });
     }
 
     /// Takes the outcome of the order of its backoff.

@@ -151,11 +151,11 @@ impl Lookup {
     {
         match self.state {
             State::BackingOff { until, polls, .. } => {
-                self.state = State::BackingOff {
+                self.enter(State::BackingOff {
                     until,
                     order: Some(number),
                     polls,
-                };
+                });
                 LookupStep::Order(Order::Sleep { until })
             }
             _ => unreachable!(),

@@ -145,7 +145,7 @@ impl Lookup {
         requires { CanEnd place self.old }
         ensures { (a : InFlight) → slice_get self.old.attempts place ≡ Some a → self.new ≡ run_out place a.candidate.server entry now self.old }
     {
-        let _closed = self.close(place, entry);
+        drop(self.close(place, entry));
         self.decide(Err(NetError::NoMemory), now);
     }
 
@@ -201,7 +201,10 @@ impl Lookup {
     {
         match self.open_place(number) {
             Some(place) => self.put_attempt(alloc, table, cx, place, outcome, tick),
-            None => Ok(After::Late),
+            None => {
+                drop(outcome);
+                Ok(After::Late)
+            }
         }
     }
 
@@ -234,12 +237,17 @@ impl Lookup {
                 if is_order(number, order) {
                     let after = after_backoff(tick.patience, polls, &outcome);
                     self.end_backoff(until, order, polls, &outcome, tick);
+                    drop(outcome);
                     Ok(after)
                 } else {
+                    drop(outcome);
                     Ok(After::Late)
                 }
             }
-            State::Decided { .. } => Ok(After::Late),
+            State::Decided { .. } => {
+                drop(outcome);
+                Ok(After::Late)
+            }
         }
     }
 }

@@ -1,5 +1,6 @@
 //! A lookup at a pool, and how it begins.
-ghost use Rattle.std.specs.Prelude.{◌≡◌, ◌<◌, ◌≤◌, ◌^◌, Bool, IfOk, length};
+ghost use Rattle.std.specs.Prelude.{◌≡◌, ◌<◌, ◌≤◌, ◌+◌, ◌*◌, ◌^◌, [], Bool, false, IfOk, length, vec_capacity};
+ghost use Rattle.std.specs.VecDeque.{deque_capacity};
 ghost use Rattle.std.specs.List.{position};
 ghost use Rattle.std.specs.declared.net.IpAddr.{IpAddr};
 ghost use Rattle.retry_lookup.specs.Attempts.{is_open_at};
@@ -61,6 +62,38 @@ impl Model for Lookup {
     ghost invariant = { λ l. (length l.servers.items ≤ deque_capacity l.ready) × (length l.servers.items ≤ vec_capacity l.attempts) × (length l.servers.items ≤ vec_capacity l.ended) × (5 * length l.servers.items + 1 ≤ vec_capacity l.closed_by) };
 }
 
+/// What a lookup at some servers has at first, with its room.
+#[derive(Drop)]
+struct Rooms {
+    queue: Agenda,
+    ready: VecDeque<Candidate>,
+    attempts: Vec<Attempt>,
+    ended: Vec<u32>,
+    closed_by: Vec<u64>,
+}
+
+/// Takes the room that a lookup at these servers needs.
+fn take_rooms(alloc: Global, servers: &[Candidate]) -> Result<Rooms, NoMemory>
+    requires { length servers.now < 2 ^ 32 }
+    ensures queue { IfOk result (λ r. r.queue ≡ record { waiting = servers.now; busy = []; off = false; kept = NetError.NoConnections; sleeps = 0; most = length servers.now }) }
+    ensures empty { IfOk result (λ r. (r.ready.items ≡ []) × (r.attempts.items ≡ []) × (r.ended.items ≡ []) × (r.closed_by.items ≡ [])) }
+    ensures room { IfOk result (λ r. (length servers.now ≤ deque_capacity r.ready) × (length servers.now ≤ vec_capacity r.attempts) × (length servers.now ≤ vec_capacity r.ended) × (5 * length servers.now + 1 ≤ vec_capacity r.closed_by)) }
+{
+    let places = servers.len();
+    let ready = VecDeque::with_capacity(alloc, places)?;
+    let attempts = Vec::with_capacity(alloc, places)?;
+    let ended = Vec::with_capacity(alloc, places)?;
+    let closed_by = Vec::with_capacity(alloc, 5 * places + 1)?;
+    let queue = Agenda::new(alloc, servers)?;
+    Ok(Rooms {
+        queue,
+        ready,
+        attempts,
+        ended,
+        closed_by,
+    })
+}
+
 impl Lookup {
     /// A lookup that has still to ask all of these servers. Its first round is to begin.
     fn unbegun(
@@ -74,8 +107,18 @@ impl Lookup {
         requires { length servers.items < 2 ^ 32 }
         ensures { IfOk result (λ l. l ≡ fresh request servers.items together timeout now) }
     {
-        let places = servers.len();
-        let queue = Agenda::new(alloc, servers.as_slice())?;
+        let Ok(rooms) = take_rooms(alloc, servers.as_slice()) else {
+            drop(request);
+            drop(servers);
+            return Err(NoMemory);
+        };
+        let Rooms {
+            queue,
+            ready,
+            attempts,
+            ended,
+            closed_by,
+        } = rooms;
         Boxed::new(
             alloc,
             Lookup {
@@ -85,12 +128,12 @@ impl Lookup {
                 timeout,
                 start: now,
                 queue,
-                ready: VecDeque::with_capacity(alloc, places)?,
-                attempts: Vec::with_capacity(alloc, places)?,
+                ready,
+                attempts,
                 round_start: now,
                 round_off: false,
-                ended: Vec::with_capacity(alloc, places)?,
-                closed_by: Vec::with_capacity(alloc, 5 * places + 1)?,
+                ended,
+                closed_by,
                 state: State::Asking,
             },
         )
@@ -149,10 +192,17 @@ impl Lookup {
         self.attempts.iter().position(|a| a.is_open_at(number))
     }
 
+    /// Comes to be at this.
+    pub(crate) fn enter(&mut self, state: State)
+        ensures { self.new ≡ record self.old { state = state } }
+    {
+        self.state = state;
+    }
+
     /// A step of a moment decides it.
     pub(crate) fn decide(&mut self, answer: Result<Message, NetError>, now: u64)
         ensures { self.new ≡ decided answer now self.old }
     {
-        self.state = State::Decided { answer, at: now };
+        self.enter(State::Decided { answer, at: now });
     }
 }

@@ -62,11 +62,11 @@ impl Lookup {
     {
         if self.queue.may_sleep() {
             let until = self.backs_off_until(now);
-            self.state = State::BackingOff {
+            self.enter(State::BackingOff {
                 until,
                 order: None,
                 polls: 0,
-            };
+            });
         } else {
             let error = self.queue.give_up();
             self.decide(Err(error), now);

@@ -55,6 +55,7 @@ fn begin(
         Ok(replaced) => let_go(replaced),
         Err(failed) => {
             let_go(failed);
+            let_go(entry);
             return Err(NoMemory);
         }
     }

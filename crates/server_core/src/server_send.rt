@@ -183,6 +183,13 @@ impl ServerSend {
         }
     }
 
+    /// Comes to a stage.
+    fn enter(&mut self, stage: Stage)
+        ensures { self.new ≡ record self.old { stage = stage } }
+    {
+        self.stage = stage;
+    }
+
     /// The next step at a moment. An order that it gives is one of this number.
     pub fn next(
         &mut self,
@@ -218,7 +225,7 @@ impl ServerSend {
         match mem::replace(&mut self.stage, Stage::Over) {
             Stage::Ended(result) => Some(result),
             other => {
-                self.stage = other;
+                self.enter(other);
                 None
             }
         }
@@ -310,7 +317,7 @@ impl ServerSend {
         ensures send { self.new ≡ record self.old { stage = Stage.Asking asked 0 } }
         ensures step { result ≡ SendStep.Order (Order.Ask asked.conn ip protocol request) }
     {
-        self.stage = Stage::Asking { asked, polls: 0 };
+        self.enter(Stage::Asking { asked, polls: 0 });
         SendStep::Order(Order::Ask {
             conn: asked.conn,
             ip,
@@ -342,7 +349,7 @@ impl ServerSend {
         ensures send { self.new ≡ record self.old { stage = Stage.Over } }
         ensures step { result ≡ SendStep.Done (Err NetError.NoConnections) }
     {
-        self.stage = Stage::Over;
+        self.enter(Stage::Over);
         SendStep::Done(Err(NetError::NoConnections))
     }
 
@@ -368,11 +375,11 @@ impl ServerSend {
         ensures step { result ≡ SendStep.Order (Order.Open ip config) }
     {
         let protocol = config.protocol.to_protocol();
-        self.stage = Stage::Opening {
+        self.enter(Stage::Opening {
             protocol,
             order: number,
             polls: 0,
-        };
+        });
         SendStep::Order(Order::Open { ip, config })
     }
 
@@ -428,6 +435,7 @@ impl ServerSend {
         ensures ample { takes_memory self.old.stage outcome ≡ false → IsOk result }
     {
         if !self.stage.is_open() {
+            drop(outcome);
             return Ok(After::Late);
         }
         match outcome {
@@ -477,12 +485,10 @@ impl ServerSend {
         ensures table { table.new ≡ changed_at (lost_put (asked_of self.old.stage) now (NetError.Io IoKind.Other)) self.old.server table.old }
     {
         match self.stage.opening() {
-            Some(opening) => {
-                self.stage = Stage::Opened {
-                    protocol: opening.0,
-                    conn: opening.1,
-                };
-            }
+            Some(opening) => self.enter(Stage::Opened {
+                protocol: opening.0,
+                conn: opening.1,
+            }),
             None => self.lose(table, NetError::Io(IoKind::Other), now),
         }
     }
@@ -497,10 +503,11 @@ impl ServerSend {
             Some(asked) => {
                 let heard = heard_of(now.saturating_sub(asked.at), &class);
                 table.hear(self.server, asked.conn, Status::Established, heard, now);
-                self.stage = Stage::Ended(result_of(class));
+                self.enter(Stage::Ended(result_of(class)));
             }
             None => {
-                self.stage = Stage::Ended(Err(NetError::Io(IoKind::Other)));
+                drop(class);
+                self.enter(Stage::Ended(Err(NetError::Io(IoKind::Other))));
             }
         }
     }
@@ -517,9 +524,7 @@ impl ServerSend {
                 table.hear(self.server, asked.conn, Status::Failed, heard, now);
                 self.lose_ask(asked, error);
             }
-            None => {
-                self.stage = Stage::Ended(Err(error));
-            }
+            None => self.enter(Stage::Ended(Err(error))),
         }
     }
 
@@ -528,10 +533,11 @@ impl ServerSend {
         ensures { self.new ≡ after_error (Some asked) error self.old }
     {
         if asked.again && !self.retried && error.is_connection_closed() {
+            drop(error);
             self.retried = true;
-            self.stage = Stage::Ready;
+            self.enter(Stage::Ready);
         } else {
-            self.stage = Stage::Ended(Err(error));
+            self.enter(Stage::Ended(Err(error)));
         }
     }
 }

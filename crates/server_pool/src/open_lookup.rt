@@ -155,6 +155,9 @@ pub(crate) fn put_at(
             .lookup
             .get_mut()
             .put(alloc, table, cx, number, outcome, tick),
-        None => Ok(After::Late),
+        None => {
+            drop(outcome);
+            Ok(After::Late)
+        }
     }
 }

@@ -360,7 +360,10 @@ impl PoolShared {
                 drop_closed(&self.lookups, &mut self.orders, lookup, number);
                 after
             }
-            None => Ok(After::Late),
+            None => {
+                drop(outcome);
+                Ok(After::Late)
+            }
         }
     }
 

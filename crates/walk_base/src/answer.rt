@@ -2,7 +2,9 @@
 ghost use Rattle.std.specs.Prelude.{◌≡◌, ◌∷◌, [], IfOk};
 ghost use Rattle.walk_base.specs.Answer.{made_negative, told_negative, ends_walk, outcome_of};
 
-use dns_core::{Message, NoMemory, NoRecords, Numbers, Query, Question, Records, TryClone, strip};
+use dns_core::{
+    Message, NoMemory, NoRecords, Numbers, Query, Question, Records, TryClone, in_box, strip,
+};
 use recursor_types::{AuthorityData, RecursorError, Reply};
 use resolution::{Cause, Verdict};
 use std::alloc::Global;
@@ -88,5 +90,5 @@ pub fn reply_by(
     ensures { IfOk result (λ reply. reply.value ≡ record { outcome = outcome; grounds = entry ∷ [] }) }
 {
     let grounds = just(alloc, entry)?;
-    Ok(Box::new(alloc, Reply { outcome, grounds })?)
+    in_box(alloc, Reply { outcome, grounds })
 }

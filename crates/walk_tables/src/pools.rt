@@ -419,9 +419,11 @@ impl Pools {
         ensures sought { IfOk result (λ came. IsSome came → IsSome (sought_at self.now lookup)) }
     {
         let Some(sought) = self.sought.get(&lookup) else {
+            drop(told);
             return Ok(None);
         };
         if is_memory(&told) {
+            drop(told);
             return Ok(None);
         }
         let sought = sought.get();

@@ -119,10 +119,20 @@ impl Book {
         ensures ok { OnOk result (told self.new ≡ told self.old ++ entry ∷ []) }
         ensures err { OnErr result (told self.new ≡ told self.old) }
     {
-        let number = self.next_number(alloc)?;
-        self.expect(number, polls)?;
-        self.note(number, entry)?;
-        Ok(number)
+        let Ok(number) = self.next_number(alloc) else {
+            drop(entry);
+            return Err(NoMemory);
+        };
+        match self.expect(number, polls) {
+            Ok(()) => {
+                self.note(number, entry)?;
+                Ok(number)
+            }
+            Err(NoMemory) => {
+                drop(entry);
+                Err(NoMemory)
+            }
+        }
     }
 
     /// How many polls of the entry of a number find nothing yet, where it is open.

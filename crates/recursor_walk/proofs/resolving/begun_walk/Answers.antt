@@ -12,12 +12,12 @@ returns-then-is_empty-clause-holds c seen t0 qualified roots =
     let none : length (walk q).labels ≡ 0 =
     sym (ap (λ (ls : List (List ℕ)). length ls) c.labels.ensures.labels ∙ ap (λ (d : DomainName). length d.labels) c.in_ok-name.ensures) ∙ short in
     let site = at-root seen q c.root.result servers (rw roots.are roots.some) qualified none c.root.ensures (c.in_ok-servers.ensures ∙ sym roots.are) in
-    rw c.in_ok-new.ensures.ok (record {
+    rw c.in_ok-in_box.ensures (record {
       asks = a.ensures.is.2 ∙ c.in_ok-query.ensures;
       holds = a.ensures.holds seen t0 (rw c.in_ok-query.ensures site);
     })
 
 pub returns-clause-holds : goal.returns-clause-holds
 returns-clause-holds c seen t0 qualified roots =
-    rw c.in_ok-new-2.ensures.ok (c.in_ok-walk.ensures.holds seen t0 c.args.question.now.query c.in_ok-name.ensures qualified
+    rw c.in_ok-in_box-2.ensures (c.in_ok-walk.ensures.holds seen t0 c.args.question.now.query c.in_ok-name.ensures qualified
     (record { are = roots.are ∙ sym c.in_ok-servers.ensures; some = rw c.in_ok-servers.ensures roots.some }))

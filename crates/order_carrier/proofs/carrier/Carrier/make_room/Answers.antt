@@ -15,9 +15,9 @@ returns-in_err-query-clause-made g c = room-same c.args.key c.args.self.now c.re
 pub returns-then-not-has_numbers-clause-made : goal.returns-then-not-has_numbers-clause-made
 returns-then-not-has_numbers-clause-made g c = room-same c.args.key c.args.self.now c.requires
 
-pub returns-clause-made : goal.returns-clause-made
-returns-clause-made g c =
-    let slots = c.in_ok-_before.ensures.updates.0 in
+pub returns-in-Ok-clause-made : goal.returns-in-Ok-clause-made
+returns-in-Ok-clause-made g c =
+    let slots = (rw c.in-Ok.is at c.insert.ensures).updates.0 in
     let new = c.insert.new.self in
     record {
       provider = refl;
@@ -27,7 +27,7 @@ returns-clause-made g c =
       others = elsewhere-put c.args.key slot.Fresh c.args.self.now.slots new slots;
     }
 
-pub returns-clause-room : goal.returns-clause-room
-returns-clause-room g c =
+pub returns-in-Ok-clause-room : goal.returns-in-Ok-clause-room
+returns-in-Ok-clause-room g c =
     let has : c.has_numbers.result ≡ true = let n = c.if-not-has_numbers.false in cc in
-    (c.has_numbers.ensures.0 has, ap is_some (at-put c.args.key slot.Fresh c.args.self.now.slots c.insert.new.self c.in_ok-_before.ensures.updates.0))
+    (c.has_numbers.ensures.0 has, ap is_some (at-put c.args.key slot.Fresh c.args.self.now.slots c.insert.new.self (rw c.in-Ok.is at c.insert.ensures).updates.0))

@@ -19,7 +19,7 @@ pub returns-in_ok-order-in-Order-clause-holds : goal.returns-in_ok-order-in-Orde
 returns-in_ok-order-in-Order-clause-holds c seen at pools h =
     let held = c.in_ok-number.ensures.holds seen at pools h in
     let goes = rw c.in-Order.is at c.in_ok-number.ensures.goes seen at pools in
-    record { holds = held.0; tables = held.1; gives = subst (λ (o : Order). StepGoes seen (stepped.Order c.in-Order.number o)) (sym c.in_ok-order-in-Order.ensures.ok) goes }
+    record { holds = held.0; tables = held.1; gives = subst (λ (o : Order). StepGoes seen (stepped.Order c.in-Order.number o)) (sym c.in_ok-order-in-Order.ensures) goes }
 
 pub returns-in-Waiting-clause-holds : goal.returns-in-Waiting-clause-holds
 returns-in-Waiting-clause-holds c seen at pools h =

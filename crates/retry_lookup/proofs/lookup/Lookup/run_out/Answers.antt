@@ -8,6 +8,6 @@ use Rattle.retry_lookup.proofs.lookup.Lookup.run_out.Goals as goal
 
 pub returns : goal.returns
 returns c = λ a there.
-    let same = some_same (sym c.close-closed.ensures.attempt ∙ there) in
-    c.decide.ensures ∙ ap (decided (Err NoMemory) c.args.now) c.close-closed.ensures.closed
+    let same = some_same (sym c.close.ensures.attempt ∙ there) in
+    c.decide.ensures ∙ ap (decided (Err NoMemory) c.args.now) c.close.ensures.closed
     ∙ ap (λ (x : Attempt). run_out c.args.place x.candidate.server c.args.entry c.args.now c.args.self.now) same
