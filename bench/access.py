@@ -2,7 +2,7 @@
 
     python3 bench/access.py PROGRAM
 
-PROGRAM is crates/bench_program/out/bench_program, as `rt run` in that crate builds it. Each time is the least of 200
+PROGRAM is crates/cases/out/cases, as `rt run` in that crate builds it. Each time is the least of 200
 runs, less that of one that asks no address, so the start of a process is not in it. The time grows with the addresses
 and with the networks alone: twice of both should take four times as long. Prints a line each, and exits 1 where an
 address takes more than 10 microseconds, or the second more than 6 times as long as the first."""

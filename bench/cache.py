@@ -2,7 +2,7 @@
 
     python3 bench/cache.py PROGRAM
 
-PROGRAM is crates/bench_program/out/bench_program, as `rt run` in that crate builds it. In each world a question is
+PROGRAM is crates/cases/out/cases, as `rt run` in that crate builds it. In each world a question is
 driven once, 2,000 times, each in a run of its own and after the first from the cache, and 2,000 times with a cache of
 size 0, so that it is walked for each time. Each time is the least of 40 runs of the program, less that of the first:
 the start of the process and reading the scenario are not in it. In the small world each of the

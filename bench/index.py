@@ -2,7 +2,7 @@
 
     python3 bench/index.py PROGRAM
 
-PROGRAM is crates/bench_program/out/bench_program, as `rt run` in that crate builds it. A cache is filled with 1,000, 32,000
+PROGRAM is crates/cases/out/cases, as `rt run` in that crate builds it. A cache is filled with 1,000, 32,000
 and 1,048,576 entries, with names and expiries that come in no order. Then 20,000 questions that are there are made, and an
 answer for each, and are let go, read with `get`, or written with `put`; from the instructions of the last two those of the
 first are taken, so that neither the filling nor the making is in them. Memory is the most that is resident, with the

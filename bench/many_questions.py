@@ -2,7 +2,7 @@
 
     python3 bench/many_questions.py PROGRAM
 
-PROGRAM is crates/bench_program/out/bench_program, as `rt run` in that crate builds it. All questions of a run are for the
+PROGRAM is crates/cases/out/cases, as `rt run` in that crate builds it. All questions of a run are for the
 name of the third of three zones, one in the other; each zone, the root included, has one server, and the cache has size 0,
 so that each question goes down all of them. Counts the instructions of whole runs with valgrind, less those of a run with
 one question: the start of the process and reading the script are not in it. Prints a table, and exits 1 where a question of

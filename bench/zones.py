@@ -2,7 +2,7 @@
 
     python3 bench/zones.py PROGRAM
 
-PROGRAM is crates/bench_program/out/bench_program, as `rt run` in that crate builds it. On each way a question is driven
+PROGRAM is crates/cases/out/cases, as `rt run` in that crate builds it. On each way a question is driven
 once, and 2,000 times, each in a run of its own and with a cache of size 0, so that it goes down all zones each time. Each
 zone, the root included, has one server; the question is for the name of the last. Each time is that of the processor, the
 least of 20 runs of the program, less that with one question: the start of the process and reading the script are not in

@@ -1,6 +1,6 @@
 //! What cases are of: each is a text that is handed in, and a text that comes of it.
 
-use crate::{faults, run};
+use crate::{benches, faults, run};
 use dns_core::NoMemory;
 use reading_subjects::{networks, resolver, scenario};
 use std::alloc::{AllocError, Global};
@@ -37,6 +37,8 @@ pub enum Subject {
     Cache,
     /// The numbers of types, classes and codes.
     Codes,
+    /// The runs of the benches, and what they tell.
+    Bench,
 }
 
 impl Subject {
@@ -57,6 +59,7 @@ impl Subject {
             Subject::Delays => delays::answer(alloc, given),
             Subject::Cache => kept::answer(alloc, given),
             Subject::Codes => codes::answer(alloc, given),
+            Subject::Bench => benches::answer(alloc, given),
         }
     }
 

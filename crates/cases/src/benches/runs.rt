@@ -8,10 +8,11 @@
 //!   that is there: `get`, `put`, or `make`, where a question and an answer are made for nothing;
 //! - `held ANSWERS`: so many of the same answers without a cache.
 
-use crate::driving::{answers, answers_of_one_run};
-use crate::failure::Failure;
-use crate::kept::{Call, Calls};
-use crate::{access, kept};
+use crate::benches::driving::{answers, answers_of_one_run};
+use crate::benches::failure::Failure;
+use crate::benches::kept::{Call, Calls};
+use crate::benches::{access, kept};
+use dns_core::Text;
 use std::alloc::Global;
 
 /// A run that the words name, and how often it goes.
@@ -23,30 +24,6 @@ pub enum Run {
     Kept(Calls),
     Held { answers: u32 },
 }
-
-/// What goes where no words name a run.
-pub const EACH: [Run; 8] = [
-    Run::Access { sets: 1, times: 1 },
-    Run::Access { sets: 2, times: 2 },
-    Run::Answers { times: 3 },
-    Run::Many { questions: 5 },
-    Run::Kept(Calls {
-        entries: 100,
-        call: Call::Make,
-        times: 3,
-    }),
-    Run::Kept(Calls {
-        entries: 100,
-        call: Call::Get,
-        times: 3,
-    }),
-    Run::Kept(Calls {
-        entries: 100,
-        call: Call::Put,
-        times: 3,
-    }),
-    Run::Held { answers: 100 },
-];
 
 /// The call of this name.
 fn call_of(name: &str) -> Option<Call> {
@@ -69,17 +46,17 @@ fn counted_of(word: &str, number: u32) -> Option<Run> {
 }
 
 /// The run that these words name.
-pub fn run_of(words: &[String]) -> Option<Run> {
+pub fn run_of(words: &[Text]) -> Option<Run> {
     match words {
-        [word, number] => counted_of(word, number.parse().ok()?),
-        [word, sets, times] if word.as_str() == "access" => Some(Run::Access {
-            sets: sets.parse().ok()?,
-            times: times.parse().ok()?,
+        [word, number] => counted_of(word.items(), number.items().parse().ok()?),
+        [word, sets, times] if word.items() == "access" => Some(Run::Access {
+            sets: sets.items().parse().ok()?,
+            times: times.items().parse().ok()?,
         }),
-        [word, entries, call, times] if word.as_str() == "kept" => Some(Run::Kept(Calls {
-            entries: entries.parse().ok()?,
-            call: call_of(call)?,
-            times: times.parse().ok()?,
+        [word, entries, call, times] if word.items() == "kept" => Some(Run::Kept(Calls {
+            entries: entries.items().parse().ok()?,
+            call: call_of(call.items())?,
+            times: times.items().parse().ok()?,
         })),
         _ => None,
     }

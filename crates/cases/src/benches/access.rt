@@ -1,6 +1,6 @@
 //! Addresses against the recommended networks.
 
-use crate::failure::Failure;
+use crate::benches::failure::Failure;
 use dns_core::NoMemory;
 use resolver_settings::{AccessControlSet, AccessControlSetBuilder, recommended_server_filters};
 use std::alloc::Global;

@@ -1,6 +1,6 @@
 //! Questions of a scenario, driven over its script.
 
-use crate::failure::Failure;
+use crate::benches::failure::Failure;
 use dns_core::{Items, NoMemory, Question, TryClone};
 use recursor_core::{Recursor, Reply, drive};
 use recursor_text::{Scenario, Upstream, read_scenario};

@@ -1,6 +1,6 @@
 //! The cache of responses alone, with so many entries, and its calls.
 
-use crate::failure::Failure;
+use crate::benches::failure::Failure;
 use dns_core::{
     DnsClass, Message, Name, NetError, NoMemory, Query, RData, Record, RecordType, Records,
     ResponseCode, TryClone,

@@ -1,8 +1,7 @@
 //! Why a run stops.
 
-use dns_core::{NoMemory, ReadError};
+use dns_core::NoMemory;
 use std::alloc::{AllocError, AllocFailed};
-use std::io;
 
 /// Why a run stops.
 #[derive(Clone, Copy, Debug)]
@@ -15,8 +14,6 @@ pub enum Failure {
     Unqualified,
     /// The recursor is refused.
     Refused,
-    /// The system does not read or write.
-    System,
     NoMemory,
 }
 
@@ -35,20 +32,5 @@ impl From<AllocError> for Failure {
 impl<T: Drop> From<AllocFailed<T>> for Failure {
     fn from(_e: AllocFailed<T>) -> Failure {
         Failure::NoMemory
-    }
-}
-
-impl From<ReadError> for Failure {
-    fn from(e: ReadError) -> Failure {
-        match e {
-            ReadError::Failed => Failure::System,
-            ReadError::NoMemory => Failure::NoMemory,
-        }
-    }
-}
-
-impl From<io::Error> for Failure {
-    fn from(_e: io::Error) -> Failure {
-        Failure::System
     }
 }
