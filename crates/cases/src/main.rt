@@ -21,7 +21,7 @@ use subject::Subject;
 const MOST: usize = 16_777_216;
 
 /// The files of cases, and what each has cases of.
-const FILES: [(&str, Subject); 24] = [
+static FILES: [(&str, Subject); 24] = [
     ("words.cases", Subject::Words),
     ("faults.cases", Subject::Faults),
     ("fault_texts.cases", Subject::FaultTexts),
@@ -51,9 +51,9 @@ const FILES: [(&str, Subject); 24] = [
 /// Tries the cases of each file.
 fn try_files(rt: &HostRuntime) -> io::Result<ExitCode> {
     let mut tally = Tally::new();
-    for (file, subject) in FILES {
+    for (file, subject) in &FILES {
         let text = fs::read_to_string(rt, file)?;
-        tally.add(cases::try_file(rt, file, subject, &text)?);
+        tally.add(cases::try_file(rt, file, *subject, &text)?);
     }
     if tally.is_well() {
         println!(rt; "each case came to what it wants")?;

@@ -1,10 +1,7 @@
 pub mod Names
 pub mod Answered
-pub mod Cores
 pub mod Due
-pub mod Later
 pub mod Leading
-pub mod Places
 pub mod Playing
 pub mod Standing
 pub mod Timed

@@ -1,34 +1,30 @@
 -- The words that several proofs of this crate speak with, in one place.
-pub use Rattle.std.proofs.Common.{◌≡◌, ◌<◌, ℕ, zero, suc, List, [], ◌∷◌, length, get_or, Some, arith, ap, slice_get, ◌≤◌, ◌+◌, ◌++◌, All, ◌⊎◌, inl, inr, ⊎_elim, Option, None, Result, Ok, Err, refl, sym, ◌∙◌, subst, ◌-◌, ◌*◌, ◌^◌, Bool, true, false, OnOk, MatchBool, max, Contains, ◌≢◌, if◌then◌else◌, eq-eqb, min, map, IfOk, vec_len, ◌==◌, drop}
+pub use Rattle.std.proofs.Common.{◌≡◌, ◌<◌, ℕ, zero, suc, List, [], ◌∷◌, length, get_or, Some, arith, ap, slice_get, ◌≤◌, ◌+◌, ◌++◌, All, ◌⊎◌, inl, inr, ⊎_elim, Option, None, Result, Ok, Err, refl, sym, ◌∙◌, subst, ◌-◌, ◌*◌, ◌^◌, Bool, true, false, OnOk, MatchBool, max, Contains, ◌≢◌, if◌then◌else◌, eq-eqb, min, map, IfOk, vec_len, drop}
 pub use Rattle.std.specs.Global.{Box}
 pub use Rattle.std.proofs.Math.ListN.{set, drop_of_length-le}
 pub use Rattle.std.proofs.lemmas.List.Sums.{sum_by-set}
-pub use Rattle.std.specs.Prelude.{IfSome, IsErr, IsSome, sum_by, option_copied, IsTrue}
-pub use Rattle.std.proofs.lemmas.List.Elements.{All-set, All-weaker, All-get_or, All-push}
+pub use Rattle.std.specs.Prelude.{IsSome}
+pub use Rattle.std.proofs.lemmas.List.Elements.{All-get_or}
 pub use Rattle.std.specs.Option.{option_map}
 pub use Rattle.std.proofs.lemmas.Option.{get_or_from_slice_get, slice_get_within, same_Some, slice_get_read}
-pub use Rattle.std.proofs.lemmas.List.{length-set, length_push, drop_more}
+pub use Rattle.std.proofs.lemmas.List.{drop_more}
 pub use Rattle.std.specs.BTreeSet.{BTreeSet, contains}
 pub use Rattle.std.specs.Ordering.{nat_cmp}
 pub use Rattle.std.specs.declared.net.ip_addr.IpAddr.{IpAddr}
-pub use Rattle.std.proofs.lemmas.Result.{IfOk-from_err, on_ok_weaker, IfOk-weaker}
+pub use Rattle.std.proofs.lemmas.Result.{IfOk-weaker}
 pub use Rattle.recursor_types.specs.declared.reply.Reply.{Reply}
-pub use Rattle.dns_core.specs.Log.{Log, Extends, log_of}
+pub use Rattle.dns_core.specs.Log.{Log, log_of}
 pub use Rattle.dns_core.specs.declared.request.Question.{Question}
 pub use Rattle.dns_core.specs.declared.errors.NoMemory.{NoMemory}
 pub use Rattle.order_carrier.specs.Fits.{GoesToServer}
-pub use Rattle.lookup_facts.specs.View.{View, seen_at, given_of, Later}
-pub use Rattle.recursor_walk.specs.Replies.{Replied, ReplyHolds}
-pub use Rattle.recursor_walk.specs.Resolving.{SameBegun, open_of}
-pub use Rattle.walk_tables.specs.Taking.{IfAwaits, TablesHold}
-pub use Rattle.walk_tables.specs.declared.pools.Stepped.{Stepped}
+pub use Rattle.lookup_facts.specs.View.{seen_at, given_of}
+pub use Rattle.recursor_walk.specs.Replies.{ReplyHolds}
+pub use Rattle.walk_tables.specs.Taking.{TablesHold}
 pub use Rattle.recursor_setting.specs.declared.setting.Setting.{Setting}
 pub use Rattle.recursor_walk.specs.declared.resolving.Resolution.{Resolution}
-pub use Rattle.walk_tables.specs.Pools.{PoolsHold, IsStepAt}
-pub use Rattle.lookup_facts.specs.Remembered.{CacheHolds, EntryHolds}
-pub use Rattle.lookup_facts.proofs.Later.{cache-later, later-by}
-pub use Rattle.walk_tables.proofs.Later.{pools-later}
-pub use Rattle.recursor_walk.proofs.Later.{resolution-later, reply-later}
+pub use Rattle.lookup_facts.specs.Remembered.{EntryHolds}
+pub use Rattle.lookup_facts.proofs.Later.{later-by}
+pub use Rattle.recursor_walk.proofs.Later.{reply-later}
 pub use Rattle.dns_core.specs.declared.log.LogEntry.{LogEntry}
 pub use Rattle.dns_core.specs.declared.provider.ConnectionProvider.{Ghosts}
 pub use Rattle.dns_core.specs.declared.request.Turn.{Turn}
@@ -43,15 +39,15 @@ pub use Rattle.order_carrier.proofs.Growing.{Grown-refl, Extends-refl, Grown-tra
 pub use Rattle.resolution.specs.Given.{Given}
 pub use Rattle.resolver_cache.specs.Cached.{Cached}
 pub use Rattle.recursor_setting.specs.Setting.{with_patience}
-pub use Rattle.lookup_facts.specs.Order.{is_given_up, IsGivenUpIn, LogGoesOnIf, IsNext, IsPut, last_entry, seen_with}
+pub use Rattle.lookup_facts.specs.Order.{is_given_up, IsGivenUpIn, LogGoesOnIf}
 pub use Rattle.order_runner.specs.Runner.{RunnerHolds, RunnerMoves, GoesNowhere, sent_by, still_awaited, IsLast, HasTold, polls_left}
 pub use Rattle.server_core.specs.declared.order.Order.{Order}
 pub use Rattle.server_core.specs.declared.order.After.{After}
 pub use Rattle.recursor_core.specs.Turns.{open_play, open_plays, Begins, BeginsIf, BeginsAt, IsRefused, ReplyOf, due}
 pub use Rattle.recursor_core.specs.declared.plays.Played.{Played}
-pub use Rattle.recursor_core.specs.Derived.{seen_by, Derived, KeptHolds}
-pub use Rattle.recursor_core.specs.Machine.{kept_in, Begun, begun_of, begun_at, IsOneMore, given_by, open_in, StepFor, StepIs, Steps, ReplyGiven, StepGives, SameCore, need_in, need_at, IsNewCore, TellsTo, open_at}
-pub use Rattle.recursor_core.specs.declared.machine.RecursorCore.{RecursorCore}
+pub use Rattle.recursor_machine.specs.Derived.{seen_by, Derived}
+pub use Rattle.recursor_machine.specs.Machine.{kept_in, Begun, begun_of, begun_at, IsOneMore, given_by, ReplyGiven, StepGives, SameCore, IsNewCore, TellsTo, open_at}
+pub use Rattle.recursor_machine.specs.declared.machine.RecursorCore.{RecursorCore}
 pub use Rattle.recursor_walk.specs.declared.steps.Step.{Step}
 pub use Rattle.recursor_core.specs.Runs.{Leading, IsDue, IsOver, Leads, PlaysGoOn, work, Plays}
 pub use Rattle.recursor_core.specs.Standing.{Holds, Goes, Moves, ReplyTold, first_moment, last_moment, begin_moment, run_moments, run_timer, PlayHolds, PlaysHold, RepliesHold, ReplyFor, Rests, Ready, TurnedTold, KeepsTo, Standing, run_terms}

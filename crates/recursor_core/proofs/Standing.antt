@@ -12,7 +12,7 @@ use Rattle.server_core.specs.declared.order.Sent.{Sent}
 use Rattle.server_core.specs.declared.order.Tick.{Tick}
 use Rattle.order_carrier.proofs.Asking.{AsksServers-patience, GoesToServer-later}
 use Rattle.order_runner.proofs.Carried.{waits-still}
-use Rattle.recursor_core.proofs.Later.{Derived-extends}
+use Rattle.recursor_machine.proofs.Later.{Derived-extends}
 use Rattle.recursor_setting.specs.Setting.{with_patience as setting_with}
 use Rattle.recursor_walk.specs.declared.steps.Step.TheVariants as step
 use Rattle.recursor_core.specs.declared.turns.Turned.TheVariants as turned

@@ -1,5 +1,3 @@
-pub mod Derived
-pub mod Machine
 pub mod Turns
 pub mod Standing
 pub mod Runs

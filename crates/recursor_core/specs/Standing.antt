@@ -21,15 +21,15 @@ use Rattle.lookup_facts.specs.View.{given_of}
 use Rattle.lookup_facts.specs.Tried.{Timer, machine_timer}
 use Rattle.recursor_walk.specs.Replies.{ReplyHolds}
 use Rattle.order_carrier.specs.Growing.{TellsThat, Grown, IsPast}
-use Rattle.recursor_core.specs.Derived.{seen_by, Derived}
+use Rattle.recursor_machine.specs.Derived.{seen_by, Derived}
 use Rattle.order_carrier.specs.Patience.{IsPatient}
 use Rattle.walk_tables.specs.Pools.{PoolsHold}
 use Rattle.lookup_facts.specs.Remembered.{CacheHolds}
 use Rattle.order_runner.specs.Runner.{RunnerHolds}
 use Rattle.order_runner.specs.declared.runner.Runner.{Runner}
-use Rattle.recursor_core.specs.Machine.{Begun, begun_at}
+use Rattle.recursor_machine.specs.Machine.{Begun, begun_at}
 use Rattle.order_carrier.specs.declared.carrier.Carrier.{Carrier}
-use Rattle.recursor_core.specs.declared.machine.RecursorCore.{RecursorCore}
+use Rattle.recursor_machine.specs.declared.machine.RecursorCore.{RecursorCore}
 use Rattle.recursor_types.specs.declared.reply.Reply.{Reply}
 use Rattle.recursor_core.specs.declared.turns.Turned.{Turned}
 use Rattle.recursor_core.specs.declared.plays.Played.{Played}

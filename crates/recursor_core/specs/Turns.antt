@@ -4,14 +4,14 @@ use Rattle.std.specs.BTreeSet.{BTreeSet, contains}
 use Rattle.std.specs.Ordering.{nat_cmp}
 use Rattle.dns_core.specs.declared.provider.ConnectionProvider.{Ghosts}
 use Rattle.dns_core.specs.declared.request.Question.{Question}
-use Rattle.recursor_core.specs.Machine.{given_by, open_at}
+use Rattle.recursor_machine.specs.Machine.{given_by, open_at}
 use Rattle.order_runner.specs.Runner.{polls_left}
 use Rattle.order_runner.specs.declared.runner.Runner.{Runner}
 use Rattle.recursor_types.specs.declared.reply.Reply.{Reply}
-use Rattle.recursor_core.specs.declared.machine.RecursorCore.{RecursorCore}
+use Rattle.recursor_machine.specs.declared.machine.RecursorCore.{RecursorCore}
 use Rattle.recursor_core.specs.declared.turns.Turned.{Turned}
 use Rattle.recursor_core.specs.declared.plays.Played.{Played}
-use Rattle.recursor_core.specs.Machine as machine
+use Rattle.recursor_machine.specs.Machine as machine
 use Rattle.recursor_types.specs.declared.error.MessageKind.TheVariants as kind
 use Rattle.recursor_types.specs.declared.error.RecursorError.TheVariants as error
 use Rattle.recursor_core.specs.declared.turns.Turned.TheVariants as turned

@@ -2,7 +2,6 @@
 #![tactic(auto)]
 
 mod driving;
-mod machine;
 mod plays;
 mod recursor;
 mod run;

@@ -1,13 +1,13 @@
 //! What became of each question of a run.
 ghost use Rattle.std.specs.Prelude.{All, ◌≡◌, ◌≢◌, ◌≤◌, ◌<◌, ◌⊎◌, ℕ, [], Some, Err, IfOk, length, slice_get, slice_set, vec_len};
 ghost use Rattle.dns_core.specs.Log.{Log};
-ghost use Rattle.recursor_core.specs.Derived.{Derived};
-ghost use Rattle.recursor_core.specs.Machine.{IsOneMore};
+ghost use Rattle.recursor_machine.specs.Derived.{Derived};
+ghost use Rattle.recursor_machine.specs.Machine.{IsOneMore};
 ghost use Rattle.recursor_core.specs.Turns.{open_plays, is_waiting, IsBegunAt, IsUnderWay, Begins, BeginsAt, ReplyOf};
 ghost use Rattle.recursor_types.specs.declared.reply.Reply.{Reply};
 
-use crate::machine::RecursorCore;
 use dns_core::{NoMemory, Numbers, Question, TryClone, in_box};
+use recursor_machine::RecursorCore;
 use recursor_types::{RecursorError, Reply};
 use std::alloc::Global;
 use std::mem;

@@ -8,11 +8,11 @@ ghost use Rattle.recursor_setting.specs.Setting.{context_of};
 ghost use Rattle.recursor_setting.specs.Asking.{connect_of};
 ghost use Rattle.recursor_core.specs.Standing.{Standing, Rests, first_standing};
 
-use crate::machine::RecursorCore;
 use crate::run::Run;
 use dns_core::{ConnectOptions, ConnectionProvider, NoMemory};
 use order_carrier::Carrier;
 use order_runner::Runner;
+use recursor_machine::RecursorCore;
 use recursor_types::{MessageKind, RecursorError, RecursorOptions};
 use server_core::PoolContext;
 use std::alloc::Global;

@@ -7,13 +7,13 @@ ghost use Rattle.recursor_core.specs.Runs.{Runs, Leads, PlaysOn, PlaysGoOn, IsDu
 ghost use Rattle.recursor_core.specs.Standing.{RepliesHold, last_moment, run_moments};
 ghost use Rattle.recursor_core.specs.Turns.{IsUnderWay};
 
-use crate::machine::RecursorCore;
 use crate::plays::{
     Played, begin_at, is_waiting, leave_unanswered, put_answer, replies, under_way, waiting,
 };
 use crate::turns::answer_of;
 use dns_core::{ConnectionProvider, NoMemory, Question, Turn};
 use order_runner::Runner;
+use recursor_machine::RecursorCore;
 use recursor_types::Reply;
 use server_core::Tick;
 use std::alloc::Global;

@@ -5,14 +5,14 @@ ghost use Rattle.std.specs.Ordering.{nat_cmp};
 ghost use Rattle.lookup_facts.specs.View.{given_of};
 ghost use Rattle.order_carrier.specs.Growing.{TellsThat};
 ghost use Rattle.order_runner.specs.Runner.{GoesRight, held_at, sent_by, HasTold};
-ghost use Rattle.recursor_core.specs.Machine.{begun_at, need_at, open_at, given_by};
-ghost use Rattle.recursor_core.specs.declared.machine.RecursorCore.{RecursorCore};
+ghost use Rattle.recursor_machine.specs.Machine.{begun_at, need_at, open_at, given_by};
+ghost use Rattle.recursor_machine.specs.declared.machine.RecursorCore.{RecursorCore};
 ghost use Rattle.recursor_core.specs.Standing.{Holds, Ready, Goes, ReplyTold, TurnedTold};
 ghost use Rattle.recursor_core.specs.Turns.{due, TurnFalls, AskFalls, AllPolled};
 
-use crate::machine::RecursorCore;
 use dns_core::{ConnectionProvider, NoMemory};
 use order_runner::Runner;
+use recursor_machine::RecursorCore;
 use recursor_types::Reply;
 use recursor_walk::{Need, Step};
 use server_core::{After, Order, Outcome, Tick};

@@ -4,7 +4,7 @@ use dns_core::{DnsClass, NoMemory, RecordType, ResponseCode};
 use std::alloc::Global;
 use std::fmt::Write;
 
-const TYPES: [(&str, RecordType); 23] = [
+static TYPES: [(&str, RecordType); 23] = [
     ("A", RecordType::A),
     ("NS", RecordType::NS),
     ("CNAME", RecordType::CNAME),
@@ -30,13 +30,13 @@ const TYPES: [(&str, RecordType); 23] = [
     ("CAA", RecordType::CAA),
 ];
 
-const CLASSES: [(&str, DnsClass); 3] = [
+static CLASSES: [(&str, DnsClass); 3] = [
     ("IN", DnsClass::IN),
     ("CH", DnsClass::CH),
     ("HS", DnsClass::HS),
 ];
 
-const CODES: [(&str, ResponseCode); 6] = [
+static CODES: [(&str, ResponseCode); 6] = [
     ("NoError", ResponseCode::NoError),
     ("FormErr", ResponseCode::FormErr),
     ("ServFail", ResponseCode::ServFail),
@@ -47,7 +47,7 @@ const CODES: [(&str, ResponseCode); 6] = [
 
 /// The number of each type, whether it is of data, and whether it is of DNSSEC.
 fn put_types(out: &mut String) -> Result<(), NoMemory> {
-    for (name, kind) in TYPES {
+    for (name, kind) in &TYPES {
         let (code, data, dnssec) = (kind.code, kind.is_data(), kind.is_dnssec());
         writeln!(out, "type {name} {code} data {data} dnssec {dnssec}")?;
     }
@@ -58,11 +58,11 @@ fn put_types(out: &mut String) -> Result<(), NoMemory> {
 pub fn answer(alloc: Global, _given: &[u8]) -> Result<String, NoMemory> {
     let mut out = String::new(alloc);
     put_types(&mut out)?;
-    for (name, class) in CLASSES {
+    for (name, class) in &CLASSES {
         let code = class.code;
         writeln!(out, "class {name} {code}")?;
     }
-    for (name, kind) in CODES {
+    for (name, kind) in &CODES {
         let code = kind.code;
         writeln!(out, "code {name} {code}")?;
     }

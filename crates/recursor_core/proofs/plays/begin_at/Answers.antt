@@ -1,5 +1,5 @@
 use Rattle.recursor_core.proofs.Names.{◌≡◌, ◌<◌, length, Some, slice_get, refl, sym, ◌∙◌, arith, same_Some, slice_get_read}
-use Rattle.recursor_core.proofs.Places.{slice_get-set_other}
+use Rattle.recursor_machine.proofs.Places.{slice_get-set_other}
 use Rattle.recursor_core.proofs.Playing.{begins_waiting, begins_else}
 use Rattle.recursor_core.proofs.plays.begin_at.Goals.{in-Waiting, in_default}
 use Rattle.recursor_core.proofs.plays.begin_at.Goals as goal

@@ -1,0 +1,4 @@
+pub mod Names
+pub mod Cores
+pub mod Later
+pub mod Places

@@ -1,0 +1,31 @@
+-- The words that several proofs of this crate speak with, in one place.
+pub use Rattle.std.proofs.Common.{◌≡◌, ◌<◌, ℕ, zero, suc, List, [], ◌∷◌, length, get_or, Some, arith, ap, slice_get, ◌≤◌, ◌+◌, ◌++◌, All, ◌⊎◌, inl, inr, ⊎_elim, Option, None, Result, Ok, Err, refl, sym, ◌∙◌, subst, Bool, true, false, max, ◌≢◌, IfOk}
+pub use Rattle.std.specs.Global.{Box}
+pub use Rattle.std.proofs.Math.ListN.{set}
+pub use Rattle.std.specs.Prelude.{IsSome, option_copied, IsTrue}
+pub use Rattle.std.proofs.lemmas.List.Elements.{All-set, All-weaker, All-push}
+pub use Rattle.std.specs.Option.{option_map}
+pub use Rattle.std.proofs.lemmas.Option.{get_or_from_slice_get, slice_get_within, slice_get_read}
+pub use Rattle.std.proofs.lemmas.List.{length-set, length_push}
+pub use Rattle.std.proofs.lemmas.Result.{IfOk-from_err, IfOk-weaker}
+pub use Rattle.dns_core.specs.Log.{Log, Extends}
+pub use Rattle.dns_core.specs.declared.request.Question.{Question}
+pub use Rattle.dns_core.specs.declared.errors.NoMemory.{NoMemory}
+pub use Rattle.lookup_facts.specs.View.{View, seen_at, Later}
+pub use Rattle.recursor_walk.specs.Resolving.{SameBegun, open_of}
+pub use Rattle.recursor_setting.specs.declared.setting.Setting.{Setting}
+pub use Rattle.recursor_walk.specs.declared.resolving.Resolution.{Resolution}
+pub use Rattle.walk_tables.specs.Pools.{PoolsHold, IsStepAt}
+pub use Rattle.lookup_facts.specs.Remembered.{CacheHolds}
+pub use Rattle.lookup_facts.proofs.Later.{cache-later, later-by}
+pub use Rattle.walk_tables.proofs.Later.{pools-later}
+pub use Rattle.recursor_walk.proofs.Later.{resolution-later}
+pub use Rattle.order_carrier.proofs.Growing.{Extends-refl}
+pub use Rattle.resolver_cache.specs.Cached.{Cached}
+pub use Rattle.recursor_setting.specs.Setting.{with_patience}
+pub use Rattle.lookup_facts.specs.Order.{IsNext, IsPut, last_entry, seen_with}
+pub use Rattle.server_core.specs.declared.order.After.{After}
+pub use Rattle.recursor_machine.specs.Derived.{seen_by, Derived, KeptHolds}
+pub use Rattle.recursor_machine.specs.Machine.{kept_in, Begun, begun_of, begun_at, IsOneMore, open_in, StepFor, ReplyGiven, StepGives, SameCore, need_in}
+pub use Rattle.recursor_machine.specs.declared.machine.RecursorCore.{RecursorCore}
+pub use Rattle.recursor_walk.specs.declared.steps.Step.{Step}
