@@ -156,6 +156,31 @@ impl Pools {
     }
 }
 
+/// What is sought for a question at the servers of a zone that is asked from a moment on.
+fn sought_from(
+    alloc: Global,
+    query: &Query,
+    zone: &Name,
+    now: u64,
+) -> Result<Boxed<Sought>, NoMemory>
+    ensures { IfOk result (λ sought. sought ≡ record { query = query.now; zone = zone.now; start = now; given = None; first = None; at = now; came = None }) }
+{
+    let query = query.try_clone(alloc)?;
+    let zone = zone.try_clone(alloc)?;
+    Boxed::new(
+        alloc,
+        Sought {
+            query,
+            zone,
+            start: now,
+            given: None,
+            first: None,
+            at: now,
+            came: None,
+        },
+    )
+}
+
 impl Pools {
     /// Keeps what is sought by a lookup, which is left where memory is wanting.
     fn keep(&mut self, lookup: PoolLookup, sought: Boxed<Sought>) -> Result<PoolLookup, NoMemory>
@@ -183,18 +208,7 @@ impl Pools {
         ensures holds { (seen : View) → tick.now ≡ seen.moment → AreFor seen request.query zone.now ips.now → PoolsHold seen self.old → PoolsHold seen self.new }
         ensures given { given_so_far self.new ≡ given_so_far self.old }
     {
-        let sought = Boxed::new(
-            alloc,
-            Sought {
-                query: request.query.try_clone(alloc)?,
-                zone: zone.try_clone(alloc)?,
-                start: tick.now,
-                given: None,
-                first: None,
-                at: tick.now,
-                came: None,
-            },
-        )?;
+        let sought = sought_from(alloc, &request.query, zone, tick.now)?;
         let servers = self.meet_all(alloc, ips)?;
         let pool = NameServerPool::from_nameservers(alloc, servers, &mut self.shared)?;
         let lookup = pool.into_lookup(alloc, &mut self.shared, request, tick)?;

@@ -56,7 +56,7 @@ returns c = record {
       let within : pool ≤ old.shared.pools = omega (arith, own, count) in
       let sought : Sought = c.in_ok-sought.sought in
       let holds : SoughtHolds seen shared n sought =
-      rw (c.in_ok-sought.ensures, c.in_ok-try_clone.ensures, c.in_ok-try_clone-2.ensures, here)
+      rw (c.in_ok-sought.ensures, here)
       (begun-holds seen c.args.zone.now c.args.ips.now numbers request old.shared shared pool n served numbered.servers.timeout there begun _
       (begun-there pool numbers request now old.shared shared n begun) refl (begun-rest pool numbers request now old.shared shared n begun).servers.configs) in
       pools-begun seen n sought old c.keep.new.self shared (begun-rest pool numbers request now old.shared shared n begun)
