@@ -142,7 +142,7 @@ fn empty(alloc: Global) -> Result<ResponseCache, ReversedTtl> {
 }
 
 /// A response counts down. It is found in any case of its name, and in its class alone.
-const READ: [(u64, Call, Seen); 6] = [
+static READ: [(u64, Call, Seen); 6] = [
     (0, Call::Write(How::Plain, 300), Seen::Written),
     (1_000_000, Call::Read, Seen::Ttl(299)),
     (1_000_000, Call::ReadCopy, Seen::Ttl(299)),
@@ -152,7 +152,7 @@ const READ: [(u64, Call, Seen); 6] = [
 ];
 
 /// A repeated answer lives no longer.
-const REPEATED: [(u64, Call, Seen); 4] = [
+static REPEATED: [(u64, Call, Seen); 4] = [
     (0, Call::Write(How::Clamped, 10), Seen::Written),
     (5_000_000, Call::Write(How::Clamped, 100), Seen::Written),
     (10_000_000, Call::Read, Seen::Ttl(95)),
@@ -160,7 +160,7 @@ const REPEATED: [(u64, Call, Seen); 4] = [
 ];
 
 /// A response is found with its source, and a repeated one brings its own.
-const TOLD: [(u64, Call, Seen); 5] = [
+static TOLD: [(u64, Call, Seen); 5] = [
     (0, Call::Write(How::Told(7), 60), Seen::Written),
     (2_000_000, Call::Find, Seen::From(7, 58)),
     (2_000_000, Call::Write(How::Told(9), 60), Seen::Written),

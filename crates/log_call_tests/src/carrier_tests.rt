@@ -261,7 +261,7 @@ const UNMADE: What = What::Ask(Ask { conn: 9, ..SOON });
 const SLEEP: What = What::Sleep(10);
 
 /// An outcome is handed out once.
-const ONCE: [(u64, Call, Seen); 6] = [
+static ONCE: [(u64, Call, Seen); 6] = [
     (5, Call::Carry(1, OPEN), Seen::Connected(2)),
     (6, Call::Carry(1, OPEN), Seen::Nothing),
     (7, Call::Carry(2, ASK), Seen::Pending(4, 3)),
@@ -272,7 +272,7 @@ const ONCE: [(u64, Call, Seen); 6] = [
 
 /// A different order under the same number has no outcome: the name of a question counts with its
 /// case. An order of another form goes on beside it.
-const DIFFERENT: [(u64, Call, Seen); 6] = [
+static DIFFERENT: [(u64, Call, Seen); 6] = [
     (5, Call::Carry(1, OPEN), Seen::Connected(2)),
     (5, Call::Carry(2, ASK), Seen::Pending(4, 3)),
     (5, Call::Carry(2, IN_CAPITALS), Seen::Nothing),
@@ -282,7 +282,7 @@ const DIFFERENT: [(u64, Call, Seen); 6] = [
 ];
 
 /// A question goes only over the connection that it names.
-const ONLY_OVER: [(u64, Call, Seen); 6] = [
+static ONLY_OVER: [(u64, Call, Seen); 6] = [
     (5, Call::Carry(1, OPEN), Seen::Connected(2)),
     (5, Call::Carry(2, ELSEWHERE), Seen::Nothing),
     (5, Call::Carry(2, OVER_TCP), Seen::Nothing),
@@ -292,7 +292,7 @@ const ONLY_OVER: [(u64, Call, Seen); 6] = [
 ];
 
 /// A sleep ends at its moment.
-const ASLEEP: [(u64, Call, Seen); 5] = [
+static ASLEEP: [(u64, Call, Seen); 5] = [
     (9, Call::Carry(1, SLEEP), Seen::Pending(0, 0)),
     (9, Call::IsUnderWay(1, SLEEP), Seen::UnderWay(true)),
     (10, Call::Carry(1, SLEEP), Seen::Slept),
@@ -301,7 +301,7 @@ const ASLEEP: [(u64, Call, Seen); 5] = [
 ];
 
 /// What is given up has no outcome.
-const GIVEN_UP: [(u64, Call, Seen); 13] = [
+static GIVEN_UP: [(u64, Call, Seen); 13] = [
     (5, Call::Carry(1, OPEN), Seen::Connected(2)),
     (5, Call::IsFree(2), Seen::Free(true)),
     (5, Call::Carry(2, ASK_LATE), Seen::Pending(4, 3)),
@@ -318,7 +318,7 @@ const GIVEN_UP: [(u64, Call, Seen); 13] = [
 ];
 
 /// Of one number an opening is given up first, and a sleep last.
-const IN_TURN: [(u64, Call, Seen); 13] = [
+static IN_TURN: [(u64, Call, Seen); 13] = [
     (5, Call::Carry(1, OPEN), Seen::Connected(2)),
     (5, Call::Carry(2, What::Sleep(9)), Seen::Pending(0, 0)),
     (5, Call::Sent(2, What::Sleep(9)), Seen::Sent(None)),
@@ -335,7 +335,7 @@ const IN_TURN: [(u64, Call, Seen); 13] = [
 ];
 
 /// A connection that is refused has failed at once. The entry that tells so is the one that opened it.
-const REFUSED: [(u64, Call, Seen); 2] = [
+static REFUSED: [(u64, Call, Seen); 2] = [
     (5, Call::Carry(1, What::Open(4)), Seen::Failed(1, 1)),
     (5, Call::Carry(1, What::Open(4)), Seen::Nothing),
 ];

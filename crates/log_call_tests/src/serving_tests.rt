@@ -268,7 +268,7 @@ const EXAMPLE: Serving = Serving {
 };
 
 /// Entry 8 tells that 11.0.0.3 serves `example.com.`, and it serves no zone above.
-const WORKED: [Serving; 6] = [
+static WORKED: [Serving; 6] = [
     ROOT,
     COM,
     EXAMPLE,
@@ -290,7 +290,7 @@ const WORKED: [Serving; 6] = [
 ];
 
 /// Stray glue serves nothing.
-const STRAY: [Serving; 3] = [
+static STRAY: [Serving; 3] = [
     COM,
     Serving {
         ip: STRANGER,
@@ -305,7 +305,7 @@ const STRAY: [Serving; 3] = [
 ];
 
 /// A server that was chased serves, from the answer on.
-const CHASED: [Serving; 3] = [
+static CHASED: [Serving; 3] = [
     Serving {
         ip: [11, 0, 0, 9],
         ..EXAMPLE
@@ -356,7 +356,7 @@ const REFERRED: Answering = Answering {
 };
 
 /// The zone is that which the server serves, and the entry tells an answer to the question; 13 is none.
-const OF_A_ZONE: [Answering; 11] = [
+static OF_A_ZONE: [Answering; 11] = [
     ANSWERED,
     Answering {
         zone: "net.",
@@ -401,7 +401,7 @@ const OF_A_ZONE: [Answering; 11] = [
 ];
 
 /// Its record has a TTL of 300 seconds.
-const FOR_300: [Answering; 2] = [
+static FOR_300: [Answering; 2] = [
     Answering {
         moment: 300_000_000,
         ..ANSWERED
@@ -412,7 +412,7 @@ const FOR_300: [Answering; 2] = [
     },
 ];
 
-const FOR_60: [Answering; 2] = [
+static FOR_60: [Answering; 2] = [
     Answering {
         moment: 60_000_000,
         ..ANSWERED
@@ -423,7 +423,7 @@ const FOR_60: [Answering; 2] = [
     },
 ];
 
-const FOR_600: [Answering; 2] = [
+static FOR_600: [Answering; 2] = [
     Answering {
         moment: 600_000_000,
         ..ANSWERED

@@ -25,7 +25,7 @@ fn prints_once<T: fmt::Display + Drop>(
 }
 
 /// Kinds of messages, and their texts.
-const KINDS: [(MessageKind, &str); 4] = [
+static KINDS: [(MessageKind, &str); 4] = [
     (
         MessageKind::NotQualified,
         "query's domain name must be fully qualified",
@@ -49,7 +49,7 @@ fn kinds_of_messages_print_their_texts(rt: HostRuntime) -> Result<(), Fail> {
 }
 
 /// Causes, and their texts.
-const CAUSES: [(WalkCause, &str); 6] = [
+static CAUSES: [(WalkCause, &str); 6] = [
     (WalkCause::DepthLimit, "maximum recursion limit exceeded"),
     (WalkCause::Timeout, "net error: Timeout"),
     (

@@ -47,9 +47,9 @@ fn reads<S: Source + Drop>(mut source: S, wanted: &[Read<'_>]) -> Result<S, Fail
     Ok(source)
 }
 
-const FRONT: [Read<'_>; 1] = [Ok(Some(b"ab"))];
+static FRONT: [Read<'_>; 1] = [Ok(Some(b"ab"))];
 
-const REST: [Read<'_>; 3] = [Err(Failed), Ok(Some(b"c")), Ok(Some(b""))];
+static REST: [Read<'_>; 3] = [Err(Failed), Ok(Some(b"c")), Ok(Some(b""))];
 
 /// A source goes on after its front, and so does its copy.
 fn goes_on<S: Source + TryClone>(alloc: Global, source: Result<S, NoMemory>) -> Result<(), Fail> {
@@ -105,7 +105,7 @@ fn has_again<K: Keeps + TryClone>(
     has(Ok(copy), wanted)
 }
 
-const SECOND_FAILS: [(&[u8], Result<usize, Failed>); 3] = [
+static SECOND_FAILS: [(&[u8], Result<usize, Failed>); 3] = [
     (b"ab", Ok(2)),
     (b"cd", Err(Failed)),
     (b"ef", Ok(2)),
@@ -117,9 +117,9 @@ fn a_sink_in_memory_keeps_what_it_took(rt: HostRuntime) -> Result<(), Fail> {
     has_again(rt.alloc(), sink, "abef")
 }
 
-const ALL_READ: [Read<'_>; 3] = [Ok(Some(b"ab")), Ok(Some(b"c")), Ok(Some(b""))];
+static ALL_READ: [Read<'_>; 3] = [Ok(Some(b"ab")), Ok(Some(b"c")), Ok(Some(b""))];
 
-const ALL_WRITTEN: [(&[u8], Result<usize, Failed>); 1] = [(b"abc", Ok(3))];
+static ALL_WRITTEN: [(&[u8], Result<usize, Failed>); 1] = [(b"abc", Ok(3))];
 
 #[test]
 fn the_streams_of_the_system_pass_bytes_on(rt: HostRuntime) -> Result<(), Fail> {
@@ -145,7 +145,7 @@ fn read_of(alloc: Global, call: u64, most: usize) -> Result<Result<usize, ReadEr
 }
 
 /// The number of the call that fails, the limit, and what is read.
-const LIMITED: [(u64, usize, Result<usize, ReadError>); 7] = [
+static LIMITED: [(u64, usize, Result<usize, ReadError>); 7] = [
     (0, 6000, Ok(5000)),
     (0, 5000, Ok(5000)),
     (0, 4999, Ok(4999)),
@@ -176,7 +176,7 @@ fn writes_whole<K: Sink + Drop>(
     Ok(sink)
 }
 
-const ONE_IS_LOST: [(&[u8], Result<(), Failed>); 3] = [
+static ONE_IS_LOST: [(&[u8], Result<(), Failed>); 3] = [
     (b"front", Ok(())),
     (b"lost", Err(Failed)),
     (b"end", Ok(())),

@@ -171,7 +171,7 @@ const DOUBTED: Candidate = Candidate {
 };
 
 /// A busy server is asked again after each of four sleeps.
-const BUSY: [(u64, Call, Seen); 11] = [
+static BUSY: [(u64, Call, Seen); 11] = [
     (1, Call::Ask(End::Busy), Seen::GoesOn(1)),
     (2, Call::Sleep, Seen::Slept(20_000)),
     (3, Call::Ask(End::Busy), Seen::GoesOn(1)),
@@ -186,7 +186,7 @@ const BUSY: [(u64, Call, Seen); 11] = [
 ];
 
 /// After a sleep only those that were busy are asked.
-const ONE_BUSY: [(u64, Call, Seen); 7] = [
+static ONE_BUSY: [(u64, Call, Seen); 7] = [
     (1, Call::Ask(End::Busy), Seen::GoesOn(1)),
     (2, Call::Sleep, Seen::MayNot),
     (3, Call::Ask(End::Timeout), Seen::GoesOn(2)),
@@ -197,7 +197,7 @@ const ONE_BUSY: [(u64, Call, Seen); 7] = [
 ];
 
 /// A cut message turns UDP off.
-const CUT: [(u64, Call, Seen); 4] = [
+static CUT: [(u64, Call, Seen); 4] = [
     (1, Call::Ask(End::Cut), Seen::GoesOn(1)),
     (2, Call::Ask(End::Timeout), Seen::GoesOn(1)),
     (3, Call::Ask(End::Refused), Seen::GoesOn(3)),
@@ -205,13 +205,13 @@ const CUT: [(u64, Call, Seen); 4] = [
 ];
 
 /// A cut message ends the lookup once UDP is off.
-const CUT_WITHOUT_UDP: [(u64, Call, Seen); 2] = [
+static CUT_WITHOUT_UDP: [(u64, Call, Seen); 2] = [
     (1, Call::Ask(End::Mismatch), Seen::GoesOn(1)),
     (2, Call::Ask(End::Cut), Seen::Answers(1, End::Truncated)),
 ];
 
 /// A denial ends the lookup where it is believed.
-const DENIED: [(u64, Call, Seen); 2] = [
+static DENIED: [(u64, Call, Seen); 2] = [
     (1, Call::Ask(End::Denial), Seen::GoesOn(1)),
     (2, Call::Ask(End::Denial), Seen::Answers(2, End::Denial)),
 ];

@@ -11,7 +11,7 @@ use std::test::Fail;
 const ENDED: Seen = Seen::Has(After::Ended);
 
 /// A busy server is asked again after a sleep.
-const BUSY: [(u64, Call, Seen); 14] = [
+static BUSY: [(u64, Call, Seen); 14] = [
     (0, Call::Configure, Seen::Pool(0, 1)),
     (0, Call::Lookup(0), Seen::Lookup(0)),
     (5, Call::Next(0), Seen::Opens(1, Protocol::Udp)),
@@ -29,7 +29,7 @@ const BUSY: [(u64, Call, Seen); 14] = [
 ];
 
 /// After a cut message the server is asked over TCP.
-const CUT: [(u64, Call, Seen); 11] = [
+static CUT: [(u64, Call, Seen); 11] = [
     (0, Call::Configure, Seen::Pool(0, 1)),
     (0, Call::Lookup(0), Seen::Lookup(0)),
     (5, Call::Next(0), Seen::Opens(1, Protocol::Udp)),
@@ -44,7 +44,7 @@ const CUT: [(u64, Call, Seen); 11] = [
 ];
 
 /// A lookup answers from its end on.
-const ANSWERED: [(u64, Call, Seen); 9] = [
+static ANSWERED: [(u64, Call, Seen); 9] = [
     (0, Call::Configure, Seen::Pool(0, 1)),
     (0, Call::Lookup(0), Seen::Lookup(0)),
     (5, Call::Next(0), Seen::Opens(1, Protocol::Udp)),
@@ -57,7 +57,7 @@ const ANSWERED: [(u64, Call, Seen); 9] = [
 ];
 
 /// An order ends at the last poll that patience allows, by the entry after that of the poll.
-const GIVEN_UP: [(u64, Call, Seen); 10] = [
+static GIVEN_UP: [(u64, Call, Seen); 10] = [
     (0, Call::Configure, Seen::Pool(0, 1)),
     (0, Call::Lookup(0), Seen::Lookup(0)),
     (5, Call::Next(0), Seen::Opens(1, Protocol::Udp)),
@@ -81,7 +81,7 @@ fn a_lookup_goes_from_order_to_order_to_its_answer(rt: HostRuntime) -> Result<()
 
 /// A lookup names the servers of its pool in their order. Its open orders are those that were given
 /// and have not ended.
-const OPEN: [(u64, Call, Seen); 10] = [
+static OPEN: [(u64, Call, Seen); 10] = [
     (0, Call::Add, Seen::Server(1)),
     (0, Call::Add, Seen::Server(2)),
     (0, Call::Group(&[2, 1]), Seen::Pool(0, 2)),
@@ -95,7 +95,7 @@ const OPEN: [(u64, Call, Seen); 10] = [
 ];
 
 /// Elsewhere it has no servers and no orders.
-const ELSEWHERE: [(u64, Call, Seen); 9] = [
+static ELSEWHERE: [(u64, Call, Seen); 9] = [
     (0, Call::Add, Seen::Server(1)),
     (0, Call::Add, Seen::Server(2)),
     (0, Call::Group(&[2, 1]), Seen::Pool(0, 2)),
@@ -108,7 +108,7 @@ const ELSEWHERE: [(u64, Call, Seen); 9] = [
 ];
 
 /// Its open order is withdrawn once it was left.
-const LEFT: [(u64, Call, Seen); 7] = [
+static LEFT: [(u64, Call, Seen); 7] = [
     (0, Call::Configure, Seen::Pool(0, 1)),
     (0, Call::Lookup(0), Seen::Lookup(0)),
     (5, Call::Next(0), Seen::Opens(1, Protocol::Udp)),

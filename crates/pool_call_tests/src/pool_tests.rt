@@ -13,13 +13,13 @@ use std::net::{IpAddr, Ipv4Addr};
 use std::test::Fail;
 
 /// A copy of a pool has the number of the pool, and another pool has another one.
-const NUMBERED: [(u64, Call, Seen); 3] = [
+static NUMBERED: [(u64, Call, Seen); 3] = [
     (0, Call::Configure, Seen::Pool(0, 1)),
     (0, Call::Group(&[]), Seen::Pool(1, 0)),
     (0, Call::Copy(0), Seen::Pool(0, 1)),
 ];
 
-const ADDED: [(u64, Call, Seen); 3] = [
+static ADDED: [(u64, Call, Seen); 3] = [
     (0, Call::Add, Seen::Server(1)),
     (0, Call::Add, Seen::Server(2)),
     (0, Call::CountServers, Seen::Servers(2)),

@@ -133,7 +133,7 @@ impl Course {
 
     fn protocols(&self) -> Seen {
         let mut protocols = self.table.get(self.first.server).protocols();
-        Seen::Protocols([protocols.next(), protocols.next(), protocols.next()])
+        Seen::Protocols(protocols.next(), protocols.next(), protocols.next())
     }
 
     fn choose(&self, disable_udp: bool, now: u64) -> Seen {

@@ -34,7 +34,7 @@ const WITHOUT_UDP: Call = Call::Choose { disable_udp: true };
 
 /// Servers, and what is seen of each. UDP comes first, but where the order is the user's, and a connection
 /// and a way of UDP are chosen where that is allowed.
-const SEEN: [(Reached, Call, Seen); 9] = [
+static SEEN: [(Reached, Call, Seen); 9] = [
     (
         Reached::Opened(MIXED),
         Call::Connections,
@@ -53,12 +53,12 @@ const SEEN: [(Reached, Call, Seen); 9] = [
     (
         UNOPENED,
         Call::Protocols,
-        Seen::Protocols([Some(UDP), Some(TCP), None]),
+        Seen::Protocols(Some(UDP), Some(TCP), None),
     ),
     (
         Reached::ByUdp,
         Call::Protocols,
-        Seen::Protocols([Some(UDP), None, None]),
+        Seen::Protocols(Some(UDP), None, None),
     ),
     (BY_TCP_AND_UDP, WITH_UDP, Seen::Chosen(Some(1), Some(0))),
     (BY_TCP_AND_UDP, WITHOUT_UDP, Seen::Chosen(Some(0), Some(1))),
@@ -81,7 +81,7 @@ const ENDED: Seen = Seen::Has(After::Ended);
 const KEPT: Seen = Seen::Has(After::Kept);
 
 /// The connection of a send is used again by the next.
-const USED_AGAIN: [(u64, Call, Seen); 6] = [
+static USED_AGAIN: [(u64, Call, Seen); 6] = [
     (7, Call::Next, OPENS),
     (8, Call::Put(What::Connected), ENDED),
     (9, Call::Next, Seen::Asks(7, UDP)),
@@ -91,19 +91,19 @@ const USED_AGAIN: [(u64, Call, Seen); 6] = [
 ];
 
 /// UDP comes before TCP, unless it is off, where a connection is opened and where it is used again.
-const UDP_FIRST: [(u64, Call, Seen); 3] = [
+static UDP_FIRST: [(u64, Call, Seen); 3] = [
     (7, Call::Next, OPENS),
     (8, Call::Again { disable_udp: true }, Seen::Nothing),
     (8, Call::Next, Seen::Opens(0, TCP)),
 ];
 
-const UDP_ASKED_FIRST: [(u64, Call, Seen); 3] = [
+static UDP_ASKED_FIRST: [(u64, Call, Seen); 3] = [
     (7, Call::Next, Seen::Asks(4, UDP)),
     (8, Call::Again { disable_udp: true }, Seen::Nothing),
     (8, Call::Next, Seen::Asks(3, TCP)),
 ];
 
-const NONE_ALLOWED: [(u64, Call, Seen); 1] = [(7, Call::Next, Seen::Ends(End::NoConnections))];
+static NONE_ALLOWED: [(u64, Call, Seen); 1] = [(7, Call::Next, Seen::Ends(End::NoConnections))];
 
 #[test]
 fn a_connection_is_chosen_where_its_protocol_is_allowed(rt: HostRuntime) -> Result<(), Fail> {
@@ -115,7 +115,7 @@ fn a_connection_is_chosen_where_its_protocol_is_allowed(rt: HostRuntime) -> Resu
 }
 
 /// One that was used again is tried once more.
-const CLOSED_TWICE: [(u64, Call, Seen); 5] = [
+static CLOSED_TWICE: [(u64, Call, Seen); 5] = [
     (7, Call::Next, Seen::Asks(3, UDP)),
     (8, Call::Put(What::Closed), ENDED),
     (9, Call::Next, Seen::Asks(4, UDP)),
@@ -124,7 +124,7 @@ const CLOSED_TWICE: [(u64, Call, Seen); 5] = [
 ];
 
 /// A new one is opened where no other is kept, as where a server closes it between two questions.
-const OPENED_ANEW: [(u64, Call, Seen); 7] = [
+static OPENED_ANEW: [(u64, Call, Seen); 7] = [
     (7, Call::Next, Seen::Asks(3, UDP)),
     (8, Call::Put(What::Closed), ENDED),
     (9, Call::Next, OPENS),
@@ -135,7 +135,7 @@ const OPENED_ANEW: [(u64, Call, Seen); 7] = [
 ];
 
 /// One that was just opened is not tried again.
-const CLOSED_AT_ONCE: [(u64, Call, Seen); 5] = [
+static CLOSED_AT_ONCE: [(u64, Call, Seen); 5] = [
     (7, Call::Next, OPENS),
     (8, Call::Put(What::Connected), ENDED),
     (9, Call::Next, Seen::Asks(7, UDP)),
@@ -152,7 +152,7 @@ fn a_closed_connection_is_tried_again_once(rt: HostRuntime) -> Result<(), Fail> 
 }
 
 /// A failed opening ends the send and changes no delay.
-const REFUSED: [(u64, Call, Seen); 6] = [
+static REFUSED: [(u64, Call, Seen); 6] = [
     (7, Call::Next, OPENS),
     (8, Call::Put(What::Refused), ENDED),
     (8, Call::Delay, Seen::Delay(10)),
@@ -163,7 +163,7 @@ const REFUSED: [(u64, Call, Seen); 6] = [
 
 /// An order is given up at the last poll that patience allows. The polls of the question count anew
 /// after those of the opening.
-const GIVEN_UP: [(u64, Call, Seen); 10] = [
+static GIVEN_UP: [(u64, Call, Seen); 10] = [
     (7, Call::Next, OPENS),
     (8, Call::Put(What::Pending), KEPT),
     (9, Call::Put(What::Pending), KEPT),
@@ -177,13 +177,13 @@ const GIVEN_UP: [(u64, Call, Seen); 10] = [
 ];
 
 /// A sleep is no order of a send.
-const SLEPT_OPENING: [(u64, Call, Seen); 3] = [
+static SLEPT_OPENING: [(u64, Call, Seen); 3] = [
     (7, Call::Next, OPENS),
     (8, Call::Put(What::Slept), ENDED),
     (9, Call::Next, Seen::Ends(End::Other)),
 ];
 
-const SLEPT_ASKING: [(u64, Call, Seen); 3] = [
+static SLEPT_ASKING: [(u64, Call, Seen); 3] = [
     (7, Call::Next, Seen::Asks(3, UDP)),
     (8, Call::Put(What::Slept), ENDED),
     (9, Call::Next, Seen::Ends(End::Other)),
@@ -199,7 +199,7 @@ fn other_outcomes_end_a_send(rt: HostRuntime) -> Result<(), Fail> {
 }
 
 /// An end is taken once.
-const TAKEN: [(u64, Call, Seen); 6] = [
+static TAKEN: [(u64, Call, Seen); 6] = [
     (1, Call::TakeEnd, Seen::IsUndecided),
     (7, Call::Next, OPENS),
     (7, Call::TakeEnd, Seen::IsUndecided),
@@ -209,7 +209,7 @@ const TAKEN: [(u64, Call, Seen); 6] = [
 ];
 
 /// A connection that failed stays until the next choice.
-const STAYS: [(u64, Call, Seen); 15] = [
+static STAYS: [(u64, Call, Seen); 15] = [
     (1, Call::Next, OPENS),
     (2, Call::Turn, Seen::Nothing),
     (2, Call::Next, OPENS),
@@ -270,7 +270,7 @@ const STANDING: Kept = Kept {
 };
 
 /// Outcomes, and what each leaves.
-const LEFT: [(What, Kept); 9] = [
+static LEFT: [(What, Kept); 9] = [
     (What::Answer, ANSWERED),
     (What::CutEmpty, ANSWERED),
     (What::Empty, STANDING_FAILURE),
@@ -294,7 +294,7 @@ fn keeps(alloc: Global, what: What, wanted: Kept) -> Result<(), Fail> {
 }
 
 /// After the last poll of a question that patience allows.
-const KEPT_GIVEN_UP: [(u64, Call, Seen); 5] = [
+static KEPT_GIVEN_UP: [(u64, Call, Seen); 5] = [
     (3_000_000, Call::Next, Seen::Asks(3, UDP)),
     (3_001_000, Call::Put(What::Pending), KEPT),
     (3_002_000, Call::Put(What::Pending), KEPT),

@@ -11,7 +11,7 @@ use std::test::Fail;
 /// Six requests, of which the second is in another case, the third wants DNSSEC records, the fourth is
 /// for another name, the fifth at another pool, and the last like the first. Each is seen by the place of
 /// the first that has its lookup.
-const KEYS: [(u64, Call, Seen); 8] = [
+static KEYS: [(u64, Call, Seen); 8] = [
     (5, Call::Configure, Seen::Pool(0, 1)),
     (5, Call::Group(&[1]), Seen::Pool(1, 1)),
     (5, Call::Send(0, "a.", false), Seen::Lookup(0)),
@@ -29,7 +29,7 @@ fn requests_of_one_key_at_one_pool_share_a_lookup(rt: HostRuntime) -> Result<(),
 }
 
 /// Two requests share a lookup to its answer, and one that comes later begins another.
-const ANSWERED: [(u64, Call, Seen); 12] = [
+static ANSWERED: [(u64, Call, Seen); 12] = [
     (5, Call::Configure, Seen::Pool(0, 1)),
     (5, Call::Group(&[1]), Seen::Pool(1, 1)),
     (5, Call::Send(0, "a.", false), Seen::Lookup(0)),
@@ -51,7 +51,7 @@ fn an_answer_is_told_to_all_that_wait_for_it(rt: HostRuntime) -> Result<(), Fail
 }
 
 /// No order is withdrawn after one of two left, and that which is open after the other did.
-const LEFT: [(u64, Call, Seen); 10] = [
+static LEFT: [(u64, Call, Seen); 10] = [
     (5, Call::Configure, Seen::Pool(0, 1)),
     (5, Call::Group(&[1]), Seen::Pool(1, 1)),
     (5, Call::Send(0, "a.", false), Seen::Lookup(0)),

@@ -71,7 +71,7 @@ pub enum Seen {
     Numbers(usize, Option<u64>, Option<u64>),
     Withdrawn(Option<u64>),
     Connections([u64; 3]),
-    Protocols([Option<Protocol>; 3]),
+    Protocols(Option<Protocol>, Option<Protocol>, Option<Protocol>),
     Chosen(Option<usize>, Option<usize>),
     Delay(u128),
     Keeps(Kept),

@@ -7,7 +7,7 @@ use std::alloc::Global;
 use std::test::Fail;
 use zone_worlds::{IndexedWorld, World, Zone, told};
 
-const TYPES: [RecordType; 7] = [
+static TYPES: [RecordType; 7] = [
     RecordType::A,
     RecordType::NS,
     RecordType::CNAME,
@@ -18,7 +18,7 @@ const TYPES: [RecordType; 7] = [
 ];
 
 /// Names that own nothing: some exist, some are not fully qualified.
-const OTHERS: [&str; 5] = [
+static OTHERS: [&str; 5] = [
     "no.example.com.",
     "no.www.example.com.",
     "no.",

@@ -129,7 +129,7 @@ fn tells(
 }
 
 /// The entry of each call; no sixth is there.
-const NOTED: [&str; 6] = ["opened", "told", "asked", "waited", "told", "none"];
+static NOTED: [&str; 6] = ["opened", "told", "asked", "waited", "told", "none"];
 
 #[test]
 fn a_question_waits_and_is_told(rt: HostRuntime) -> Result<(), Fail> {
