@@ -12,9 +12,8 @@ mod subject;
 
 use cases::Tally;
 use dns_core::{StdSource, Text, read_all};
-use std::env;
 use std::process::ExitCode;
-use std::{fs, io};
+use std::{env, fs, io};
 use subject::Subject;
 
 /// The most bytes of a scenario.

@@ -167,6 +167,7 @@ fn late_form(form: Form) -> Result<Form, LineError>
     if is_late(&form) {
         Ok(form)
     } else {
+        drop(form);
         Err(LineError::Refused)
     }
 }
@@ -354,7 +355,10 @@ impl Draft {
     fn put_rule(&mut self, line: ScriptLine) -> Result<(), LineError>
         ensures { Steps result self.new (put self.old (form.Rule line)) }
     {
-        pass(self.stage.may_reply())?;
+        if !self.stage.may_reply() {
+            drop(line);
+            return Err(LineError::Refused);
+        }
         self.rules.push(line)?;
         Ok(())
     }

@@ -54,7 +54,7 @@ fn connect_line(alloc: Global, words: &mut Words) -> Result<(), LineError>
     words.ip(alloc)?;
     protocol(words)?;
     delay(words)?;
-    let _outcome = connected(words)?;
+    drop(connected(words)?);
     words.end()?;
     Ok(())
 }
@@ -65,10 +65,10 @@ fn reply_line(alloc: Global, words: &mut Words) -> Result<(), LineError>
 {
     words.ip(alloc)?;
     protocol(words)?;
-    let _name = words.full_name(alloc)?;
+    drop(words.full_name(alloc)?);
     words.record_type()?;
     delay(words)?;
-    let _outcome = answered(words)?;
+    drop(answered(words)?);
     words.end()?;
     Ok(())
 }
@@ -77,7 +77,7 @@ fn reply_line(alloc: Global, words: &mut Words) -> Result<(), LineError>
 fn question_line(alloc: Global, words: &mut Words) -> Result<(), LineError>
     ensures { Gives result (question_line words.old) }
 {
-    let _name = words.relaxed_name(alloc)?;
+    drop(words.relaxed_name(alloc)?);
     words.record_type()?;
     let _dnssec_ok = dnssec_word(words)?;
     words.end()?;

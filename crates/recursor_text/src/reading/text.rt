@@ -29,9 +29,11 @@ fn finish(
     ensures { GivesScenario result (finish draft line rest.now) }
 {
     if !draft.is_ended() {
+        drop(draft);
         return fails_at(line, Cause::Cut);
     }
     if !rest.is_empty() {
+        drop(draft);
         return fails_at(line, Cause::Line);
     }
     match draft.into_scenario(alloc) {
@@ -70,8 +72,14 @@ pub fn read_lines(alloc: Global, bytes: &[u8]) -> Result<Scenario, ScenarioError
         let place = draft.place();
         match draft.take(alloc, line) {
             Ok(()) => {}
-            Err(LineError::Refused) => return refuse(alloc, place, number, line),
-            Err(LineError::NoMemory) => return fails_at(number, Cause::NoMemory),
+            Err(LineError::Refused) => {
+                drop(draft);
+                return refuse(alloc, place, number, line);
+            }
+            Err(LineError::NoMemory) => {
+                drop(draft);
+                return fails_at(number, Cause::NoMemory);
+            }
         }
         number += 1;
         rest = after;

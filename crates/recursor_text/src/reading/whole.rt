@@ -1,5 +1,5 @@
 //! What has come of a whole scenario so far: a draft, and beside it that of a world where it is told one.
-ghost use Rattle.std.specs.Prelude.{◌≡◌, None, IfOk};
+ghost use Rattle.std.specs.Prelude.{◌≡◌, Some, None, IfOk};
 ghost use Rattle.world_lines.specs.Steps.{Steps};
 ghost use Rattle.recursor_text.specs.Steps.{is_ended};
 ghost use Rattle.recursor_text.specs.Whole.{is_told_world, in_world, place_beside, told_from, start, plain_taken, world_taken, late_taken, beside_taken, taken, scenario_of, place_of};
@@ -8,7 +8,7 @@ use super::draft::{Draft, Place, Stage};
 use crate::scenario::{Scenario, Upstream};
 use dns_core::NoMemory;
 use std::alloc::Global;
-use text_words::{LineError, pass};
+use text_words::LineError;
 use world_lines::{WorldDraft, is_world_line};
 
 /// The draft of a scenario. One that is told a world has no rules.
@@ -97,6 +97,13 @@ impl WholeDraft {
         Ok(())
     }
 
+    /// Goes on with this world.
+    fn go_on(&mut self, world: WorldDraft)
+        ensures { self.new ≡ record self.old { world = Some world } }
+    {
+        self.world = Some(world);
+    }
+
     /// Takes a line of this world.
     fn take_of_world(
         &mut self,
@@ -107,19 +114,36 @@ impl WholeDraft {
         ensures { Steps result self.new (world_taken told self.old.draft line.now) }
     {
         let mut world = told;
-        world.take(alloc, line)?;
-        self.world = Some(world);
-        Ok(())
+        match world.take(alloc, line) {
+            Ok(()) => {
+                self.go_on(world);
+                Ok(())
+            }
+            Err(error) => {
+                drop(world);
+                Err(error)
+            }
+        }
     }
 
     /// Takes a line after those of this world, where it is whole.
     fn take_late(&mut self, alloc: Global, told: WorldDraft, line: &[u8]) -> Result<(), LineError>
         ensures { Steps result self.new (late_taken told self.old.draft line.now) }
     {
-        pass(told.may_close())?;
-        self.draft.take_late(alloc, line)?;
-        self.world = Some(told);
-        Ok(())
+        if !told.may_close() {
+            drop(told);
+            return Err(LineError::Refused);
+        }
+        match self.draft.take_late(alloc, line) {
+            Ok(()) => {
+                self.go_on(told);
+                Ok(())
+            }
+            Err(error) => {
+                drop(told);
+                Err(error)
+            }
+        }
     }
 
     /// Takes the next line, where this world is told.
