@@ -13,7 +13,7 @@ ghost use Rattle.std.specs.Prelude.{◌≡◌, ℕ, ◌+◌, find, slice_get, un
 use crate::course::{Course, Stage};
 use crate::index::{Asking, Endpoint, Index};
 use dns_core::{IoKind, Items, Log, LogEntry, NetError, NoMemory, Query, ToldOutcome, TryClone};
-use script_lines::{Late, Room, Script, ScriptLine, let_go, push_or_back};
+use script_lines::{Late, Room, Script, ScriptLine, push_or_back};
 use std::alloc::Global;
 use std::collections::HashMap;
 
@@ -52,16 +52,16 @@ fn begin(
     ensures same { OnErr result (log.new ≡ log.old) }
 {
     match open.insert(number, course) {
-        Ok(replaced) => let_go(replaced),
+        Ok(replaced) => drop(replaced),
         Err(failed) => {
-            let_go(failed);
-            let_go(entry);
+            drop(failed);
+            drop(entry);
             return Err(NoMemory);
         }
     }
     let noted = log.push(entry);
     if noted.is_err() {
-        let_go(open.remove(&number));
+        drop(open.remove(&number));
     }
     noted
 }
@@ -155,7 +155,7 @@ impl Book {
         ensures fewer { (n : ℕ) → open_at self.new n ≡ (if nat_eq number n then None else open_at self.old n) }
         ensures same { self.new ≡ record self.old { «open» = self.new.open } }
     {
-        let_go(self.open.remove(&number));
+        drop(self.open.remove(&number));
     }
 
     pub fn is_refused(&self, endpoint: &Endpoint) -> bool

@@ -4,7 +4,7 @@ ghost use Rattle.dns_core.specs.NetError.{negative_query};
 ghost use Rattle.script_book.specs.Course.{dns_error_about, error_about, answer};
 
 use dns_core::{DnsError, Message, NetError, NoMemory, Query, ToldOutcome, TryClone};
-use script_lines::{ScriptLine, let_go};
+use script_lines::ScriptLine;
 use std::alloc::Global;
 use std::mem;
 
@@ -160,7 +160,7 @@ fn denied_about(alloc: Global, query: &Query, error: &DnsError) -> Result<DnsErr
         DnsError::NoRecordsFound(found) => {
             let asked = query.try_clone(alloc)?;
             let mut found = found.try_clone(alloc)?;
-            let_go(mem::replace(&mut found.query, asked));
+            drop(mem::replace(&mut found.query, asked));
             Ok(DnsError::NoRecordsFound(found))
         }
         DnsError::ResponseCode(code) => Ok(DnsError::ResponseCode(*code)),

@@ -12,16 +12,13 @@ pub enum Chain {
     Entry(LogEntry, Box<Chain>),
 }
 
-/// Lets a value go: a body that lets go of a large one itself is dear to prove.
-pub fn let_go<T: Drop>(_value: T) {}
-
 impl Drop for Chain {
     fn drop(mut self) {
         'dropping: loop {
             match self {
                 Chain::End => return,
                 Chain::Entry(entry, rest) => {
-                    let_go(entry);
+                    drop(entry);
                     self = Box::into_inner(rest);
                 }
             }
@@ -117,8 +114,8 @@ impl Late {
     {
         let Room { mut room } = room;
         let older = mem::replace(&mut self.chain, Chain::End);
-        let_go(mem::replace(&mut *room, older));
-        let_go(mem::replace(&mut self.chain, Chain::Entry(entry, room)));
+        drop(mem::replace(&mut *room, older));
+        drop(mem::replace(&mut self.chain, Chain::Entry(entry, room)));
     }
 
     /// Moves the entries to the end of the log, as many as find memory, the oldest first.

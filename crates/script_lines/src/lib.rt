@@ -8,5 +8,5 @@ mod qualified;
 mod script;
 mod threads;
 
-pub use late::{Late, Room, let_go, push_or_back};
+pub use late::{Late, Room, push_or_back};
 pub use script::{Script, ScriptLine};

@@ -7,7 +7,7 @@ use crate::numbers::number;
 use dns_core::{DnsClass, RecordType, ResponseCode};
 
 /// The types that have names.
-const TYPES: [(u16, &[u8]); 23] = [
+static TYPES: [(u16, &[u8]); 23] = [
     (1, b"A"),
     (2, b"NS"),
     (5, b"CNAME"),
@@ -34,10 +34,10 @@ const TYPES: [(u16, &[u8]); 23] = [
 ];
 
 /// The classes that have names.
-const CLASSES: [(u16, &[u8]); 3] = [(1, b"IN"), (3, b"CH"), (4, b"HS")];
+static CLASSES: [(u16, &[u8]); 3] = [(1, b"IN"), (3, b"CH"), (4, b"HS")];
 
 /// The response codes that have names.
-const RESPONSE_CODES: [(u16, &[u8]); 6] = [
+static RESPONSE_CODES: [(u16, &[u8]); 6] = [
     (0, b"NOERROR"),
     (1, b"FORMERR"),
     (2, b"SERVFAIL"),

@@ -89,6 +89,9 @@ pub fn reply_by(
 ) -> Result<Box<Reply>, NoMemory>
     ensures { IfOk result (λ reply. reply.value ≡ record { outcome = outcome; grounds = entry ∷ [] }) }
 {
-    let grounds = just(alloc, entry)?;
+    let Ok(grounds) = just(alloc, entry) else {
+        drop(outcome);
+        return Err(NoMemory);
+    };
     in_box(alloc, Reply { outcome, grounds })
 }

@@ -40,10 +40,10 @@ pub(crate) fn write(
     if cache.keeps_nothing() {
         return Ok(());
     }
+    let query = query.try_clone(alloc)?;
     let Some(response) = kept_copy(alloc, verdict)? else {
         return Ok(());
     };
-    let query = query.try_clone(alloc)?;
     let clamp = query.query_type == RecordType::NS;
     cache.upsert_told(alloc, query, response, entry, at, clamp)
 }

@@ -1,3 +1,4 @@
+use Rattle.std.proofs.Common.{rules}
 use Rattle.recursor_core.proofs.Names.{arith}
 use Rattle.recursor_core.proofs.Due.{due_later}
 use Rattle.recursor_core.proofs.Standing.{goes_core, goes_run, goes_trans}
@@ -21,3 +22,6 @@ returns-in-Some-clause-keeps g c = let same = c.cancel.ensures.given in due_late
 
 pub returns-in_default-clause-keeps : goal.returns-in_default-clause-keeps
 returns-in_default-clause-keeps g c = let same = c.cancel.ensures.given in due_later _ _ _ _ _ (omega (arith, same)) (omega arith)
+
+pub returns-in-Some-clause-withdrawn : goal.returns-in-Some-clause-withdrawn
+returns-in-Some-clause-withdrawn g c = search rules

@@ -1,3 +1,4 @@
+use Rattle.std.proofs.Common.{rules}
 use Rattle.recursor_core.proofs.Names.{max, arith, polls_left, given_by}
 use Rattle.recursor_core.proofs.Due.{due_order}
 use Rattle.recursor_core.proofs.Standing.{goes_nowhere}
@@ -25,3 +26,6 @@ returns-clause-falls g c before next given =
     let less = due_order (max 1 p) (given_by before) (given_by c.args.core.now) (polls_left p c.args.runner.now) given (omega (arith, given, next, c.ranges.number)) in
     let few = c.start_order.ensures.few in
     omega (arith, less, few)
+
+pub returns-clause-noted : goal.returns-clause-noted
+returns-clause-noted g c = search rules

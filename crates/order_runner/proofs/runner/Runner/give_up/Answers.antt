@@ -1,4 +1,4 @@
-use Rattle.std.proofs.Common.{refl, arith}
+use Rattle.std.proofs.Common.{rules, refl, arith}
 use Rattle.order_runner.proofs.GivingUp.{give_up-holds, give_up-moves, give_up-log}
 use Rattle.order_runner.proofs.Sums.{left-same}
 use Rattle.order_runner.proofs.runner.Runner.give_up.Goals as goal
@@ -19,3 +19,6 @@ returns-clause-polls g c patience =
     let same = left-same patience c.args.number c.args.self.now (record c.args.self.now { carrier = c.give_up.new.self }) refl in
     let fewer = c.close.ensures.polls patience in
     omega (arith, same, fewer)
+
+pub returns-clause-holds : goal.returns-clause-holds
+returns-clause-holds g c = search rules

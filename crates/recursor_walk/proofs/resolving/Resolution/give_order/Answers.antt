@@ -1,3 +1,4 @@
+use Rattle.std.proofs.Common.{rules}
 use Rattle.recursor_walk.proofs.Names.{sym, subst}
 use Rattle.std.proofs.lemmas.Result.{IfOk-from_err}
 use Rattle.server_core.specs.declared.order.Order.{Order}
@@ -30,3 +31,6 @@ pub returns-in-Done-clause-holds : goal.returns-in-Done-clause-holds
 returns-in-Done-clause-holds c seen at pools h =
     let held = c.in_ok-number.ensures.holds seen at pools h in
     record { holds = held.0; tables = held.1; gives = tt }
+
+pub returns-in-Waiting-clause-goes : goal.returns-in-Waiting-clause-goes
+returns-in-Waiting-clause-goes c = search rules

@@ -1,0 +1,5 @@
+use Rattle.std.proofs.Common.{rules}
+use Rattle.resolver_cache.proofs.life.moment_after.Goals as goal
+
+pub returns : goal.returns
+returns c = search rules
