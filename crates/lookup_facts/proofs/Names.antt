@@ -75,7 +75,7 @@ pub use Rattle.server_pool.specs.declared.pool_shared.PoolStep.{PoolStep}
 pub use Rattle.server_pool.proofs.Running.{next_runs, next_rest, order_goes, put_rest}
 pub use Rattle.server_pool.proofs.UnderNumbers.{found_with, inserted, inserted_other, removed_other, with_other, IsSame, is_same, IsFound, found_in}
 pub use Rattle.retry_lookup.proofs.Orders.{no_polls, gives_open}
-pub use Rattle.resolver_cache.specs.declared.entry.Entry.{Entry}
+pub use Rattle.kept_responses.specs.declared.entry.Entry.{Entry}
 pub use Rattle.resolution.specs.Life.{life_in_seconds}
 pub use Rattle.resolution.proofs.FailuresKept.{waits-extend, EndSends-extend, Listed-extend, Walked-extend, Finished-extend}
 pub use Rattle.resolution.proofs.Caseless.{both}

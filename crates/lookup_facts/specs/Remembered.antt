@@ -8,7 +8,7 @@ use Rattle.dns_core.specs.declared.net_error.DnsError.{DnsError}
 use Rattle.dns_core.specs.declared.log.ToldOutcome.{ToldOutcome}
 use Rattle.resolver_cache.specs.Cached.{Cached}
 use Rattle.resolver_cache.specs.Cache.{upserted}
-use Rattle.resolver_cache.specs.declared.entry.Entry.{Entry}
+use Rattle.kept_responses.specs.declared.entry.Entry.{Entry}
 use Rattle.resolution.specs.Verdict.{verdict}
 use Rattle.resolution.specs.Life.{life_in_seconds}
 use Rattle.resolution.specs.Serving.{Heard}

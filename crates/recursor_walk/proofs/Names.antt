@@ -44,8 +44,9 @@ pub use Rattle.resolution.specs.Life.{Fresh, life_in_seconds}
 pub use Rattle.lookup_facts.proofs.Later.{below-greater, given-is, walked-on, pool-on, for-on, concluded-later, asked-kept}
 pub use Rattle.recursor_types.specs.declared.error.AuthorityData.{AuthorityData}
 pub use Rattle.recursor_types.specs.declared.error.WalkCause.{WalkCause}
-pub use Rattle.resolver_cache.specs.Lowering.{lowered_record, lowered_message, lowered_delegation, lowered_denial, seconds_between, lowered}
-pub use Rattle.resolver_cache.specs.Entry.{is_same_question, current_for}
+pub use Rattle.resolver_cache.specs.Life.{seconds_between}
+pub use Rattle.kept_responses.specs.Lowering.{lowered_record, lowered_message, lowered_delegation, lowered_denial, lowered}
+pub use Rattle.kept_responses.specs.Entry.{is_same_question, current_for}
 pub use Rattle.walk_tables.specs.Lookup.{LeavesLess, want_after, want_steps, LookupHolds, want_of}
 pub use Rattle.recursor_types.specs.declared.error.WalkCause.TheVariants.{NoAddress, Timeout}
 pub use Rattle.recursor_walk.specs.Replies.{IsToldAnswer, OutcomeCame, CameTo, HasCause, RepliesSo, OutcomeHolds, Replied, RepliesWith, reply_with, IsReplyKept}

@@ -3,8 +3,8 @@ use Rattle.recursor_walk.proofs.Names.{◌≡◌, ℕ, ◌+◌, ◌*◌, ◌≤�
 use Rattle.resolver_cache.specs.Cached.{Cached}
 use Rattle.resolver_cache.specs.Cache.{found_for}
 use Rattle.resolver_cache.specs.Laws.{IsFoundIn}
-use Rattle.resolver_cache.specs.declared.entry.Entry.{Entry}
-use Rattle.resolver_cache.specs.declared.entry.CachedResponse.{CachedResponse}
+use Rattle.kept_responses.specs.declared.entry.Entry.{Entry}
+use Rattle.kept_responses.specs.declared.entry.CachedResponse.{CachedResponse}
 use Rattle.resolver_cache.proofs.FoundThere.{found_there}
 use Rattle.resolution.proofs.Caseless.{Base-same, both, same_through}
 use Rattle.resolution.proofs.WalksCaseless.{Walked-same}

@@ -5,7 +5,7 @@ use Rattle.dns_core.specs.Name.{DomainName}
 use Rattle.dns_core.specs.declared.message.Query.{Query}
 use Rattle.resolver_cache.specs.Cached.{Cached}
 use Rattle.resolver_cache.specs.Cache.{found_for}
-use Rattle.resolver_cache.specs.declared.entry.CachedResponse.{CachedResponse}
+use Rattle.kept_responses.specs.declared.entry.CachedResponse.{CachedResponse}
 use Rattle.resolution.specs.Answering.{Base, IsCurrent}
 use Rattle.resolution.specs.declared.verdict.Verdict.{Verdict}
 use Rattle.resolution.specs.declared.verdict.Verdict.TheVariants.{Pos, Neg, Made}

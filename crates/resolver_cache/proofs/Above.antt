@@ -7,7 +7,7 @@ use Rattle.std.specs.Option.{SomeIff}
 use Rattle.std.specs.Ordering.{nat_cmp, is_lt}
 use Rattle.std.proofs.lemmas.Map.Keys.{ge_from_not_lt}
 use Rattle.std.proofs.lemmas.List.Elements.{All-head, All-tail}
-use Rattle.resolver_cache.specs.declared.entry.Entry.{Entry}
+use Rattle.kept_responses.specs.declared.entry.Entry.{Entry}
 use Rattle.resolver_cache.specs.Writings.{AreBelow}
 
 all_below : (es : List (ℕ × Entry)) (last n : ℕ) → n ≡ last + 1 → All (λ q. is_lt (nat_cmp last q) ≡ false) (keys_of es) → AreBelow n es

@@ -8,7 +8,7 @@ use Rattle.std.specs.Map.{keys_of, values_of, remove_entry}
 use Rattle.std.specs.Ordering.{nat_cmp}
 use Rattle.std.proofs.lemmas.Iterator.Adapters.{position_from-zero}
 use Rattle.std.proofs.lemmas.Map.Keys.{sorted_tail}
-use Rattle.resolver_cache.specs.declared.entry.Entry.{Entry}
+use Rattle.kept_responses.specs.declared.entry.Entry.{Entry}
 use Rattle.resolver_cache.specs.Writings.{under, number_of}
 use Rattle.resolver_cache.proofs.Numbers.{at_itself}
 use Rattle.resolver_cache.proofs.LeastDated.{found_later}

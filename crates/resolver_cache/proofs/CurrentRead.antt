@@ -7,9 +7,10 @@ use Rattle.std.proofs.lemmas.Bool.{leb-true}
 use Rattle.dns_core.specs.declared.message.Query.{Query}
 use Rattle.dns_core.specs.declared.message.Message.{Message}
 use Rattle.dns_core.specs.declared.net_error.NetError.{NetError}
-use Rattle.resolver_cache.specs.declared.entry.Entry.{Entry}
-use Rattle.resolver_cache.specs.Entry.{is_for, is_current, if_current}
-use Rattle.resolver_cache.specs.Lowering.{seconds_between, lowered}
+use Rattle.kept_responses.specs.declared.entry.Entry.{Entry}
+use Rattle.kept_responses.specs.Entry.{is_for, is_current, if_current}
+use Rattle.resolver_cache.specs.Life.{seconds_between}
+use Rattle.kept_responses.specs.Lowering.{lowered}
 use Rattle.resolver_cache.specs.Cached.{Cached}
 use Rattle.resolver_cache.specs.Laws.{IsReadFrom, ReadIsCurrent}
 

@@ -6,7 +6,7 @@ use Rattle.std.specs.BTreeSet.{BTreeSet, contains}
 use Rattle.std.specs.Ordering.{nat_cmp, is_eq, match_ordering}
 use Rattle.std.specs.declared.cmp.Ordering.{Ordering}
 use Rattle.std.specs.Map.{remove_entry}
-use Rattle.resolver_cache.specs.declared.entry.Entry.{Entry}
+use Rattle.kept_responses.specs.declared.entry.Entry.{Entry}
 use Rattle.resolver_cache.specs.Writings.{under, by_expiry, expires_at, AreBelow, AreDated}
 use Rattle.resolver_cache.proofs.Numbers.{at_itself, same_number, above_is, pair_here, pair_apart}
 

@@ -6,8 +6,8 @@ use Rattle.std.proofs.lemmas.List.{length_push, take-append-le, drop-append-le}
 use Rattle.std.proofs.lemmas.List.Edits.{length-remove}
 use Rattle.std.proofs.lemmas.List.Quantifiers.{position-Some}
 use Rattle.dns_core.specs.declared.message.Query.{Query}
-use Rattle.resolver_cache.specs.declared.entry.Entry.{Entry}
-use Rattle.resolver_cache.specs.Entry.{is_for}
+use Rattle.kept_responses.specs.declared.entry.Entry.{Entry}
+use Rattle.kept_responses.specs.Entry.{is_for}
 use Rattle.resolver_cache.specs.Cached.{IsWithin}
 use Rattle.resolver_cache.specs.Placing.{least_expiry, place_of_least, giving_way, without, with_entry}
 use Rattle.resolver_cache.proofs.Counted.{one_added, one_gone, none_passes, none_counted, same_counted}

@@ -3,7 +3,7 @@ use Rattle.std.proofs.Common.{◌≡◌, ℕ, min, Bool, true, false, ◌⊎◌,
 use Rattle.std.specs.Prelude.{fold, ◌==◌, ◌||◌}
 use Rattle.std.specs.List.{list_any}
 use Rattle.std.proofs.lemmas.Bool.{cases_lt, eq-eqb}
-use Rattle.resolver_cache.specs.declared.entry.Entry.{Entry}
+use Rattle.kept_responses.specs.declared.entry.Entry.{Entry}
 use Rattle.resolver_cache.specs.Placing.{least_expiry, place_of_least}
 use Rattle.resolver_cache.proofs.Counted.{none_passes}
 

@@ -5,8 +5,8 @@ use Rattle.std.proofs.lemmas.List.Elements.{All-append, All-push, All-take, All-
 use Rattle.dns_core.specs.declared.message.Query.{Query}
 use Rattle.dns_core.specs.declared.message.Message.{Message}
 use Rattle.dns_core.specs.declared.net_error.NetError.{NetError}
-use Rattle.resolver_cache.specs.declared.entry.Entry.{Entry}
-use Rattle.resolver_cache.specs.Entry.{current_for}
+use Rattle.kept_responses.specs.declared.entry.Entry.{Entry}
+use Rattle.kept_responses.specs.Entry.{current_for}
 use Rattle.resolver_cache.specs.Life.{life_of, moment_after}
 use Rattle.resolver_cache.specs.Placing.{giving_way, without, with_entry}
 use Rattle.resolver_cache.specs.Cached.{Cached}

@@ -7,8 +7,8 @@ use Rattle.std.specs.List.Sorted.{IsStrictlySortedBy}
 use Rattle.std.specs.Map.{keys_of, values_of, remove_entry}
 use Rattle.std.specs.Ordering.{nat_cmp}
 use Rattle.dns_core.specs.declared.message.Query.{Query}
-use Rattle.resolver_cache.specs.declared.entry.Entry.{Entry}
-use Rattle.resolver_cache.specs.Entry.{is_for, is_same_question}
+use Rattle.kept_responses.specs.declared.entry.Entry.{Entry}
+use Rattle.kept_responses.specs.Entry.{is_for, is_same_question}
 use Rattle.resolver_cache.specs.Cached.{IsWithin}
 use Rattle.resolver_cache.specs.Placing.{least_expiry, place_of_least, giving_way, without, with_entry}
 use Rattle.resolver_cache.specs.Writings.{under, number_of, number_of_least, least_of_full}

@@ -6,7 +6,7 @@ use Rattle.dns_core.specs.contracts.message.QueryOrd.TheImpl as question_order
 use Rattle.dns_core.specs.contracts.message.QueryOrd.TheImpl.Laws as laws
 use Rattle.dns_core.specs.Name.{same_names}
 use Rattle.std.specs.Prelude.{◌==◌}
-use Rattle.resolver_cache.specs.Entry.{is_same_question}
+use Rattle.kept_responses.specs.Entry.{is_same_question}
 
 turned : (names codes : Bool) → (codes && names) ≡ (names && codes)
 turned true true = refl

@@ -3,8 +3,8 @@ use Rattle.std.proofs.Common.{◌≡◌, true, ◌∙◌, sym}
 use Rattle.std.specs.Cmp.{IsEquivalence, on_equiv, and_equiv, nat_eq_equiv}
 use Rattle.dns_core.specs.NameLaws.{same_names_equiv}
 use Rattle.dns_core.specs.declared.message.Query.{Query}
-use Rattle.resolver_cache.specs.declared.entry.Entry.{Entry}
-use Rattle.resolver_cache.specs.Entry.{is_same_question, is_for}
+use Rattle.kept_responses.specs.declared.entry.Entry.{Entry}
+use Rattle.kept_responses.specs.Entry.{is_same_question, is_for}
 
 pub same_question_equiv : IsEquivalence is_same_question
 same_question_equiv =

@@ -2,8 +2,8 @@
 use Rattle.std.specs.Prelude.{ℕ, ◌≤◌, List, length, count_by}
 use Rattle.dns_core.specs.declared.message.Query.{Query}
 use Rattle.resolver_settings.specs.Ttl.{TtlTable}
-use Rattle.resolver_cache.specs.declared.entry.Entry.{Entry}
-use Rattle.resolver_cache.specs.Entry.{is_for}
+use Rattle.kept_responses.specs.declared.entry.Entry.{Entry}
+use Rattle.kept_responses.specs.Entry.{is_for}
 
 -- how many entries it keeps at most, the bounds of TTLs, and the entries in the order in which they were written, the newest last
 pub record Cached : Type 0 where

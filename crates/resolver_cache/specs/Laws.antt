@@ -3,11 +3,12 @@ use Rattle.std.specs.Prelude.{◌≡◌, ◌≤◌, ◌+◌, ◌*◌, ◌⊎◌,
 use Rattle.dns_core.specs.declared.message.Query.{Query}
 use Rattle.dns_core.specs.declared.message.Message.{Message}
 use Rattle.dns_core.specs.declared.net_error.NetError.{NetError}
-use Rattle.resolver_cache.specs.declared.entry.Entry.{Entry}
-use Rattle.resolver_cache.specs.declared.entry.CachedResponse.{CachedResponse}
-use Rattle.resolver_cache.specs.Entry.{is_for}
+use Rattle.kept_responses.specs.declared.entry.Entry.{Entry}
+use Rattle.kept_responses.specs.declared.entry.CachedResponse.{CachedResponse}
+use Rattle.kept_responses.specs.Entry.{is_for}
 use Rattle.resolver_cache.specs.Life.{life_of}
-use Rattle.resolver_cache.specs.Lowering.{seconds_between, lowered}
+use Rattle.resolver_cache.specs.Life.{seconds_between}
+use Rattle.kept_responses.specs.Lowering.{lowered}
 use Rattle.resolver_cache.specs.Cached.{Cached}
 use Rattle.resolver_cache.specs.Cache.{read, upserted}
 

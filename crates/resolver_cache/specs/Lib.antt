@@ -1,7 +1,4 @@
-pub mod Entry
-pub mod Kept
 pub mod Life
-pub mod Lowering
 pub mod Placing
 pub mod Writings
 pub mod Index

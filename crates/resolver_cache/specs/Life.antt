@@ -1,5 +1,5 @@
 -- How long a response is kept (RFC 1035 section 3.2.1, RFC 2181 section 8, RFC 2308 section 5).
-use Rattle.std.specs.Prelude.{ℕ, ◌+◌, ◌-◌, ◌*◌, ◌^◌, min, max, List, [], ◌∷◌, ◌++◌, fold, Option, Some, None, Result, Ok, Err}
+use Rattle.std.specs.Prelude.{ℕ, ◌+◌, ◌-◌, ◌*◌, ◌/◌, ◌^◌, min, max, List, [], ◌∷◌, ◌++◌, fold, Option, Some, None, Result, Ok, Err}
 use Rattle.std.specs.Option.{option_map}
 use Rattle.dns_core.specs.NetError.{negative_data}
 use Rattle.dns_core.specs.declared.codes.RecordType.{RecordType}
@@ -47,3 +47,7 @@ life_of config t (Err e) = option_map (λ n. negative_life (bounds_of config t) 
 -- so many seconds after a moment in microseconds, or the last moment of 64 bits
 abbrev pub moment_after : ℕ → ℕ → ℕ
 moment_after now life = min (now + life * 1000000) (2 ^ 64 - 1)
+
+-- the whole seconds from a moment to a later one, in microseconds; 0 to an earlier one
+abbrev pub seconds_between : ℕ → ℕ → ℕ
+seconds_between written now = (now - written) / 1000000

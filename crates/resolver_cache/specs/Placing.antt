@@ -1,8 +1,8 @@
 -- Which entry gives way to a new one. Entries stand in the order in which they were written, the newest last.
 use Rattle.std.specs.Prelude.{ℕ, ◌==◌, nat_lt, min, List, [], ◌∷◌, ◌++◌, length, fold, position, remove, Option, Some, None, if◌then◌else◌}
 use Rattle.dns_core.specs.declared.message.Query.{Query}
-use Rattle.resolver_cache.specs.declared.entry.Entry.{Entry}
-use Rattle.resolver_cache.specs.Entry.{is_for}
+use Rattle.kept_responses.specs.declared.entry.Entry.{Entry}
+use Rattle.kept_responses.specs.Entry.{is_for}
 
 -- the least expiry, 0 without entries
 abbrev pub least_expiry : List Entry → ℕ

@@ -3,18 +3,16 @@ ghost use Rattle.std.specs.Prelude.{◌≡◌, ◌↔◌, ◌==◌, [], length, 
 ghost use Rattle.std.specs.List.{list_any};
 ghost use Rattle.std.specs.Option.{option_copied};
 ghost use Rattle.resolver_settings.specs.Ttl.{has_reversed};
-ghost use Rattle.resolver_cache.specs.Entry.{is_for, current_for};
+ghost use Rattle.kept_responses.specs.Entry.{is_for, current_for};
 ghost use Rattle.resolver_cache.specs.Cache.{read, found_for, upserted, new_expiry, KeepsNothing, IsSound};
 ghost use Rattle.resolver_cache.specs.Index.{ArePlaced};
 ghost use Rattle.std.specs.Map.{values_of};
 
 use crate::bounds::ReversedTtl;
-use crate::entry::{CachedResponse, Entry};
 use crate::index::Index;
-use crate::kept_entry::KeptEntry;
-use crate::life::{life_of, moment_after};
-use crate::lowering::seconds_between;
+use crate::life::{life_of, moment_after, seconds_between};
 use dns_core::{Message, NetError, NoMemory, Query, TryClone};
+use kept_responses::{CachedResponse, Entry, KeptEntry};
 use resolver_settings::TtlConfig;
 use std::alloc::Global;
 use std::marker::Model;

@@ -7,15 +7,15 @@ ghost use Rattle.std.specs.List.Sorted.{IsStrictlySortedBy};
 ghost use Rattle.std.specs.Map.{keys_of, values_of, remove_entry};
 ghost use Rattle.std.specs.Ordering.{nat_cmp};
 ghost use Rattle.dns_core.specs.declared.message.Query.{Query as Question};
-ghost use Rattle.resolver_cache.specs.Entry.{is_for, is_same_question, current_for};
+ghost use Rattle.kept_responses.specs.Entry.{is_for, is_same_question, current_for};
 ghost use Rattle.resolver_cache.specs.Cached.{IsWithin};
 ghost use Rattle.resolver_cache.specs.Placing.{with_entry};
 ghost use Rattle.resolver_cache.specs.Writings.{number_of, AreBelow};
 ghost use Rattle.resolver_cache.specs.Index.{number_at, ArePlaced, AreSingle};
 
-use crate::kept_entry::KeptEntry;
 use crate::writings::Writings;
 use dns_core::{NoMemory, Query, TryClone};
+use kept_responses::KeptEntry;
 use std::alloc::Global;
 use std::collections::BTreeMap;
 

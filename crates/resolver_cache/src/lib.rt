@@ -7,20 +7,14 @@
 
 mod bounds;
 mod cache;
-mod entry;
 mod index;
-mod kept_entry;
 mod laws;
 mod life;
-mod lowering;
-mod reading;
 mod threads;
 mod writings;
 
 pub use bounds::ReversedTtl;
 pub use cache::ResponseCache;
-pub use entry::{CachedResponse, Entry};
-pub use kept_entry::KeptEntry;
+pub use kept_responses::{CachedResponse, Entry, KeptEntry, read_message};
 pub use laws::{a_write_adds_one_response_alone, what_is_read_is_current};
-pub use lowering::seconds_between;
-pub use reading::read_message;
+pub use life::seconds_between;

@@ -1,6 +1,6 @@
 //! How long a response is kept.
 ghost use Rattle.std.specs.Prelude.{◌≡◌, fold};
-ghost use Rattle.resolver_cache.specs.Life.{lesser, least_ttl, records, soa_life, negative_life, life_of, moment_after};
+ghost use Rattle.resolver_cache.specs.Life.{lesser, least_ttl, records, soa_life, negative_life, life_of, moment_after, seconds_between};
 ghost use Rattle.resolver_settings.specs.Ttl.{bounds_of};
 
 use dns_core::{Boxed, DnsError, Message, NetError, RData, Record, RecordType};
@@ -76,4 +76,11 @@ pub(crate) fn moment_after(now: u64, life: u64) -> u64
     ensures { result ≡ moment_after now life }
 {
     now.saturating_add(life.saturating_mul(1_000_000))
+}
+
+/// The whole seconds from a moment to a later one.
+pub fn seconds_between(written: u64, now: u64) -> u64
+    ensures { result ≡ seconds_between written now }
+{
+    now.saturating_sub(written) / 1_000_000
 }

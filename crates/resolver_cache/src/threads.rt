@@ -2,16 +2,8 @@
 
 use crate::bounds::ReversedTtl;
 use crate::cache::ResponseCache;
-use crate::entry::{CachedResponse, Entry};
-use crate::kept_entry::KeptEntry;
 use dns_core::CrossesThreads;
 
 impl CrossesThreads for ResponseCache {}
-
-impl CrossesThreads for Entry {}
-
-impl CrossesThreads for KeptEntry {}
-
-impl CrossesThreads for CachedResponse {}
 
 impl CrossesThreads for ReversedTtl {}

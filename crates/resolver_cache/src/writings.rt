@@ -7,8 +7,8 @@ ghost use Rattle.std.specs.Map.{keys_of, remove_entry};
 ghost use Rattle.std.specs.Ordering.{nat_cmp};
 ghost use Rattle.resolver_cache.specs.Writings.{under, number_of_least, least_of_full, AreBelow, AreKept};
 
-use crate::kept_entry::KeptEntry;
 use dns_core::NoMemory;
+use kept_responses::KeptEntry;
 use std::alloc::Global;
 use std::collections::{BTreeMap, BTreeSet};
 use std::marker::Model;
@@ -22,7 +22,7 @@ pub(crate) struct Writings {
 
 impl Model for Writings {
     ghost use Rattle.std.specs.Prelude.{List, ℕ};
-    ghost use Rattle.resolver_cache.specs.declared.entry.Entry.{Entry as Seen};
+    ghost use Rattle.kept_responses.specs.declared.entry.Entry.{Entry as Seen};
 
     ghost Value = { List (ℕ × Seen) };
 

@@ -1,5 +1,5 @@
 use Rattle.std.proofs.Common.{ℕ, true, List, subst, sym}
-use Rattle.resolver_cache.specs.declared.entry.Entry.{Entry}
+use Rattle.kept_responses.specs.declared.entry.Entry.{Entry}
 use Rattle.resolver_cache.specs.Writings.{AreDated}
 use Rattle.resolver_cache.proofs.Dated.{none_under, said_of_same, dated_added, dated_undone}
 use Rattle.resolver_cache.proofs.writings.add_at.Goals as goal

@@ -2,7 +2,7 @@ use Rattle.std.proofs.Common.{◌∙◌, ℕ, List, ap}
 use Rattle.std.specs.BTreeMap.{is_at}
 use Rattle.std.specs.Map.{remove_entry}
 use Rattle.std.specs.Ordering.{nat_cmp}
-use Rattle.resolver_cache.specs.declared.entry.Entry.{Entry}
+use Rattle.kept_responses.specs.declared.entry.Entry.{Entry}
 use Rattle.resolver_cache.proofs.Dated.{last_taken}
 use Rattle.resolver_cache.proofs.index.Index.add.Goals as goal
 

@@ -1,6 +1,6 @@
 use Rattle.std.proofs.Common.{◌≡◌, ◌∙◌, None, sym, subst}
-use Rattle.resolver_cache.specs.declared.entry.Entry.{Entry}
-use Rattle.resolver_cache.specs.Entry.{is_for}
+use Rattle.kept_responses.specs.declared.entry.Entry.{Entry}
+use Rattle.kept_responses.specs.Entry.{is_for}
 use Rattle.resolver_cache.specs.Writings.{number_of}
 use Rattle.resolver_cache.proofs.Placed.{added_placed}
 use Rattle.resolver_cache.proofs.index.Index.add_copy.Goals as goal

@@ -1,7 +1,7 @@
 use Rattle.std.proofs.Common.{◌≡◌, ◌∙◌, ℕ, List, None, cond, sym, subst, refl}
 use Rattle.dns_core.specs.declared.message.Query.{Query}
-use Rattle.resolver_cache.specs.declared.entry.Entry.{Entry}
-use Rattle.resolver_cache.specs.Entry.{is_same_question}
+use Rattle.kept_responses.specs.declared.entry.Entry.{Entry}
+use Rattle.kept_responses.specs.Entry.{is_same_question}
 use Rattle.resolver_cache.specs.Index.{number_at, ArePlaced}
 use Rattle.resolver_cache.proofs.ByNumber.{none_gone}
 use Rattle.resolver_cache.proofs.Placed.{placed_gone, placed_still}

@@ -1,4 +1,4 @@
-use Rattle.resolver_cache.specs.Entry.{is_for}
+use Rattle.kept_responses.specs.Entry.{is_for}
 use Rattle.resolver_cache.proofs.Placed.{over_list, over_placed, placed_still}
 use Rattle.resolver_cache.proofs.index.Index.put_over.Goals as goal
 

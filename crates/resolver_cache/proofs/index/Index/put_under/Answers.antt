@@ -1,7 +1,7 @@
 use Rattle.std.proofs.Common.{◌≡◌, ◌∙◌, Some, sym, ap, subst}
 use Rattle.std.specs.Map.{values_of}
 use Rattle.dns_core.specs.declared.message.Query.{Query}
-use Rattle.resolver_cache.specs.Entry.{is_for}
+use Rattle.kept_responses.specs.Entry.{is_for}
 use Rattle.resolver_cache.specs.Writings.{number_of}
 use Rattle.resolver_cache.proofs.Placed.{values_over}
 use Rattle.resolver_cache.proofs.index.Index.put_under.Goals as goal

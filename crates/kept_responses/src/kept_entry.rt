@@ -1,8 +1,8 @@
 //! An entry as the cache holds it. Most are answers with the very question under which they stand:
 //! such an entry has this question once, and no room for an error.
 ghost use Rattle.std.specs.Prelude.{◌≡◌, ◌↔◌, Ok, IfOk, IfSome, IsSome, IsOk, IsTrue};
-ghost use Rattle.resolver_cache.specs.Kept.{entry_of};
-ghost use Rattle.resolver_cache.specs.Lowering.{lowered};
+ghost use Rattle.kept_responses.specs.Kept.{entry_of};
+ghost use Rattle.kept_responses.specs.Lowering.{lowered};
 
 use crate::entry::Entry;
 use crate::lowering::{lowered, lowered_message};
@@ -33,8 +33,8 @@ pub struct KeptEntry {
 }
 
 impl Model for KeptEntry {
-    ghost use Rattle.resolver_cache.specs.declared.entry.Entry.{Entry as Seen};
-    ghost use Rattle.resolver_cache.specs.Kept.{entry_of};
+    ghost use Rattle.kept_responses.specs.declared.entry.Entry.{Entry as Seen};
+    ghost use Rattle.kept_responses.specs.Kept.{entry_of};
 
     ghost Value = { Seen };
 
@@ -166,7 +166,8 @@ impl Kept {
 }
 
 impl KeptEntry {
-    pub(crate) fn new(alloc: Global, entry: Entry) -> Result<Self, NoMemory>
+    /// An entry in the form in which it is kept. It fails for want of memory alone.
+    pub fn new(alloc: Global, entry: Entry) -> Result<Self, NoMemory>
         ensures { IfOk result (λ kept. kept ≡ entry) }
     {
         let kept = in_box(alloc, kept_of(alloc, entry)?)?;
@@ -188,7 +189,7 @@ impl KeptEntry {
     }
 
     /// The response with each TTL so many seconds lower, not below 0.
-    pub(crate) fn lowered(
+    pub fn lowered(
         &self,
         alloc: Global,
         seconds: u64,

@@ -1,7 +1,7 @@
 //! What is kept under a question.
 ghost use Rattle.std.specs.Prelude.{◌≡◌, IfOk};
 ghost use Rattle.dns_core.specs.Name.{same_names};
-ghost use Rattle.resolver_cache.specs.Entry.{is_for, is_current};
+ghost use Rattle.kept_responses.specs.Entry.{is_for, is_current};
 
 use dns_core::{Message, Name, NetError, NoMemory, Query, TryClone};
 use std::alloc::Global;

@@ -1,8 +1,8 @@
 -- What entry stands in the form in which it is kept.
 use Rattle.std.specs.Prelude.{Ok}
-use Rattle.resolver_cache.specs.declared.entry.Entry.{Entry}
-use Rattle.resolver_cache.specs.declared.kept_entry.Kept.{Kept}
-use Rattle.resolver_cache.specs.declared.kept_entry.Kept.TheVariants.{Answer, Other}
+use Rattle.kept_responses.specs.declared.entry.Entry.{Entry}
+use Rattle.kept_responses.specs.declared.kept_entry.Kept.{Kept}
+use Rattle.kept_responses.specs.declared.kept_entry.Kept.TheVariants.{Answer, Other}
 
 -- an answer stands under the question of its message
 abbrev pub entry_of : Kept → Entry

@@ -1,20 +1,13 @@
 //! A response as it reads some seconds after it was written (RFC 1035 section 3.2.1).
 ghost use Rattle.std.specs.Prelude.{◌≡◌, IfOk, map};
 ghost use Rattle.std.specs.Option.{option_map};
-ghost use Rattle.resolver_cache.specs.Lowering.{seconds_between, lowered_record, lowered_message, lowered_delegation, lowered_denial, lowered_error, lowered};
+ghost use Rattle.kept_responses.specs.Lowering.{lowered_record, lowered_message, lowered_delegation, lowered_denial, lowered_error, lowered};
 
 use dns_core::{
     Boxed, DnsError, ForwardNsData, Items, Message, NetError, NoMemory, NoRecords, Record, Records,
     TryClone,
 };
 use std::alloc::Global;
-
-/// The whole seconds from a moment to a later one.
-pub fn seconds_between(written: u64, now: u64) -> u64
-    ensures { result ≡ seconds_between written now }
-{
-    now.saturating_sub(written) / 1_000_000
-}
 
 pub(crate) fn lowered_record(alloc: Global, r: &Record, seconds: u64) -> Result<Record, NoMemory>
     ensures { IfOk result (λ copy. copy ≡ lowered_record seconds r.now) }

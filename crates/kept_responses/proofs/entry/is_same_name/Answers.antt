@@ -1,7 +1,7 @@
 use Rattle.std.proofs.Common.{◌≡◌, true, ◌∙◌, sym, subst}
 use Rattle.dns_core.specs.Name.{DomainName, same_names}
 use Rattle.dns_core.specs.NameLaws.{same_names_equiv}
-use Rattle.resolver_cache.proofs.entry.is_same_name.Goals as goal
+use Rattle.kept_responses.proofs.entry.is_same_name.Goals as goal
 
 pub returns-then-eq_case : goal.returns-then-eq_case
 returns-then-eq_case c =

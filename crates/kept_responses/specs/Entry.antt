@@ -2,7 +2,7 @@
 use Rattle.std.specs.Prelude.{ℕ, Bool, ◌&&◌, ◌==◌, nat_le, List, Option, Some, None, find, if◌then◌else◌}
 use Rattle.dns_core.specs.Name.{same_names}
 use Rattle.dns_core.specs.declared.message.Query.{Query}
-use Rattle.resolver_cache.specs.declared.entry.Entry.{Entry}
+use Rattle.kept_responses.specs.declared.entry.Entry.{Entry}
 
 -- the same type, class and name, the name without ASCII case (RFC 4343)
 abbrev pub is_same_question : Query → Query → Bool

@@ -1,5 +1,5 @@
 -- A response as it reads later: its TTLs count down (RFC 1035 section 3.2.1).
-use Rattle.std.specs.Prelude.{ℕ, ◌-◌, ◌/◌, map, Result, Ok, Err}
+use Rattle.std.specs.Prelude.{ℕ, ◌-◌, map, Result, Ok, Err}
 use Rattle.std.specs.Option.{option_map}
 use Rattle.dns_core.specs.declared.record.Record.{Record}
 use Rattle.dns_core.specs.declared.message.Message.{Message}
@@ -9,10 +9,6 @@ use Rattle.dns_core.specs.declared.net_error.DnsError.{DnsError}
 use Rattle.dns_core.specs.declared.net_error.DnsError.TheVariants.{NoRecordsFound, ResponseCode}
 use Rattle.dns_core.specs.declared.net_error.NetError.{NetError}
 use Rattle.dns_core.specs.declared.net_error.NetError.TheVariants.{Busy, Io, Timeout, NoConnections, Truncated, QueryCaseMismatch, ForeignClassRecord, Dns, Msg, NoMemory}
-
--- the whole seconds from a moment to a later one, in microseconds; 0 to an earlier one
-abbrev pub seconds_between : ℕ → ℕ → ℕ
-seconds_between written now = (now - written) / 1000000
 
 -- a TTL so many seconds lower, not below 0
 abbrev pub lowered_record : ℕ → Record → Record

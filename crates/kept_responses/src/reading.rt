@@ -2,7 +2,7 @@
 ghost use Rattle.std.specs.Prelude.{◌≡◌, IfOk, map, filter, List, if◌then◌else◌};
 ghost use Rattle.dns_core.specs.declared.record.Record.{Record};
 ghost use Rattle.dns_core.specs.Stripping.{is_kept, strip_of};
-ghost use Rattle.resolver_cache.specs.Lowering.{lowered_record, lowered_message};
+ghost use Rattle.kept_responses.specs.Lowering.{lowered_record, lowered_message};
 
 use crate::lowering::{lowered_record, lowered_records};
 use dns_core::{Items, Message, NoMemory, Record, RecordType, Records, TryClone};
