@@ -1,5 +1,4 @@
 pub mod Names
-pub mod Answered
 pub mod Due
 pub mod Leading
 pub mod Playing

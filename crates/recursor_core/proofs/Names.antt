@@ -43,8 +43,9 @@ pub use Rattle.lookup_facts.specs.Order.{is_given_up, IsGivenUpIn, LogGoesOnIf}
 pub use Rattle.order_runner.specs.Runner.{RunnerHolds, RunnerMoves, GoesNowhere, sent_by, still_awaited, IsLast, HasTold, polls_left}
 pub use Rattle.server_core.specs.declared.order.Order.{Order}
 pub use Rattle.server_core.specs.declared.order.After.{After}
-pub use Rattle.recursor_core.specs.Turns.{open_play, open_plays, Begins, BeginsIf, BeginsAt, IsRefused, ReplyOf, due}
-pub use Rattle.recursor_core.specs.declared.plays.Played.{Played}
+pub use Rattle.recursor_core.specs.Turns.{due}
+pub use Rattle.recursor_machine.specs.Plays.{open_plays, Begins, BeginsIf, BeginsAt, IsRefused, ReplyOf}
+pub use Rattle.recursor_machine.specs.declared.plays.Played.{Played}
 pub use Rattle.recursor_machine.specs.Derived.{seen_by, Derived}
 pub use Rattle.recursor_machine.specs.Machine.{kept_in, Begun, begun_of, begun_at, IsOneMore, given_by, ReplyGiven, StepGives, SameCore, IsNewCore, TellsTo, open_at}
 pub use Rattle.recursor_machine.specs.declared.machine.RecursorCore.{RecursorCore}

@@ -1,11 +1,11 @@
 -- The questions of a run, as their turns are played.
-use Rattle.recursor_core.proofs.Names.{◌≡◌, ◌≢◌, ◌≤◌, ◌<◌, ◌+◌, ◌-◌, ◌++◌, ◌∙◌, ◌⊎◌, ⊎_elim, inl, inr, ℕ, zero, suc, max, List, [], ◌∷◌, length, Option, Some, None, Err, refl, sym, ap, subst, arith, slice_get, if◌then◌else◌, eq-eqb, All, Contains, Box, set, same_Some, slice_get_within, get_or_from_slice_get, All-get_or, Log, log_of, LogEntry, Question, Turn, Ghosts, Timer, machine_timer, ReplyHolds, TellsThat, Grown, Begun, begun_at, begun_of, kept_in, IsOneMore, Moves, ReplyTold, first_moment, last_moment, begin_moment, run_moments, run_timer, PlayHolds, PlaysHold, RepliesHold, ReplyFor, Begins, BeginsIf, BeginsAt, IsRefused, ReplyOf, Setting, Carrier, RecursorCore, Reply, Played, reply-earlier, Grown-refl, seen_at, Resolution, option_map}
+use Rattle.recursor_core.proofs.Names.{◌≡◌, ◌≢◌, ◌≤◌, ◌<◌, ◌+◌, ◌-◌, ◌∙◌, ◌⊎◌, ⊎_elim, inl, inr, ℕ, zero, suc, max, List, [], ◌∷◌, length, Option, Some, None, Err, refl, sym, ap, subst, arith, slice_get, if◌then◌else◌, eq-eqb, All, Contains, Box, set, same_Some, slice_get_within, get_or_from_slice_get, All-get_or, Log, log_of, LogEntry, Question, Turn, Ghosts, Timer, machine_timer, ReplyHolds, TellsThat, Grown, Begun, begun_at, begun_of, kept_in, IsOneMore, Moves, ReplyTold, first_moment, last_moment, begin_moment, run_moments, run_timer, PlayHolds, PlaysHold, RepliesHold, ReplyFor, BeginsIf, BeginsAt, IsRefused, ReplyOf, Setting, Carrier, RecursorCore, Reply, Played, reply-earlier, Grown-refl, seen_at, Resolution, option_map}
 use Rattle.std.proofs.lemmas.Bool.{ne_eqb}
 use Rattle.recursor_machine.proofs.Places.{slice_get-set_same, slice_get-set_other}
 use Rattle.recursor_core.proofs.Standing.{ReplyHolds-grown}
 use Rattle.recursor_core.proofs.Timed.{reply-timed, run_first}
 use Rattle.recursor_types.specs.declared.error.RecursorError.TheVariants as error
-use Rattle.recursor_core.specs.declared.plays.Played.TheVariants as played
+use Rattle.recursor_machine.specs.declared.plays.Played.TheVariants as played
 
 -- two numbers are equal, or not
 same_or_not : (k n : ℕ) → (k ≡ n) ⊎ (k ≢ n)
@@ -44,23 +44,6 @@ memory_holds setting timer log moment question reply h none = rw h none
 refused_holds : (setting : Setting) (timer : Timer) (log : Log) (moment : ℕ) (question : Question) (reply : Reply) → IsRefused question reply
     → ReplyHolds setting timer log moment question reply
 refused_holds setting timer log moment question reply r = ⊎_elim (λ h. memory_holds setting timer log moment question reply h r.0) (λ h. rw h.0 (refl, h.1, r.0)) r.1
-
--- a question that waits begins at its place
-pub begins_waiting : (questions : List Question) (plays : List Played) (q now : ℕ) (core : RecursorCore) (question : Question) (new : Played)
-    → slice_get questions q ≡ Some question → slice_get plays q ≡ Some played.Waiting → Begins question now core new
-    → BeginsAt questions q now core (slice_get plays q) (slice_get (set plays q new) q)
-begins_waiting questions plays q now core question new asks waits b =
-    rw (asks, waits, slice_get-set_same plays q new (slice_get_within plays q played.Waiting waits)) b
-
--- one that does not wait stays as it is
-pub begins_else : (question : Option Question) (now : ℕ) (core : RecursorCore) (old : Option Played) → (old ≡ Some played.Waiting → ⊥)
-    → BeginsIf question now core old old
-begins_else None now core old ne = refl
-begins_else (Some x) now core None ne = refl
-begins_else (Some x) now core (Some played.Waiting) ne = absurd (ne refl)
-begins_else (Some x) now core (Some (played.Begun r)) ne = refl
-begins_else (Some x) now core (Some (played.Answered a)) ne = refl
-begins_else (Some x) now core (Some played.Unanswered) ne = refl
 
 -- a question that goes on as it was, where no place is gone and what is under way at its own was so before
 play_on : (now : ℕ) (core new : RecursorCore) (told later : Option (List LogEntry)) (start : ℕ) (turns rest left : List Turn) (q : ℕ)
@@ -249,11 +232,3 @@ last_is start (x ∷ []) t h = ap (λ (u : Turn). u.moment) (same_Some _ _ h)
 last_is start (x ∷ y ∷ ys) t h =
     let next : length (x ∷ y ∷ ys) - 1 ≡ suc (length (y ∷ ys) - 1) = omega arith in
     last_is x.moment (y ∷ ys) t (subst (λ k. Some t ≡ slice_get (x ∷ y ∷ ys) k) next h)
-
--- what holds of each of a list, and of one more at its end
-pub each_push : {X : Type 0} (Q : ℕ → X → Type 0) (xs : List X) (y : X) → Q (length xs) y → ((q : ℕ) (x : X) → slice_get xs q ≡ Some x → Q q x)
-    → (q : ℕ) (x : X) → slice_get (xs ++ y ∷ []) q ≡ Some x → Q q x
-each_push Q [] y here h zero x e = subst (Q 0) (same_Some _ _ e) here
-each_push Q [] y here h (suc q) x e = cc
-each_push Q (z ∷ xs) y here h zero x e = h zero x e
-each_push Q (z ∷ xs) y here h (suc q) x e = each_push (λ k. Q (suc k)) xs y here (λ k. h (suc k)) q x e

@@ -32,9 +32,9 @@ use Rattle.order_carrier.specs.declared.carrier.Carrier.{Carrier}
 use Rattle.recursor_machine.specs.declared.machine.RecursorCore.{RecursorCore}
 use Rattle.recursor_types.specs.declared.reply.Reply.{Reply}
 use Rattle.recursor_core.specs.declared.turns.Turned.{Turned}
-use Rattle.recursor_core.specs.declared.plays.Played.{Played}
+use Rattle.recursor_machine.specs.declared.plays.Played.{Played}
 use Rattle.recursor_core.specs.declared.turns.Turned.TheVariants as turned
-use Rattle.recursor_core.specs.declared.plays.Played.TheVariants as played
+use Rattle.recursor_machine.specs.declared.plays.Played.TheVariants as played
 
 -- a recursor: its provider, its roots, the filters of other servers and of the addresses of answers, the bounds of lives, what its pools are set to,
 -- the least patience of its runs, and the greatest moment handed in so far

@@ -2,7 +2,6 @@
 #![tactic(auto)]
 
 mod driving;
-mod plays;
 mod recursor;
 mod run;
 mod threads;

@@ -5,15 +5,15 @@ ghost use Rattle.dns_core.specs.declared.request.Turn.{Turn};
 ghost use Rattle.order_carrier.specs.Growing.{TellsThat};
 ghost use Rattle.recursor_core.specs.Runs.{Runs, Leads, PlaysOn, PlaysGoOn, IsDue, ComesIn, IsOver, told_by, work};
 ghost use Rattle.recursor_core.specs.Standing.{RepliesHold, last_moment, run_moments};
-ghost use Rattle.recursor_core.specs.Turns.{IsUnderWay};
+ghost use Rattle.recursor_machine.specs.Plays.{IsUnderWay};
 
-use crate::plays::{
-    Played, begin_at, is_waiting, leave_unanswered, put_answer, replies, under_way, waiting,
-};
 use crate::turns::answer_of;
 use dns_core::{ConnectionProvider, NoMemory, Question, Turn};
 use order_runner::Runner;
-use recursor_machine::RecursorCore;
+use recursor_machine::{
+    Played, RecursorCore, begin_at, is_waiting, leave_unanswered, put_answer, replies, under_way,
+    waiting,
+};
 use recursor_types::Reply;
 use server_core::Tick;
 use std::alloc::Global;

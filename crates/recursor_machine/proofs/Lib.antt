@@ -2,3 +2,5 @@ pub mod Names
 pub mod Cores
 pub mod Later
 pub mod Places
+mod Answered
+mod Begins

@@ -1,11 +1,12 @@
 -- The words that several proofs of this crate speak with, in one place.
-pub use Rattle.std.proofs.Common.{◌≡◌, ◌<◌, ℕ, zero, suc, List, [], ◌∷◌, length, get_or, Some, arith, ap, slice_get, ◌≤◌, ◌+◌, ◌++◌, All, ◌⊎◌, inl, inr, ⊎_elim, Option, None, Result, Ok, Err, refl, sym, ◌∙◌, subst, Bool, true, false, max, ◌≢◌, IfOk}
+pub use Rattle.std.proofs.Common.{◌≡◌, ◌<◌, ℕ, zero, suc, List, [], ◌∷◌, length, get_or, Some, arith, ap, slice_get, ◌≤◌, ◌+◌, ◌++◌, All, ◌⊎◌, inl, inr, ⊎_elim, Option, None, Result, Ok, Err, refl, sym, ◌∙◌, subst, Bool, true, false, max, ◌≢◌, IfOk, vec_len}
 pub use Rattle.std.specs.Global.{Box}
 pub use Rattle.std.proofs.Math.ListN.{set}
 pub use Rattle.std.specs.Prelude.{IsSome, option_copied, IsTrue}
 pub use Rattle.std.proofs.lemmas.List.Elements.{All-set, All-weaker, All-push}
+pub use Rattle.std.proofs.lemmas.List.Sums.{sum_by-set}
 pub use Rattle.std.specs.Option.{option_map}
-pub use Rattle.std.proofs.lemmas.Option.{get_or_from_slice_get, slice_get_within, slice_get_read}
+pub use Rattle.std.proofs.lemmas.Option.{get_or_from_slice_get, slice_get_within, slice_get_read, same_Some}
 pub use Rattle.std.proofs.lemmas.List.{length-set, length_push}
 pub use Rattle.std.proofs.lemmas.Result.{IfOk-from_err, IfOk-weaker}
 pub use Rattle.dns_core.specs.Log.{Log, Extends}
@@ -28,4 +29,7 @@ pub use Rattle.server_core.specs.declared.order.After.{After}
 pub use Rattle.recursor_machine.specs.Derived.{seen_by, Derived, KeptHolds}
 pub use Rattle.recursor_machine.specs.Machine.{kept_in, Begun, begun_of, begun_at, IsOneMore, open_in, StepFor, ReplyGiven, StepGives, SameCore, need_in}
 pub use Rattle.recursor_machine.specs.declared.machine.RecursorCore.{RecursorCore}
+pub use Rattle.recursor_machine.specs.Plays.{open_play, open_plays, Begins, BeginsIf, BeginsAt, ReplyOf}
+pub use Rattle.recursor_machine.specs.declared.plays.Played.{Played}
+pub use Rattle.recursor_types.specs.declared.reply.Reply.{Reply}
 pub use Rattle.recursor_walk.specs.declared.steps.Step.{Step}

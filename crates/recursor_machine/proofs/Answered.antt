@@ -1,6 +1,6 @@
 -- A question that is answered is under way no more.
-use Rattle.recursor_core.proofs.Names.{◌≡◌, ◌<◌, ℕ, zero, suc, List, [], ◌∷◌, length, get_or, Some, arith, ap, slice_get, Box, set, sum_by-set, open_play, open_plays, Reply, Played}
-use Rattle.recursor_core.specs.declared.plays.Played.TheVariants as played
+use Rattle.recursor_machine.proofs.Names.{◌≡◌, ◌<◌, ℕ, zero, suc, List, [], ◌∷◌, length, get_or, Some, arith, ap, slice_get, Box, set, sum_by-set, open_play, open_plays, Reply, Played}
+use Rattle.recursor_machine.specs.declared.plays.Played.TheVariants as played
 
 -- what a list has at a place is read there
 found : (xs : List Played) (q : ℕ) (p d : Played) → slice_get xs q ≡ Some p → get_or xs q d ≡ p

@@ -3,11 +3,11 @@ ghost use Rattle.std.specs.Prelude.{All, ◌≡◌, ◌≢◌, ◌≤◌, ◌<�
 ghost use Rattle.dns_core.specs.Log.{Log};
 ghost use Rattle.recursor_machine.specs.Derived.{Derived};
 ghost use Rattle.recursor_machine.specs.Machine.{IsOneMore};
-ghost use Rattle.recursor_core.specs.Turns.{open_plays, is_waiting, IsBegunAt, IsUnderWay, Begins, BeginsAt, ReplyOf};
+ghost use Rattle.recursor_machine.specs.Plays.{open_plays, is_waiting, IsBegunAt, IsUnderWay, Begins, BeginsAt, ReplyOf};
 ghost use Rattle.recursor_types.specs.declared.reply.Reply.{Reply};
 
+use crate::machine::RecursorCore;
 use dns_core::{NoMemory, Numbers, Question, TryClone, in_box};
-use recursor_machine::RecursorCore;
 use recursor_types::{RecursorError, Reply};
 use std::alloc::Global;
 use std::mem;

@@ -1,6 +1,6 @@
-use Rattle.recursor_core.proofs.Names.{◌≡◌, ◌∙◌, ℕ, Option, length, arith, subst, slice_get, ReplyOf, Reply, Played}
-use Rattle.recursor_core.proofs.Playing.{each_push}
-use Rattle.recursor_core.proofs.plays.replies.Goals as goal
+use Rattle.recursor_machine.proofs.Names.{◌≡◌, ◌∙◌, ℕ, Option, length, arith, subst, slice_get, ReplyOf, Reply, Played}
+use Rattle.recursor_machine.proofs.Begins.{each_push}
+use Rattle.recursor_machine.proofs.plays.replies.Goals as goal
 
 pub loop-place-preserved : goal.loop-place-preserved
 loop-place-preserved c =

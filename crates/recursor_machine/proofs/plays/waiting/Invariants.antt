@@ -1,6 +1,6 @@
-use Rattle.recursor_core.proofs.Names.{◌≡◌, All, vec_len}
-use Rattle.recursor_core.specs.declared.plays.Played.TheVariants as played
-use Rattle.recursor_core.proofs.plays.waiting.Given as goal
+use Rattle.recursor_machine.proofs.Names.{◌≡◌, All, vec_len}
+use Rattle.recursor_machine.specs.declared.plays.Played.TheVariants as played
+use Rattle.recursor_machine.proofs.plays.waiting.Given as goal
 
 abbrev pub invariant-loop-question : goal.invariant-loop-question
 invariant-loop-question l = record {

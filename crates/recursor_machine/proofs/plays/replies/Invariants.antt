@@ -1,5 +1,5 @@
-use Rattle.recursor_core.proofs.Names.{◌≡◌, ◌≤◌, ℕ, Some, slice_get, vec_len, ReplyOf, Reply}
-use Rattle.recursor_core.proofs.plays.replies.Given as goal
+use Rattle.recursor_machine.proofs.Names.{◌≡◌, ◌≤◌, ℕ, Some, slice_get, vec_len, ReplyOf, Reply}
+use Rattle.recursor_machine.proofs.plays.replies.Given as goal
 
 abbrev pub invariant-loop-place : goal.invariant-loop-place
 invariant-loop-place l = record {

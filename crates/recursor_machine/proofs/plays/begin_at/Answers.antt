@@ -1,8 +1,8 @@
-use Rattle.recursor_core.proofs.Names.{◌≡◌, ◌<◌, length, Some, slice_get, refl, sym, ◌∙◌, arith, same_Some, slice_get_read}
+use Rattle.recursor_machine.proofs.Names.{◌≡◌, ◌<◌, length, Some, slice_get, refl, sym, ◌∙◌, arith, same_Some, slice_get_read}
 use Rattle.recursor_machine.proofs.Places.{slice_get-set_other}
-use Rattle.recursor_core.proofs.Playing.{begins_waiting, begins_else}
-use Rattle.recursor_core.proofs.plays.begin_at.Goals.{in-Waiting, in_default}
-use Rattle.recursor_core.proofs.plays.begin_at.Goals as goal
+use Rattle.recursor_machine.proofs.Begins.{begins_waiting, begins_else}
+use Rattle.recursor_machine.proofs.plays.begin_at.Goals.{in-Waiting, in_default}
+use Rattle.recursor_machine.proofs.plays.begin_at.Goals as goal
 
 pub returns-then-matches-clause-derived : goal.returns-then-matches-clause-derived
 returns-then-matches-clause-derived c log d = c.begun.ensures.derived log c.requires d
