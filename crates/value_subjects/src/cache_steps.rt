@@ -155,16 +155,9 @@ fn put_seen(out: &mut String, seen: Seen) -> Result<(), NoMemory> {
     Ok(())
 }
 
-/// What is seen of two caches, as one line: once where it is the same.
-pub fn put_both(out: &mut String, list: Seen, cache: Seen) -> Result<(), NoMemory> {
-    if list == cache {
-        put_seen(out, list)?;
-    } else {
-        out.push_str("the list: ")?;
-        put_seen(out, list)?;
-        out.push_str("; the cache: ")?;
-        put_seen(out, cache)?;
-    }
+/// Writes what is seen, as a line.
+pub fn put_line(out: &mut String, seen: Seen) -> Result<(), NoMemory> {
+    put_seen(out, seen)?;
     out.push_str("\n")?;
     Ok(())
 }

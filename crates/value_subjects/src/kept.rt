@@ -1,8 +1,6 @@
-//! Lines on a cache of responses, and what is seen of it after each: the same of the cache and of a plain
-//! list, or both where they differ.
+//! Lines on a cache of responses, and what is seen of it after each.
 
-use crate::cache_steps::{Asked, Seen, Step, Told, Writing, put_both, step_of};
-use crate::plain_cache::PlainCache;
+use crate::cache_steps::{Asked, Seen, Step, Told, Writing, put_line, step_of};
 use dns_core::{
     Boxed, DnsClass, DnsError, Message, Name, NameError, NetError, NoMemory, NoRecords, Query,
     RData, Record, RecordType, Records, ResponseCode, Soa, TryClone,
@@ -185,16 +183,14 @@ fn seen_after(alloc: Global, cache: &mut ResponseCache, said: Step<'_>) -> Resul
 
 /// A line that answers each line.
 pub fn answer(alloc: Global, given: &[u8]) -> Result<String, NoMemory> {
-    let mut list = PlainCache::new(alloc, 0);
     let mut cache = new(alloc, 0)?;
     let mut out = String::new(alloc);
     let mut line: u64 = 0;
     for text in std::str::from_utf8(given).unwrap_or("").lines() {
         line = line.saturating_add(1);
         let said = step_of(text, line);
-        let listed = list.step(alloc, said)?;
-        let cached = seen_after(alloc, &mut cache, said)?;
-        put_both(&mut out, listed, cached)?;
+        let seen = seen_after(alloc, &mut cache, said)?;
+        put_line(&mut out, seen)?;
     }
     Ok(out)
 }

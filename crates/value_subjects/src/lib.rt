@@ -10,7 +10,6 @@ pub mod delays;
 pub mod kept;
 mod lines;
 pub mod names;
-mod plain_cache;
 mod values;
 
 pub use lines::first_line;
