@@ -1,8 +1,8 @@
 //! The command over any source and sink.
-ghost use Rattle.std.specs.Prelude.{◌≡◌, ◌≢◌, None, IfOk, IfErr, IfSome};
+ghost use Rattle.std.specs.Prelude.{◌≡◌, ◌≢◌, None, Err, IfOk, IfErr, IfSome};
 ghost use Rattle.std.specs.Io.KnownBytes.{IsAtEnd, Appends};
 ghost use Rattle.dns_core.specs.Faults.{Rose};
-ghost use Rattle.dns_core.specs.WholeStreams.{TakesAtMost};
+ghost use Rattle.dns_core.specs.WholeStreams.{HeldAll, TakesAtMost};
 ghost use Rattle.recursor_command.specs.Faults.{fault_text};
 ghost use Rattle.recursor_command.specs.Command.{command_of, HasOutput, IsFaultOf, Tells, HasWritten, HasRefused, IsTextFor, IsTextOf, WrotePart, ToldMemory, IsRefusal};
 
@@ -16,6 +16,15 @@ use std::alloc::Global;
 
 /// One byte more than a scenario may have, so that one that is too long shows.
 const MOST: usize = 16_777_217;
+
+/// The bytes of a source to its end, or so many that they are too many for a scenario.
+fn bytes_of<S: Source>(alloc: Global, source: &mut S) -> Result<Vec<u8>, ReadError>
+    ensures held { IfOk result (λ bytes. HeldAll (S.left source.old) (S.left source.new) bytes.items 16777217) }
+    ensures bound { TakesAtMost 16777217 (S.left source.old) (S.left source.new) }
+    ensures fault { result ≡ Err ReadError.Failed → Rose (S.faults source.old) (S.faults source.new) }
+{
+    read_all(alloc, source, MOST)
+}
 
 /// What the command writes for the bytes of a scenario, or the fault that ends the run.
 fn output(alloc: Global, command: Command, bytes: &[u8]) -> Result<Vec<u8>, Fault>
@@ -87,7 +96,7 @@ pub fn run<S: Source, K: Sink>(
     let Some(command) = command_of(words) else {
         return tell(alloc, sink, Fault::Words);
     };
-    match read_all(alloc, source, MOST) {
+    match bytes_of(alloc, source) {
         Ok(bytes) => finish(alloc, command, sink, bytes.as_slice()),
         Err(ReadError::Failed) => tell(alloc, sink, Fault::Read),
         Err(ReadError::NoMemory) => tell(alloc, sink, Fault::Memory),

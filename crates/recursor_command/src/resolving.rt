@@ -52,12 +52,12 @@ fn recursor_over<P: ConnectionProvider>(
     }
 }
 
-/// A patience, which a new recursor does not lower: it has 32 bits.
-fn first_patience(patience: u32) -> u32
-    ensures same { result ≡ patience }
-    ensures first { min 4294967295 patience ≡ patience }
+/// A patience in polls, which a new recursor does not lower: it has 32 bits.
+fn first_patience(polls: u32) -> u32
+    ensures same { result ≡ polls }
+    ensures first { min 4294967295 polls ≡ polls }
 {
-    patience
+    polls
 }
 
 /// Answers questions over a provider that told nothing yet, and hands it back with the replies.
