@@ -4,10 +4,14 @@
 #![tactic(auto)]
 
 mod aims;
+mod answered;
 mod found;
+mod keeping;
 mod sought;
 mod threads;
 
 pub use aims::{aim_of, first_of, is_memory, polled_by};
+pub use answered::{found_by, last_of};
 pub use found::Found;
+pub use keeping::write_verdict;
 pub use sought::{Aim, Given, Sought};

@@ -2,8 +2,6 @@
 //! lookups that are under way at these.
 #![tactic(auto)]
 
-mod answered;
-mod keeping;
 mod lookup;
 mod pools;
 mod threads;

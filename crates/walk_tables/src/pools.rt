@@ -20,12 +20,12 @@ ghost use Rattle.walk_tables.specs.Taking.{telling_at, Took, Takes, Comes, Table
 ghost use Rattle.server_pool.specs.Orders.{open_at};
 ghost use Rattle.lookup_facts.specs.declared.sought.Given.{Given};
 
-use crate::answered::{found_by, last_of};
-use crate::keeping::write;
 use dns_core::{
     Boxed, Delays, DnsRequest, Message, Name, NetError, NoMemory, Numbers, Query, TryClone,
 };
-use lookup_facts::{Found, Given, Sought, aim_of, first_of, is_memory, polled_by};
+use lookup_facts::{
+    Found, Given, Sought, aim_of, first_of, found_by, is_memory, last_of, polled_by, write_verdict,
+};
 use recursor_setting::{FirstDelay, first_delay, pool_context};
 use recursor_types::RecursorOptions;
 use resolver_cache::ResponseCache;
@@ -478,7 +478,7 @@ impl Pools {
             Found::Told {
                 entry,
                 verdict: Ok(verdict),
-            } => write(alloc, cache, &sought.query, *entry, sought.at, verdict),
+            } => write_verdict(alloc, cache, &sought.query, *entry, sought.at, verdict),
             Found::Told {
                 verdict: Err(_),
                 ..

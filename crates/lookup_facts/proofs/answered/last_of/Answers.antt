@@ -1,5 +1,6 @@
-use Rattle.walk_tables.proofs.Names.{◌≡◌, ◌-◌, ◌∙◌, ℕ, List, [], ◌∷◌, Option, Some, None, length, refl, sym, ap, arith, slice_get, last_or, option_copied, last_of}
-use Rattle.walk_tables.proofs.answered.last_of.Goals as goal
+use Rattle.lookup_facts.proofs.Names.{◌≡◌, ◌-◌, ◌∙◌, ℕ, List, [], ◌∷◌, Option, Some, None, length, refl, sym, ap, arith, slice_get, last_or, last_of}
+use Rattle.std.specs.Option.{option_copied}
+use Rattle.lookup_facts.proofs.answered.last_of.Goals as goal
 
 -- the last stands before the end
 last-at : (o : Option ℕ) (x : ℕ) (xs : List ℕ) → last_or o (x ∷ xs) ≡ slice_get (x ∷ xs) (length xs)

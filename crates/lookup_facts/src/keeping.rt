@@ -25,8 +25,9 @@ fn kept_copy(
     }
 }
 
-/// Writes what was told for a question, by an entry, at a moment, as its verdict is kept, if it is.
-pub(crate) fn write(
+/// Writes what was told for a question, by an entry, at a moment in microseconds, as its verdict is kept, if
+/// it is. It fails for want of memory alone.
+pub fn write_verdict(
     alloc: Global,
     cache: &mut ResponseCache,
     query: &Query,

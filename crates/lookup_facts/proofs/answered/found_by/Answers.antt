@@ -1,6 +1,6 @@
-use Rattle.walk_tables.proofs.Names.{refl, sym, ◌∙◌}
+use Rattle.lookup_facts.proofs.Names.{refl, sym, ◌∙◌}
 use Rattle.lookup_facts.proofs.Counting.{counts-as}
-use Rattle.walk_tables.proofs.answered.found_by.Goals as goal
+use Rattle.lookup_facts.proofs.answered.found_by.Goals as goal
 
 pub returns-in-Ok : goal.returns-in-Ok
 returns-in-Ok c =

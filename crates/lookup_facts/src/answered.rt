@@ -2,12 +2,12 @@
 ghost use Rattle.std.specs.Prelude.{◌≡◌};
 ghost use Rattle.lookup_facts.specs.Found.{last_of, class_of_failure, classified, ComesTo};
 
+use crate::found::Found;
 use dns_core::{DnsError, Message, Name, NetError, Query};
-use lookup_facts::Found;
 use walk_base::verdict_of_class;
 
 /// The last of these numbers, 0 where there is none.
-pub(crate) fn last_of(numbers: &[u64]) -> u64
+pub fn last_of(numbers: &[u64]) -> u64
     ensures { result ≡ last_of numbers.now }
 {
     match numbers.last() {
@@ -39,12 +39,7 @@ fn classified(told: Result<Message, NetError>) -> Result<Result<Message, DnsErro
 }
 
 /// What a lookup for a question at servers of a zone comes to that was answered so, by the entry.
-pub(crate) fn found_by(
-    entry: u64,
-    told: Result<Message, NetError>,
-    query: &Query,
-    zone: &Name,
-) -> Found
+pub fn found_by(entry: u64, told: Result<Message, NetError>, query: &Query, zone: &Name) -> Found
     ensures { ComesTo zone.now query.now entry (classified told) result }
 {
     match classified(told) {
