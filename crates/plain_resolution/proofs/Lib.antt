@@ -1,3 +1,2 @@
-pub mod SectionTests
 pub mod PlainServed
 pub mod PlainBased

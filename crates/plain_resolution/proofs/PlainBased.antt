@@ -1,70 +1,26 @@
 -- What a plain program finds of an entry is what it answers.
-use Rattle.std.proofs.Common.{◌≡◌, ℕ, min, Bool, true, false, cond, List, [], ◌∷◌, ◌++◌, Option, Some, None, refl, sym, ap, subst, ◌∙◌}
-use Rattle.std.specs.Prelude.{not, ◌&&◌, filter, fold}
-use Rattle.std.specs.Option.{unwrap_or}
-use Rattle.std.proofs.lemmas.List.Sums.{fold-append}
+use Rattle.std.proofs.Common.{◌≡◌, ℕ, Bool, true, List, Some, sym, ap, subst, ◌∙◌}
 use Rattle.std.specs.declared.net.ip_addr.IpAddr.{IpAddr}
 use Rattle.dns_core.specs.Name.{DomainName}
 use Rattle.dns_core.specs.declared.message.Query.{Query}
 use Rattle.dns_core.specs.declared.message.Message.{Message}
-use Rattle.dns_core.specs.declared.record.Record.{Record}
 use Rattle.dns_core.specs.declared.log.ToldOutcome.{ToldOutcome}
 use Rattle.dns_core.specs.declared.log.ToldOutcome.TheVariants as told
 use Rattle.resolution.specs.Names.{is_above, walk}
 use Rattle.resolution.specs.Records.{records}
 use Rattle.resolution.specs.Class.{class_of}
-use Rattle.resolution.specs.Verdict.{verdict, holds_denied, in_zone}
+use Rattle.resolution.specs.Verdict.{verdict}
 use Rattle.resolution.specs.Life.{clamp, least_ttl}
 use Rattle.resolution.specs.Telling.{Tells}
 use Rattle.resolution.specs.Serving.{Serves, Heard}
 use Rattle.resolution.specs.Serving.Heard.{heard}
-use Rattle.plain_resolution.specs.Plain.{apex, asks, among, passes, kept, left_of, counts_of, is_answer}
+use Rattle.plain_kept.specs.Plain.{apex, asks, left_of, counts_of, is_answer}
 use Rattle.plain_resolution.specs.PlainServing.{given_of, log_in}
-use Rattle.plain_resolution.specs.PlainBase.{IsBase, IsFreshFor, lesser, bounds_of}
+use Rattle.plain_resolution.specs.PlainBase.{IsBase, IsFreshFor, bounds_of}
 use Rattle.resolution.specs.declared.class.Class.TheVariants.{Positive}
-use Rattle.plain_resolution.specs.declared.kept.Kept.{Kept}
 use Rattle.plain_resolution.specs.declared.setting.Setting.{Setting}
 use Rattle.resolution.proofs.Invented.{verdict-pos}
 use Rattle.plain_resolution.proofs.PlainServed.{counts-verdict, verdict-counts, class-is_answer, one_telling}
-
--- ---- the least TTL
-
-filter-filter : {X : Type 0} (p q : X → Bool) (xs : List X) → filter q (filter p xs) ≡ filter (λ x. p x && q x) xs
-filter-filter p q [] = refl
-filter-filter {X} p q (x ∷ xs) = at_head (p x) (filter-filter p q xs)
-  where
-    at_head : (b : Bool) → filter q (filter p xs) ≡ filter (λ x. p x && q x) xs → filter q (cond b (x ∷ filter p xs) (filter p xs)) ≡ cond (b && q x) (x ∷ filter (λ x. p x && q x) xs) (filter (λ x. p x && q x) xs)
-    at_head true e = ap (λ (ys : List X). cond (q x) (x ∷ ys) ys) e
-    at_head false e = e
-
-least_so_far : (n : ℕ) (rs : List Record) → fold lesser (Some n) rs ≡ Some (fold (λ n s. min n s.ttl) n rs)
-least_so_far n [] = refl
-least_so_far n (r ∷ rs) = least_so_far (min n r.ttl) rs
-
-least_of_all : (rs : List Record) → unwrap_or (fold lesser None rs) 0 ≡ least_ttl rs
-least_of_all [] = refl
-least_of_all (r ∷ rs) = ap (λ (o : Option ℕ). unwrap_or o 0) (least_so_far r.ttl rs)
-
--- section by section, of what is left
-pub least_left : (k : Kept) → unwrap_or (fold lesser (fold lesser (fold lesser None (filter (passes k) k.message.now.answers)) (filter (passes k) k.message.now.authorities)) (filter (passes k) k.message.now.additionals)) 0 ≡ least_ttl (records (kept k))
-least_left k =
-    let d : Record → Bool = λ r. not (holds_denied (among k.denied.now) r) in
-    let z : Record → Bool = in_zone (apex k.zone.now) in
-    let left : (rs : List Record) → filter z (filter d rs) ≡ filter (passes k) rs = λ rs. filter-filter d z rs in
-    let a = k.message.now.answers in
-    let u = k.message.now.authorities in
-    let x = k.message.now.additionals in
-    let least : Option ℕ → ℕ = λ o. unwrap_or o 0 in
-    let all : records (kept k) ≡ (filter (passes k) a ++ filter (passes k) u) ++ filter (passes k) x =
-    ap (λ (rs : List Record). (rs ++ filter z (filter d u)) ++ filter z (filter d x)) (left a)
-    ∙ ap (λ (rs : List Record). (filter (passes k) a ++ rs) ++ filter z (filter d x)) (left u)
-    ∙ ap (λ (rs : List Record). (filter (passes k) a ++ filter (passes k) u) ++ rs) (left x) in
-    sym (
-    ap least_ttl all
-    ∙ sym (least_of_all ((filter (passes k) a ++ filter (passes k) u) ++ filter (passes k) x))
-    ∙ ap least (fold-append lesser None (filter (passes k) a ++ filter (passes k) u) (filter (passes k) x))
-    ∙ ap (λ (o : Option ℕ). least (fold lesser o (filter (passes k) x))) (fold-append lesser None (filter (passes k) a) (filter (passes k) u))
-    )
 
 -- ---- an entry
 

@@ -1,18 +1,12 @@
 -- What a plain program finds entry by entry is who serves a zone.
-use Rattle.std.proofs.Common.{◌≡◌, ℕ, zero, suc, ◌+◌, ◌-◌, ◌<◌, ◌≤◌, ◌⊎◌, inl, inr, Bool, true, false, cond, List, [], ◌∷◌, ◌++◌, length, drop, get_or, length-drop, Option, Some, None, refl, sym, ap, subst, ◌∙◌, arith}
-use Rattle.std.specs.Prelude.{not, ◌&&◌, ◌||◌, ◌==◌, nat_eq, nat_le, Contains, filter, find}
+use Rattle.std.proofs.Common.{◌≡◌, ℕ, zero, suc, ◌+◌, ◌-◌, ◌<◌, ◌⊎◌, inl, inr, Bool, true, false, cond, List, [], ◌∷◌, ◌++◌, length, drop, get_or, length-drop, Option, Some, None, refl, sym, ap, subst, ◌∙◌, arith}
+use Rattle.std.specs.Prelude.{not, ◌&&◌, ◌||◌, ◌==◌, nat_le, Contains, filter, find}
 use Rattle.std.specs.List.{list_any, filter_map}
 use Rattle.std.specs.Bool.{beq}
-use Rattle.std.specs.Cmp.{first_so, second_so, unsigned_Decides}
-use Rattle.std.specs.Cmp.Lexicographic.{pointwise}
 use Rattle.std.proofs.lemmas.List.Folds.{list_any-append}
 use Rattle.std.proofs.lemmas.Bool.Decides.{nat_tests}
 use Rattle.std.specs.declared.net.ip_addr.IpAddr.{IpAddr}
-use Rattle.std.specs.declared.net.ip_addr.IpAddr.TheVariants.{V4, V6}
-use Rattle.std.specs.declared.net.ipv4_addr.Ipv4Addr.{Ipv4Addr}
-use Rattle.std.specs.declared.net.ipv6_addr.Ipv6Addr.{Ipv6Addr}
-use Rattle.dns_core.specs.Name.{DomainName, same_names, same_labels, is_suffix, last_labels}
-use Rattle.dns_core.specs.Log.{Log}
+use Rattle.dns_core.specs.Name.{DomainName, same_names, same_labels}
 use Rattle.dns_core.specs.declared.message.Query.{Query}
 use Rattle.dns_core.specs.declared.message.Message.{Message}
 use Rattle.dns_core.specs.declared.record.Record.{Record}
@@ -22,10 +16,9 @@ use Rattle.resolution.specs.Names.{is_above, base}
 use Rattle.resolution.specs.Records.{address, records}
 use Rattle.resolution.specs.Class.{class_of, class_of_message, has_no_data_for, is_foreign}
 use Rattle.resolution.specs.Verdict.{verdict, emptied, is_all_denied, without_denied}
-use Rattle.resolution.specs.Given.{Given}
 use Rattle.resolution.specs.Serving.{targets, target_below, address_under, addresses_under}
 use Rattle.resolution.specs.Ending.{same_ip}
-use Rattle.plain_resolution.specs.Plain.{apex, among, holds, holds_for, names_target, left_of, counts_of, is_answer}
+use Rattle.plain_kept.specs.Plain.{apex, among, holds, holds_for, names_target, left_of, counts_of, is_answer}
 use Rattle.resolution.specs.Names.{is_root, walk}
 use Rattle.resolution.specs.Verdict.{verdict_of_message, verdict_of_told, holds_denied, in_zone}
 use Rattle.resolution.specs.Telling.{Tells}
@@ -35,8 +28,8 @@ use Rattle.resolution.specs.Serving.{Serves, Heard, is_delegation, IsAddressQues
 use Rattle.resolution.specs.Serving.Serves.{of_root, of_glue, of_target, of_answer}
 use Rattle.resolution.specs.Serving.Delegates.{delegates}
 use Rattle.resolution.specs.Serving.Heard.{heard}
-use Rattle.plain_resolution.specs.Plain.{asks, kept, passes, has_in_answers}
-use Rattle.plain_resolution.specs.declared.kept.Kept.{Kept}
+use Rattle.plain_kept.specs.Plain.{asks, kept, passes, has_in_answers}
+use Rattle.plain_kept.specs.declared.kept.Kept.{Kept}
 use Rattle.plain_resolution.specs.PlainServing.{given_of, log_in, AnswerGives, TargetGives, Lists, ListedBy, ListedFrom, GivenFrom, ServerGives}
 use Rattle.plain_resolution.specs.PlainServing.AnswerGives.{under, anywhere}
 use Rattle.plain_resolution.specs.PlainServing.TargetGives.{gives}
@@ -47,12 +40,12 @@ use Rattle.resolution.specs.declared.verdict.Cause.TheVariants.{Filter, Zone}
 use Rattle.dns_core.specs.Log.{numbered}
 use Rattle.dns_core.specs.declared.log.LogEntry.TheVariants.{Asked}
 use Rattle.resolution.specs.declared.class.Class.{Class}
-use Rattle.resolution.specs.declared.class.Class.TheVariants.{Error, Code, Truncated, Negative, Foreign, Positive}
-use Rattle.resolution.specs.declared.verdict.Verdict.TheVariants.{Pos, Neg, Made}
+use Rattle.resolution.specs.declared.class.Class.TheVariants.{Foreign, Positive}
+use Rattle.resolution.specs.declared.verdict.Verdict.TheVariants.{Pos, Made}
 use Rattle.resolution.proofs.Members.{Has, Has-from_Contains, Contains-from_Has, Has-filter_map, filter_map-Has, Has-append_left, Has-append_right, Has-append_cases, Has-filter, Has-passes, any_Has, Has_any}
 use Rattle.resolution.proofs.Addresses.{same_ip-true, same_ip-itself}
 use Rattle.resolution.proofs.Above.{labels_equiv}
-use Rattle.plain_resolution.proofs.SectionTests.{list_any-filter_map}
+use Rattle.plain_kept.proofs.SectionTests.{list_any-filter_map}
 use Rattle.resolution.proofs.Invented.{chosen, verdict-pos, class_of-positive}
 use Rattle.resolution.proofs.ZoneCase.{Serves-zone, verdict-zone}
 

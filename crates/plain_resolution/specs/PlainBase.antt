@@ -1,16 +1,15 @@
 -- What an entry answers at a moment, as a plain program tests it.
-use Rattle.std.specs.Prelude.{ℕ, min, Option, Some, None, ◌≤◌, ◌⊎◌, ◌+◌, ◌*◌}
+use Rattle.std.specs.Prelude.{ℕ, ◌≤◌, ◌⊎◌, ◌+◌, ◌*◌}
 use Rattle.dns_core.specs.Name.{DomainName}
 use Rattle.dns_core.specs.Log.{Log}
 use Rattle.dns_core.specs.declared.message.Query.{Query}
 use Rattle.dns_core.specs.declared.message.Message.{Message}
-use Rattle.dns_core.specs.declared.record.Record.{Record}
 use Rattle.resolution.specs.Records.{records}
 use Rattle.resolution.specs.Given.{Given, Bounds}
 use Rattle.resolution.specs.Life.{clamp, least_ttl}
 use Rattle.resolution.specs.Answering.{Base}
-use Rattle.plain_resolution.specs.Plain.{kept}
-use Rattle.plain_resolution.specs.declared.kept.Kept.{Kept}
+use Rattle.plain_kept.specs.Plain.{kept}
+use Rattle.plain_kept.specs.declared.kept.Kept.{Kept}
 use Rattle.plain_resolution.specs.declared.setting.Setting.{Setting}
 use Rattle.resolution.specs.declared.verdict.Verdict.TheVariants.{Pos}
 
@@ -18,11 +17,6 @@ use Rattle.resolution.specs.declared.verdict.Verdict.TheVariants.{Pos}
 pub record IsBase (given : Given) (log : Log) (t0 : ℕ) (q : Query) (i : ℕ) (z : DomainName) : Type 0 where
   pub answer : Message
   pub base : Base given log t0 q i z (Pos answer)
-
--- the least TTL so far, with one record more
-abbrev pub lesser : Option ℕ → Record → Option ℕ
-lesser None r = Some r.ttl
-lesser (Some n) r = Some (min n r.ttl)
 
 abbrev pub bounds_of : Setting → Bounds
 bounds_of s = record { least = s.least_life; most = s.most_life }

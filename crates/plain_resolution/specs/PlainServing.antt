@@ -14,9 +14,9 @@ use Rattle.resolution.specs.Class.{class_of}
 use Rattle.resolution.specs.Given.{Given}
 use Rattle.resolution.specs.Verdict.{verdict, is_all_denied}
 use Rattle.resolution.specs.Serving.{Heard, Serves, IsAddressQuestion, is_delegation, targets, target_below, glue, addresses_under}
-use Rattle.plain_resolution.specs.Plain.{apex, among, passes, kept, left_of, counts_of, holds_for, has_in_answers}
+use Rattle.plain_kept.specs.Plain.{apex, among, passes, kept, left_of, counts_of, holds_for, has_in_answers}
 use Rattle.resolution.specs.declared.class.Class.TheVariants.{Positive}
-use Rattle.plain_resolution.specs.declared.kept.Kept.{Kept}
+use Rattle.plain_kept.specs.declared.kept.Kept.{Kept}
 use Rattle.plain_resolution.specs.declared.setting.Setting.{Setting}
 use Rattle.resolution.specs.declared.verdict.Verdict.TheVariants.{Pos}
 

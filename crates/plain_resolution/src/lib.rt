@@ -3,7 +3,6 @@
 //! it, and whether an entry is what a reply rests on.
 #![tactic(auto)]
 
-mod kept;
 mod plain_base;
 mod plain_serving;
 mod setting;

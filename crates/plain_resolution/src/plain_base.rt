@@ -1,46 +1,13 @@
 //! What an entry of a small log answers, by a plain program: slow, and no part of a resolver.
-ghost use Rattle.std.specs.Prelude.{◌≡◌, ◌↔◌, ◌==◌, IsTrue, Option, Some, None, filter, fold, drop, if◌then◌else◌};
+ghost use Rattle.std.specs.Prelude.{◌≡◌, ◌↔◌, ◌==◌, IsTrue, drop, if◌then◌else◌};
 ghost use Rattle.resolution.specs.Names.{is_above, walk};
-ghost use Rattle.resolution.specs.Records.{records};
-ghost use Rattle.resolution.specs.Life.{least_ttl};
-ghost use Rattle.plain_resolution.specs.Plain.{apex, asks, passes, kept as left};
+ghost use Rattle.plain_kept.specs.Plain.{apex, asks};
 ghost use Rattle.plain_resolution.specs.PlainServing.{given_of, log_in};
-ghost use Rattle.plain_resolution.specs.PlainBase.{IsBase, IsFreshFor, lesser, life_of};
+ghost use Rattle.plain_resolution.specs.PlainBase.{IsBase, IsFreshFor, life_of};
 
-use crate::kept::{Kept, base_of, is_suffix};
 use crate::setting::Setting;
-use dns_core::{Label, Name, Query, Record};
-
-/// The least TTL so far, with one record more.
-fn lesser(least: Option<u32>, r: &Record) -> Option<u32>
-    ensures { result ≡ lesser least r.now }
-{
-    match least {
-        Some(n) => Some(n.min(r.ttl)),
-        None => Some(r.ttl),
-    }
-}
-
-impl Kept<'_, '_, '_> {
-    /// The least TTL so far, with these records, as far as they are left.
-    fn least_with(&self, least: Option<u32>, rs: &[Record]) -> Option<u32>
-        ensures { result ≡ fold lesser least (filter (passes self.now) rs.now) }
-    {
-        rs.iter()
-            .filter(|r| self.passes(r))
-            .fold(least, |n, r| lesser(n, r))
-    }
-
-    /// The least TTL of the records that are left, 0 without records.
-    fn least_ttl(&self) -> u32
-        ensures { result ≡ least_ttl (records (left self.now)) }
-    {
-        let least = self.least_with(None, self.message.answers.items());
-        let least = self.least_with(least, self.message.authorities.items());
-        let least = self.least_with(least, self.message.additionals.items());
-        least.unwrap_or(0)
-    }
-}
+use dns_core::{Label, Name, Query};
+use plain_kept::{Kept, base_of, is_suffix, told_answer};
 
 /// The labels of the name to which a question is walked: for DS those of the base name.
 fn walked(labels: &[Label], record_type: u16) -> &[Label]
@@ -89,7 +56,7 @@ impl Setting<'_> {
     ) -> bool
         ensures { IsTrue result ↔ IsBase (given_of self.now) (log_in self.now) t0 (asks labels.now record_type class) entry (apex zone.now) }
     {
-        let Some(told) = self.told_answer(entry, labels, record_type, class) else {
+        let Some(told) = told_answer(self.log, entry, labels, record_type, class) else {
             return false;
         };
         if !is_walked_below(zone, labels, record_type, class) {

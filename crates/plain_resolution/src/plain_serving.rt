@@ -1,14 +1,14 @@
 //! Who serves a zone, by a plain program over a small log: slow, and no part of a resolver.
-ghost use Rattle.std.specs.Prelude.{◌↔◌, ◌≡◌, ◌==◌, false, ◌<◌, ◌≤◌, true, IsTrue, length, Contains, if◌then◌else◌, None};
+ghost use Rattle.std.specs.Prelude.{◌↔◌, ◌≡◌, ◌==◌, false, ◌<◌, IsTrue, Contains, if◌then◌else◌, None};
 ghost use Rattle.std.specs.Option.{option_copied};
 ghost use Rattle.dns_core.specs.declared.record.Record.{Record};
 ghost use Rattle.resolution.specs.Serving.{Serves, targets, target_below};
-ghost use Rattle.plain_resolution.specs.Plain.{apex, asks, kept as left, passes};
+ghost use Rattle.plain_kept.specs.Plain.{apex, asks, kept as left, passes};
 ghost use Rattle.plain_resolution.specs.PlainServing.{given_of, log_in, AnswerGives, TargetGives, Lists, ListedBy, ListedFrom, ServerGives, GivenFrom};
 
-use crate::kept::{Kept, base_of, behind, is_above, is_among};
-use crate::setting::{Answered, Setting};
+use crate::setting::Setting;
 use dns_core::{Label, Name, RData, Record};
+use plain_kept::{Kept, base_of, behind, is_above, is_among, told_answer};
 use std::net::IpAddr;
 
 impl Setting<'_> {
@@ -37,7 +37,7 @@ impl Setting<'_> {
         requires { i < n }
         ensures { IsTrue result ↔ ListedBy (given_of self.now) (log_in self.now) i n ip (apex zone.now) }
     {
-        let Some(told) = self.told_answer(i, zone, 2, 1) else {
+        let Some(told) = told_answer(self.log, i, zone, 2, 1) else {
             return false;
         };
         'cuts: for cut in 0..zone.len() + 1 {
@@ -154,7 +154,7 @@ impl Setting<'_> {
         requires { (record_type == 43) ≡ false }
         ensures { IsTrue result ↔ AnswerGives (given_of self.now) (log_in self.now) j ip (targets (left kept.now) (apex zone.now)) (asks labels.now record_type 1) }
     {
-        let Some(told) = self.told_answer(j, labels, record_type, 1) else {
+        let Some(told) = told_answer(self.log, j, labels, record_type, 1) else {
             return false;
         };
         'cuts: for cut in 0..labels.len() + 1 {

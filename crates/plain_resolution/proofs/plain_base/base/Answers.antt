@@ -1,7 +1,7 @@
 use Rattle.std.proofs.Common.{◌≡◌, true, List, ℕ, sym, ap, subst, ◌∙◌}
 use Rattle.dns_core.specs.Name.{DomainName}
 use Rattle.dns_core.specs.declared.message.Query.{Query}
-use Rattle.plain_resolution.specs.Plain.{apex, asks}
+use Rattle.plain_kept.specs.Plain.{apex, asks}
 use Rattle.plain_resolution.specs.PlainServing.{given_of, log_in}
 use Rattle.plain_resolution.specs.PlainBase.{IsBase}
 use Rattle.plain_resolution.proofs.PlainServed.{apex-labels}

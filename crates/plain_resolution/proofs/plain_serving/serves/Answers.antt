@@ -1,7 +1,7 @@
-use Rattle.std.proofs.Common.{◌≡◌, true, List, ℕ, sym, ap, subst, ◌∙◌}
+use Rattle.std.proofs.Common.{◌≡◌, true, sym, ap, subst, ◌∙◌}
 use Rattle.dns_core.specs.Name.{DomainName}
 use Rattle.resolution.specs.Serving.{Serves}
-use Rattle.plain_resolution.specs.Plain.{apex}
+use Rattle.plain_kept.specs.Plain.{apex}
 use Rattle.plain_resolution.specs.PlainServing.{given_of, log_in}
 use Rattle.plain_resolution.proofs.PlainServed.{served_qualified, apex-labels}
 use Rattle.plain_resolution.proofs.plain_serving.serves.Goals as goal

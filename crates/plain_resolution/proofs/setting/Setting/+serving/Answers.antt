@@ -1,15 +1,14 @@
-use Rattle.std.proofs.Common.{◌≡◌, ℕ, ◌+◌, ◌<◌, ◌⊎◌, inl, inr, Bool, true, false, ◌==◌, List, drop, get_or, refl, sym, ap, subst, ◌∙◌, arith}
-use Rattle.std.specs.Prelude.{Contains}
+use Rattle.std.proofs.Common.{◌≡◌, ℕ, inl, inr, Bool, true, List, drop, get_or, refl, sym, ap, subst, ◌∙◌, arith}
 use Rattle.std.specs.List.{list_any}
 use borrow.Author.Count.{below_more}
 use Rattle.dns_core.specs.Name.{DomainName}
 use Rattle.dns_core.specs.declared.message.Query.{Query}
 use Rattle.dns_core.specs.declared.record.Record.{Record}
-use Rattle.resolution.specs.Names.{question, is_root}
+use Rattle.resolution.specs.Names.{is_root}
 use Rattle.resolution.specs.Records.{records}
 use Rattle.resolution.specs.Serving.{Serves, targets, target_below}
 use Rattle.resolution.specs.Serving.Serves.{of_root}
-use Rattle.plain_resolution.specs.Plain.{apex, asks, kept, holds_for, passes}
+use Rattle.plain_kept.specs.Plain.{apex, asks, kept, holds_for, passes}
 use Rattle.plain_resolution.specs.PlainServing.{given_of, log_in, ListedFrom, ListedBy, GivenFrom, AnswerGives, ServerGives, TargetGives}
 use Rattle.plain_resolution.specs.PlainServing.TargetGives.{gives}
 use Rattle.plain_resolution.specs.PlainServing.Lists.{beside}

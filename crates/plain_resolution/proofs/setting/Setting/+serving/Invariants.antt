@@ -3,7 +3,7 @@ use Rattle.std.specs.Prelude.{drop, slice_index_or}
 use Rattle.dns_core.specs.declared.message.Query.{Query}
 use Rattle.dns_core.specs.declared.record.Record.{Record}
 use Rattle.resolution.specs.Serving.{targets, IsAddressQuestion}
-use Rattle.plain_resolution.specs.Plain.{apex, kept}
+use Rattle.plain_kept.specs.Plain.{apex, kept}
 use Rattle.plain_resolution.specs.PlainServing.{given_of, log_in, AnswerGives, ListedBy, ListedFrom, ServerGives, GivenFrom}
 use Rattle.plain_resolution.proofs.setting.Setting.+serving.Given as goal
 

@@ -1,6 +1,6 @@
 use Rattle.std.proofs.Common.{◌≡◌, ℕ, true, sym, subst}
 use Rattle.resolution.specs.Names.{is_above, walk}
-use Rattle.plain_resolution.specs.Plain.{apex, asks, counts_of}
+use Rattle.plain_kept.specs.Plain.{apex, asks, counts_of}
 use Rattle.plain_resolution.specs.PlainBase.{IsFreshFor}
 use Rattle.plain_resolution.proofs.PlainBased.{none_based, based, is_base}
 use Rattle.plain_resolution.proofs.setting.Setting.base_at.Goals as goal

@@ -1,22 +1,23 @@
 //! What the filter of answers and a zone leave of a message, by plain tests of its records.
-ghost use Rattle.std.specs.Prelude.{◌≡◌, ◌↔◌, ◌&&◌, ◌||◌, ◌==◌, ◌≤◌, not, false, length, drop, IsTrue, Option, Some, None};
+ghost use Rattle.std.specs.Prelude.{◌≡◌, ◌&&◌, ◌||◌, ◌==◌, ◌≤◌, not, length, drop, filter, fold};
 ghost use Rattle.std.specs.List.{list_any};
 ghost use Rattle.dns_core.specs.Name.{is_suffix, same_names};
-ghost use Rattle.dns_core.specs.Classifying.{is_ns, is_asked};
-ghost use Rattle.resolution.specs.Names.{is_above, base};
+ghost use Rattle.dns_core.specs.Classifying.{is_ns};
+ghost use Rattle.resolution.specs.Names.{is_above};
 ghost use Rattle.resolution.specs.Records.{address, records};
-ghost use Rattle.resolution.specs.Class.{is_foreign, has_no_data_for};
-ghost use Rattle.resolution.specs.Verdict.{holds_denied, is_all_denied};
-ghost use Rattle.resolution.specs.Serving.{is_delegation, targets};
+ghost use Rattle.resolution.specs.Class.{has_no_data_for};
+ghost use Rattle.resolution.specs.Verdict.{holds_denied};
+ghost use Rattle.resolution.specs.Life.{least_ttl};
+ghost use Rattle.resolution.specs.Serving.{is_delegation};
 ghost use Rattle.resolution.specs.Ending.{same_ip};
-ghost use Rattle.plain_resolution.specs.Plain.{apex, asks, among, holds, passes, kept, counts, names_target, holds_for, answers_with, is_answer, is_emptied};
+ghost use Rattle.plain_kept.specs.Plain.{apex, asks, among, holds, passes, kept, counts, names_target, holds_for, answers_with, is_answer, is_emptied, lesser};
 
 use dns_core::{Label, Message, Name, RData, Record};
 use std::net::IpAddr;
 
 /// A message, seen from a zone by the labels of its apex, and the addresses that no answer may hold.
 #[derive(Drop)]
-pub(crate) struct Kept<'d, 'z, 'm> {
+pub struct Kept<'d, 'z, 'm> {
     pub denied: &'d [IpAddr],
     pub zone: &'z [Label],
     pub message: &'m Message,
@@ -33,21 +34,21 @@ pub(crate) fn is_same_address(a: IpAddr, b: IpAddr) -> bool
 }
 
 /// Whether an address is one of these.
-pub(crate) fn is_among(ips: &[IpAddr], ip: IpAddr) -> bool
+pub fn is_among(ips: &[IpAddr], ip: IpAddr) -> bool
     ensures { result ≡ among ips.now ip }
 {
     ips.iter().any(|other| is_same_address(ip, *other))
 }
 
 /// Whether the labels of a zone are the last of a name's.
-pub(crate) fn is_suffix(zone: &[Label], name: &[Label]) -> bool
+pub fn is_suffix(zone: &[Label], name: &[Label]) -> bool
     ensures { result ≡ is_suffix zone.now name.now }
 {
     zone.len() <= name.len() && zone == &name[name.len() - zone.len()..]
 }
 
 /// Whether the zone is at or above the name.
-pub(crate) fn is_above(zone: &[Label], name: &Name) -> bool
+pub fn is_above(zone: &[Label], name: &Name) -> bool
     ensures { result ≡ is_above (apex zone.now) name.now }
 {
     name.is_fqdn() && is_suffix(zone, name.labels())
@@ -110,7 +111,7 @@ fn names_target(r: &Record, base: &[Label], name: &Name) -> bool
 }
 
 /// Without its first label, if it has one.
-pub(crate) fn base_of(labels: &[Label]) -> &[Label]
+pub fn base_of(labels: &[Label]) -> &[Label]
     ensures { result.now ≡ drop 1 labels.now }
 {
     if labels.is_empty() {
@@ -144,9 +145,19 @@ fn any_of(a: bool, b: bool, c: bool) -> bool
     a || b || c
 }
 
+/// The least TTL so far, with one record more.
+fn lesser(least: Option<u32>, r: &Record) -> Option<u32>
+    ensures { result ≡ lesser least r.now }
+{
+    match least {
+        Some(n) => Some(n.min(r.ttl)),
+        None => Some(r.ttl),
+    }
+}
+
 impl Kept<'_, '_, '_> {
     /// Whether the filter and the zone leave a record.
-    pub(crate) fn passes(&self, r: &Record) -> bool
+    pub fn passes(&self, r: &Record) -> bool
         ensures { result ≡ passes self.now r.now }
     {
         !holds_denied(self.denied, r) && is_above(self.zone, &r.name)
@@ -165,7 +176,7 @@ impl Kept<'_, '_, '_> {
     }
 
     /// Whether something is left of the answers, or of the authorities of a message without them.
-    pub(crate) fn counts(&self) -> bool
+    pub fn counts(&self) -> bool
         ensures { result ≡ counts self.now }
     {
         let answers = self.message.answers.items();
@@ -194,7 +205,7 @@ impl Kept<'_, '_, '_> {
     }
 
     /// Whether a delegation of the name is left.
-    pub(crate) fn is_delegation(&self, labels: &[Label]) -> bool
+    pub fn is_delegation(&self, labels: &[Label]) -> bool
         ensures { result ≡ is_delegation (kept self.now) (apex labels.now) }
     {
         any_of(
@@ -230,7 +241,7 @@ impl Kept<'_, '_, '_> {
 
     /// Whether an address record that is left has the address under the name of a server of the
     /// delegation.
-    pub(crate) fn has_under(&self, delegation: &Kept, base: &[Label], ip: IpAddr) -> bool
+    pub fn has_under(&self, delegation: &Kept, base: &[Label], ip: IpAddr) -> bool
         ensures { result ≡ list_any (holds_for (kept delegation.now) (apex base.now) ip) (records (kept self.now)) }
     {
         any_of(
@@ -247,7 +258,7 @@ impl Kept<'_, '_, '_> {
     }
 
     /// Whether the delegation has the address beside it, under the name of one of its servers.
-    pub(crate) fn has_glue(&self, base: &[Label], ip: IpAddr) -> bool
+    pub fn has_glue(&self, base: &[Label], ip: IpAddr) -> bool
         ensures { result ≡ list_any (holds_for (kept self.now) (apex base.now) ip) (records (kept self.now)) }
     {
         any_of(
@@ -259,7 +270,7 @@ impl Kept<'_, '_, '_> {
 
     /// Whether the filter leaves something of the answer, and the answers hold the address, which
     /// it allows.
-    pub(crate) fn answers_with(&self, ip: IpAddr) -> bool
+    pub fn answers_with(&self, ip: IpAddr) -> bool
         ensures { result ≡ answers_with self.now ip }
     {
         let answers = self.message.answers.items();
@@ -271,6 +282,25 @@ impl Kept<'_, '_, '_> {
             self.any_allowed(authorities),
         );
         is_neither(denied, is_among(self.denied, ip)) & any_holds(answers, ip)
+    }
+
+    /// The least TTL so far, with these records, as far as they are left.
+    fn least_with(&self, least: Option<u32>, rs: &[Record]) -> Option<u32>
+        ensures { result ≡ fold lesser least (filter (passes self.now) rs.now) }
+    {
+        rs.iter()
+            .filter(|r| self.passes(r))
+            .fold(least, |n, r| lesser(n, r))
+    }
+
+    /// The least TTL of the records that are left, 0 without records.
+    pub fn least_ttl(&self) -> u32
+        ensures { result ≡ least_ttl (records (kept self.now)) }
+    {
+        let least = self.least_with(None, self.message.answers.items());
+        let least = self.least_with(least, self.message.authorities.items());
+        let least = self.least_with(least, self.message.additionals.items());
+        least.unwrap_or(0)
     }
 }
 
@@ -322,7 +352,7 @@ pub(crate) fn is_answer(m: &Message, labels: &[Label], record_type: u16, class: 
 }
 
 /// The labels behind a cut.
-pub(crate) fn behind(labels: &[Label], cut: usize) -> &[Label]
+pub fn behind(labels: &[Label], cut: usize) -> &[Label]
     requires { cut ≤ length labels.now }
     ensures { result.now ≡ drop cut labels.now }
 {

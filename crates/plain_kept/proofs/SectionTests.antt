@@ -1,6 +1,6 @@
 -- Tests of what is left of a list are tests of the list.
 use Rattle.std.proofs.lemmas.Bool.Decides.{nat_tests}
-use Rattle.std.proofs.Common.{◌≡◌, ℕ, suc, arith, Bool, true, false, cond, List, [], ◌∷◌, ◌++◌, length, Option, Some, None, refl, ap, ◌∙◌, sym}
+use Rattle.std.proofs.Common.{◌≡◌, ℕ, suc, arith, Bool, true, false, cond, List, [], ◌∷◌, ◌++◌, length, Option, Some, None, refl, ap, ◌∙◌}
 use Rattle.std.specs.Prelude.{not, ◌&&◌, ◌||◌, ◌==◌, filter}
 use Rattle.std.specs.List.{list_any, filter_map, cons_option}
 use Rattle.std.proofs.lemmas.List.Folds.{list_any-append}
@@ -9,8 +9,8 @@ use Rattle.std.specs.declared.net.ip_addr.IpAddr.{IpAddr}
 use Rattle.dns_core.specs.declared.message.Message.{Message}
 use Rattle.resolution.specs.Records.{records, only}
 use Rattle.resolution.specs.Verdict.{holds_denied, in_zone, emptied, is_all_denied}
-use Rattle.plain_resolution.specs.Plain.{apex, among, passes, kept, counts, is_emptied}
-use Rattle.plain_resolution.specs.declared.kept.Kept.{Kept}
+use Rattle.plain_kept.specs.Plain.{apex, among, passes, kept, is_emptied}
+use Rattle.plain_kept.specs.declared.kept.Kept.{Kept}
 
 pub list_any-filter : {X : Type 0} (p q : X → Bool) (xs : List X) → list_any p (filter q xs) ≡ list_any (λ x. q x && p x) xs
 list_any-filter p q [] = refl

@@ -1,18 +1,17 @@
 -- Tests of records and messages, as a plain program makes them.
-use Rattle.std.specs.Prelude.{ℕ, Bool, true, false, not, ◌&&◌, ◌||◌, ◌==◌, List, Some, None}
+use Rattle.std.specs.Prelude.{ℕ, min, Option, Bool, true, false, not, ◌&&◌, ◌||◌, ◌==◌, List, Some, None}
 use Rattle.std.specs.List.{list_any}
 use Rattle.std.specs.declared.net.ip_addr.IpAddr.{IpAddr}
 use Rattle.dns_core.specs.Name.{DomainName, same_names}
 use Rattle.dns_core.specs.declared.message.Query.{Query}
 use Rattle.dns_core.specs.declared.message.Message.{Message}
 use Rattle.dns_core.specs.declared.record.Record.{Record}
-use Rattle.resolution.specs.Names.{base}
 use Rattle.resolution.specs.Records.{address, records}
 use Rattle.resolution.specs.Class.{has_no_data_for, is_foreign}
 use Rattle.resolution.specs.Verdict.{holds_denied, in_zone, without_denied, within, emptied, is_all_denied}
-use Rattle.resolution.specs.Serving.{target_below, targets}
+use Rattle.resolution.specs.Serving.{target_below}
 use Rattle.resolution.specs.Ending.{same_ip}
-use Rattle.plain_resolution.specs.declared.kept.Kept.{Kept}
+use Rattle.plain_kept.specs.declared.kept.Kept.{Kept}
 
 -- the fully qualified name with these labels
 abbrev pub apex : List (List ℕ) → DomainName
@@ -72,3 +71,8 @@ abbrev pub is_answer : Query → Message → Bool
 is_answer q m =
     (m.response_code.code == 0 || m.response_code.code == 3) && (not m.truncation && (not (has_no_data_for q m)
     && not (list_any (is_foreign q) m.answers || list_any (is_foreign q) m.authorities || list_any (is_foreign q) m.additionals)))
+
+-- the least TTL so far, with one record more
+abbrev pub lesser : Option ℕ → Record → Option ℕ
+lesser None r = Some r.ttl
+lesser (Some n) r = Some (min n r.ttl)

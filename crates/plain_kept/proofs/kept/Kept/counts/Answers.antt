@@ -1,8 +1,8 @@
 use Rattle.std.specs.Prelude.{not}
 use Rattle.resolution.specs.Verdict.{holds_denied, in_zone}
-use Rattle.plain_resolution.specs.Plain.{apex, among}
-use Rattle.plain_resolution.proofs.SectionTests.{all_denied-tests, emptied-tests}
-use Rattle.plain_resolution.proofs.kept.Kept.counts.Goals as goal
+use Rattle.plain_kept.specs.Plain.{apex, among}
+use Rattle.plain_kept.proofs.SectionTests.{all_denied-tests, emptied-tests}
+use Rattle.plain_kept.proofs.kept.Kept.counts.Goals as goal
 
 pub returns : goal.returns
 returns c =

@@ -1,0 +1,2 @@
+pub mod SectionTests
+pub mod LeastLeft
