@@ -1,12 +1,12 @@
 -- Where the way down to a name meets no zone, no zone below has the name.
-use Rattle.std.proofs.Common.{◌≡◌, ℕ, zero, suc, ◌-◌, ◌<◌, ◌≤◌, Bool, true, false, cond, ◌&&◌, List, [], ◌∷◌, drop, length, Option, Some, None, inl, inr, refl, sym, ap, ◌∙◌, arith}
+use Rattle.std.proofs.Common.{◌≡◌, ℕ, suc, ◌-◌, ◌<◌, ◌≤◌, Bool, true, false, cond, ◌&&◌, List, [], ◌∷◌, drop, length, Option, Some, None, inl, inr, refl, sym, ap, ◌∙◌, arith}
 use Rattle.std.specs.Prelude.{find, nat_le, ◌==◌, ◌||◌, not}
 use Rattle.std.specs.Option.{option_or}
 use Rattle.std.specs.Bool.{beq}
 use Rattle.std.specs.List.{list_all}
 use Rattle.std.specs.Cmp.{first_so, second_so}
 use Rattle.std.proofs.lemmas.Bool.Decides.{nat_tests}
-use Rattle.dns_core.specs.Name.{DomainName, same_labels, same_names, is_suffix, last_labels}
+use Rattle.dns_core.specs.Name.{DomainName, same_labels, same_names, is_suffix}
 use Rattle.dns_core.specs.declared.record.Record.{Record}
 use Rattle.resolution.specs.Names.{is_above}
 use Rattle.resolution.proofs.Above.{labels_equiv}
@@ -14,7 +14,7 @@ use Rattle.resolution.proofs.Members.{Has}
 use Rattle.zone_rules.specs.Tree.{qualified, zone_at, first_cut}
 use Rattle.zone_rules.specs.declared.world.Zone.{Zone}
 use Rattle.zone_worlds.proofs.Indexing.{suffix_step}
-use Rattle.world_check.specs.Layout.{left_name, is_below, is_ds_at, is_left_by}
+use Rattle.world_layout.specs.Layout.{left_name, is_below, is_ds_at, is_left_by}
 
 -- ---- lists and truths
 

@@ -1,3 +1,3 @@
 pub mod LowestClause
 pub mod Cuts
-pub mod Named
+pub mod Served

@@ -2,8 +2,8 @@
 use Rattle.std.specs.Prelude.{◌≡◌, ◌↔◌, ℕ, ◌+◌, ◌-◌, ◌<◌, Bool, true, false, nat_lt, List, [], ◌∷◌, length, slice_get, if◌then◌else◌, Some}
 use Rattle.std.specs.declared.net.IpAddr.{IpAddr}
 use Rattle.world_check.specs.Serving.{has_served_root, is_delegated_well, has_served_zones}
-use Rattle.world_check.specs.Layout.{is_laid_out}
-use Rattle.world_check.specs.Naming.{has_sound_names}
+use Rattle.world_layout.specs.Layout.{is_laid_out}
+use Rattle.world_layout.specs.Naming.{has_sound_names}
 use Rattle.world_check.specs.Filters.{has_allowed_addresses}
 use Rattle.zone_rules.specs.declared.world.World.{World}
 use Rattle.world_check.specs.declared.filters.WorldFilters.{WorldFilters}

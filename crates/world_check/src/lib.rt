@@ -6,11 +6,8 @@
 #![tactic(auto)]
 
 mod filters;
-mod layout;
 mod looked_up;
-mod naming;
 mod serving;
-mod sight;
 mod threads;
 mod verdict;
 

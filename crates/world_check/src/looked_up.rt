@@ -2,12 +2,11 @@
 ghost use Rattle.std.specs.Prelude.{◌≡◌, ◌&&◌, IfOk, IsTrue};
 ghost use Rattle.std.specs.List.{list_all};
 ghost use Rattle.resolution.specs.Names.{is_above};
-ghost use Rattle.world_check.specs.Layout.{left_name, is_left_by, is_in_place, has_authority, is_laid_out};
+ghost use Rattle.world_layout.specs.Layout.{left_name, is_left_by, is_in_place, has_authority, is_laid_out};
 
-use crate::layout::{has_authority, is_ds_at, is_left_by_all};
-use crate::serving::is_root;
 use dns_core::{Name, NoMemory, Record, TryClone};
 use std::alloc::Global;
+use world_layout::{has_authority, is_ds_at, is_left_by_all, is_root};
 use zone_worlds::{IndexedWorld, Zone, is_above};
 
 /// Where the way down to a record ends: above the name of a DS record.

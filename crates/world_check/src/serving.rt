@@ -5,19 +5,13 @@ ghost use Rattle.dns_core.specs.Classifying.{is_glue_for};
 ghost use Rattle.resolution.specs.Names.{is_root};
 ghost use Rattle.resolution.specs.Records.{address};
 ghost use Rattle.zone_rules.specs.Tree.{serves};
-ghost use Rattle.world_check.specs.Sight.{world_of};
+ghost use Rattle.world_layout.specs.Sight.{world_of};
 ghost use Rattle.world_check.specs.Serving.{has_served_root, is_own_server, has_own_server, is_delegated_well, is_served_by, is_served_at, is_served_as_named, has_served_zones};
 
-use crate::sight::Sight;
 use dns_core::{Name, RData, Record};
 use std::net::IpAddr;
+use world_layout::{Sight, is_root};
 use zone_worlds::{IndexedWorld, World, Zone, is_above};
-
-pub(crate) fn is_root(name: &Name) -> bool
-    ensures { result ≡ is_root name.now }
-{
-    name.is_fqdn() && name.labels().is_empty()
-}
 
 /// The address that a record holds.
 pub(crate) fn address(r: &Record) -> Option<IpAddr>

@@ -1,18 +1,16 @@
 //! The verdict on a world.
 ghost use Rattle.std.specs.Prelude.{◌≡◌, IfOk, IsOk};
-ghost use Rattle.world_check.specs.Layout.{is_laid_out};
-ghost use Rattle.world_check.specs.Sight.{world_of};
+ghost use Rattle.world_layout.specs.Layout.{is_laid_out};
+ghost use Rattle.world_layout.specs.Sight.{world_of};
 ghost use Rattle.world_check.specs.Clauses.{clauses, first_failing, IsVerdict};
 
 use crate::filters::{WorldFilters, has_allowed_addresses};
-use crate::layout::is_laid_out;
 use crate::looked_up;
-use crate::naming::has_sound_names;
 use crate::serving::{has_served_root, has_served_zones, is_delegated_well};
-use crate::sight::Sight;
 use dns_core::NoMemory;
 use std::alloc::Global;
 use std::net::IpAddr;
+use world_layout::{Sight, has_sound_names, is_laid_out};
 use zone_worlds::{IndexedWorld, World};
 
 /// Whether a world is well served, or the number of the lowest clause that fails.

@@ -1,6 +1,6 @@
 use Rattle.std.proofs.Common.{◌≡◌, drop}
 use Rattle.std.specs.List.{list_all}
-use Rattle.world_check.specs.Layout.{is_in_place}
+use Rattle.world_layout.specs.Layout.{is_in_place}
 use Rattle.world_check.proofs.looked_up.are_in_place.Given as goal
 
 abbrev pub invariant-loop-r : goal.invariant-loop-r

@@ -1,7 +1,7 @@
 use Rattle.std.proofs.Common.{◌≡◌, drop}
 use Rattle.std.specs.Prelude.{◌&&◌}
 use Rattle.std.specs.List.{list_all}
-use Rattle.world_check.specs.Layout.{is_in_place, has_authority, is_laid_out}
+use Rattle.world_layout.specs.Layout.{is_in_place, has_authority, is_laid_out}
 use Rattle.world_check.proofs.looked_up.is_laid_out.Given as goal
 
 abbrev pub invariant-loop-zone : goal.invariant-loop-zone

@@ -1,7 +1,7 @@
 -- The world that is seen, plainly or with its index.
 use Rattle.zone_rules.specs.declared.world.World.{World}
-use Rattle.world_check.specs.declared.sight.Sight.{Sight}
-use Rattle.world_check.specs.declared.sight.Sight.TheVariants.{Plain, Indexed}
+use Rattle.world_layout.specs.declared.sight.Sight.{Sight}
+use Rattle.world_layout.specs.declared.sight.Sight.TheVariants.{Plain, Indexed}
 
 abbrev pub world_of : Sight → World
 world_of (Plain world) = world.now

@@ -3,8 +3,8 @@ ghost use Rattle.std.specs.Prelude.{◌≡◌, ◌&&◌, ◌==◌, not, length, 
 ghost use Rattle.std.specs.List.{list_any, list_all};
 ghost use Rattle.dns_core.specs.Name.{same_names};
 ghost use Rattle.zone_rules.specs.Choosing.{is_alias};
-ghost use Rattle.world_check.specs.Sight.{world_of};
-ghost use Rattle.world_check.specs.Naming.{is_aliased, owns_one, is_star, has_star, is_soundly_held, is_soundly_named, has_sound_names};
+ghost use Rattle.world_layout.specs.Sight.{world_of};
+ghost use Rattle.world_layout.specs.Naming.{is_aliased, owns_one, is_star, has_star, is_soundly_held, is_soundly_named, has_sound_names};
 
 use crate::sight::Sight;
 use dns_core::{Label, Letter, Name, RData, Record};
@@ -178,7 +178,7 @@ fn is_zone_soundly_named(world: Sight, zone: &Zone) -> bool
 }
 
 /// Whether no server is an alias, no alias owns another record, and no label is a wildcard.
-pub(crate) fn has_sound_names(world: Sight) -> bool
+pub fn has_sound_names(world: Sight) -> bool
     ensures { result ≡ has_sound_names (world_of world.entry) }
 {
     world

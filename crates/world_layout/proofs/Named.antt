@@ -1,22 +1,18 @@
 -- What a world says of a name by its records alone.
-use Rattle.std.proofs.Common.{◌≡◌, ℕ, zero, suc, ◌+◌, ◌≤◌, Bool, true, false, cond, ◌&&◌, List, [], ◌∷◌, ◌++◌, length, Option, Some, None, refl, sym, ap, ◌∙◌, length-append, arith}
-use Rattle.std.specs.Prelude.{filter, nat_le, ◌==◌, ◌||◌, not}
+use Rattle.std.proofs.Common.{◌≡◌, ℕ, ◌+◌, ◌≤◌, Bool, true, false, cond, ◌&&◌, List, [], ◌∷◌, length, refl, sym, ap, ◌∙◌, length-append, arith}
+use Rattle.std.specs.Prelude.{filter, nat_le, ◌==◌, ◌||◌}
 use Rattle.std.specs.List.{list_any, list_all}
 use Rattle.std.specs.Cmp.{second_so}
-use Rattle.std.specs.declared.net.IpAddr.{IpAddr}
 use Rattle.std.proofs.lemmas.Bool.Decides.{nat_tests}
 use Rattle.std.proofs.lemmas.List.Elements.{filter-append}
 use Rattle.std.proofs.lemmas.List.Folds.{list_any-append, list_all-append}
 use Rattle.dns_core.specs.Name.{DomainName, same_names}
 use Rattle.dns_core.specs.declared.record.Record.{Record}
-use Rattle.resolution.specs.Records.{cname_target, address}
 use Rattle.zone_rules.specs.Choosing.{is_alias}
 use Rattle.zone_worlds.specs.Index.{all_records}
-use Rattle.zone_rules.specs.Tree.{serves}
 use Rattle.zone_rules.specs.declared.world.Zone.{Zone}
 use Rattle.zone_rules.specs.declared.world.World.{World}
-use Rattle.world_check.specs.Naming.{is_aliased, owns_one}
-use Rattle.world_check.specs.Serving.{is_served_by, is_served_at}
+use Rattle.world_layout.specs.Naming.{is_aliased, owns_one}
 
 -- ---- zone by zone or all at once
 
@@ -24,7 +20,7 @@ any_flat : (p : Record → Bool) (zones : List Zone) → list_any (λ z. list_an
 any_flat p [] = refl
 any_flat p (z ∷ zs) = ap (λ (b : Bool). list_any p z.records || b) (any_flat p zs) ∙ sym (list_any-append p z.records (all_records zs))
 
-all_flat : (p : Record → Bool) (zones : List Zone) → list_all (λ z. list_all p z.records) zones ≡ list_all p (all_records zones)
+pub all_flat : (p : Record → Bool) (zones : List Zone) → list_all (λ z. list_all p z.records) zones ≡ list_all p (all_records zones)
 all_flat p [] = refl
 all_flat p (z ∷ zs) = ap (λ (b : Bool). list_all p z.records && b) (all_flat p zs) ∙ sym (list_all-append p z.records (all_records zs))
 
@@ -37,7 +33,7 @@ any_kept p q h (r ∷ rs) = at (p r) refl (q r) refl (any_kept p q h rs)
     at true e false f rest = let yes : q r ≡ true = h r e in cc
     at false e false f rest = rest ∙ sym (ap (λ (x : Bool). x || list_any p rs) e)
 
-all_kept : (p q : Record → Bool) → ((r : Record) → q r ≡ false → p r ≡ true) → (rs : List Record) → list_all p (filter q rs) ≡ list_all p rs
+pub all_kept : (p q : Record → Bool) → ((r : Record) → q r ≡ false → p r ≡ true) → (rs : List Record) → list_all p (filter q rs) ≡ list_all p rs
 all_kept p q h [] = refl
 all_kept p q h (r ∷ rs) = at (q r) refl (all_kept p q h rs)
   where
@@ -45,21 +41,10 @@ all_kept p q h (r ∷ rs) = at (q r) refl (all_kept p q h rs)
     at true f rest = ap (λ (x : Bool). p r && x) rest
     at false f rest = rest ∙ sym (ap (λ (x : Bool). x && list_all p rs) (h r f))
 
--- ---- aliases and addresses
+-- ---- aliases
 
 pub aliased_named : (world : World) (n : DomainName) → list_any (is_alias n) (filter (λ r. same_names r.name n) (all_records world.zones)) ≡ is_aliased world n
 aliased_named world n = any_kept (is_alias n) (λ r. same_names r.name n) (λ r e. second_so _ (same_names r.name n) e) (all_records world.zones) ∙ sym (any_flat (is_alias n) world.zones)
-
-other_served : (world : World) (zone : Zone) (target : DomainName) (r : Record) → same_names r.name target ≡ false → is_served_by world zone target r ≡ true
-other_served world zone target r e = at (address r)
-  where
-    at : (o : Option IpAddr) → elim o [ None ↦ true | Some ip ↦ not (same_names r.name target) || serves world ip (zone.apex).labels ] ≡ true
-    at None = refl
-    at (Some ip) = ap (λ (b : Bool). not b || serves world ip (zone.apex).labels) e
-
-pub served_named : (world : World) (zone : Zone) (n : DomainName) → list_all (is_served_by world zone n) (filter (λ r. same_names r.name n) (all_records world.zones)) ≡ is_served_at world zone n
-served_named world zone n =
-    all_kept (is_served_by world zone n) (λ r. same_names r.name n) (other_served world zone n) (all_records world.zones) ∙ sym (all_flat (is_served_by world zone n) world.zones)
 
 -- ---- one record of a name
 

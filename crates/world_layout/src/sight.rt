@@ -1,7 +1,7 @@
 //! How a world is seen: by its zones, or through an index too.
 ghost use Rattle.std.specs.Prelude.{◌≡◌};
 ghost use Rattle.zone_rules.specs.Tree.{serves};
-ghost use Rattle.world_check.specs.Sight.{world_of};
+ghost use Rattle.world_layout.specs.Sight.{world_of};
 
 use dns_core::Label;
 use std::net::IpAddr;
@@ -9,12 +9,13 @@ use zone_worlds::{IndexedWorld, World};
 
 /// A world, seen plainly or with its index.
 #[derive(Clone, Copy)]
-pub(crate) enum Sight<'w> {
+pub enum Sight<'w> {
     Plain(&'w World),
     Indexed(&'w IndexedWorld),
 }
 
 impl<'w> Sight<'w> {
+    /// The world that is seen.
     pub fn world(self) -> &'w World
         ensures { result.now ≡ world_of self.entry }
     {
