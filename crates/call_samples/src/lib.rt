@@ -11,7 +11,7 @@ mod settings;
 
 pub use comparing::{Machine, Sight, both, comes_to, is_wanted, put, put_in, runs, seen, shown};
 pub use messages::{
-    address, alias, answer, authority, denial, domain, ip, message, name_server, one, query,
-    query_of, record, referral, request, response, soa, v4,
+    address, alias, answer, authority, domain, ip, message, name_server, one, query, query_of,
+    record, referral, request, response, soa, v4,
 };
 pub use settings::{filter, options, plain};

@@ -4,8 +4,8 @@ ghost use Rattle.dns_core.specs.Record.{is_typed};
 
 use crate::comparing::both;
 use dns_core::{
-    Boxed, DnsClass, DnsError, DnsRequest, DnsRequestOptions, Message, Name, NameError, NetError,
-    NoMemory, NoRecords, Query, RData, Record, RecordType, Records, ResponseCode, Soa,
+    Boxed, DnsClass, DnsRequest, DnsRequestOptions, Message, Name, NameError, NoMemory, Query, RData,
+    Record, RecordType, Records, ResponseCode, Soa,
 };
 use std::alloc::Global;
 use std::net::{IpAddr, Ipv4Addr};
@@ -159,15 +159,4 @@ pub fn referral(
     let none = Records::empty(alloc);
     let code = ResponseCode::NoError;
     Ok(response(query, code, none, authorities, additionals))
-}
-
-/// That `a.` does not exist.
-pub fn denial(alloc: Global) -> Result<NetError, NameError> {
-    Ok(NetError::Dns(DnsError::NoRecordsFound(NoRecords {
-        query: query(alloc, "a.")?,
-        soa: None,
-        ns: None,
-        response_code: ResponseCode::NXDomain,
-        authorities: Records::empty(alloc),
-    })))
 }

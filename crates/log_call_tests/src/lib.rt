@@ -1,6 +1,6 @@
-//! Tests of what only calls beside the pools show: orders that are carried over a script and its log,
-//! the cache with the log entries that told its responses, and logs told to the plain programs of the
-//! definitions. Each call that may want memory is called once here, where there is memory.
+//! Tests of what only calls beside the pools show: the cache with the log entries that told its responses,
+//! logs told to the plain programs of the definitions, and a world that is asked by a scan. Each call that
+//! may want memory, and that no command makes, is called once here, where there is memory.
 //!
 //! They stand here and not in the layers, since a crate with tests is proved once more with them.
 #![tactic(auto)]
@@ -8,6 +8,6 @@
 #[cfg(test)]
 mod cache_tests;
 #[cfg(test)]
-mod carrier_tests;
-#[cfg(test)]
 mod serving_tests;
+#[cfg(test)]
+mod world_tests;

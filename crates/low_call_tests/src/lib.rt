@@ -1,11 +1,9 @@
-//! Tests of what only calls show, below the pools: copies, streams, settings, what a response is, and what
-//! is printed. Each call that may want memory is called once here, where there is memory.
+//! Tests of what only calls show, below the pools: copies, streams, settings, and what is printed. Each
+//! call that may want memory, and that no command makes, is called once here, where there is memory.
 //!
 //! They stand here and not in the layers, since a crate with tests is proved once more with them.
 #![tactic(auto)]
 
-#[cfg(test)]
-mod class_tests;
 #[cfg(test)]
 mod copy_samples;
 #[cfg(test)]

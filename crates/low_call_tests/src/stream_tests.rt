@@ -1,10 +1,10 @@
 //! Sources and sinks, whole and failing in mid-stream. Each is handed to generic functions as it was made,
 //! or not made, which let go of it or hand it back: a body that keeps one in memory alive is dear to prove.
 
-use call_samples::{comes_to, is_wanted, shown};
+use call_samples::{is_wanted, shown};
 use dns_core::{
-    Failed, Items, MemorySink, MemorySource, NoMemory, Numbers, ReadError, Sink, Source, StdSink,
-    StdSource, TryClone, read_all, write_all,
+    Failed, Items, MemorySink, MemorySource, NoMemory, Numbers, Sink, Source, StdSink, StdSource,
+    TryClone, write_all,
 };
 use std::alloc::Global;
 use std::test::Fail;
@@ -127,41 +127,6 @@ fn the_streams_of_the_system_pass_bytes_on(rt: HostRuntime) -> Result<(), Fail> 
     is_wanted(source.faults, 0)?;
     let sink = writes(Ok(StdSink::new(Vec::new(rt.alloc()))), &ALL_WRITTEN)?;
     is_wanted(sink.faults, 0)
-}
-
-/// How many bytes a source gives, up to a limit; or why none.
-fn read_from<S: Source + Drop>(
-    alloc: Global,
-    mut source: S,
-    most: usize,
-) -> Result<usize, ReadError> {
-    let bytes = read_all(alloc, &mut source, most)?;
-    Ok(bytes.len())
-}
-
-/// The same of 5,000, where the call of this number fails.
-fn read_of(alloc: Global, call: u64, most: usize) -> Result<Result<usize, ReadError>, NoMemory> {
-    Ok(read_from(alloc, source_of(alloc, &[7u8; 5000], call)?, most))
-}
-
-/// The number of the call that fails, the limit, and what is read.
-static LIMITED: [(u64, usize, Result<usize, ReadError>); 7] = [
-    (0, 6000, Ok(5000)),
-    (0, 5000, Ok(5000)),
-    (0, 4999, Ok(4999)),
-    (0, 0, Ok(0)),
-    (1, 6000, Err(ReadError::Failed)),
-    (2, 6000, Err(ReadError::Failed)),
-    (3, 6000, Err(ReadError::Failed)),
-];
-
-#[test]
-fn a_source_is_read_to_its_end_or_the_limit_or_fails(rt: HostRuntime) -> Result<(), Fail> {
-    let alloc = rt.alloc();
-    for (call, most, wanted) in &LIMITED {
-        comes_to(read_of(alloc, *call, *most), *wanted)?;
-    }
-    Ok(())
 }
 
 /// Whole texts are written, or a write of them fails.

@@ -8,8 +8,6 @@ use server_pool::PoolStep;
 /// What a send ends with, and what a lookup answers.
 #[derive(Clone, Copy, Debug, PartialEq)]
 pub enum End {
-    Answer,
-    Cut,
     Denial,
     Busy,
     Closed,

@@ -1,0 +1,99 @@
+//! Calls on a world of one zone that are made by a scan: what an address tells, what the world answers,
+//! and whether a question is valid. The commands look these up, and what they come to there is shown by
+//! cases.
+
+use call_samples::{address, authority, both, comes_to, domain, ip, name_server, put, query, v4};
+use dns_core::{Items, Message, NameError, NoMemory, Query, Records, TryClone};
+use std::alloc::Global;
+use std::test::Fail;
+use zone_worlds::{Host, World, WorldAnswer, Zone, told, valid_question, world_answer};
+
+/// The authority of the root zone, its server, and the server's address.
+fn put_records(alloc: Global, records: &mut Records) -> Result<(), NameError> {
+    put(records, authority(alloc, ".", "ns."))?;
+    put(records, name_server(alloc, ".", "ns."))?;
+    put(records, address(alloc, "ns.", 60, v4(1)))
+}
+
+fn records(alloc: Global) -> Result<Records, NameError> {
+    let mut records = Records::empty(alloc);
+    put_records(alloc, &mut records)?;
+    Ok(records)
+}
+
+fn root(alloc: Global) -> Result<Zone, NameError> {
+    let (apex, records) = both(domain(alloc, "."), records(alloc))?;
+    Ok(Zone { apex, records })
+}
+
+fn zones(alloc: Global) -> Result<Items<Zone>, NameError> {
+    let mut zones = Items::empty(alloc);
+    put(&mut zones, root(alloc))?;
+    Ok(zones)
+}
+
+/// The host that serves the root zone.
+fn host(alloc: Global) -> Result<Host, NameError> {
+    let mut zones = Items::empty(alloc);
+    zones.push(1)?;
+    Ok(Host { ip: ip(1), zones })
+}
+
+fn hosts(alloc: Global) -> Result<Items<Host>, NameError> {
+    let mut hosts = Items::empty(alloc);
+    put(&mut hosts, host(alloc))?;
+    Ok(hosts)
+}
+
+fn world(alloc: Global) -> Result<World, NameError> {
+    let (zones, hosts) = both(zones(alloc), hosts(alloc))?;
+    Ok(World {
+        zones,
+        hosts,
+        chain: true,
+        delay: 0,
+    })
+}
+
+/// The code of a response, and how many answers it has.
+fn told_by(message: &Message) -> (u16, usize) {
+    (message.response_code.code, message.answers.len())
+}
+
+/// What the host tells.
+fn tells(alloc: Global, world: &World, query: &Query) -> Result<(u16, usize), NoMemory> {
+    let message = told(alloc, world, ip(1), query)?;
+    Ok(told_by(&message))
+}
+
+fn count_of(answer: &Option<WorldAnswer>) -> Option<usize> {
+    match answer {
+        Some(WorldAnswer::Records(found)) => Some(found.len()),
+        _ => None,
+    }
+}
+
+/// How many records the world answers with.
+fn answers(alloc: Global, world: &World, query: &Query) -> Result<Option<usize>, NoMemory> {
+    let answer = world_answer(alloc, world, query)?;
+    Ok(count_of(&answer))
+}
+
+fn is_asked(alloc: Global, world: &World, query: &Query) -> Result<(), Fail> {
+    comes_to(tells(alloc, world, query), (0, 1))?;
+    comes_to(answers(alloc, world, query), Some(1))?;
+    comes_to(valid_question(alloc, world, 24, 24, query), true)
+}
+
+/// A copy of the world.
+fn copied(alloc: Global) -> Result<World, NameError> {
+    let world = world(alloc)?;
+    Ok(world.try_clone(alloc)?)
+}
+
+#[test]
+fn a_copy_of_a_world_is_asked_by_a_scan(rt: HostRuntime) -> Result<(), Fail> {
+    let alloc = rt.alloc();
+    let (world, query) = both(copied(alloc), query(alloc, "ns."))?;
+    is_asked(alloc, &world, &query)
+}
