@@ -1,12 +1,14 @@
-//! Calls on a world of one zone that are made by a scan: what an address tells, what the world answers,
-//! and whether a question is valid. The commands look these up, and what they come to there is shown by
-//! cases.
+//! Calls on a world of one zone that no command makes: what an address tells, what the world answers and
+//! whether a question is valid, by a scan, and its answer by an index. What the commands look up in a world
+//! is shown by cases.
 
 use call_samples::{address, authority, both, comes_to, domain, ip, name_server, put, query, v4};
 use dns_core::{Items, Message, NameError, NoMemory, Query, Records, TryClone};
 use std::alloc::Global;
 use std::test::Fail;
-use zone_worlds::{Host, World, WorldAnswer, Zone, told, valid_question, world_answer};
+use zone_worlds::{
+    Host, IndexedWorld, World, WorldAnswer, Zone, told, valid_question, world_answer,
+};
 
 /// The authority of the root zone, its server, and the server's address.
 fn put_records(alloc: Global, records: &mut Records) -> Result<(), NameError> {
@@ -79,21 +81,27 @@ fn answers(alloc: Global, world: &World, query: &Query) -> Result<Option<usize>,
     Ok(count_of(&answer))
 }
 
+/// The same of a copy of the world, by look-ups.
+fn answers_by_index(
+    alloc: Global,
+    world: &World,
+    query: &Query,
+) -> Result<Option<usize>, NoMemory> {
+    let indexed = IndexedWorld::new(alloc, world.try_clone(alloc)?)?;
+    let answer = indexed.answer(alloc, query)?;
+    Ok(count_of(&answer))
+}
+
 fn is_asked(alloc: Global, world: &World, query: &Query) -> Result<(), Fail> {
     comes_to(tells(alloc, world, query), (0, 1))?;
     comes_to(answers(alloc, world, query), Some(1))?;
+    comes_to(answers_by_index(alloc, world, query), Some(1))?;
     comes_to(valid_question(alloc, world, 24, 24, query), true)
 }
 
-/// A copy of the world.
-fn copied(alloc: Global) -> Result<World, NameError> {
-    let world = world(alloc)?;
-    Ok(world.try_clone(alloc)?)
-}
-
 #[test]
-fn a_copy_of_a_world_is_asked_by_a_scan(rt: HostRuntime) -> Result<(), Fail> {
+fn a_world_is_asked_by_a_scan_and_answers_by_an_index(rt: HostRuntime) -> Result<(), Fail> {
     let alloc = rt.alloc();
-    let (world, query) = both(copied(alloc), query(alloc, "ns."))?;
+    let (world, query) = both(world(alloc), query(alloc, "ns."))?;
     is_asked(alloc, &world, &query)
 }
