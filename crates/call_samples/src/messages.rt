@@ -4,8 +4,8 @@ ghost use Rattle.dns_core.specs.Record.{is_typed};
 
 use crate::comparing::both;
 use dns_core::{
-    Boxed, DnsClass, DnsRequest, DnsRequestOptions, Message, Name, NameError, NoMemory, Query, RData,
-    Record, RecordType, Records, ResponseCode, Soa,
+    Boxed, DnsClass, DnsRequest, DnsRequestOptions, Message, Name, NameError, NoMemory, Query,
+    RData, Record, RecordType, Records, ResponseCode, Soa,
 };
 use std::alloc::Global;
 use std::net::{IpAddr, Ipv4Addr};
