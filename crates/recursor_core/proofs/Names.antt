@@ -18,13 +18,13 @@ pub use Rattle.dns_core.specs.declared.request.Question.{Question}
 pub use Rattle.dns_core.specs.declared.errors.NoMemory.{NoMemory}
 pub use Rattle.order_carrier.specs.Fits.{GoesToServer}
 pub use Rattle.lookup_facts.specs.View.{seen_at, given_of}
-pub use Rattle.recursor_walk.specs.Replies.{ReplyHolds}
+pub use Rattle.zone_asking.specs.Replies.{ReplyHolds}
 pub use Rattle.walk_tables.specs.Taking.{TablesHold}
 pub use Rattle.recursor_setting.specs.declared.setting.Setting.{Setting}
 pub use Rattle.recursor_walk.specs.declared.resolving.Resolution.{Resolution}
 pub use Rattle.lookup_facts.specs.Remembered.{EntryHolds}
 pub use Rattle.lookup_facts.proofs.Later.{later-by}
-pub use Rattle.recursor_walk.proofs.Later.{reply-later}
+pub use Rattle.zone_asking.proofs.Later.{reply-later}
 pub use Rattle.dns_core.specs.declared.log.LogEntry.{LogEntry}
 pub use Rattle.dns_core.specs.declared.provider.ConnectionProvider.{Ghosts}
 pub use Rattle.dns_core.specs.declared.request.Turn.{Turn}
@@ -34,7 +34,7 @@ pub use Rattle.order_carrier.proofs.Waiting.{IsPatient-refl, IsPatient-trans}
 pub use Rattle.order_runner.specs.declared.runner.Runner.{Runner}
 pub use Rattle.lookup_facts.specs.Tried.{Timer, machine_timer, IsTimed}
 pub use Rattle.order_carrier.specs.declared.carrier.Carrier.{Carrier}
-pub use Rattle.recursor_walk.proofs.Earlier.{reply-earlier, outcome-earlier}
+pub use Rattle.zone_asking.proofs.Earlier.{reply-earlier, outcome-earlier}
 pub use Rattle.order_carrier.proofs.Growing.{Grown-refl, Extends-refl, Grown-trans, Longer-from_added, Extends-added, Logged-newest, unlogged, below_or_from}
 pub use Rattle.resolution.specs.Given.{Given}
 pub use Rattle.resolver_cache.specs.Cached.{Cached}

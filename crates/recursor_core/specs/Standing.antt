@@ -19,7 +19,7 @@ use Rattle.recursor_setting.specs.Setting.{context_of}
 use Rattle.recursor_setting.specs.declared.setting.Setting.{Setting}
 use Rattle.lookup_facts.specs.View.{given_of}
 use Rattle.lookup_facts.specs.Tried.{Timer, machine_timer}
-use Rattle.recursor_walk.specs.Replies.{ReplyHolds}
+use Rattle.zone_asking.specs.Replies.{ReplyHolds}
 use Rattle.order_carrier.specs.Growing.{TellsThat, Grown, IsPast}
 use Rattle.recursor_machine.specs.Derived.{seen_by, Derived}
 use Rattle.order_carrier.specs.Patience.{IsPatient}

@@ -6,7 +6,7 @@ use Rattle.recursor_machine.proofs.Places.{slice_get-set_same}
 use Rattle.walk_tables.specs.Pools.{given_so_far}
 use Rattle.walk_tables.specs.Taking.{awaited_by}
 use Rattle.recursor_walk.specs.Resolving.{want_of, state_want, asking_of}
-use Rattle.recursor_walk.specs.declared.asking.Asking.{Asking as AtServers}
+use Rattle.zone_asking.specs.declared.asking.Asking.{Asking as AtServers}
 use Rattle.recursor_walk.specs.declared.resolving.Need.{Need}
 use Rattle.recursor_walk.specs.declared.resolving.State.{State}
 use Rattle.recursor_walk.specs.declared.resolving.State.TheVariants.{New, Walking, Asking, Done, Ended}

@@ -12,7 +12,7 @@ use Rattle.server_core.specs.declared.order.Sent.{Sent}
 use Rattle.server_core.specs.declared.order.Tick.{Tick}
 use Rattle.lookup_facts.specs.Order.{TellsOn}
 use Rattle.lookup_facts.specs.View.{View, given_of}
-use Rattle.recursor_walk.specs.Replies.{Replied}
+use Rattle.zone_asking.specs.Replies.{Replied}
 use Rattle.walk_tables.specs.Pools.{PoolsHold, given_so_far}
 use Rattle.walk_tables.specs.declared.pools.Pools.{Pools}
 use Rattle.recursor_machine.specs.Derived.{seen_by}

@@ -1,9 +1,5 @@
 pub mod Names
-pub mod Lowered
-pub mod Denials
-pub mod Recalling
 pub mod Walks
 pub mod Resolved
 pub mod Stepping
 pub mod Later
-pub mod Earlier

@@ -1,68 +1,32 @@
 -- The words that several proofs of this crate speak with, in one place.
-pub use Rattle.std.proofs.Common.{◌≡◌, ℕ, Bool, true, false, cond, List, [], ◌∷◌, ◌++◌, Option, Some, None, Contains, refl, sym, ap, subst, ◌∙◌, ◌≤◌, arith, inl, inr, Result, Ok, Err, IfOk, ◌&&◌, ◌==◌, not, find, filter, if◌then◌else◌, is_none, ◌+◌, ◌*◌, ⊎_elim, IsSomeAnd, map, option_map, IsTrue, IfSome, option_and_then, ◌<◌, ◌↔◌, IsErr, OnErr, ◌-◌, length, nat_lt, option_copied}
-pub use Rattle.std.specs.Global.{Box}
-pub use Rattle.std.proofs.lemmas.Option.{same_Some, none-some}
-pub use Rattle.std.proofs.lemmas.List.Elements.{filter-append, All-contains, All-weaker, All-contains_itself, recursion_from_All}
-pub use Rattle.std.specs.Cmp.{second_so, first_so}
-pub use Rattle.std.specs.declared.net.ip_addr.IpAddr.{IpAddr}
-pub use Rattle.std.specs.List.{last_or, AllZip}
+pub use Rattle.std.proofs.Common.{◌≡◌, ℕ, Bool, true, false, cond, List, [], ◌∷◌, Option, Some, None, Contains, refl, sym, ap, subst, ◌∙◌, ◌≤◌, arith, inl, inr, Result, Ok, Err, IfOk, ◌&&◌, ◌+◌, ◌*◌, IsTrue, IfSome, ◌<◌, ◌↔◌, IsErr, OnErr, ◌-◌, length, nat_lt, option_copied}
 pub use Rattle.std.proofs.lemmas.Bool.Decides.{nat_tests}
-pub use Rattle.dns_core.specs.Name.{DomainName, same_names}
-pub use Rattle.dns_core.specs.Log.{Log}
+pub use Rattle.dns_core.specs.Name.{DomainName}
 pub use Rattle.dns_core.specs.declared.message.Query.{Query}
-pub use Rattle.dns_core.specs.declared.message.Message.{Message}
-pub use Rattle.dns_core.specs.declared.record.Record.{Record}
 pub use Rattle.dns_core.specs.declared.errors.NoMemory.{NoMemory}
 pub use Rattle.dns_core.specs.declared.request.Question.{Question}
-pub use Rattle.dns_core.specs.declared.net_error.NoRecords.{NoRecords}
-pub use Rattle.dns_core.specs.declared.net_error.ForwardNsData.{ForwardNsData}
 pub use Rattle.dns_core.specs.declared.net_error.NetError.{NetError}
-pub use Rattle.resolution.specs.Names.{candidates, walk, question, last_name, same_query, root, base, is_above, is_root}
-pub use Rattle.resolution.specs.Serving.{is_delegation, glue, allowed, Serves, Delegates}
-pub use Rattle.resolution.specs.Answering.{Base, IsCurrent, Answer}
-pub use Rattle.resolution.specs.Answering.Answers.{direct, by_alias}
-pub use Rattle.resolution.specs.Ending.{Finished, Known, EndSends, is_timeout}
+pub use Rattle.resolution.specs.Names.{candidates, walk, question, last_name, root, is_above}
+pub use Rattle.resolution.specs.Ending.{Finished, is_timeout}
 pub use Rattle.resolution.specs.declared.verdict.Verdict.TheVariants.{Pos, Neg, Made}
 pub use Rattle.resolution.specs.declared.verdict.Verdict.{Verdict}
-pub use Rattle.resolution.specs.declared.verdict.Cause.TheVariants.{Filter, Zone}
-pub use Rattle.resolution.proofs.SameDelegations.{Same-is_delegation, Same-glue, Same-strip}
-pub use Rattle.resolution.specs.Same.{Same, SameRecord, SameRecords}
 pub use Rattle.lookup_facts.specs.View.{View, given_of, Later}
-pub use Rattle.lookup_facts.specs.Tried.{Concluded, machine_timer}
 pub use Rattle.resolution.specs.Walking.{Walked, NoCut, at_any_time, is_cut}
-pub use Rattle.resolution.proofs.Sameness.{Same-refl, SameRecords-refl}
-pub use Rattle.lookup_facts.specs.Asked.{AskedAs}
-pub use Rattle.walk_base.specs.Shown.{IsShown, nothing_left_for, left_of_class}
-pub use Rattle.walk_base.specs.Answer.{told_data, made_data, told_negative, made_negative, ends_walk, outcome_of}
-pub use Rattle.recursor_types.specs.declared.error.RecursorError.{RecursorError}
-pub use Rattle.recursor_types.specs.declared.error.RecursorError.TheVariants.{Negative, ForwardNS, Net, NoNameServer}
+pub use Rattle.walk_base.specs.Answer.{made_negative, ends_walk}
+pub use Rattle.recursor_types.specs.declared.error.RecursorError.TheVariants.{NoNameServer}
 pub use Rattle.recursor_types.specs.declared.reply.Reply.{Reply}
-pub use Rattle.lookup_facts.proofs.Sends.{same_query-refl}
-pub use Rattle.walk_base.proofs.Runs.{answer_whole, run_later}
-pub use Rattle.resolution.specs.Given.{Given, with_patience}
-pub use Rattle.resolution.specs.Life.{Fresh, life_in_seconds}
-pub use Rattle.lookup_facts.proofs.Later.{below-greater, given-is, walked-on, pool-on, for-on, concluded-later, asked-kept}
-pub use Rattle.recursor_types.specs.declared.error.AuthorityData.{AuthorityData}
-pub use Rattle.recursor_types.specs.declared.error.WalkCause.{WalkCause}
-pub use Rattle.resolver_cache.specs.Life.{seconds_between}
-pub use Rattle.kept_responses.specs.Lowering.{lowered_record, lowered_message, lowered_delegation, lowered_denial, lowered}
-pub use Rattle.kept_responses.specs.Entry.{is_same_question, current_for}
 pub use Rattle.walk_tables.specs.Lookup.{LeavesLess, want_after, want_steps, LookupHolds, want_of}
 pub use Rattle.recursor_types.specs.declared.error.WalkCause.TheVariants.{NoAddress, Timeout}
-pub use Rattle.recursor_walk.specs.Replies.{IsToldAnswer, OutcomeCame, CameTo, HasCause, RepliesSo, OutcomeHolds, Replied, RepliesWith, reply_with, IsReplyKept}
+pub use Rattle.zone_asking.specs.Replies.{CameTo, HasCause, RepliesWith, reply_with, IsReplyKept}
 pub use Rattle.recursor_walk.specs.Walk.{IsCourseOf, Goes, Recalls, EndsIf, steps_after, Passes, verdict_heard, verdict_found, counting}
 pub use Rattle.recursor_walk.specs.declared.walk.Course.{Course}
-pub use Rattle.recursor_walk.specs.Causes.{IsDenied, HasFailed, HasNoAddress, IsReferred, HasNoServer, ErrorHolds}
-pub use Rattle.recursor_walk.specs.Causes.IsDenied.{told_on_the_way, made_on_the_way}
-pub use Rattle.recursor_walk.specs.Causes.IsReferred.{referred}
-pub use Rattle.recursor_walk.specs.Counted.{Stands, Answers, IsCurrentVerdict, counted_for, recalled, may_answer, answerable, IsRecalled, ReadsAt}
-pub use Rattle.recursor_walk.specs.SameTold.{SameIfAny, SameReferrals, SameNegative, SameVerdict, ShowsAsked, IsMadeFor, SameReferral, SameDenial}
+pub use Rattle.zone_asking.specs.Counted.{Stands, recalled, answerable, ReadsAt}
 pub use Rattle.recursor_walk.specs.Way.{WalkComes, Passed, WayHolds, WalkHolds, LeavesBehind}
 pub use Rattle.recursor_walk.specs.declared.walk.Walk.{Walk}
-pub use Rattle.recursor_walk.specs.Asking.{LastHolds, AskingHolds, SameSite, LeavesFewer}
+pub use Rattle.zone_asking.specs.Asking.{LastHolds, AskingHolds, SameSite, LeavesFewer}
 pub use Rattle.recursor_walk.specs.Resolved.{StateHolds, ResolutionHolds}
 pub use Rattle.recursor_walk.specs.declared.resolving.State.{State}
 pub use Rattle.recursor_walk.specs.declared.resolving.State.TheVariants.{Walking, Asking, Done, New}
 pub use Rattle.recursor_walk.specs.declared.resolving.Resolution.{Resolution}
-pub use Rattle.recursor_walk.specs.declared.counted.Counted.{Counted}
+pub use Rattle.zone_asking.specs.declared.counted.Counted.{Counted}
 pub use Rattle.recursor_walk.specs.Resolving.{state_want, state_steps, steps, asked_of, IsWalked, IsSettled, IsOpen, StaysOpen, AsksOn, SameBegun, IsUnder, IsDone, IsDoneWith, IsAnswered}

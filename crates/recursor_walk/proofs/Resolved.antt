@@ -1,13 +1,14 @@
 -- A resolution after a step.
-use Rattle.recursor_walk.proofs.Names.{◌≡◌, ◌≤◌, ◌<◌, ◌+◌, ◌∙◌, ◌↔◌, ℕ, true, Option, Some, None, Result, Ok, Err, IfOk, IsErr, OnErr, IfSome, IsTrue, refl, sym, ap, subst, arith, Box, Query, Question, NoMemory, LeavesLess, want_after, want_steps, View, Reply, AskingHolds, LastHolds, SameSite, LeavesFewer, Goes, Recalls, EndsIf, RepliesWith, reply_with, Counted, Verdict, WalkHolds, state_want, state_steps, steps, asked_of, IsWalked, IsSettled, IsOpen, StaysOpen, AsksOn, SameBegun, IsUnder, IsDone, IsDoneWith, IsAnswered, StateHolds, ResolutionHolds, Course, Walk, State, New, Walking, Asking, Resolution}
+use Rattle.recursor_walk.proofs.Names.{◌≡◌, ◌≤◌, ◌<◌, ◌+◌, ◌∙◌, ◌↔◌, ℕ, true, Option, Some, None, Result, Ok, Err, IfOk, IsErr, OnErr, IfSome, IsTrue, refl, sym, ap, subst, arith, Query, Question, NoMemory, LeavesLess, want_after, want_steps, View, Reply, AskingHolds, LastHolds, SameSite, LeavesFewer, Goes, Recalls, EndsIf, RepliesWith, reply_with, Counted, Verdict, WalkHolds, state_want, state_steps, steps, asked_of, IsWalked, IsSettled, IsOpen, StaysOpen, AsksOn, SameBegun, IsUnder, IsDone, IsDoneWith, IsAnswered, StateHolds, ResolutionHolds, Course, Walk, State, New, Walking, Asking, Resolution}
+use Rattle.std.specs.Global.{Box}
 use Rattle.walk_tables.specs.declared.lookup.Want.{Want}
 use Rattle.walk_tables.specs.declared.lookup.Want.TheVariants.{Step}
 use Rattle.walk_tables.specs.declared.pools.Stepped.{Stepped}
 use Rattle.resolution.specs.Failing.{ends_walk}
 use Rattle.recursor_walk.proofs.Walks.{walk-asked}
-use Rattle.recursor_walk.specs.declared.asking.Asking.{Asking as AtServers}
+use Rattle.zone_asking.specs.declared.asking.Asking.{Asking as AtServers}
 use Rattle.walk_tables.specs.declared.pools.Stepped.TheVariants as stepped
-use Rattle.recursor_walk.specs.Asking as asking
+use Rattle.zone_asking.specs.Asking as asking
 use Rattle.recursor_walk.specs.Walk as walk
 use Rattle.recursor_walk.specs.declared.walk.Course.TheVariants as course
 use Rattle.recursor_walk.specs.declared.resolving.Need.TheVariants as need

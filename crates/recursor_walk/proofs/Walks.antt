@@ -1,20 +1,22 @@
 -- How a walk goes on.
-use Rattle.recursor_walk.proofs.Names.{◌≡◌, ◌≤◌, ◌<◌, ◌+◌, ◌-◌, ◌↔◌, ℕ, Bool, true, false, cond, List, length, Contains, refl, sym, ◌∙◌, ap, subst, arith, Result, Ok, Err, nat_lt, ◌&&◌, ◌==◌, not, IsTrue, All-weaker, All-contains_itself, recursion_from_All, nat_tests, first_so, second_so, IpAddr, DomainName, Query, Message, NetError, root, base, candidates, is_above, is_root, last_name, walk, question, Serves, Delegates, is_delegation, glue, allowed, Finished, is_timeout, NoCut, Walked, at_any_time, is_cut, Base, Pos, Verdict, Same-is_delegation, Same-glue, View, given_of, Concluded, machine_timer, HasNoServer, Stands, SameVerdict, LookupHolds, AskingHolds, SameSite, Passed, LeavesBehind, WayHolds, WalkHolds, Walk, steps_after, Goes, Passes, Course, NoMemory}
-use Rattle.std.proofs.lemmas.List.FromFn.{get_or-map-range_with_len, length-map-range_with_len}
-use Rattle.std.proofs.lemmas.Bool.{not-true}
+use Rattle.recursor_walk.proofs.Names.{◌≡◌, ◌≤◌, ◌<◌, ◌+◌, ◌↔◌, ℕ, Bool, true, false, List, length, Contains, refl, sym, ◌∙◌, ap, subst, arith, Result, Ok, Err, nat_lt, ◌&&◌, IsTrue, nat_tests, DomainName, Query, NetError, root, candidates, is_above, last_name, walk, question, Finished, is_timeout, NoCut, Walked, at_any_time, is_cut, Pos, Verdict, View, given_of, Stands, LookupHolds, AskingHolds, SameSite, Passed, LeavesBehind, WayHolds, WalkHolds, Walk, steps_after, Goes, Passes, Course, NoMemory, IfOk, Question, Reply, CameTo, IsCourseOf, WalkComes}
+use Rattle.std.specs.Cmp.{second_so, first_so}
+use Rattle.std.specs.declared.net.ip_addr.IpAddr.{IpAddr}
+use Rattle.lookup_facts.specs.Tried.{Concluded, machine_timer}
+use Rattle.zone_asking.specs.Causes.{HasNoServer}
+use Rattle.dns_core.specs.declared.message.Message.{Message}
+use Rattle.resolution.specs.Serving.{is_delegation, glue, allowed}
+use Rattle.std.proofs.lemmas.Result.{IfOk-weaker}
 use Rattle.resolver_settings.specs.Access.{denies}
-use Rattle.resolution.specs.Serving.Serves.{of_root, of_glue}
-use Rattle.resolution.specs.Serving.Delegates.{delegates}
-use Rattle.resolution.specs.Ending.Listed.{of_roots, of_told}
 use Rattle.resolution.specs.Walking.NoCut.{told_otherwise, not_told}
-use Rattle.resolution.proofs.Members.{Has-from_Contains, Contains-from_Has, Has-filter, Has-passes}
 use Rattle.walk_base.specs.Candidate.{candidate_query}
 use Rattle.lookup_facts.specs.Sought.{ArePool, AreFor}
-use Rattle.recursor_walk.specs.declared.asking.Asking.{Asking}
+use Rattle.zone_asking.specs.declared.asking.Asking.{Asking}
 use Rattle.walk_tables.specs.declared.lookup.Lookup.{Lookup}
-use Rattle.resolution.proofs.WayDown.{above-last, last-above, last-length, root-above, walked-from-passed, walked-at-candidate}
-use Rattle.recursor_walk.proofs.Denials.{has-failed}
-use Rattle.recursor_walk.proofs.Earlier.{Finished-earlier}
+use Rattle.resolution.proofs.WayDown.{above-last, last-above, last-length, walked-from-passed, walked-at-candidate}
+use Rattle.zone_asking.proofs.Denials.{has-failed}
+use Rattle.zone_asking.proofs.Earlier.{Finished-earlier}
+use Rattle.zone_asking.proofs.Sites.{among, cut-same, roots-pool, root-above-for, cut-delegates, cut-pool}
 use Rattle.recursor_walk.specs.Walk.{steps}
 use Rattle.dns_core.specs.declared.net_error.NetError.TheVariants as net
 use Rattle.recursor_types.specs.declared.error.WalkCause.TheVariants as why
@@ -28,21 +30,21 @@ past-falls old middle new (Ok course.Arrived) same fewer past = tt
 past-falls old middle new (Ok (course.Reply reply)) same fewer past = tt
 past-falls old middle new (Err e) same fewer past = tt
 
+-- ---- replies
+
+-- it is the reply of a walk
+stopped : (seen : View) (t0 : ℕ) (asked : Question) (w : Walk) (reply : Reply) (came : Course)
+    → IsCourseOf reply came → CameTo seen t0 asked reply → WalkComes seen t0 asked w came
+stopped seen t0 asked w reply (course.Reply b) is h = subst (CameTo seen t0 asked) (sym is) h
+stopped seen t0 asked w reply _ is h = absurd is
+
+-- a walk that stops with a reply
+pub stops : (seen : View) (t0 : ℕ) (asked : Question) (w : Walk) (r : Result Course NoMemory) (reply : Reply)
+    → IfOk r (IsCourseOf reply) → CameTo seen t0 asked reply → IfOk r (WalkComes seen t0 asked w)
+stops seen t0 asked w r reply is h =
+    IfOk-weaker r _ (WalkComes seen t0 asked w) (λ came e. stopped seen t0 asked w reply came e h) is
+
 -- ---- at a candidate
-
--- the last labels of a name are among its candidates
-among : (n : DomainName) (k : ℕ) → 1 ≤ k → k ≤ length n.labels → Contains (candidates n) (last_name k n)
-among n k low high =
-    let f : ℕ → DomainName = λ (i : ℕ). last_name i n in
-    let count = length-map-range_with_len f 1 (length n.labels) in
-    (k - 1, omega (arith, count, low, high), get_or-map-range_with_len f 1 (length n.labels) (k - 1) k (last_name k n) (omega (arith, low, high)) (omega (arith, low)))
-
--- a verdict shows a cut where one does that is the same but for TTLs
-cut-same : (q : Query) (v w : Verdict) (c : DomainName) → SameVerdict q v w → is_cut v c ≡ is_cut w c
-cut-same q (Pos a) (Pos b) c same = Same-is_delegation a b c same
-cut-same q (Pos a) _ c same = absurd same
-cut-same q _ (Pos b) c same = absurd same
-cut-same q _ _ c same = refl
 
 module _ (seen : View) (q : Query) (w : Walk) (way : WayHolds seen q w) where
   -- it has the last labels of the name
@@ -139,27 +141,6 @@ comes-there seen q w way leaves all =
 
 -- ---- the beginning
 
--- a question whose name is fully qualified is walked to such a name
-walk-qualified : (q : Query) → q.name.fqdn ≡ true → (walk q).fqdn ≡ true
-walk-qualified q f = by (q.query_type.code == 43)
-  where
-    by : (b : Bool) → (cond b (base q.name) q.name).fqdn ≡ true
-    by true = f
-    by false = f
-
--- the roots are the servers of the root
-roots-pool : (seen : View) → 0 < length seen.setting.roots → ArePool seen root seen.setting.roots
-roots-pool seen some = record {
-  serve = All-weaker (Contains seen.setting.roots) (λ (ip : IpAddr). Serves (given_of seen.setting) seen.log (seen.greatest + 1) ip root) (λ ip has. of_root has)
-      seen.setting.roots (All-contains_itself seen.setting.roots);
-  listed = of_roots;
-  some = some;
-}
-
--- the servers of the root are for each question whose name is fully qualified, before any cut
-root-above-for : (q : Query) → q.name.fqdn ≡ true → is_above root (walk q) ≡ true
-root-above-for q f = root-above (walk q) (walk-qualified q f)
-
 -- a walk that begins at the roots
 pub at-start : (seen : View) (t0 : ℕ) (q : Query) (name : DomainName) (a : Asking) (asked : Query)
     → 0 < length seen.setting.roots → q.name.fqdn ≡ true → name ≡ walk q → 1 ≤ length name.labels
@@ -194,78 +175,7 @@ at-start seen t0 q name a asked some f n low z s query ask made =
       lookup = (made site).lookup;
     }
 
--- the servers of the root are for a question that is walked to the root
-pub at-root : (seen : View) (q : Query) (zone : DomainName) (servers : List IpAddr) → 0 < length seen.setting.roots → q.name.fqdn ≡ true
-    → length (walk q).labels ≡ 0 → zone ≡ root → servers ≡ seen.setting.roots → AreFor seen q zone servers
-at-root seen q zone servers some f none z s =
-    subst (λ (d : DomainName). AreFor seen q d servers) (sym z) (subst (AreFor seen q root) (sym s) (record {
-      above = root-above-for q f;
-      walked = walked-from-passed (given_of seen.setting) seen.log q root (walk q) refl (root-above-for q f) (λ k longer few. absurd (omega (arith, longer, few, none)));
-      pool = roots-pool seen some;
-    }))
-
 -- ---- a zone cut
-
--- a name with a label is not the root
-not-root : (c : DomainName) → 1 ≤ length c.labels → is_root c ≡ false
-not-root c h = by (c.fqdn) (length c.labels) h
-  where
-    by : (f : Bool) (k : ℕ) → 1 ≤ k → (f && (k == 0)) ≡ false
-    by true k h = grind (arith, nat_tests)
-    by false k h = refl
-
--- A delegation was told that has the same addresses beside it.
-record Cut (seen : View) (c : DomainName) (kept : Message) : Type 0 where
-  told : Message
-  delegates : Delegates (given_of seen.setting) seen.log (seen.greatest + 1) c told
-  beside : glue kept c ≡ glue told c
-
-cut-by : (seen : View) (t0 : ℕ) (zone c : DomainName) (entry : ℕ) (kept : Message) (whole : Verdict)
-    → entry ≤ seen.greatest → Base (given_of seen.setting) seen.log t0 (question c 2) entry zone whole → SameVerdict (question c 2) (Pos kept) whole
-    → is_delegation kept c ≡ true → 1 ≤ length c.labels → Cut seen c kept
-cut-by seen t0 zone c entry kept (Pos before) early base same d long = record {
-  told = before;
-  delegates = delegates (omega (arith, early)) base.heard base.counts (sym (Same-is_delegation kept before c same) ∙ d) (not-root c long);
-  beside = Same-glue kept before c same;
-}
-cut-by seen t0 zone c entry kept _ early base same d long = absurd same
-
--- a delegation that stands delegates
-cut-delegates : (seen : View) (t0 : ℕ) (c : DomainName) (asked : Query) (entry : ℕ) (kept : Message)
-    → Stands seen t0 asked entry (Pos kept) → asked ≡ question c 2 → is_delegation kept c ≡ true → 1 ≤ length c.labels
-    → Cut seen c kept
-cut-delegates seen t0 c asked entry kept stands is d long =
-    let now = subst (λ (q : Query). Stands seen t0 q entry (Pos kept)) is stands in
-    cut-by seen t0 now.zone c entry kept now.whole now.early now.base now.same d long
-
--- an address that may be asked is beside the delegation, and is not denied
-may-ask : (denied : IpAddr → Bool) (ips : List IpAddr) (ip : IpAddr) → Contains (allowed denied ips) ip → (denied ip ≡ false) × Contains ips ip
-may-ask denied ips ip h =
-    let may : IpAddr → Bool = λ x. not (denied x) in
-    let there = Has-from_Contains (allowed denied ips) ip h in
-    (not-true (denied ip) (Has-passes may ips ip there), Contains-from_Has ips ip (Has-filter may ips ip there))
-
--- the addresses beside a delegation that may be asked are the servers of the delegated zone
-cut-pool : (seen : View) (c : DomainName) (kept : Message) (ips : List IpAddr)
-    → Delegates (given_of seen.setting) seen.log (seen.greatest + 1) c kept → 0 < length ips → ((ip : IpAddr) → Contains ips ip ↔ Contains (allowed (denies seen.setting.server_filter) (glue kept c)) ip)
-    → ArePool seen c ips
-cut-pool seen c kept ips told some glued =
-    let serve = All-weaker (Contains ips) (λ (ip : IpAddr). Serves (given_of seen.setting) seen.log (seen.greatest + 1) ip c) (λ ip has. let may = may-ask (denies seen.setting.server_filter) (glue kept c) ip ((glued ip).0 has) in
-    of_glue told may.0 may.1) ips (All-contains_itself ips) in
-    let asked = allowed (denies seen.setting.server_filter) (glue kept c) in
-    record {
-      serve = serve;
-      listed = of_told (record {
-        below = seen.greatest + 1;
-        serve = recursion_from_All (λ (ip : IpAddr). Serves (given_of seen.setting) seen.log (seen.greatest + 1) ip c) ips serve;
-        some = some;
-        k = kept;
-        told = told;
-        whole = recursion_from_All (Contains ips) asked
-            (All-weaker (Contains asked) (Contains ips) (λ ip has. (glued ip).1 has) asked (All-contains_itself asked));
-      });
-      some = some;
-    }
 
 -- a zone that is the candidate has as many labels
 zone-length : (seen : View) (q : Query) (w : Walk) (zone : DomainName) → WayHolds seen q w → zone ≡ w.asking.lookup.query.name → length zone.labels ≡ w.labels

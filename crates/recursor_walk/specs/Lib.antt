@@ -1,8 +1,3 @@
-pub mod SameTold
-pub mod Causes
-pub mod Replies
-pub mod Counted
-pub mod Asking
 pub mod Walk
 pub mod Way
 pub mod Resolving

@@ -5,8 +5,8 @@ use Rattle.dns_core.specs.declared.errors.NoMemory.{NoMemory}
 use Rattle.dns_core.specs.declared.request.Question.{Question}
 use Rattle.lookup_facts.specs.View.{View}
 use Rattle.recursor_types.specs.declared.reply.Reply.{Reply}
-use Rattle.recursor_walk.specs.Asking.{LastHolds, LastComes}
-use Rattle.recursor_walk.specs.Replies.{CameTo}
+use Rattle.zone_asking.specs.Asking.{LastHolds, LastComes}
+use Rattle.zone_asking.specs.Replies.{CameTo}
 use Rattle.recursor_walk.specs.Way.{WalkHolds, WalkComes}
 use Rattle.recursor_walk.specs.declared.walk.Course.{Course}
 use Rattle.recursor_walk.specs.declared.resolving.State.{State}

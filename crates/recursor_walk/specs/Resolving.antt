@@ -12,17 +12,17 @@ use Rattle.walk_tables.specs.declared.pools.Stepped.{Stepped}
 use Rattle.recursor_types.specs.declared.reply.Reply.{Reply}
 use Rattle.resolution.specs.Failing.{ends_walk}
 use Rattle.resolver_cache.specs.Cached.{Cached}
-use Rattle.recursor_walk.specs.Counted.{recalled, answerable}
-use Rattle.recursor_walk.specs.Replies.{reply_with}
-use Rattle.recursor_walk.specs.declared.counted.Counted.{Counted}
+use Rattle.zone_asking.specs.Counted.{recalled, answerable}
+use Rattle.zone_asking.specs.Replies.{reply_with}
+use Rattle.zone_asking.specs.declared.counted.Counted.{Counted}
 use Rattle.recursor_walk.specs.declared.walk.Course.{Course}
 use Rattle.recursor_walk.specs.declared.resolving.Need.{Need}
 use Rattle.recursor_walk.specs.declared.resolving.State.{State}
 use Rattle.recursor_walk.specs.declared.resolving.State.TheVariants.{New, Walking, Asking, Done, Ended}
 use Rattle.recursor_walk.specs.declared.resolving.Resolution.{Resolution}
-use Rattle.recursor_walk.specs.declared.asking.Asking.{Asking as AtServers}
+use Rattle.zone_asking.specs.declared.asking.Asking.{Asking as AtServers}
 use Rattle.walk_tables.specs.Lookup as lookup
-use Rattle.recursor_walk.specs.Asking as asking
+use Rattle.zone_asking.specs.Asking as asking
 use Rattle.recursor_walk.specs.Walk as walk
 use Rattle.recursor_walk.specs.declared.walk.Course.TheVariants as course
 use Rattle.recursor_walk.specs.declared.resolving.Need.TheVariants as need

@@ -11,11 +11,11 @@ use Rattle.lookup_facts.specs.View.{View}
 use Rattle.lookup_facts.specs.Remembered.{CacheHolds}
 use Rattle.walk_tables.specs.Pools.{PoolsHold, StepGoes, IsStepAt, given_so_far}
 use Rattle.walk_tables.specs.declared.pools.Pools.{Pools}
-use Rattle.recursor_walk.specs.Replies.{CameTo}
+use Rattle.zone_asking.specs.Replies.{CameTo}
 use Rattle.recursor_walk.specs.Resolving.{steps, open_of, AsksFor, IsOpen, IsAnswered}
 use Rattle.recursor_walk.specs.Resolved.{ResolutionHolds}
 use Rattle.recursor_types.specs.declared.reply.Reply.{Reply}
-use Rattle.recursor_walk.specs.declared.counted.Counted.{Counted}
+use Rattle.zone_asking.specs.declared.counted.Counted.{Counted}
 use Rattle.recursor_walk.specs.declared.resolving.State.{State}
 use Rattle.recursor_walk.specs.declared.resolving.Resolution.{Resolution}
 use Rattle.recursor_walk.specs.declared.steps.Step.{Step}

@@ -6,7 +6,7 @@ use Rattle.dns_core.specs.declared.net_error.NetError.{NetError}
 use Rattle.resolution.specs.Failing.{ends_walk}
 use Rattle.resolution.specs.declared.verdict.Verdict.{Verdict}
 use Rattle.lookup_facts.specs.declared.found.Found.{Found}
-use Rattle.recursor_walk.specs.declared.counted.Counted.{Counted}
+use Rattle.zone_asking.specs.declared.counted.Counted.{Counted}
 use Rattle.recursor_types.specs.declared.reply.Reply.{Reply}
 use Rattle.recursor_walk.specs.declared.walk.Course.{Course}
 use Rattle.recursor_walk.specs.declared.walk.Walk.{Walk}

@@ -16,8 +16,8 @@ use Rattle.lookup_facts.specs.Found.{FoundHolds, HasFailedBy}
 use Rattle.lookup_facts.specs.Sought.{ArePool, AreFor}
 use Rattle.lookup_facts.specs.View.{View, given_of}
 use Rattle.lookup_facts.specs.declared.found.Found.{Found}
-use Rattle.recursor_walk.specs.Counted.{Stands}
-use Rattle.recursor_walk.specs.Replies.{CameTo}
+use Rattle.zone_asking.specs.Counted.{Stands}
+use Rattle.zone_asking.specs.Replies.{CameTo}
 use Rattle.recursor_walk.specs.declared.walk.Course.{Course}
 use Rattle.recursor_walk.specs.declared.walk.Walk.{Walk}
 use Rattle.recursor_walk.specs.declared.walk.Course.TheVariants as course

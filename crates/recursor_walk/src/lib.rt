@@ -3,15 +3,12 @@
 //! lends it the pools and the cache: it takes no outcome, and knows of no other question.
 #![tactic(auto)]
 
-mod asking;
-mod counted;
 mod resolving;
 mod short_way;
 mod steps;
 mod threads;
 mod walk;
 
-pub use asking::Asking;
 pub use resolving::{Need, Resolution, State};
 pub use steps::Step;
 pub use walk::{Course, Walk};

@@ -4,15 +4,13 @@ ghost use Rattle.lookup_facts.specs.View.{View};
 ghost use Rattle.lookup_facts.specs.Remembered.{CacheHolds};
 ghost use Rattle.walk_tables.specs.Taking.{Leaves, IfAwaits};
 ghost use Rattle.walk_tables.specs.Pools.{PoolsHold, StepGoes, IsStepAt, given_so_far, GivesNext};
-ghost use Rattle.recursor_walk.specs.Counted.{ReadsAt, recalled, answerable};
+ghost use Rattle.zone_asking.specs.Counted.{ReadsAt, recalled, answerable};
 ghost use Rattle.recursor_walk.specs.Resolving.{want_of, state_steps, steps, open_of, asking_of, IsWalking, IsUnder, IsWalked, IsSettled, IsDone, IsOpen, StaysOpen, AsksOn, SameBegun, AsksFor, StepsOn, IsAnswered, IsHeeded, IsHeard};
 ghost use Rattle.recursor_walk.specs.Resolved.{StandsSo, StateHolds, StateComes, AnswerComes, ResolutionHolds};
 ghost use Rattle.recursor_walk.specs.Walk.{begin_steps};
 ghost use Rattle.recursor_walk.specs.Way.{HasRoots, FiltersBy};
 ghost use Rattle.walk_tables.specs.declared.lookup.Want.TheVariants as want;
 
-use crate::asking::{Asking, answer_with};
-use crate::counted::{answerable, recalled};
 use crate::short_way::kept_answer;
 use crate::walk::{Course, Walk};
 use dns_core::{DnsRequest, Ips, Name, NoMemory, Question, TryClone, in_box};
@@ -24,6 +22,7 @@ use std::alloc::Global;
 use std::mem;
 use walk_base::walked_name;
 use walk_tables::{Pools, Stepped, Want};
+use zone_asking::{Asking, answer_with, answerable, recalled};
 
 /// Not begun, on the walk to its servers, asked at these, answered, or ended.
 #[derive(Drop)]

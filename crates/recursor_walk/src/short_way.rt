@@ -2,8 +2,8 @@
 //! into the reply.
 ghost use Rattle.std.specs.Prelude.{ℕ, IfOk, IfSome};
 ghost use Rattle.lookup_facts.specs.View.{View};
-ghost use Rattle.recursor_walk.specs.Replies.{CameTo, IsReplyKept};
-ghost use Rattle.recursor_walk.specs.Counted.{ReadsAt};
+ghost use Rattle.zone_asking.specs.Replies.{CameTo, IsReplyKept};
+ghost use Rattle.zone_asking.specs.Counted.{ReadsAt};
 
 use dns_core::{NoMemory, Question, in_box};
 use recursor_types::Reply;

@@ -1,15 +1,9 @@
 //! Which types of this crate may go to another thread, and be shared among threads.
 
-use crate::asking::Asking;
-use crate::counted::Counted;
 use crate::resolving::{Need, Resolution, State};
 use crate::steps::Step;
 use crate::walk::{Course, Walk};
 use dns_core::CrossesThreads;
-
-impl CrossesThreads for Asking {}
-
-impl CrossesThreads for Counted {}
 
 impl CrossesThreads for Course {}
 

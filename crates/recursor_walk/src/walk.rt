@@ -7,15 +7,13 @@ ghost use Rattle.resolution.specs.Names.{walk};
 ghost use Rattle.walk_tables.specs.Lookup.{want_of};
 ghost use Rattle.lookup_facts.specs.Sought.{AreFor};
 ghost use Rattle.lookup_facts.specs.View.{View};
-ghost use Rattle.recursor_walk.specs.Asking.{LastHolds};
-ghost use Rattle.recursor_walk.specs.Counted.{ReadsAt, recalled};
+ghost use Rattle.zone_asking.specs.Asking.{LastHolds};
+ghost use Rattle.zone_asking.specs.Counted.{ReadsAt, recalled};
 ghost use Rattle.recursor_walk.specs.Walk.{steps, Goes, Passes, Ends, EndsIf, IsOnward, Recalls, counting, verdict_found, verdict_heard, IsCourseOf};
 ghost use Rattle.recursor_walk.specs.Way.{WayHolds, WalkHolds, LeavesBehind, Comes, HasFailedAt, HasHeard, HasFound, HasRoots, FiltersBy};
 ghost use Rattle.walk_tables.specs.declared.lookup.Want.TheVariants as want;
-ghost use Rattle.recursor_walk.specs.Asking as asking;
+ghost use Rattle.zone_asking.specs.Asking as asking;
 
-use crate::asking::Asking;
-use crate::counted::{Counted, recalled};
 use dns_core::{
     Ips, Message, Name, NetError, NoMemory, NoRecords, Numbers, Query, TryClone, in_box,
 };
@@ -29,6 +27,7 @@ use walk_base::{
     addresses, candidate_query, ends_walk, is_delegation, made_negative, reply_by, told_negative,
 };
 use walk_tables::Lookup;
+use zone_asking::{Asking, Counted, recalled};
 
 /// A walk to a name: the NS records of the candidate that has the last `labels` labels of the name are
 /// looked for at the servers of the deepest zone that was found at or above the name.

@@ -1,5 +1,5 @@
 use Rattle.recursor_walk.proofs.Names.{◌≡◌, Bool, cond, refl, sym, subst, ap, ◌∙◌, Option, Some, None, answerable, recalled, IsReplyKept, IsAnswered, Counted, Done}
-use Rattle.recursor_walk.proofs.Recalling.{recalled-for, recalled-answers}
+use Rattle.zone_asking.proofs.Recalling.{recalled-for, recalled-answers}
 use Rattle.recursor_walk.proofs.resolving.begun.Goals as goal
 
 pub returns-in-Some-clause-holds : goal.returns-in-Some-clause-holds

@@ -1,5 +1,5 @@
 use Rattle.recursor_walk.proofs.Names.{◌∙◌, ◌≡◌, ℕ, List, length, sym, ap, arith, nat_tests, DomainName, walk}
-use Rattle.recursor_walk.proofs.Walks.{at-root}
+use Rattle.zone_asking.proofs.Sites.{at-root}
 use Rattle.recursor_walk.proofs.resolving.begun_walk.Goals as goal
 
 pub returns-then-is_empty-clause-holds : goal.returns-then-is_empty-clause-holds

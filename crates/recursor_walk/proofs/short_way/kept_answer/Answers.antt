@@ -1,6 +1,9 @@
-use Rattle.recursor_walk.proofs.Names.{◌≡◌, ◌∙◌, refl, sym, ap, Some, Ok, option_copied, current_for, seconds_between, lowered_message}
-use Rattle.recursor_walk.proofs.Denials.{told-answer}
-use Rattle.recursor_walk.proofs.Recalling.{counted-kept, kept-recalled, kept-answers}
+use Rattle.recursor_walk.proofs.Names.{◌≡◌, ◌∙◌, refl, sym, ap, Some, Ok, option_copied}
+use Rattle.resolver_cache.specs.Life.{seconds_between}
+use Rattle.kept_responses.specs.Lowering.{lowered_message}
+use Rattle.kept_responses.specs.Entry.{current_for}
+use Rattle.zone_asking.proofs.Denials.{told-answer}
+use Rattle.zone_asking.proofs.Recalling.{counted-kept, kept-recalled, kept-answers}
 use Rattle.recursor_walk.proofs.short_way.kept_answer.Goals as goal
 
 pub returns-clause-kept : goal.returns-clause-kept

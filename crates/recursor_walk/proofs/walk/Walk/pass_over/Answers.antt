@@ -1,6 +1,5 @@
 use Rattle.recursor_walk.proofs.Names.{◌≡◌, refl, [], false, Err, NetError, is_timeout, NoNameServer, Timeout}
-use Rattle.recursor_walk.proofs.Denials.{stops}
-use Rattle.recursor_walk.proofs.Walks.{timed-out, leaves-failed}
+use Rattle.recursor_walk.proofs.Walks.{stops, timed-out, leaves-failed}
 use Rattle.recursor_walk.proofs.walk.Walk.pass_over.Goals.{in-Timeout, in_default}
 use Rattle.dns_core.specs.declared.net_error.NetError.TheVariants as net
 use Rattle.recursor_walk.proofs.walk.Walk.pass_over.Goals as goal

@@ -9,8 +9,8 @@ use Rattle.lookup_facts.specs.Found.{FoundHolds}
 use Rattle.lookup_facts.specs.Sought.{AreFor}
 use Rattle.lookup_facts.specs.View.{View, given_of}
 use Rattle.lookup_facts.specs.declared.found.Found.{Found}
-use Rattle.recursor_walk.specs.Replies.{CameTo}
-use Rattle.recursor_walk.specs.declared.asking.Asking.{Asking}
+use Rattle.zone_asking.specs.Replies.{CameTo}
+use Rattle.zone_asking.specs.declared.asking.Asking.{Asking}
 use Rattle.recursor_types.specs.declared.reply.Reply.{Reply}
 use Rattle.walk_tables.specs.Lookup as lookup
 

@@ -1,8 +1,8 @@
 -- A reply to a question that began later is one to a question that began earlier, where as much is known of moments.
-use Rattle.recursor_walk.proofs.Names.{◌≤◌, ◌+◌, ◌*◌, ℕ, Bool, List, Option, Some, None, arith, inl, inr, ⊎_elim, IsSomeAnd, Result, Ok, Err, last_or, IpAddr, DomainName, Log, Query, Message, Question, ForwardNsData, NetError, Given, Fresh, life_in_seconds, Base, IsCurrent, Answer, direct, by_alias, below-greater, run_later, Known, EndSends, Finished, Verdict, IsDenied, IsReferred, HasFailed, HasNoServer, ErrorHolds, told_on_the_way, made_on_the_way, referred, AuthorityData, WalkCause, RecursorError, View, given_of, IsToldAnswer, OutcomeHolds, Replied, machine_timer, Reply}
+use Rattle.zone_asking.proofs.Names.{◌≤◌, ◌+◌, ◌*◌, ℕ, Bool, List, Option, Some, None, arith, inl, inr, ⊎_elim, IsSomeAnd, Result, Ok, Err, last_or, IpAddr, DomainName, Log, Query, Message, Question, ForwardNsData, NetError, Given, Fresh, life_in_seconds, Base, IsCurrent, Answer, direct, by_alias, below-greater, run_later, Known, EndSends, Finished, Verdict, IsDenied, IsReferred, HasFailed, HasNoServer, ErrorHolds, told_on_the_way, made_on_the_way, referred, AuthorityData, WalkCause, RecursorError, View, given_of, IsToldAnswer, OutcomeHolds, Replied, machine_timer, Reply}
 use Rattle.resolution.specs.Answering.{Answers}
 use Rattle.resolution.specs.Lookups.{End, Answered}
-use Rattle.recursor_walk.specs.Causes.IsDenied.{told as denial_told, made as denial_made}
+use Rattle.zone_asking.specs.Causes.IsDenied.{told as denial_told, made as denial_made}
 use Rattle.recursor_types.specs.declared.error.WalkCause.TheVariants as why
 use Rattle.recursor_types.specs.declared.error.RecursorError.TheVariants as error
 

@@ -1,6 +1,6 @@
-use Rattle.recursor_walk.proofs.Names.{sym, ◌∙◌}
-use Rattle.recursor_walk.proofs.Recalling.{recalled-for, recalled-answers}
-use Rattle.recursor_walk.proofs.asking.Asking.recall.Goals as goal
+use Rattle.zone_asking.proofs.Names.{sym, ◌∙◌}
+use Rattle.zone_asking.proofs.Recalling.{recalled-for, recalled-answers}
+use Rattle.zone_asking.proofs.asking.Asking.recall.Goals as goal
 
 pub returns-in_ok-answer_with-in-Some-clause-holds : goal.returns-in_ok-answer_with-in-Some-clause-holds
 returns-in_ok-answer_with-in-Some-clause-holds c seen t0 reads h =

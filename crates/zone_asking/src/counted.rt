@@ -1,6 +1,6 @@
 //! What counts for a question, whether it was told just now or is read from the cache.
 ghost use Rattle.std.specs.Prelude.{◌≡◌, IfOk};
-ghost use Rattle.recursor_walk.specs.Counted.{recalled, may_answer, answerable};
+ghost use Rattle.zone_asking.specs.Counted.{recalled, may_answer, answerable};
 
 use dns_core::{NoMemory, Query};
 use resolution::Verdict;
@@ -29,7 +29,7 @@ impl Counted {
 }
 
 /// What counts, where it may be answered.
-pub(crate) fn answerable(counted: Option<Counted>) -> Option<Counted>
+pub fn answerable(counted: Option<Counted>) -> Option<Counted>
     ensures { result ≡ answerable counted }
 {
     match counted {
@@ -45,7 +45,7 @@ pub(crate) fn answerable(counted: Option<Counted>) -> Option<Counted>
 }
 
 /// What the cache has for a question that is current at the moment.
-pub(crate) fn recalled(
+pub fn recalled(
     alloc: Global,
     cache: &ResponseCache,
     query: &Query,

@@ -1,5 +1,8 @@
 -- What is read from the cache stands for the question that reads it.
-use Rattle.recursor_walk.proofs.Names.{◌≡◌, ℕ, ◌+◌, ◌*◌, ◌≤◌, Bool, true, false, cond, ◌&&◌, Option, Some, None, Result, Ok, IsTrue, IfSome, refl, sym, ap, subst, inl, inr, arith, ◌==◌, IsSomeAnd, option_and_then, option_map, first_so, second_so, same_Some, All-contains, same_names, Log, Query, Message, NetError, is_same_question, current_for, seconds_between, lowered, lowered_message, lowered_denial, same_query, Fresh, life_in_seconds, Base, Verdict, Pos, Neg, Made, Filter, NoRecords, counted_for, recalled, may_answer, answerable, IsCurrentVerdict, Stands, Answers, IsRecalled, View, given_of, AskedAs, IsShown, SameVerdict, ShowsAsked, Counted, same_query-refl}
+use Rattle.zone_asking.proofs.Names.{◌≡◌, ℕ, ◌+◌, ◌*◌, ◌≤◌, Bool, true, false, cond, ◌&&◌, Option, Some, None, Result, Ok, IsTrue, IfSome, refl, sym, ap, subst, inl, inr, arith, ◌==◌, IsSomeAnd, option_and_then, option_map, first_so, second_so, same_Some, All-contains, same_names, Log, Query, Message, NetError, lowered, lowered_message, lowered_denial, same_query, Fresh, life_in_seconds, Base, Verdict, Pos, Neg, Made, Filter, NoRecords, counted_for, recalled, may_answer, answerable, IsCurrentVerdict, Stands, Answers, IsRecalled, View, given_of, AskedAs, IsShown, SameVerdict, ShowsAsked, same_query-refl}
+use Rattle.zone_asking.specs.declared.counted.Counted.{Counted}
+use Rattle.resolver_cache.specs.Life.{seconds_between}
+use Rattle.kept_responses.specs.Entry.{is_same_question, current_for}
 use Rattle.resolver_cache.specs.Cached.{Cached}
 use Rattle.resolver_cache.specs.Cache.{found_for}
 use Rattle.resolver_cache.specs.Laws.{IsFoundIn}
@@ -10,8 +13,8 @@ use Rattle.resolution.proofs.Caseless.{Base-same, both, same_through}
 use Rattle.resolution.proofs.WalksCaseless.{Walked-same}
 use Rattle.walk_base.specs.Kept.{kept_of, verdict_kept}
 use Rattle.lookup_facts.specs.Remembered.{EntryHolds, CacheHolds}
-use Rattle.recursor_walk.proofs.Earlier.{some-weaker}
-use Rattle.recursor_walk.proofs.Lowered.{lower_message, lower_denial}
+use Rattle.zone_asking.proofs.Earlier.{some-weaker}
+use Rattle.zone_asking.proofs.Lowered.{lower_message, lower_denial}
 
 -- the same question for the cache is the same question
 same_question : (a b : Query) → is_same_question a b ≡ true → same_query a b ≡ true

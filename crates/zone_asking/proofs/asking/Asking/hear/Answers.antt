@@ -1,5 +1,5 @@
-use Rattle.recursor_walk.proofs.Names.{◌∙◌}
-use Rattle.recursor_walk.proofs.asking.Asking.hear.Goals as goal
+use Rattle.zone_asking.proofs.Names.{◌∙◌}
+use Rattle.zone_asking.proofs.asking.Asking.hear.Goals as goal
 
 pub returns-clause-holds : goal.returns-clause-holds
 returns-clause-holds c seen t0 h =

@@ -1,6 +1,6 @@
-use Rattle.recursor_walk.proofs.Names.{subst, Query, Answers}
-use Rattle.recursor_walk.proofs.Denials.{told-answers, told-no-error}
-use Rattle.recursor_walk.proofs.asking.Asking.answer.Goals as goal
+use Rattle.zone_asking.proofs.Names.{subst, Query, Answers}
+use Rattle.zone_asking.proofs.Denials.{told-answers, told-no-error}
+use Rattle.zone_asking.proofs.asking.Asking.answer.Goals as goal
 
 pub returns-in-Ok : goal.returns-in-Ok
 returns-in-Ok c seen t0 h =

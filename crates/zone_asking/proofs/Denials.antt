@@ -1,5 +1,7 @@
--- What the reply of a walk rests on.
-use Rattle.recursor_walk.proofs.Names.{◌≡◌, ℕ, Bool, true, false, cond, List, [], ◌∷◌, ◌++◌, Option, Some, None, Contains, refl, sym, ap, subst, ◌∙◌, ◌≤◌, arith, inl, inr, Result, Ok, Err, IfOk, ◌&&◌, ◌==◌, not, find, filter, if◌then◌else◌, is_none, Box, same_Some, none-some, filter-append, second_so, IpAddr, DomainName, Log, Query, Message, Record, NoMemory, Question, NoRecords, ForwardNsData, NetError, candidates, walk, question, is_delegation, glue, allowed, Base, direct, Finished, Pos, Neg, Made, Verdict, Filter, Zone, Same-is_delegation, Same-glue, Same-strip, Same, View, given_of, IsToldAnswer, OutcomeCame, CameTo, HasCause, RepliesSo, IsCourseOf, Course, Concluded, machine_timer, IsDenied, HasFailed, HasNoAddress, Walked, Same-refl, told_on_the_way, made_on_the_way, referred, Stands, Answers, IsCurrentVerdict, AskedAs, SameIfAny, SameReferrals, SameNegative, SameVerdict, ShowsAsked, IsMadeFor, IsShown, nothing_left_for, left_of_class, told_data, made_data, told_negative, made_negative, ends_walk, outcome_of, WalkComes, RecursorError, Negative, ForwardNS, Reply, Walk, same_query-refl, answer_whole}
+-- What a reply rests on.
+use Rattle.zone_asking.proofs.Names.{◌≡◌, ℕ, Bool, true, false, cond, List, [], ◌∷◌, ◌++◌, Option, Some, None, Contains, refl, sym, ap, subst, ◌∙◌, ◌≤◌, arith, inl, inr, Result, Ok, Err, IfOk, ◌&&◌, ◌==◌, not, find, filter, if◌then◌else◌, is_none, same_Some, none-some, filter-append, second_so, IpAddr, DomainName, Log, Query, Message, Record, Question, NoRecords, ForwardNsData, NetError, candidates, walk, question, is_delegation, glue, allowed, Base, direct, Finished, Pos, Neg, Made, Verdict, Filter, Zone, Same-is_delegation, Same-glue, Same-strip, Same, View, given_of, IsToldAnswer, OutcomeCame, CameTo, HasCause, RepliesSo, Concluded, machine_timer, IsDenied, HasFailed, HasNoAddress, Walked, Same-refl, told_on_the_way, made_on_the_way, referred, Stands, Answers, IsCurrentVerdict, AskedAs, SameIfAny, SameReferrals, SameNegative, SameVerdict, ShowsAsked, IsMadeFor, IsShown, nothing_left_for, left_of_class, told_data, made_data, told_negative, made_negative, ends_walk, outcome_of, RecursorError, Negative, ForwardNS, Reply, same_query-refl, answer_whole}
+use Rattle.dns_core.specs.declared.errors.NoMemory.{NoMemory}
+use Rattle.std.specs.Global.{Box}
 use Rattle.std.proofs.lemmas.Result.{IfOk-weaker}
 use Rattle.dns_core.specs.Stripping.{strip_of}
 use Rattle.dns_core.specs.declared.net_error.DnsError.{DnsError}
@@ -12,13 +14,12 @@ use Rattle.resolution.specs.declared.verdict.Cause.{Cause}
 use Rattle.walk_base.specs.Response.{error_of}
 use Rattle.lookup_facts.specs.Found.{IsToldAs}
 use Rattle.dns_core.specs.declared.log.ToldOutcome.{ToldOutcome}
-use Rattle.recursor_walk.specs.Causes.IsDenied.{told as denial_told, made as denial_made}
+use Rattle.zone_asking.specs.Causes.IsDenied.{told as denial_told, made as denial_made}
 use Rattle.lookup_facts.proofs.Counting.{Counts, counts-of}
-use Rattle.recursor_walk.proofs.Lowered.{negative_same, data_same}
+use Rattle.zone_asking.proofs.Lowered.{negative_same, data_same}
 use Rattle.resolver_settings.specs.Access.{denies as access_denies}
 use Rattle.dns_core.specs.declared.net_error.DnsError.TheVariants as dns
 use Rattle.resolution.specs.Failing as failing
-use Rattle.recursor_walk.specs.declared.walk.Course.TheVariants as course
 
 -- ---- what counts
 
@@ -157,18 +158,6 @@ pub replies : (seen : View) (t0 : ℕ) (asked : Question) (r : Result (Box Reply
     → IfOk r (λ reply. reply.value ≡ record { outcome = outcome; grounds = g }) → OutcomeCame seen t0 asked g outcome → RepliesSo seen t0 asked r
 replies seen t0 asked r outcome g is came =
     IfOk-weaker r _ (λ reply. CameTo seen t0 asked reply.value) (λ reply e. subst (CameTo seen t0 asked) (sym e) came) is
-
--- it is the reply of a walk
-stopped : (seen : View) (t0 : ℕ) (asked : Question) (w : Walk) (reply : Reply) (came : Course)
-    → IsCourseOf reply came → CameTo seen t0 asked reply → WalkComes seen t0 asked w came
-stopped seen t0 asked w reply (course.Reply b) is h = subst (CameTo seen t0 asked) (sym is) h
-stopped seen t0 asked w reply _ is h = absurd is
-
--- a walk that stops with a reply
-pub stops : (seen : View) (t0 : ℕ) (asked : Question) (w : Walk) (r : Result Course NoMemory) (reply : Reply)
-    → IfOk r (IsCourseOf reply) → CameTo seen t0 asked reply → IfOk r (WalkComes seen t0 asked w)
-stops seen t0 asked w r reply is h =
-    IfOk-weaker r _ (WalkComes seen t0 asked w) (λ came e. stopped seen t0 asked w reply came e h) is
 
 -- a lookup for a question at the servers of the zone to which its walk went down failed
 pub has-failed : (seen : View) (t0 : ℕ) (zone : DomainName) (asked q : Query) (g : List ℕ) (e : NetError)

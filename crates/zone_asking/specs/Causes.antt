@@ -17,7 +17,7 @@ use Rattle.resolution.specs.declared.verdict.Cause.{Cause}
 use Rattle.walk_base.specs.Answer.{told_data, made_data}
 use Rattle.lookup_facts.specs.Asked.{AskedAs}
 use Rattle.lookup_facts.specs.Found.{is_lookup_error}
-use Rattle.recursor_walk.specs.SameTold.{SameDenial, SameReferrals, IsMadeFor}
+use Rattle.zone_asking.specs.SameTold.{SameDenial, SameReferrals, IsMadeFor}
 use Rattle.recursor_types.specs.declared.error.AuthorityData.{AuthorityData}
 use Rattle.recursor_types.specs.declared.error.MessageKind.TheVariants.{NotQualified}
 use Rattle.recursor_types.specs.declared.error.WalkCause.{WalkCause}

@@ -1,6 +1,6 @@
-use Rattle.recursor_walk.proofs.Names.{sym, subst, [], ◌∷◌, OutcomeCame}
-use Rattle.recursor_walk.proofs.Denials.{answered-by, replies}
-use Rattle.recursor_walk.proofs.asking.answer_with.Goals as goal
+use Rattle.zone_asking.proofs.Names.{sym, subst, [], ◌∷◌, OutcomeCame}
+use Rattle.zone_asking.proofs.Denials.{answered-by, replies}
+use Rattle.zone_asking.proofs.asking.answer_with.Goals as goal
 
 pub returns-clause-gives : goal.returns-clause-gives
 returns-clause-gives c = rw c.in_ok-outcome.ensures at c.reply_by.ensures

@@ -1,6 +1,6 @@
-use Rattle.recursor_walk.proofs.Names.{subst, Err, Query, Walked, Net, given_of}
-use Rattle.recursor_walk.proofs.Denials.{replies, has-failed}
-use Rattle.recursor_walk.proofs.asking.Asking.conclude.Goals as goal
+use Rattle.zone_asking.proofs.Names.{subst, Err, Query, Walked, Net, given_of}
+use Rattle.zone_asking.proofs.Denials.{replies, has-failed}
+use Rattle.zone_asking.proofs.asking.Asking.conclude.Goals as goal
 
 pub returns-in-Told : goal.returns-in-Told
 returns-in-Told c seen t0 h = c.answer.ensures seen t0 (record { asks = h.asks; walked = h.walked; came = rw c.in-Told.is at h.came })

@@ -23,9 +23,9 @@ use Rattle.lookup_facts.specs.View.{View, given_of}
 use Rattle.lookup_facts.specs.Tried.{Timer, machine_timer}
 use Rattle.resolver_cache.specs.Cached.{Cached}
 use Rattle.walk_base.specs.Answer.{outcome_of}
-use Rattle.recursor_walk.specs.Causes.{ErrorHolds}
-use Rattle.recursor_walk.specs.Counted.{recalled, may_answer}
-use Rattle.recursor_walk.specs.declared.counted.Counted.{Counted}
+use Rattle.zone_asking.specs.Causes.{ErrorHolds}
+use Rattle.zone_asking.specs.Counted.{recalled, may_answer}
+use Rattle.zone_asking.specs.declared.counted.Counted.{Counted}
 use Rattle.recursor_types.specs.declared.error.RecursorError.TheVariants as error
 
 -- The message is what counts of one entry, less the DNSSEC records that were not asked for, and the walk went down to the zone of its server.

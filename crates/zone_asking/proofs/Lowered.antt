@@ -1,5 +1,5 @@
 -- What reads later is the same but for TTLs.
-use Rattle.recursor_walk.proofs.Names.{◌≡◌, ℕ, List, [], ◌∷◌, Option, Some, None, refl, ap, arith, map, option_map, AllZip, Record, Message, ForwardNsData, NoRecords, lowered_record, lowered_message, lowered_delegation, lowered_denial, SameRecord, SameRecords, Same, SameRecords-refl, SameIfAny, SameReferral, SameReferrals, SameNegative, SameDenial, told_data}
+use Rattle.zone_asking.proofs.Names.{◌≡◌, ℕ, List, [], ◌∷◌, Option, Some, None, refl, ap, arith, map, option_map, AllZip, Record, Message, ForwardNsData, NoRecords, lowered_record, lowered_message, lowered_delegation, lowered_denial, SameRecord, SameRecords, Same, SameRecords-refl, SameIfAny, SameReferral, SameReferrals, SameNegative, SameDenial, told_data}
 
 -- ---- itself
 

@@ -13,8 +13,8 @@ use Rattle.resolution.specs.Walking.{Walked}
 use Rattle.walk_base.specs.Kept.{verdict_kept}
 use Rattle.lookup_facts.specs.Remembered.{CacheHolds}
 use Rattle.lookup_facts.specs.View.{View, given_of}
-use Rattle.recursor_walk.specs.SameTold.{SameVerdict, ShowsAsked}
-use Rattle.recursor_walk.specs.declared.counted.Counted.{Counted}
+use Rattle.zone_asking.specs.SameTold.{SameVerdict, ShowsAsked}
+use Rattle.zone_asking.specs.declared.counted.Counted.{Counted}
 
 -- ---- in the cache
 

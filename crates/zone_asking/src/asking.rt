@@ -6,9 +6,9 @@ ghost use Rattle.walk_tables.specs.Lookup.{want_of, want_after};
 ghost use Rattle.walk_tables.specs.Taking.{awaited_by, IfAwaits};
 ghost use Rattle.lookup_facts.specs.Sought.{AreFor};
 ghost use Rattle.walk_tables.specs.Pools.{PoolsHold, StepGoes, IsStepAt, given_so_far, GivesNext};
-ghost use Rattle.recursor_walk.specs.Asking.{AskingHolds, LastHolds, LastComes, HasFound, SameSite, steps, LeavesFewer};
-ghost use Rattle.recursor_walk.specs.Counted.{Answers, ReadsAt, recalled, answerable};
-ghost use Rattle.recursor_walk.specs.Replies.{RepliesSo, RepliesWith, reply_with};
+ghost use Rattle.zone_asking.specs.Asking.{AskingHolds, LastHolds, LastComes, HasFound, SameSite, steps, LeavesFewer};
+ghost use Rattle.zone_asking.specs.Counted.{Answers, ReadsAt, recalled, answerable};
+ghost use Rattle.zone_asking.specs.Replies.{RepliesSo, RepliesWith, reply_with};
 ghost use Rattle.walk_tables.specs.declared.lookup.Want.TheVariants as want;
 
 use crate::counted::{Counted, answerable, recalled};
@@ -32,7 +32,7 @@ pub struct Asking {
 }
 
 /// Answers a question with what counts for it, less the DNSSEC records that it does not want.
-pub(crate) fn answer_with(
+pub fn answer_with(
     alloc: Global,
     question: &Question,
     counted: Counted,

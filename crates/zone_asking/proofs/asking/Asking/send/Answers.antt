@@ -1,4 +1,4 @@
-use Rattle.recursor_walk.proofs.asking.Asking.send.Goals as goal
+use Rattle.zone_asking.proofs.asking.Asking.send.Goals as goal
 
 pub returns-clause-holds : goal.returns-clause-holds
 returns-clause-holds c seen t0 here pools h =

@@ -1,4 +1,4 @@
-use Rattle.recursor_walk.proofs.asking.Asking.step.Goals as goal
+use Rattle.zone_asking.proofs.asking.Asking.step.Goals as goal
 
 pub returns-clause-holds : goal.returns-clause-holds
 returns-clause-holds c seen step pools h =

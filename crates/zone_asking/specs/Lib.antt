@@ -1,0 +1,5 @@
+pub mod SameTold
+pub mod Causes
+pub mod Replies
+pub mod Counted
+pub mod Asking
