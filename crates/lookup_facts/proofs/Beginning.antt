@@ -3,14 +3,14 @@ use Rattle.lookup_facts.proofs.Names.{◌≡◌, ℕ, ◌<◌, ◌≤◌, ◌⊎
 use Rattle.std.proofs.Common.{◌==◌}
 use Rattle.server_core.specs.Policy.{allows_config}
 use Rattle.server_core.specs.declared.policy.ConnectionPolicy.{ConnectionPolicy}
-use Rattle.server_pool.specs.Candidates.{is_reached, candidate_of, candidates}
+use Rattle.pool_lookups.specs.Candidates.{is_reached, candidate_of, candidates}
 use Rattle.resolver_settings.specs.declared.options.ResolverOpts.{ResolverOpts}
 use Rattle.resolver_settings.specs.declared.options.ServerOrderingStrategy.{ServerOrderingStrategy}
 use Rattle.resolver_settings.specs.declared.options.ServerOrderingStrategy.TheVariants.{QueryStatistics, UserProvidedOrder, RoundRobin}
 use Rattle.retry_rules.specs.Ordering.{IsByDelay, IsOrdered, from_place, place_of_turn, side_by_side}
 use Rattle.server_pool.specs.ByAddress.Beside.{no_more}
 use Rattle.lookup_facts.proofs.Carrying.{config-same}
-use Rattle.server_pool.specs.Key.{same_key}
+use Rattle.retry_rules.specs.Key.{same_key}
 
 -- ---- servers that were met
 

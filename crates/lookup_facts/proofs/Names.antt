@@ -32,9 +32,9 @@ pub use Rattle.retry_lookup.specs.Holds.{HeardEnd, ends_of, entries_of, IsRun, o
 pub use Rattle.retry_lookup.specs.Lookup.{LookupState, question_of, BegunWith, begun_with, fresh, is_decided}
 pub use Rattle.retry_lookup.specs.declared.lookup.State.{State}
 pub use Rattle.retry_lookup.specs.declared.lookup.State.TheVariants.{Decided, Asking, BackingOff}
-pub use Rattle.server_pool.specs.Lookups.{closed_by, open_for, moved_to, with_at, left, is_last, after_leave}
-pub use Rattle.server_pool.specs.Shared.{lookup_at, Shared, turn_at, configs, SameBut, lookup_of, under, denied_in}
-pub use Rattle.server_pool.specs.declared.open_lookup.OpenLookup.{OpenLookup}
+pub use Rattle.pool_lookups.specs.Lookups.{closed_by, open_for, moved_to, with_at, left, is_last, after_leave, under}
+pub use Rattle.pool_lookups.specs.declared.open_lookup.OpenLookup.{OpenLookup}
+pub use Rattle.server_pool.specs.Shared.{lookup_at, Shared, turn_at, configs, SameBut, lookup_of, denied_in}
 pub use Rattle.server_pool.specs.ByAddress.{at_address, IsSameEnd, SameEnds}
 pub use Rattle.server_pool.proofs.ByAddress.{IsTrustedBeyondUdp, run_by_address, told_class_itself, address_from_pool}
 pub use Rattle.walk_base.specs.Shown.{nothing_left_for, left_of_class, IsShown}
@@ -69,11 +69,13 @@ pub use Rattle.retry_lookup.specs.declared.giving.LookupStep.{LookupStep}
 pub use Rattle.retry_lookup.specs.declared.attempt.Attempt.{Attempt}
 pub use Rattle.retry_lookup.specs.Attempts.{is_open_at}
 pub use Rattle.retry_lookup.specs.Giving.{Gives, Halts}
-pub use Rattle.server_pool.specs.Orders.{IsOpenOrder, open_at, without_order}
-pub use Rattle.server_pool.specs.Stepping.{HasStepped, told_as, HasHalted, orders_by, HasPut, put_lookup}
+pub use Rattle.pool_lookups.specs.Orders.{without_order, orders_by}
+pub use Rattle.pool_lookups.specs.Stepping.{put_lookup}
+pub use Rattle.pool_lookups.proofs.UnderNumbers.{found_with, inserted, inserted_other, removed_other, with_other, IsSame, is_same, IsFound, found_in}
+pub use Rattle.server_pool.specs.Orders.{IsOpenOrder, open_at}
+pub use Rattle.server_pool.specs.Stepping.{HasStepped, told_as, HasHalted, HasPut}
 pub use Rattle.server_pool.specs.declared.pool_shared.PoolStep.{PoolStep}
 pub use Rattle.server_pool.proofs.Running.{next_runs, next_rest, order_goes, put_rest}
-pub use Rattle.server_pool.proofs.UnderNumbers.{found_with, inserted, inserted_other, removed_other, with_other, IsSame, is_same, IsFound, found_in}
 pub use Rattle.retry_lookup.proofs.Orders.{no_polls, gives_open}
 pub use Rattle.kept_responses.specs.declared.entry.Entry.{Entry}
 pub use Rattle.resolution.specs.Life.{life_in_seconds}

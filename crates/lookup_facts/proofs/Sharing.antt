@@ -2,8 +2,8 @@
 use Rattle.lookup_facts.proofs.Names.{◌≡◌, ◌≢◌, ℕ, ◌≤◌, inl, inr, Bool, true, false, cond, List, Option, Some, None, Result, refl, sym, ap, subst, ◌∙◌, arith, same_Some, none-some, is_at, insert_entry, nat_cmp, NoMemory, DnsRequest, After, Outcome, Tick, has_order, Halts, LookupState, started, with_at, moved_to, left, is_last, after_leave, without_order, HasBegun, Shared, under, lookup_at, lookup_of, configs, denied_in, SameBut, HasStepped, HasHalted, HasPut, put_lookup, OpenLookup, PoolStep, inserted, inserted_other, removed_other, with_other, found_with, IsSame, is_same, IsFound, found_in, IsNumbered, AreNumbered}
 use Rattle.std.specs.Map.{remove_entry}
 use Rattle.retry_lookup.proofs.Reached.{halted_configs}
-use Rattle.server_pool.proofs.UnderNumbers.IsSame.{is_one, are_two}
-use Rattle.server_pool.proofs.UnderNumbers.IsFound.{is_changed, is_other}
+use Rattle.pool_lookups.proofs.UnderNumbers.IsSame.{is_one, are_two}
+use Rattle.pool_lookups.proofs.UnderNumbers.IsFound.{is_changed, is_other}
 
 -- ---- numbers
 

@@ -3,9 +3,9 @@ use Rattle.std.specs.Prelude.{◌≡◌, ℕ, Bool, nat_lt, length, Option, Some
 use Rattle.resolver_cache.specs.Cached.{Cached}
 use Rattle.resolution.specs.Lookups.{Answered}
 use Rattle.retry_lookup.specs.Asked.{answer_of}
-use Rattle.server_pool.specs.Lookups.{closed_by}
+use Rattle.pool_lookups.specs.Lookups.{closed_by}
+use Rattle.pool_lookups.specs.declared.open_lookup.OpenLookup.{OpenLookup}
 use Rattle.server_pool.specs.Shared.{Shared, lookup_at}
-use Rattle.server_pool.specs.declared.open_lookup.OpenLookup.{OpenLookup}
 use Rattle.walk_base.specs.Kept.{kept_of}
 use Rattle.lookup_facts.specs.Found.{last_of, classified, HasCome}
 use Rattle.lookup_facts.specs.Remembered.{Telling, telling, with_response}

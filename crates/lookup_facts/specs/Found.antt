@@ -16,8 +16,8 @@ use Rattle.dns_core.specs.declared.net_error.NetError.{NetError}
 use Rattle.resolution.specs.Lookups.{Answered}
 use Rattle.retry_lookup.specs.Asked.{answer_of}
 use Rattle.retry_lookup.specs.Holds.{out_of_memory}
-use Rattle.server_pool.specs.Lookups.{closed_by}
-use Rattle.server_pool.specs.declared.open_lookup.OpenLookup.{OpenLookup}
+use Rattle.pool_lookups.specs.Lookups.{closed_by}
+use Rattle.pool_lookups.specs.declared.open_lookup.OpenLookup.{OpenLookup}
 use Rattle.walk_base.specs.Response.{error_of}
 use Rattle.walk_base.specs.Shown.{left_of_class}
 use Rattle.lookup_facts.specs.Asked.{AskedAs}

@@ -25,10 +25,10 @@ use Rattle.retry_lookup.specs.Lookup.{LookupState, question_of}
 use Rattle.retry_lookup.specs.Running.{IsOpenTo, IsBackingOffUnder}
 use Rattle.retry_lookup.specs.declared.lookup.State.TheVariants.{Decided}
 use Rattle.retry_rules.specs.Agenda.{class_of_sent}
+use Rattle.pool_lookups.specs.declared.open_lookup.OpenLookup.{OpenLookup}
 use Rattle.server_pool.specs.ByAddress.{SameEnds, at_address}
 use Rattle.server_pool.specs.Shared.{Shared, lookup_at, lookup_of}
 use Rattle.retry_rules.specs.declared.candidate.Candidate.{Candidate}
-use Rattle.server_pool.specs.declared.open_lookup.OpenLookup.{OpenLookup}
 use Rattle.lookup_facts.specs.View.{View, given_of}
 use Rattle.lookup_facts.specs.Tried.{Tried}
 use Rattle.lookup_facts.specs.Found.{HasCome}

@@ -1,3 +1,4 @@
+pub mod Key
 pub mod KeptError
 pub mod Statistics
 pub mod Ordering

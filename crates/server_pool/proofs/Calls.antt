@@ -13,17 +13,18 @@ use Rattle.retry_lookup.specs.Giving.{Halts}
 use Rattle.retry_lookup.specs.Lookup.{LookupState}
 use Rattle.retry_lookup.specs.Rounds.{started}
 use Rattle.retry_lookup.proofs.Reached.{stepped_configs, halted_configs}
+use Rattle.pool_lookups.specs.Lookups.{moved_to, under}
+use Rattle.pool_lookups.specs.Orders.{without_order, orders_by, given_by}
+use Rattle.pool_lookups.specs.Stepping.{IsStepAt, IsHaltedAt}
+use Rattle.pool_lookups.specs.declared.open_lookup.OpenLookup.{OpenLookup}
+use Rattle.pool_lookups.proofs.UnderNumbers.{found_with, remove_inserted}
 use Rattle.server_pool.specs.Holds.{times_of, SharedHolds}
-use Rattle.server_pool.specs.Lookups.{moved_to}
-use Rattle.server_pool.specs.Orders.{without_order}
 use Rattle.server_pool.specs.Promises.{IsFairly, IfDone, IfWaiting}
-use Rattle.server_pool.specs.Shared.{Shared, under, lookup_at, denied_in, configs}
-use Rattle.server_pool.specs.Stepping.{IsStepAt, IsHaltedAt, told_as, told_by, orders_by, given_by, with_rest, HasStepped, HasHalted}
-use Rattle.server_pool.specs.declared.open_lookup.OpenLookup.{OpenLookup}
+use Rattle.server_pool.specs.Shared.{Shared, lookup_at, denied_in, configs}
+use Rattle.server_pool.specs.Stepping.{told_as, told_by, with_rest, HasStepped, HasHalted}
 use Rattle.server_pool.specs.declared.pool_shared.PoolStep.TheVariants as gives
 use Rattle.server_pool.proofs.Kept.{stepped_holds, halted_holds}
 use Rattle.server_pool.proofs.Promised.{fairly, if_done, if_waiting}
-use Rattle.server_pool.proofs.UnderNumbers.{found_with, remove_inserted}
 
 -- so it was called
 pub record IsNext (n now : ℕ) (old : Shared) (r : Result LookupStep NoMemory) (new : Shared) : Type 0 where

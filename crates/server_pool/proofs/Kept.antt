@@ -21,15 +21,15 @@ use Rattle.retry_lookup.proofs.Laws.{holds_started, holds_outcome, holds_out_of_
 use Rattle.retry_lookup.proofs.Next.{holds_next}
 use Rattle.retry_lookup.proofs.Opens.{bit, opens_started, opens_order, opens_outcome, opens_out_of_memory, opens_none}
 use Rattle.retry_lookup.proofs.Reached.{are_reached, stepped_configs, halted_configs, heard_configs}
+use Rattle.pool_lookups.specs.Lookups.{with_at, moved_to, joined, left, under}
+use Rattle.pool_lookups.specs.Orders.{without_order, orders_by, orders_left}
+use Rattle.pool_lookups.specs.Stepping.{IsStepAt, IsHaltedAt, put_lookup, put_table}
+use Rattle.pool_lookups.specs.declared.open_lookup.OpenLookup.{OpenLookup}
+use Rattle.pool_lookups.proofs.UnderNumbers.{inserted, inserted_other, removed_other, removed_none, with_other, IsSame, is_same, IsFound, found_in}
+use Rattle.pool_lookups.proofs.UnderNumbers.IsSame.{is_one, are_two}
+use Rattle.pool_lookups.proofs.UnderNumbers.IsFound.{is_changed, is_other}
 use Rattle.server_pool.specs.Holds.{LookupHolds, times_of, SharedHolds}
-use Rattle.server_pool.specs.Lookups.{with_at, moved_to, joined, left}
-use Rattle.server_pool.specs.Orders.{without_order}
-use Rattle.server_pool.specs.Shared.{under, configs}
-use Rattle.server_pool.specs.Stepping.{IsStepAt, IsHaltedAt, orders_by, put_lookup, put_table, orders_left}
-use Rattle.server_pool.specs.declared.open_lookup.OpenLookup.{OpenLookup}
-use Rattle.server_pool.proofs.UnderNumbers.{inserted, inserted_other, removed_other, removed_none, with_other, IsSame, is_same, IsFound, found_in}
-use Rattle.server_pool.proofs.UnderNumbers.IsSame.{is_one, are_two}
-use Rattle.server_pool.proofs.UnderNumbers.IsFound.{is_changed, is_other}
+use Rattle.server_pool.specs.Shared.{configs}
 
 -- ---- how often an order is one of a lookup
 

@@ -1,12 +1,10 @@
 pub mod Beside
 pub mod Narrowed
 pub mod ByAddress
-pub mod UnderNumbers
 pub mod Kept
 pub mod Reaching
 pub mod Promised
 mod NewServers
-pub mod Changed
 pub mod Listed
 pub mod Calls
 pub mod Outcomes

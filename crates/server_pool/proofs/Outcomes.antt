@@ -9,15 +9,17 @@ use Rattle.retry_lookup.specs.Asked.{has_order}
 use Rattle.retry_lookup.specs.Hearing.{done_by, RunsOut}
 use Rattle.retry_lookup.specs.Lookup.{LookupState}
 use Rattle.retry_lookup.proofs.Reached.{heard_configs}
+use Rattle.pool_lookups.specs.Lookups.{with_at, moved_to, is_open_in, under}
+use Rattle.pool_lookups.specs.Orders.{without_order, orders_left}
+use Rattle.pool_lookups.specs.Stepping.{put_lookup, put_table}
+use Rattle.pool_lookups.specs.declared.open_lookup.OpenLookup.{OpenLookup}
+use Rattle.pool_lookups.proofs.UnderNumbers.{found_with}
 use Rattle.server_pool.specs.Holds.{SharedHolds}
-use Rattle.server_pool.specs.Lookups.{with_at, moved_to, is_open_in}
-use Rattle.server_pool.specs.Orders.{IsOpenOrder, open_at, without_order}
-use Rattle.server_pool.specs.Shared.{Shared, under, denied_in, configs}
-use Rattle.server_pool.specs.Stepping.{put_lookup, put_table, orders_left, HasPut}
-use Rattle.server_pool.specs.declared.open_lookup.OpenLookup.{OpenLookup}
+use Rattle.server_pool.specs.Orders.{IsOpenOrder, open_at}
+use Rattle.server_pool.specs.Shared.{Shared, denied_in, configs}
+use Rattle.server_pool.specs.Stepping.{HasPut}
 use Rattle.server_pool.proofs.Kept.{put_holds}
 use Rattle.server_pool.proofs.Listed.{some_same, opened, open_is}
-use Rattle.server_pool.proofs.UnderNumbers.{found_with}
 
 -- so it was put to the lookup of the number n
 pub record IsPut (number n : ℕ) (o : Outcome) (tick : Tick) (old : Shared) (r : Result After NoMemory) (new : Shared) : Type 0 where

@@ -9,7 +9,6 @@ use Rattle.retry_rules.proofs.Standing.{count_cons}
 use Rattle.retry_lookup.specs.declared.attempt.Attempt.{Attempt}
 use Rattle.retry_lookup.specs.declared.giving.LookupStep.{LookupStep}
 use Rattle.retry_lookup.specs.declared.giving.LookupStep.TheVariants as step
-use Rattle.retry_lookup.specs.declared.giving.Want.TheVariants as want
 use Rattle.retry_lookup.specs.declared.lookup.State.{State}
 use Rattle.retry_lookup.specs.declared.lookup.State.TheVariants.{Asking, BackingOff, Decided}
 use Rattle.retry_lookup.specs.Asked.{opens_in, opens}
@@ -22,13 +21,14 @@ use Rattle.retry_lookup.specs.Rounds.{started}
 use Rattle.retry_lookup.proofs.Fair.{is_fair}
 use Rattle.retry_lookup.proofs.Opens.{bit, opens_has}
 use Rattle.retry_lookup.proofs.Waits.{waits_for}
+use Rattle.pool_lookups.specs.Lookups.{moved_to, under}
+use Rattle.pool_lookups.specs.Stepping.{IsStepAt}
+use Rattle.pool_lookups.specs.declared.open_lookup.OpenLookup.{OpenLookup}
+use Rattle.pool_lookups.proofs.UnderNumbers.{found_with}
 use Rattle.server_pool.specs.Holds.{SharedHolds, times_of}
-use Rattle.server_pool.specs.Lookups.{moved_to}
 use Rattle.server_pool.specs.Promises.{IsFairly, IsAnswered, IfDone, IfWaiting}
-use Rattle.server_pool.specs.Shared.{Shared, under}
-use Rattle.server_pool.specs.Stepping.{IsStepAt, told_as}
-use Rattle.server_pool.specs.declared.open_lookup.OpenLookup.{OpenLookup}
-use Rattle.server_pool.proofs.UnderNumbers.{found_with}
+use Rattle.server_pool.specs.Shared.{Shared}
+use Rattle.server_pool.specs.Stepping.{told_as}
 
 -- ---- fair
 

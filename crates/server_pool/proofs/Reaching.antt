@@ -20,12 +20,12 @@ use Rattle.retry_lookup.specs.Rounds.{begun}
 use Rattle.retry_lookup.proofs.Begun.{round_same}
 use Rattle.retry_lookup.proofs.Opens.{opens_begun}
 use Rattle.retry_lookup.proofs.Reached.{more_reached}
-use Rattle.server_pool.specs.Candidates.{is_reached, candidate_of, candidates}
+use Rattle.pool_lookups.specs.Candidates.{is_reached, candidate_of, candidates}
+use Rattle.pool_lookups.specs.Lookups.{is_last, under}
+use Rattle.pool_lookups.specs.declared.open_lookup.OpenLookup.{OpenLookup}
 use Rattle.server_pool.specs.Holds.{LookupHolds, SharedHolds}
-use Rattle.server_pool.specs.Lookups.{is_last}
 use Rattle.server_pool.specs.Sending.{Begins, HasBegun}
-use Rattle.server_pool.specs.Shared.{Shared, under, turn_at}
-use Rattle.server_pool.specs.declared.open_lookup.OpenLookup.{OpenLookup}
+use Rattle.server_pool.specs.Shared.{Shared, turn_at}
 
 -- ---- the candidates
 

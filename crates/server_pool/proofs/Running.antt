@@ -27,17 +27,19 @@ use Rattle.retry_lookup.proofs.Next.{next_by}
 use Rattle.retry_lookup.proofs.Opens.{opens_started}
 use Rattle.retry_lookup.proofs.Reached.{stepped_configs, heard_configs}
 use Rattle.retry_lookup.proofs.Sent.{order_sent}
-use Rattle.server_pool.specs.Lookups.{moved_to}
-use Rattle.server_pool.specs.Orders.{IsOpenOrder, without_order}
+use Rattle.pool_lookups.specs.Lookups.{moved_to, under}
+use Rattle.pool_lookups.specs.Orders.{without_order, orders_by}
+use Rattle.pool_lookups.specs.Stepping.{put_lookup, put_table}
+use Rattle.pool_lookups.specs.declared.open_lookup.OpenLookup.{OpenLookup}
+use Rattle.pool_lookups.proofs.UnderNumbers.{inserted, inserted_other, removed_other, found_with, with_other, IsSame, is_same}
+use Rattle.pool_lookups.proofs.UnderNumbers.IsSame.{is_one, are_two}
+use Rattle.server_pool.specs.Orders.{IsOpenOrder}
 use Rattle.server_pool.specs.Running.{RunsOn}
-use Rattle.server_pool.specs.Shared.{Shared, under, lookup_at, lookup_of, denied_in, configs, SameBut}
-use Rattle.server_pool.specs.Stepping.{told_as, orders_by, put_lookup, put_table, HasStepped, HasPut}
-use Rattle.server_pool.specs.declared.open_lookup.OpenLookup.{OpenLookup}
+use Rattle.server_pool.specs.Shared.{Shared, lookup_at, lookup_of, denied_in, configs, SameBut}
+use Rattle.server_pool.specs.Stepping.{told_as, HasStepped, HasPut}
 use Rattle.server_pool.specs.declared.pool_shared.PoolStep.{PoolStep}
 use Rattle.server_pool.specs.declared.pool_shared.PoolStep.TheVariants as gives
 use Rattle.server_pool.proofs.Listed.{some_same}
-use Rattle.server_pool.proofs.UnderNumbers.{inserted, inserted_other, removed_other, found_with, with_other, IsSame, is_same}
-use Rattle.server_pool.proofs.UnderNumbers.IsSame.{is_one, are_two}
 
 -- ---- by which ends
 

@@ -1,10 +1,10 @@
 -- A request joins a lookup, or begins one.
 use Rattle.std.proofs.Common.{◌≡◌, ℕ, true, List, Option, Some, None, Result, Ok, Err, IfOk, OnOk, subst}
 use Rattle.dns_core.specs.declared.request.DnsRequest.{DnsRequest}
-use Rattle.server_pool.specs.Lookups.{is_for, open_for}
+use Rattle.pool_lookups.specs.Lookups.{is_for, open_for, under}
+use Rattle.pool_lookups.specs.declared.open_lookup.OpenLookup.{OpenLookup}
 use Rattle.server_pool.specs.Sending.{HasBegun, after_join, SentTo, HasSent}
-use Rattle.server_pool.specs.Shared.{Shared, under}
-use Rattle.server_pool.specs.declared.open_lookup.OpenLookup.{OpenLookup}
+use Rattle.server_pool.specs.Shared.{Shared}
 
 module _ (pool : ℕ) (servers : List ℕ) (request : DnsRequest) (now : ℕ) (old new : Shared) where
   by_number : (o : Option ℕ) (number : ℕ) → o ≡ open_for pool request old.lookups → SentTo o pool servers request now old new number → HasSent pool servers request now old new number

@@ -1,9 +1,6 @@
-pub mod Candidates
 pub mod ByAddress
-pub mod Key
 pub mod Pool
 pub mod Shared
-pub mod Lookups
 pub mod Orders
 pub mod Holds
 pub mod Sending

@@ -5,9 +5,9 @@ use Rattle.resolution.specs.Lookups.{Answered}
 use Rattle.retry_lookup.specs.Holds.{HeardEnd, IsRun, out_of_memory}
 use Rattle.retry_lookup.specs.Lookup.{LookupState}
 use Rattle.retry_lookup.specs.Promises.{IsFair}
+use Rattle.pool_lookups.specs.declared.open_lookup.OpenLookup.{OpenLookup}
 use Rattle.server_pool.specs.Orders.{IsOpenOrder}
 use Rattle.server_pool.specs.Shared.{Shared}
-use Rattle.server_pool.specs.declared.open_lookup.OpenLookup.{OpenLookup}
 use Rattle.server_pool.specs.declared.pool_shared.PoolStep.{PoolStep}
 use Rattle.server_pool.specs.declared.pool_shared.PoolStep.TheVariants as gives
 

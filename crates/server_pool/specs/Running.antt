@@ -4,8 +4,8 @@ use Rattle.std.specs.declared.net.ip_addr.IpAddr.{IpAddr}
 use Rattle.retry_lookup.specs.Holds.{HeardEnd, HoldsBy}
 use Rattle.retry_lookup.specs.Lookup.{begun_with}
 use Rattle.retry_lookup.specs.Running.{DecidesAt}
+use Rattle.pool_lookups.specs.declared.open_lookup.OpenLookup.{OpenLookup}
 use Rattle.server_pool.specs.Shared.{Shared, lookup_at}
-use Rattle.server_pool.specs.declared.open_lookup.OpenLookup.{OpenLookup}
 
 -- The lookup of the number stands by these ends after a step of the moment. It asks what it asked, at the same servers of its pool, and as many wait for it.
 pub record RunsOn (denied : IpAddr → Bool) (heard : List HeardEnd) (now n : ℕ) (l : OpenLookup) (new : Shared) : Type 0 where

@@ -11,10 +11,10 @@ use Rattle.server_core.specs.Servers.{Server}
 use Rattle.retry_rules.specs.Ordering.{IsOrdered, next_turn, side_by_side}
 use Rattle.retry_lookup.specs.Lookup.{LookupState}
 use Rattle.retry_lookup.specs.Rounds.{begun}
-use Rattle.server_pool.specs.Candidates.{candidates}
-use Rattle.server_pool.specs.Lookups.{with_at, joined, is_for, open_for}
+use Rattle.pool_lookups.specs.Candidates.{candidates}
+use Rattle.pool_lookups.specs.Lookups.{with_at, joined, is_for, open_for}
+use Rattle.pool_lookups.specs.declared.open_lookup.OpenLookup.{OpenLookup}
 use Rattle.server_pool.specs.Shared.{Shared, lookup_at, turn_at}
-use Rattle.server_pool.specs.declared.open_lookup.OpenLookup.{OpenLookup}
 
 -- the request for a question, with the case of its letters by chance where the settings say so
 abbrev pub request_by : Context → Query → DnsRequestOptions → DnsRequest

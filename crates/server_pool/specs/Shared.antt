@@ -1,14 +1,12 @@
 -- What the pools of a resolver share.
 use Rattle.std.specs.Prelude.{◌≡◌, ◌≢◌, ℕ, Bool, List, Option, Some, unwrap_or}
-use Rattle.std.specs.BTreeMap.{is_at}
-use Rattle.std.specs.Map.{lookup}
-use Rattle.std.specs.Ordering.{nat_cmp}
 use Rattle.std.specs.declared.net.ip_addr.IpAddr.{IpAddr}
 use Rattle.server_core.specs.Context.{Context}
 use Rattle.server_core.specs.Servers.{Server}
 use Rattle.retry_rules.specs.AnswerFilter.{denied_by}
 pub use Rattle.retry_lookup.specs.Tables.{configs}
-use Rattle.server_pool.specs.declared.open_lookup.OpenLookup.{OpenLookup}
+use Rattle.pool_lookups.specs.Lookups.{under}
+use Rattle.pool_lookups.specs.declared.open_lookup.OpenLookup.{OpenLookup}
 
 -- the servers, each with its place as its number; the settings of all pools; how many pools were numbered so far; the lookups that are under way, by their numbers; the lookup of each order that was given
 -- and has not ended, by its number; whose turn it is in each pool that takes turns; and how many requests were sent and how many orders were given so far
@@ -21,10 +19,6 @@ pub record Shared : Type 0 where
   pub turns : List (ℕ × ℕ)
   pub sent : ℕ
   pub given : ℕ
-
--- what stands under a number
-abbrev pub under : {X : Type 0} → ℕ → List (ℕ × X) → Option X
-under n entries = lookup (is_at (nat_cmp n)) entries
 
 -- the lookup of a number
 abbrev pub lookup_at : Shared → ℕ → Option OpenLookup

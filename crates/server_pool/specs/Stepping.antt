@@ -1,41 +1,24 @@
 -- What the next step of a lookup, and the outcome of an order, leave.
-use Rattle.std.specs.Prelude.{◌≡◌, ℕ, ◌+◌, Bool, false, List, if◌then◌else◌, None, Result, Ok, Err, MatchResult}
+use Rattle.std.specs.Prelude.{◌≡◌, ℕ, ◌+◌, false, None, Result, Ok, Err, MatchResult}
 use Rattle.std.specs.BTreeMap.{insert_entry}
 use Rattle.std.specs.Ordering.{nat_cmp}
-use Rattle.std.specs.declared.net.ip_addr.IpAddr.{IpAddr}
 use Rattle.dns_core.specs.declared.errors.NoMemory.{NoMemory}
-use Rattle.server_core.specs.Servers.{Server}
 use Rattle.server_core.specs.declared.order.After.{After}
 use Rattle.server_core.specs.declared.order.Outcome.{Outcome}
 use Rattle.server_core.specs.declared.order.Tick.{Tick}
 use Rattle.retry_lookup.specs.declared.giving.LookupStep.{LookupStep}
 use Rattle.retry_lookup.specs.declared.giving.LookupStep.TheVariants as step
 use Rattle.retry_lookup.specs.Asked.{opens, has_order}
-use Rattle.retry_lookup.specs.Cancelling.{table_heard}
-use Rattle.retry_lookup.specs.Giving.{Gives, Halts, stepped_table}
-use Rattle.retry_lookup.specs.Hearing.{done_by, after_outcome, after_out_of_memory, RunsOut}
-use Rattle.retry_lookup.specs.Lookup.{LookupState}
-use Rattle.retry_lookup.specs.Rounds.{started}
-use Rattle.server_pool.specs.Lookups.{with_at, moved_to}
-use Rattle.server_pool.specs.Orders.{without_order}
+use Rattle.retry_lookup.specs.Hearing.{done_by, RunsOut}
+use Rattle.pool_lookups.specs.Lookups.{with_at, moved_to}
+use Rattle.pool_lookups.specs.Orders.{orders_by, orders_left}
+use Rattle.pool_lookups.specs.Stepping.{IsStepAt, IsHaltedAt, put_lookup, put_table}
+use Rattle.pool_lookups.specs.declared.open_lookup.OpenLookup.{OpenLookup}
 use Rattle.server_pool.specs.Shared.{Shared, lookup_of, denied_in}
-use Rattle.server_pool.specs.declared.open_lookup.OpenLookup.{OpenLookup}
 use Rattle.server_pool.specs.declared.pool_shared.PoolStep.{PoolStep}
 use Rattle.server_pool.specs.declared.pool_shared.PoolStep.TheVariants as gives
 
 -- ---- its next step
-
--- The lookup of the number n made the step, with an order of the number, if it gave one.
-pub record IsStepAt (n number now : ℕ) (l : OpenLookup) (old : List (ℕ × OpenLookup)) (before : List Server) (made : LookupStep) (new : List (ℕ × OpenLookup)) (after : List Server) : Type 0 where
-  pub next : LookupState
-  pub gives : Gives number now before (started now l.lookup) made next
-  pub lookups : new ≡ with_at n (moved_to next) old
-  pub table : after ≡ stepped_table (started now l.lookup) before
-
--- Out of memory its round has begun, if it was due, and no order was given.
-pub record IsHaltedAt (n now : ℕ) (l : OpenLookup) (old : List (ℕ × OpenLookup)) (before : List Server) (new : List (ℕ × OpenLookup)) (after : List Server) : Type 0 where
-  pub lookups : new ≡ with_at n (moved_to (started now l.lookup)) old
-  pub table : Halts (started now l.lookup) before after
 
 -- what the step tells as one of the pool: an order has the number
 abbrev pub told_as : ℕ → LookupStep → PoolStep
@@ -46,16 +29,6 @@ told_as number (step.Done answer) = gives.Done answer
 abbrev pub told_by : ℕ → Result LookupStep NoMemory → Result PoolStep NoMemory
 told_by number (Ok made) = Ok (told_as number made)
 told_by number (Err error) = Err error
-
--- whether an order was given
-abbrev pub orders_by : {X : Type 0} → LookupStep → X → X → X
-orders_by (step.Order order) ordered same = ordered
-orders_by step.Waiting ordered same = same
-orders_by (step.Done answer) ordered same = same
-
-abbrev pub given_by : {X : Type 0} → Result LookupStep NoMemory → X → X → X
-given_by (Ok made) ordered same = orders_by made ordered same
-given_by (Err error) ordered same = same
 
 -- nothing is other but the lookups, the orders that were given, and connections and delays of servers
 abbrev pub with_rest : Shared → Shared → Shared
@@ -79,19 +52,6 @@ pub record HasHalted (n now : ℕ) (l : OpenLookup) (old new : Shared) : Type 0 
   pub rest : new ≡ record old { table = new.table; lookups = new.lookups }
 
 -- ---- an outcome
-
--- what the outcome of the order of the number leaves of its lookup, and of the servers
-abbrev pub put_lookup : (IpAddr → Bool) → Tick → ℕ → Outcome → Result After NoMemory → LookupState → LookupState
-put_lookup denied tick number o (Ok after) l = after_outcome denied tick number o l
-put_lookup denied tick number o (Err error) l = after_out_of_memory number tick.now o l
-
-abbrev pub put_table : Tick → ℕ → Outcome → Result After NoMemory → LookupState → List Server → List Server
-put_table tick number o (Ok after) l table = table_heard tick number o l table
-put_table tick number o (Err error) l table = table
-
--- an order that is not open any more is forgotten
-abbrev pub orders_left : ℕ → LookupState → List (ℕ × ℕ) → List (ℕ × ℕ)
-orders_left number next orders = if has_order number next then orders else without_order number orders
 
 -- only the lookup of the order has changed, and what the servers record
 abbrev pub after_put : ℕ → ℕ → OpenLookup → Outcome → Tick → Result After NoMemory → Shared → Shared

@@ -1,4 +1,4 @@
--- The lookups of a table after an outcome, and what the laws of the table say of one of them.
+-- What the laws of the table of lookups say of one of them.
 use Rattle.std.specs.Prelude.{◌≡◌, ℕ, Bool, List, Some, Result, Ok, Err}
 use Rattle.std.specs.declared.net.ip_addr.IpAddr.{IpAddr}
 use Rattle.dns_core.specs.declared.errors.NoMemory.{NoMemory}
@@ -6,20 +6,12 @@ use Rattle.server_core.specs.declared.order.After.{After}
 use Rattle.server_core.specs.declared.order.Order.{Order}
 use Rattle.server_core.specs.declared.order.Outcome.{Outcome}
 use Rattle.server_core.specs.declared.order.Tick.{Tick}
-use Rattle.server_core.specs.Context.{Context}
-use Rattle.retry_rules.specs.AnswerFilter.{denied_by}
 use Rattle.retry_lookup.specs.Holds.{HeardEnd, HoldsBy}
 use Rattle.retry_lookup.specs.Running.{IsGivenFor, heard_after, heard_out}
-use Rattle.server_pool.specs.Lookups.{with_at, moved_to}
+use Rattle.pool_lookups.specs.declared.open_lookup.OpenLookup.{OpenLookup}
 use Rattle.server_pool.specs.Orders.{IsOpenOrder}
 use Rattle.server_pool.specs.Running.{RunsOn}
 use Rattle.server_pool.specs.Shared.{Shared, lookup_at, denied_in}
-use Rattle.server_pool.specs.Stepping.{put_lookup}
-use Rattle.server_pool.specs.declared.open_lookup.OpenLookup.{OpenLookup}
-
--- the lookups where the one of the number took the outcome of an order
-abbrev pub with_put : Context → Tick → ℕ → Outcome → Result After NoMemory → ℕ → OpenLookup → List (ℕ × OpenLookup) → List (ℕ × OpenLookup)
-with_put cx tick number o result n l lookups = with_at n (moved_to (put_lookup (denied_by cx.answer_address_filter) tick number o result l.lookup)) lookups
 
 -- The lookup of the number is this one, and stands by these ends.
 pub record StandsBy (denied : IpAddr → Bool) (heard : List HeardEnd) (n : ℕ) (l : OpenLookup) (shared : Shared) : Type 0 where

@@ -2,13 +2,13 @@
 ghost use Rattle.std.specs.Prelude.{◌≡◌, ◌≢◌, ◌⊎◌, ℕ, ◌↔◌, true, [], Contains, IfOk, OnErr, Err, Some, None, option_and_then};
 ghost use Rattle.std.specs.List.Sorted.{IsStrictlyIncreasing};
 ghost use Rattle.retry_lookup.specs.Asked.{answer_of};
-ghost use Rattle.server_pool.specs.Lookups.{is_last, after_leave, closed_by};
+ghost use Rattle.pool_lookups.specs.Lookups.{is_last, after_leave, closed_by};
+ghost use Rattle.pool_lookups.specs.declared.open_lookup.OpenLookup.{OpenLookup as Seen};
 ghost use Rattle.server_pool.specs.Orders.{IsOpenOrder};
 ghost use Rattle.server_pool.specs.Promises.{IsFairly, IfDone, IfWaiting};
 ghost use Rattle.server_pool.specs.Sending.{request_by, HasSent};
 ghost use Rattle.server_pool.specs.Shared.{lookup_at, denied_in};
 ghost use Rattle.server_pool.specs.Stepping.{HasStepped, HasHalted};
-ghost use Rattle.server_pool.specs.declared.open_lookup.OpenLookup.{OpenLookup as Seen};
 
 use crate::pool::NameServerPool;
 use crate::pool_shared::{PoolShared, PoolStep};

@@ -5,21 +5,19 @@ ghost use Rattle.std.specs.declared.net.IpAddr.{IpAddr};
 ghost use Rattle.retry_rules.specs.Ordering.{next_turn};
 ghost use Rattle.retry_lookup.specs.Asked.{answer_of};
 ghost use Rattle.retry_lookup.specs.Holds.{Holds};
-ghost use Rattle.server_pool.specs.Lookups.{is_last, after_leave, closed_by};
+ghost use Rattle.pool_lookups.specs.Lookups.{is_last, after_leave, closed_by};
+ghost use Rattle.pool_lookups.specs.declared.open_lookup.OpenLookup.{OpenLookup as Seen};
 ghost use Rattle.server_pool.specs.Orders.{IsOpenOrder, open_at, first_withdrawn, after_withdrawn};
 ghost use Rattle.server_pool.specs.Promises.{IsFairly, IfDone, IfWaiting};
 ghost use Rattle.server_pool.specs.Sending.{Begins, HasBegun, after_join, HasSent};
 ghost use Rattle.server_pool.specs.Shared.{lookup_at, lookup_of, turn_at, denied_in};
 ghost use Rattle.server_pool.specs.Stepping.{told_by, HasStepped, HasHalted, HasPut};
-ghost use Rattle.server_pool.specs.declared.open_lookup.OpenLookup.{OpenLookup as Seen};
 
-use crate::beginning::add_begun;
-use crate::candidates::candidates;
-use crate::open_lookup::{
-    OpenLookup, is_last, is_open_in, join_at, leave_at, open_for, put_at, step_at, take_lookup,
-};
-use crate::orders::{drop_closed, keep_order, take_out};
 use dns_core::{Boxed, DnsRequest, Message, NetError, NoMemory, Numbers, TryClone};
+use pool_lookups::{
+    OpenLookup, add_begun, candidates, drop_closed, is_last, is_open_in, join_at, keep_order,
+    leave_at, open_for, put_at, step_at, take_lookup, take_out,
+};
 use retry_lookup::{Lookup, LookupStep};
 use retry_rules::{ordered, side_by_side};
 use server_core::{After, NameServer, Order, Outcome, PoolContext, ServerTable, Tick};

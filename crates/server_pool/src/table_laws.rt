@@ -6,10 +6,10 @@ ghost use Rattle.server_core.specs.declared.order.After.{After};
 ghost use Rattle.server_core.specs.declared.order.Order.{Order as Given};
 ghost use Rattle.server_core.specs.declared.order.Outcome.{Outcome};
 ghost use Rattle.server_core.specs.declared.order.Tick.{Tick};
+ghost use Rattle.pool_lookups.specs.declared.open_lookup.OpenLookup.{OpenLookup as Seen};
 ghost use Rattle.server_pool.specs.Shared.{Shared, lookup_of, SameBut};
 ghost use Rattle.server_pool.specs.Stepping.{HasStepped, HasPut};
 ghost use Rattle.server_pool.specs.TableLaws.{RunsBy, RunsByOutcome, GoesToServer};
-ghost use Rattle.server_pool.specs.declared.open_lookup.OpenLookup.{OpenLookup as Seen};
 ghost use Rattle.server_pool.specs.declared.pool_shared.PoolStep.{PoolStep};
 ghost use Rattle.server_pool.specs.declared.pool_shared.PoolStep.TheVariants as gives;
 

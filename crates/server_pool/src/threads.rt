@@ -1,14 +1,11 @@
 //! Which types of this crate may go to another thread, and be shared among threads.
 
-use crate::open_lookup::OpenLookup;
 use crate::pool::NameServerPool;
 use crate::pool_lookup::PoolLookup;
 use crate::pool_shared::{PoolShared, PoolStep};
 use dns_core::CrossesThreads;
 
 impl CrossesThreads for NameServerPool {}
-
-impl CrossesThreads for OpenLookup {}
 
 impl CrossesThreads for PoolLookup {}
 

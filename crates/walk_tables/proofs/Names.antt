@@ -9,6 +9,8 @@ pub use Rattle.std.specs.Option.{option_copied}
 pub use Rattle.std.specs.Map.{lookup}
 pub use Rattle.std.specs.Ordering.{nat_cmp}
 pub use Rattle.dns_core.specs.declared.errors.NoMemory.{NoMemory}
+pub use Rattle.pool_lookups.specs.Lookups.{closed_by, after_leave}
+pub use Rattle.pool_lookups.specs.declared.open_lookup.OpenLookup.{OpenLookup}
 pub use Rattle.server_pool.specs.Shared.{Shared, lookup_at, SameBut, denied_in, lookup_of, configs}
 pub use Rattle.server_pool.specs.declared.pool_lookup.PoolLookup.{PoolLookup}
 pub use Rattle.lookup_facts.specs.View.{View, given_of, Later, seen_at}
@@ -19,7 +21,6 @@ pub use Rattle.lookup_facts.proofs.Carrying.{IsCarried, sought-carried, same-res
 pub use Rattle.lookup_facts.proofs.Beginning.{same_but-trans, begun-holds, has-begun}
 pub use Rattle.server_core.specs.declared.order.Order.{Order}
 pub use Rattle.server_pool.specs.Stepping.{HasStepped, HasHalted, HasPut}
-pub use Rattle.server_pool.specs.declared.open_lookup.OpenLookup.{OpenLookup}
 pub use Rattle.server_pool.specs.declared.pool_shared.PoolStep.{PoolStep}
 pub use Rattle.server_pool.proofs.Running.{next_rest, put_rest}
 pub use Rattle.lookup_facts.specs.Coming.{answer_at, has_more_ends, telling_by, ComesBy}
@@ -37,7 +38,6 @@ pub use Rattle.server_core.specs.declared.order.Outcome.{Outcome}
 pub use Rattle.server_core.specs.declared.order.Sent.{Sent}
 pub use Rattle.server_core.specs.declared.order.After.{After}
 pub use Rattle.server_core.specs.declared.order.Tick.{Tick}
-pub use Rattle.server_pool.specs.Lookups.{closed_by, after_leave}
 pub use Rattle.lookup_facts.specs.Order.{IsPut, seen_with, closing_of}
 pub use Rattle.lookup_facts.proofs.Puts.{later-put, err-last, err-is, was-put}
 pub use Rattle.lookup_facts.specs.Found.{HasCome, FoundHolds, last_of}

@@ -11,7 +11,7 @@ use Rattle.server_core.specs.declared.order.Sent.{Sent}
 use Rattle.server_core.specs.declared.order.Tick.{Tick}
 use Rattle.server_core.specs.declared.order.Outcome.{Outcome}
 use Rattle.order_carrier.specs.Fits.{GoesToServer}
-use Rattle.server_pool.specs.Lookups.{is_last, after_leave, closed_by}
+use Rattle.pool_lookups.specs.Lookups.{is_last, after_leave, closed_by}
 use Rattle.server_pool.specs.Orders.{open_at}
 use Rattle.server_pool.specs.Shared.{lookup_at}
 use Rattle.recursor_setting.specs.declared.setting.Setting.{Setting}

@@ -4,9 +4,9 @@ use Rattle.server_core.specs.declared.order.After.{After}
 use Rattle.server_core.specs.declared.order.Outcome.{Outcome}
 use Rattle.server_core.specs.declared.order.Tick.{Tick}
 use Rattle.resolver_cache.specs.Cached.{Cached}
+use Rattle.pool_lookups.specs.declared.open_lookup.OpenLookup.{OpenLookup}
 use Rattle.server_pool.specs.Orders.{IsOpenOrder, open_at}
 use Rattle.server_pool.specs.Stepping.{HasPut}
-use Rattle.server_pool.specs.declared.open_lookup.OpenLookup.{OpenLookup}
 use Rattle.walk_tables.specs.Pools.{sought_at, PoolsHold, HasGone}
 use Rattle.lookup_facts.specs.Remembered.{CacheHolds, Telling, remembered}
 use Rattle.lookup_facts.specs.View.{View}

@@ -3,10 +3,10 @@ use Rattle.dns_core.specs.declared.errors.NoMemory.{NoMemory}
 use Rattle.server_core.specs.declared.order.After.{After}
 use Rattle.server_core.specs.declared.order.Outcome.{Outcome}
 use Rattle.server_core.specs.declared.order.Tick.{Tick}
+use Rattle.pool_lookups.specs.declared.open_lookup.OpenLookup.{OpenLookup}
 use Rattle.server_pool.specs.Shared.{Shared}
 use Rattle.server_pool.specs.Stepping.{HasPut}
 use Rattle.server_pool.specs.TableLaws.{RunsByOutcome}
-use Rattle.server_pool.specs.declared.open_lookup.OpenLookup.{OpenLookup}
 use Rattle.server_pool.proofs.Running.{next_runs, put_runs, out_runs}
 use Rattle.server_pool.proofs.table_laws.a_lookup_runs_by_its_ends.Goals as goal
 

@@ -3,11 +3,13 @@ use Rattle.std.specs.Prelude.{◌⊎◌}
 use Rattle.dns_core.specs.declared.net_error.NetError.TheVariants.{NoConnections}
 use Rattle.server_core.specs.Context.{Context}
 use Rattle.retry_rules.specs.AnswerFilter.{denied_by}
+use Rattle.pool_lookups.specs.Stepping.{IsStepAt}
+use Rattle.pool_lookups.specs.Orders.{given_by}
+use Rattle.pool_lookups.specs.declared.open_lookup.OpenLookup.{OpenLookup}
 use Rattle.server_pool.specs.Promises.{IfDone}
 use Rattle.server_pool.specs.Shared.{Shared, lookup_at, denied_in}
-use Rattle.server_pool.specs.Stepping.{IsStepAt, told_by, given_by, with_rest, HasStepped, HasHalted}
+use Rattle.server_pool.specs.Stepping.{told_by, with_rest, HasStepped, HasHalted}
 use Rattle.server_pool.specs.contracts.pool_shared.PoolShared.{the_view}
-use Rattle.server_pool.specs.declared.open_lookup.OpenLookup.{OpenLookup}
 use Rattle.server_pool.specs.declared.pool_shared.PoolStep.TheVariants as gives
 use Rattle.server_pool.proofs.Calls.{IsNext, kept_orders, same_length, next_configs, next_holds, next_steps, next_halts, next_gone, next_fair, next_answer, next_waits}
 use Rattle.server_pool.proofs.Promised.{fairly}

@@ -1,10 +1,10 @@
 use Rattle.std.proofs.Common.{◌∙◌, ℕ, arith, ap, sym, subst}
 use Rattle.server_core.specs.Context.{Context}
+use Rattle.pool_lookups.specs.declared.open_lookup.OpenLookup.{OpenLookup}
 use Rattle.server_pool.specs.Orders.{IsOpenOrder, open_at}
 use Rattle.server_pool.specs.Shared.{Shared}
 use Rattle.server_pool.specs.Stepping.{HasPut}
 use Rattle.server_pool.specs.contracts.pool_shared.PoolShared.{the_view}
-use Rattle.server_pool.specs.declared.open_lookup.OpenLookup.{OpenLookup}
 use Rattle.server_pool.proofs.Calls.{same_length}
 use Rattle.server_pool.proofs.Outcomes.{IsPut, put_puts, put_stays, put_configs, put_nowhere}
 use Rattle.server_pool.proofs.pool_shared.PoolShared.put.Goals as goal

@@ -1,0 +1,2 @@
+pub mod UnderNumbers
+pub mod Changed

@@ -1,0 +1,4 @@
+pub mod Candidates
+pub mod Lookups
+pub mod Orders
+pub mod Stepping
