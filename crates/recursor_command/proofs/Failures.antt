@@ -7,7 +7,7 @@ use Rattle.dns_core.specs.declared.net_error.IoKind.{IoKind}
 use Rattle.dns_core.specs.declared.net_error.IoKind.TheVariants.{Other, Closed, Refused}
 use Rattle.dns_core.specs.declared.net_error.NetError.{NetError}
 use Rattle.dns_core.specs.declared.net_error.NetError.TheVariants.{Busy, Io, Timeout, NoConnections, Truncated, QueryCaseMismatch, ForeignClassRecord, Dns, Msg, NoMemory}
-use Rattle.script_book.specs.Course.{error_about}
+use Rattle.script_index.specs.Course.{error_about}
 use Rattle.text_words.specs.Texts.{has_error_word}
 use Rattle.line_forms.specs.Spelling.{IsFailure}
 

@@ -11,12 +11,12 @@ use Rattle.dns_core.specs.declared.net_error.NetError.{NetError}
 use Rattle.dns_core.specs.declared.net_error.NetError.TheVariants.{Io}
 use Rattle.dns_core.specs.declared.log.LogEntry.{LogEntry}
 use Rattle.dns_core.specs.declared.log.LogEntry.TheVariants.{Opened, Asked, Waited, Told, GaveUp}
-use Rattle.script_book.specs.Course.{reply_course, connect_course}
-use Rattle.script_book.specs.Giving.{Gives, Fits, course_after, refuses, connects, replies, asks, asking_of, connection_course, question_course_for, waits}
-use Rattle.script_book.specs.declared.course.Course.{Course}
-use Rattle.script_book.specs.declared.course.Course.TheVariants.{Never, After}
-use Rattle.script_book.specs.declared.index.Asking.{Asking}
-use Rattle.script_book.specs.declared.index.Endpoint.{Endpoint}
+use Rattle.script_index.specs.Course.{reply_course, connect_course}
+use Rattle.script_index.specs.Giving.{Gives, Fits, course_after, refuses, connects, replies, asks, asking_of, connection_course, question_course_for, waits}
+use Rattle.script_index.specs.declared.course.Course.{Course}
+use Rattle.script_index.specs.declared.course.Course.TheVariants.{Never, After}
+use Rattle.script_index.specs.declared.index.Asking.{Asking}
+use Rattle.script_index.specs.declared.index.Endpoint.{Endpoint}
 use Rattle.script_lines.specs.declared.script.Script.{Script}
 use Rattle.script_lines.specs.declared.script.ScriptLine.{ScriptLine}
 use Rattle.script_lines.specs.declared.script.ScriptLine.TheVariants.{Connect, Refuse, Reply}

@@ -4,7 +4,7 @@ use Rattle.std.specs.declared.option.Option.{Option}
 use Rattle.std.specs.Io.KnownBytes.{Appends, Keeps}
 use Rattle.std.specs.Str.{bytes_eq}
 use Rattle.dns_core.specs.Faults.{Rose}
-use Rattle.script_book.specs.Giving.{Gives as ScriptGives}
+use Rattle.script_index.specs.Giving.{Gives as ScriptGives}
 use Rattle.world_upstream.specs.Giving.{Gives as WorldGives}
 use Rattle.dns_core.specs.Log.{Log, log_of}
 use Rattle.dns_core.specs.declared.log.LogEntry.{LogEntry}

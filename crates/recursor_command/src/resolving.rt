@@ -1,7 +1,7 @@
 //! The command `resolve`: a scenario in, a transcript out.
 ghost use Rattle.std.specs.Prelude.{min, ◌≡◌, ◌≢◌, false, List, [], Some, IfOk, IfErr, IsTrue};
 ghost use Rattle.dns_core.specs.declared.log.LogEntry.{LogEntry};
-ghost use Rattle.script_book.specs.Giving.{Gives as ScriptGives};
+ghost use Rattle.script_index.specs.Giving.{Gives as ScriptGives};
 ghost use Rattle.script_lines.specs.Script.{is_qualified_script};
 ghost use Rattle.recursor_world.specs.Upstream.{told_by as script_told};
 ghost use Rattle.world_upstream.specs.Giving.{Gives as WorldGives};

@@ -5,10 +5,10 @@ use Rattle.dns_core.specs.declared.provider.Poll.{Poll}
 use Rattle.dns_core.specs.declared.provider.Poll.TheVariants.{Ready, Pending}
 use Rattle.dns_core.specs.declared.log.ToldOutcome.{ToldOutcome}
 use Rattle.dns_core.specs.declared.log.LogEntry.TheVariants.{Waited, Told}
-use Rattle.script_book.specs.Course.{is_qualified_told}
+use Rattle.script_index.specs.Course.{is_qualified_told}
 use Rattle.dns_core.specs.Connection.{Peer}
 use Rattle.dns_core.specs.declared.log.LogEntry.{LogEntry}
-use Rattle.script_book.specs.declared.index.Endpoint.{Endpoint}
+use Rattle.script_index.specs.declared.index.Endpoint.{Endpoint}
 use Rattle.script_lines.specs.declared.script.Script.{Script}
 
 -- the script, the log that is lent, the give-ups that wait for memory, and the counts

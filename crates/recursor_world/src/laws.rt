@@ -1,7 +1,7 @@
 //! Laws of the definitions.
 ghost use Rattle.std.specs.Prelude.{List, ◌++◌};
 ghost use Rattle.dns_core.specs.declared.log.LogEntry.{LogEntry};
-ghost use Rattle.script_book.specs.Giving.{Gives};
+ghost use Rattle.script_index.specs.Giving.{Gives};
 ghost use Rattle.script_lines.specs.declared.script.Script.{Script};
 
 /// Law: a script that gives a log gives each front of it.

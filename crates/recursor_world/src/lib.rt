@@ -12,6 +12,6 @@ mod upstream;
 
 pub use laws::fronts_are_given;
 pub use provider::{ScriptExchange, ScriptOpening};
-pub use script_book::Endpoint;
+pub use script_index::Endpoint;
 pub use script_lines::{Late, Room, Script, ScriptLine, push_or_back};
 pub use upstream::ScriptUpstream;

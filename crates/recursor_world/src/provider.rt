@@ -1,13 +1,13 @@
 //! The calls of a script as an upstream.
 ghost use Rattle.std.specs.Prelude.{◌≡◌, false, Some, None, IfOk, IsTrue, is_some};
-ghost use Rattle.script_book.specs.Stage.{TellsConnection, IsReply, IsConnectionTold, IsReplyTold};
+ghost use Rattle.script_index.specs.Stage.{TellsConnection, IsReply, IsConnectionTold, IsReplyTold};
 
 use crate::upstream::ScriptUpstream;
 use dns_core::{
     ConnectOptions, ConnectionConfig, ConnectionProvider, DnsRequest, IoKind, Message, NetError,
     NoMemory, Poll, Query, ToldOutcome, TryClone,
 };
-use script_book::Endpoint;
+use script_index::Endpoint;
 use script_lines::Room;
 use std::net::IpAddr;
 
@@ -32,7 +32,7 @@ pub struct ScriptExchange {
 impl ScriptUpstream {
     ghost use Rattle.std.specs.Prelude.{◌+◌, length, OnOk, OnErr};
     ghost use Rattle.recursor_world.specs.Upstream.{told_by, Notes, NotesNothing};
-    ghost use Rattle.script_book.specs.Giving.{refusal};
+    ghost use Rattle.script_index.specs.Giving.{refusal};
     ghost use Rattle.dns_core.specs.declared.log.LogEntry.TheVariants.{Opened, Asked};
 
     fn begin_opening(&mut self, endpoint: Endpoint, now: u64) -> Result<ScriptOpening, NoMemory>
@@ -103,7 +103,7 @@ impl ConnectionProvider for ScriptUpstream {
     type Exchange = ScriptExchange;
 
     ghost use Rattle.recursor_world.specs.Upstream.{told_by, peer_of};
-    ghost use Rattle.script_book.specs.Giving.{Gives};
+    ghost use Rattle.script_index.specs.Giving.{Gives};
     ghost use Rattle.std.specs.Prelude.{Some, not};
 
     ghost log = { λ s. Some (told_by s) };

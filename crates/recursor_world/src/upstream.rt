@@ -6,7 +6,8 @@ ghost use Rattle.dns_core.specs.declared.net_error.IoKind.TheVariants.{Refused};
 ghost use Rattle.dns_core.specs.declared.log.LogEntry.TheVariants.{Opened, Asked, GaveUp};
 
 use dns_core::{Log, NoMemory, Poll, Query, ToldOutcome};
-use script_book::{Book, Endpoint, Stage};
+use script_book::Book;
+use script_index::{Endpoint, Stage};
 use script_lines::{Room, Script};
 use std::alloc::Global;
 use std::marker::Model;
@@ -45,8 +46,8 @@ impl Model for ScriptUpstream {
 impl ScriptUpstream {
     ghost use Rattle.recursor_world.specs.Upstream.{told_by, Notes, NotesNothing, Polls};
     ghost use Rattle.script_lines.specs.Script.{is_qualified_script};
-    ghost use Rattle.script_book.specs.Giving.{refusal, Gives};
-    ghost use Rattle.script_book.specs.Stage.{TellsConnection, TellsQuestion};
+    ghost use Rattle.script_index.specs.Giving.{refusal, Gives};
+    ghost use Rattle.script_index.specs.Stage.{TellsConnection, TellsQuestion};
 
     /// An upstream of a script, with an empty log. Its index of the lines wants memory.
     pub fn new(alloc: Global, script: Script) -> Result<Self, NoMemory>

@@ -1,32 +1,31 @@
 -- What holds of a book after an entry was noted.
-use Rattle.std.proofs.Common.{◌≡◌, ℕ, ◌+◌, ◌-◌, Bool, true, false, cond, List, [], ◌∷◌, ◌++◌, length, min, filter, map, slice_get, Option, Some, None, refl, ap, ◌∙◌, sym, subst, arith, nat_eq, nat_lt, count_by, IsTrue}
+use Rattle.std.proofs.Common.{◌≡◌, ℕ, ◌+◌, ◌-◌, Bool, true, false, cond, List, [], ◌∷◌, ◌++◌, length, min, filter, map, slice_get, Option, Some, None, refl, ap, ◌∙◌, sym, subst, arith, nat_eq, count_by, IsTrue}
 use Rattle.std.specs.Prelude.{option_and_then, unwrap_or}
 use Rattle.std.specs.Option.{option_map, option_map_or}
 use Rattle.std.specs.declared.hash.FoldHasher.{FoldHasher}
 use Rattle.std.specs.declared.hash.BuildHasherDefault.{BuildHasherDefault}
-use Rattle.script_book.specs.declared.index.Endpoint.{Endpoint}
-use Rattle.script_book.specs.declared.index.Route.{Route}
-use Rattle.std.specs.List.{list_any}
+use Rattle.script_index.specs.declared.index.Endpoint.{Endpoint}
+use Rattle.script_index.specs.declared.index.Route.{Route}
 use Rattle.std.specs.HashMap.{HashMap, get}
 use Rattle.std.proofs.lemmas.List.{append-nil, length-map}
 use Rattle.std.proofs.lemmas.Grind.{common_steps}
 use Rattle.std.proofs.lemmas.Bool.Decides.{nat_tests}
 use Rattle.dns_core.specs.declared.log.LogEntry.{LogEntry}
-use Rattle.script_book.specs.Keys.{same_asking, same_endpoint}
+use Rattle.script_index.specs.Keys.{same_asking, same_endpoint}
 use Rattle.dns_core.specs.declared.log.LogEntry.TheVariants.{Told}
 use Rattle.dns_core.specs.declared.log.ToldOutcome.{ToldOutcome}
 use Rattle.dns_core.specs.declared.message.Query.{Query}
-use Rattle.script_book.specs.Giving.{Fits, course_after, question_course_for, asks, waits, replies}
-use Rattle.script_book.specs.Course.{reply_course, is_qualified_course, IsWaiting}
-use Rattle.script_book.specs.Index.{IsIndexed, places_at, used_at, advanced}
+use Rattle.script_index.specs.Giving.{Fits, course_after, question_course_for, asks, waits, replies}
+use Rattle.script_index.specs.Course.{reply_course, is_qualified_course, IsWaiting}
+use Rattle.script_index.specs.Index.{IsIndexed, places_at, used_at, advanced}
 use Rattle.script_book.specs.Book.{told, open_at, IsKept, Awaits, Counts, Knows, Holds, SameScript, Waits, IsDue, IsDueAs}
 use Rattle.script_book.proofs.Keeping.{kept_begun}
-use Rattle.script_book.proofs.Finding.{line_at}
-use Rattle.script_book.specs.declared.course.Course.TheVariants.{Never, After}
-use Rattle.script_book.specs.declared.index.Asking.{Asking}
-use Rattle.script_book.specs.declared.index.Index.{Index}
+use Rattle.script_index.proofs.Finding.{line_at}
+use Rattle.script_index.specs.declared.course.Course.TheVariants.{Never, After}
+use Rattle.script_index.specs.declared.index.Asking.{Asking}
+use Rattle.script_index.specs.declared.index.Index.{Index}
 use Rattle.script_book.specs.declared.book.Book.{Book}
-use Rattle.script_book.specs.declared.course.Course.{Course}
+use Rattle.script_index.specs.declared.course.Course.{Course}
 use Rattle.script_lines.specs.declared.script.Script.{Script}
 use Rattle.script_lines.specs.declared.script.ScriptLine.{ScriptLine}
 

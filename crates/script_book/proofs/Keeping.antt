@@ -1,5 +1,5 @@
 -- What stays true of a log and of what is open when an entry is added.
-use Rattle.std.proofs.Common.{◌≡◌, ◌≢◌, ℕ, zero, suc, ◌+◌, ◌-◌, ◌<◌, ◌≤◌, Bool, true, false, cond, List, [], ◌∷◌, ◌++◌, length, take, drop, Option, Some, None, slice_get, refl, ap, ◌∙◌, sym, subst, arith, nat_eq, count_by, IsTrue, ⊎_elim, add-one, sub-one, length-append, length-take}
+use Rattle.std.proofs.Common.{◌≡◌, ℕ, zero, suc, ◌+◌, ◌-◌, ◌<◌, ◌≤◌, Bool, true, false, cond, List, [], ◌∷◌, ◌++◌, length, take, drop, Option, Some, None, slice_get, refl, ap, ◌∙◌, sym, subst, arith, nat_eq, count_by, IsTrue, add-one, length-append, length-take}
 use Rattle.std.specs.Prelude.{IsSomeAnd, option_and_then, ◌==◌, ◌||◌}
 use Rattle.std.specs.List.{list_any}
 use Rattle.std.proofs.lemmas.List.{take-append-le, take_all, drop-append-le}
@@ -8,14 +8,13 @@ use Rattle.std.proofs.Math.ListN.{drop_of_length-le}
 use Rattle.std.proofs.lemmas.Option.{option_and_then_some}
 use Rattle.std.proofs.lemmas.Grind.{common_steps}
 use Rattle.std.proofs.lemmas.Bool.Decides.{nat_tests, Decides-eqb}
-use Rattle.dns_core.specs.Log.{numbered}
 use Rattle.dns_core.specs.declared.log.LogEntry.{LogEntry}
 use Rattle.dns_core.specs.declared.log.LogEntry.TheVariants.{Opened, Asked, Waited, Told, GaveUp}
-use Rattle.script_book.specs.Course.{lengthened, shortened, IsWaiting, is_qualified_course}
-use Rattle.script_book.specs.Giving.{Gives, Fits, MayWait, course, course_after, waits, waits_of, ends, HasNoEnd}
+use Rattle.script_index.specs.Course.{lengthened, shortened, IsWaiting, is_qualified_course}
+use Rattle.script_index.specs.Giving.{Gives, Fits, MayWait, course, course_after, waits, waits_of, ends, HasNoEnd}
 use Rattle.script_book.specs.Book.{IsKept, Awaits}
-use Rattle.script_book.specs.declared.course.Course.{Course}
-use Rattle.script_book.specs.declared.course.Course.TheVariants.{Never, After}
+use Rattle.script_index.specs.declared.course.Course.{Course}
+use Rattle.script_index.specs.declared.course.Course.TheVariants.{Never, After}
 use Rattle.script_lines.specs.declared.script.Script.{Script}
 
 -- an item of the longer list is one of the shorter, or the new one

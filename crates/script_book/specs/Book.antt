@@ -1,20 +1,20 @@
 -- What a book of a script keeps, and what holds of it.
-use Rattle.std.specs.Prelude.{◌≡◌, ℕ, ◌-◌, Bool, true, false, not, ◌&&◌, IsTrue, List, ◌++◌, length, min, filter, Option, Some, None, count_by, nat_eq, IfSome}
+use Rattle.std.specs.Prelude.{◌≡◌, ℕ, ◌-◌, IsTrue, List, ◌++◌, length, min, filter, Option, Some, None, count_by, nat_eq}
 use Rattle.std.specs.HashMap.{get}
 use Rattle.dns_core.specs.declared.log.LogEntry.{LogEntry}
 use Rattle.dns_core.specs.declared.log.ToldOutcome.{ToldOutcome}
-use Rattle.script_book.specs.Course.{lengthened, is_qualified_course, IsWaiting}
-use Rattle.script_book.specs.Giving.{Gives, course, waits, HasNoEnd, asks, replies}
+use Rattle.script_index.specs.Course.{lengthened, is_qualified_course, IsWaiting}
+use Rattle.script_index.specs.Giving.{Gives, course, waits, HasNoEnd, asks, replies}
 use Rattle.script_lines.specs.Script.{is_qualified_script}
-use Rattle.script_book.specs.Index.{IsIndexed, used_at}
-use Rattle.script_book.specs.declared.index.Asking.{Asking}
-use Rattle.script_book.specs.declared.index.Index.{Index}
-use Rattle.script_book.specs.Stage.{IsDueOf}
-use Rattle.script_book.specs.declared.course.Stage.{Stage}
-use Rattle.script_book.specs.declared.course.Stage.TheVariants.{Unknown, Due}
-use Rattle.script_book.specs.declared.course.Stage.TheVariants as stage
-use Rattle.script_book.specs.declared.course.Course.{Course}
-use Rattle.script_book.specs.declared.course.Course.TheVariants.{Never, After}
+use Rattle.script_index.specs.Index.{IsIndexed, used_at}
+use Rattle.script_index.specs.declared.index.Asking.{Asking}
+use Rattle.script_index.specs.declared.index.Index.{Index}
+use Rattle.script_index.specs.Stage.{IsDueOf}
+use Rattle.script_index.specs.declared.course.Stage.{Stage}
+use Rattle.script_index.specs.declared.course.Stage.TheVariants.{Unknown, Due}
+use Rattle.script_index.specs.declared.course.Stage.TheVariants as stage
+use Rattle.script_index.specs.declared.course.Course.{Course}
+use Rattle.script_index.specs.declared.course.Course.TheVariants.{Never, After}
 use Rattle.script_lines.specs.declared.script.Script.{Script}
 use Rattle.script_book.specs.declared.book.Book.{Book}
 

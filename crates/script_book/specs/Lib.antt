@@ -1,6 +1,1 @@
 pub mod Book
-pub mod Course
-pub mod Giving
-pub mod Index
-pub mod Keys
-pub mod Stage

@@ -1,18 +1,17 @@
 //! The book of a script: its log, and what each open entry still comes to.
 ghost use Rattle.std.specs.Option.{option_map, option_copied};
 ghost use Rattle.std.specs.HashMap.{get};
-ghost use Rattle.script_book.specs.declared.course.Course.{Course as Known};
-ghost use Rattle.script_book.specs.declared.course.Course.TheVariants.{Never};
-ghost use Rattle.script_book.specs.Course.{reply_course, is_qualified_course};
+ghost use Rattle.script_index.specs.declared.course.Course.{Course as Known};
+ghost use Rattle.script_index.specs.declared.course.Course.TheVariants.{Never};
+ghost use Rattle.script_index.specs.Course.{reply_course, is_qualified_course};
 ghost use Rattle.script_lines.specs.Script.{is_qualified_script};
 ghost use Rattle.dns_core.specs.declared.net_error.NetError.TheVariants.{Io};
 ghost use Rattle.dns_core.specs.declared.net_error.IoKind.TheVariants.{Refused};
 ghost use Rattle.dns_core.specs.declared.log.LogEntry.TheVariants.{Opened, Asked, Waited, Told, GaveUp};
 ghost use Rattle.std.specs.Prelude.{◌≡◌, ℕ, ◌+◌, find, slice_get, unwrap_or, option_and_then, true, IfSome, nat_eq, is_some, if◌then◌else◌, [], ◌∷◌, ◌++◌, Some, None, IfOk, IfErr, OnOk, OnErr, IsTrue, length};
 
-use crate::course::{Course, Stage};
-use crate::index::{Asking, Endpoint, Index};
 use dns_core::{IoKind, Items, Log, LogEntry, NetError, NoMemory, Query, ToldOutcome, TryClone};
+use script_index::{Asking, Course, Endpoint, Index, Stage};
 use script_lines::{Late, Room, Script, ScriptLine, push_or_back};
 use std::alloc::Global;
 use std::collections::HashMap;
@@ -101,11 +100,11 @@ fn question_course(
 
 impl Book {
     ghost use Rattle.script_book.specs.Book.{told, open_at, Holds, SameScript, IsStage, IsDue, IsDueAs, Waits};
-    ghost use Rattle.script_book.specs.Stage.{TellsConnection, TellsQuestion};
-    ghost use Rattle.script_book.specs.declared.course.Course.TheVariants.{After};
+    ghost use Rattle.script_index.specs.Stage.{TellsConnection, TellsQuestion};
+    ghost use Rattle.script_index.specs.declared.course.Course.TheVariants.{After};
     ghost use Rattle.script_lines.specs.Script.{is_qualified_line};
-    ghost use Rattle.script_book.specs.Giving.{connects, refusal, connection_course};
-    ghost use Rattle.script_book.specs.Course.{is_qualified_told, shortened};
+    ghost use Rattle.script_index.specs.Giving.{connects, refusal, connection_course};
+    ghost use Rattle.script_index.specs.Course.{is_qualified_told, shortened};
 
     pub fn new(alloc: Global, script: Script) -> Result<Book, NoMemory>
         requires { IsTrue (is_qualified_script script) }

@@ -1,6 +1,6 @@
 use Rattle.std.proofs.Common.{◌≡◌, List, Some, ap, sym, subst}
 use Rattle.recursor_types.specs.declared.reply.Reply.{Reply}
-use Rattle.script_book.specs.Giving.{Gives}
+use Rattle.script_index.specs.Giving.{Gives}
 use Rattle.recursor_world.specs.Upstream.{Upstream}
 use Rattle.script_lines.specs.declared.script.Script.{Script}
 use Rattle.recursor_command.specs.Command.{terms_by, Resolves}

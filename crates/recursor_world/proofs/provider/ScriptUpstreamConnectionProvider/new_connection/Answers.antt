@@ -1,5 +1,5 @@
 use Rattle.std.proofs.Common.{◌≡◌, ap, ◌∙◌, subst}
-use Rattle.script_book.specs.Giving.{Gives}
+use Rattle.script_index.specs.Giving.{Gives}
 use Rattle.script_lines.specs.declared.script.Script.{Script}
 use Rattle.recursor_world.proofs.provider.ScriptUpstreamConnectionProvider.new_connection.Goals as goal
 

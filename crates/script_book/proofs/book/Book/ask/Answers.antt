@@ -1,15 +1,15 @@
-use Rattle.std.proofs.Common.{◌≡◌, ◌+◌, ◌∷◌, ◌++◌, [], Option, None, Some, IsSome, length, slice_get, refl, sym, ◌∙◌, ap, subst}
+use Rattle.std.proofs.Common.{◌≡◌, ◌+◌, ◌∷◌, ◌++◌, [], Option, None, IsSome, length, slice_get, refl, sym, ◌∙◌, ap, subst}
 use Rattle.std.specs.Prelude.{unwrap_or, option_and_then}
 use Rattle.std.specs.Option.{option_map}
 use Rattle.std.specs.HashMap.{get}
 use Rattle.dns_core.specs.declared.log.LogEntry.TheVariants.{Asked}
-use Rattle.script_book.specs.Keys.{same_asking}
-use Rattle.script_book.specs.Course.{reply_course}
-use Rattle.script_book.specs.Giving.{asking_of}
+use Rattle.script_index.specs.Keys.{same_asking}
+use Rattle.script_index.specs.Course.{reply_course}
+use Rattle.script_index.specs.Giving.{asking_of}
 use Rattle.script_book.specs.Book.{told}
-use Rattle.script_book.specs.declared.course.Course.TheVariants.{Never}
-use Rattle.script_book.specs.declared.index.Turns.{Turns}
-use Rattle.script_book.proofs.Putting.{places_of, used_of, same_turns, Leaves, places_left, used_left, used_up, none_used}
+use Rattle.script_index.specs.declared.course.Course.TheVariants.{Never}
+use Rattle.script_index.specs.declared.index.Turns.{Turns}
+use Rattle.script_index.proofs.Putting.{places_of, used_of, same_turns, Leaves, places_left, used_left, used_up, none_used}
 use Rattle.script_book.proofs.Holding.{held, begun, not_begun, counts_still, counts_asked, knows_still, turn_course, question_is}
 use Rattle.script_book.proofs.book.Book.ask.Goals as goal
 

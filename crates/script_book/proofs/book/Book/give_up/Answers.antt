@@ -1,4 +1,4 @@
-use Rattle.std.proofs.Common.{◌≡◌, ◌∷◌, ◌++◌, [], nat_eq, refl, ◌∙◌, ap}
+use Rattle.std.proofs.Common.{◌∷◌, ◌++◌, [], nat_eq, refl, ◌∙◌, ap}
 use Rattle.std.specs.HashMap.{get}
 use Rattle.dns_core.specs.declared.log.LogEntry.TheVariants.{GaveUp}
 use Rattle.script_book.specs.Book.{told, open_at}

@@ -1,6 +1,6 @@
 use Rattle.std.proofs.Common.{◌+◌, None, Some, length, refl, sym, ◌∙◌, ap}
 use Rattle.dns_core.specs.declared.log.LogEntry.TheVariants.{Opened}
-use Rattle.script_book.specs.Giving.{refusal}
+use Rattle.script_index.specs.Giving.{refusal}
 use Rattle.script_book.specs.Book.{told}
 use Rattle.script_book.proofs.Holding.{held, begun, not_begun, counts_more}
 use Rattle.script_book.proofs.book.Book.open.Goals as goal

@@ -1,9 +1,8 @@
-use Rattle.std.proofs.Common.{◌≡◌, ◌∷◌, ◌++◌, [], Some, refl, sym, subst, nat_eq}
-use Rattle.std.specs.HashMap.{get}
+use Rattle.std.proofs.Common.{◌∷◌, ◌++◌, [], Some, refl, sym}
 use Rattle.dns_core.specs.declared.log.LogEntry.TheVariants.{Opened}
 use Rattle.dns_core.specs.declared.net_error.NetError.TheVariants.{Io}
 use Rattle.dns_core.specs.declared.net_error.IoKind.TheVariants.{Refused}
-use Rattle.script_book.specs.Book.{told, open_at, IsKept}
+use Rattle.script_book.specs.Book.{told, open_at}
 use Rattle.script_book.proofs.Keeping.{kept_more}
 use Rattle.script_book.proofs.Holding.{hold, pushed, counts_more}
 use Rattle.script_book.proofs.book.Book.refuse.Goals as goal

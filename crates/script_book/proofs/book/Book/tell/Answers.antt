@@ -1,4 +1,4 @@
-use Rattle.std.proofs.Common.{◌≡◌, ◌∷◌, ◌++◌, [], None, cond, nat_eq, refl, sym, ◌∙◌, ap, subst}
+use Rattle.std.proofs.Common.{◌∷◌, ◌++◌, [], None, cond, nat_eq, refl, ◌∙◌, ap, subst}
 use Rattle.std.specs.HashMap.{get}
 use Rattle.dns_core.specs.declared.log.LogEntry.TheVariants.{Told}
 use Rattle.script_book.specs.Book.{told, open_at, IsDueAs}

@@ -1,8 +1,8 @@
-use Rattle.std.proofs.Common.{◌≡◌, ◌∷◌, ◌++◌, [], Some, cond, nat_eq, refl, sym, ◌∙◌, ap}
+use Rattle.std.proofs.Common.{◌∷◌, ◌++◌, [], cond, nat_eq, refl, ◌∙◌, ap}
 use Rattle.std.specs.Option.{option_map}
 use Rattle.std.specs.HashMap.{get}
 use Rattle.dns_core.specs.declared.log.LogEntry.TheVariants.{Waited}
-use Rattle.script_book.specs.Course.{shortened}
+use Rattle.script_index.specs.Course.{shortened}
 use Rattle.script_book.specs.Book.{told, open_at}
 use Rattle.script_book.proofs.Keeping.{kept_waited}
 use Rattle.script_book.proofs.Holding.{hold, pushed, counts_more, waits_some}

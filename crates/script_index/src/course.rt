@@ -1,7 +1,7 @@
 //! What a connection or a question comes to.
 ghost use Rattle.std.specs.Prelude.{◌≡◌, ◌↔◌, IfOk, IfSome, IsTrue};
 ghost use Rattle.dns_core.specs.NetError.{negative_query};
-ghost use Rattle.script_book.specs.Course.{dns_error_about, error_about, answer};
+ghost use Rattle.script_index.specs.Course.{dns_error_about, error_about, answer};
 
 use dns_core::{DnsError, Message, NetError, NoMemory, Query, ToldOutcome, TryClone};
 use script_lines::ScriptLine;
@@ -26,8 +26,8 @@ pub enum Stage {
 }
 
 impl Course {
-    ghost use Rattle.script_book.specs.Course.{shortened, IsWaiting, connect_course, reply_course};
-    ghost use Rattle.script_book.specs.Stage.{IsStageOf, OutcomeIs, TellsConnection, TellsQuestion};
+    ghost use Rattle.script_index.specs.Course.{shortened, IsWaiting, connect_course, reply_course};
+    ghost use Rattle.script_index.specs.Stage.{IsStageOf, OutcomeIs, TellsConnection, TellsQuestion};
 
     /// What a connect line says.
     pub fn of_connection(alloc: Global, line: &ScriptLine) -> Result<Course, NoMemory>

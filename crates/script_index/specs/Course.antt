@@ -1,8 +1,7 @@
 -- What a line says of a connection or of a question.
-use Rattle.std.specs.Prelude.{◌≡◌, ℕ, ◌+◌, ◌-◌, ◌<◌, Bool, true, Option, Some, None, Result, Ok, Err, IfSome}
+use Rattle.std.specs.Prelude.{ℕ, ◌+◌, ◌-◌, ◌<◌, Bool, true, Option, Some, None, Result, Ok, Err}
 use Rattle.dns_core.specs.Message.{is_qualified_message}
-use Rattle.dns_core.specs.NetError.{is_qualified_error, negative_query}
-use Rattle.dns_core.specs.declared.net_error.NoRecords.{NoRecords}
+use Rattle.dns_core.specs.NetError.{is_qualified_error}
 use Rattle.dns_core.specs.declared.net_error.NetError.{NetError}
 use Rattle.dns_core.specs.declared.net_error.NetError.TheVariants.{Busy, Io, Timeout, NoConnections, Truncated, QueryCaseMismatch, ForeignClassRecord, Dns, Msg, NoMemory}
 use Rattle.dns_core.specs.declared.net_error.DnsError.{DnsError}
@@ -13,8 +12,8 @@ use Rattle.dns_core.specs.declared.log.ToldOutcome.{ToldOutcome}
 use Rattle.dns_core.specs.declared.log.ToldOutcome.TheVariants.{Connected, Message, Error}
 use Rattle.script_lines.specs.declared.script.ScriptLine.{ScriptLine}
 use Rattle.script_lines.specs.declared.script.ScriptLine.TheVariants.{Connect, Refuse, Reply}
-use Rattle.script_book.specs.declared.course.Course.{Course}
-use Rattle.script_book.specs.declared.course.Course.TheVariants.{Never, After}
+use Rattle.script_index.specs.declared.course.Course.{Course}
+use Rattle.script_index.specs.declared.course.Course.TheVariants.{Never, After}
 
 -- the error of a negative response has the question that was asked
 abbrev pub dns_error_about : Query → DnsError → DnsError

@@ -3,13 +3,13 @@ use Rattle.std.proofs.Common.{◌≡◌, ℕ, List, [], length, Bool, true, fals
 use Rattle.std.specs.Option.{option_or, option_map_or}
 use Rattle.std.specs.HashMap.{HashMap, get}
 use Rattle.std.specs.HashMap.Eq.{lookup_congr}
-use Rattle.script_book.specs.Keys.{same_endpoint, same_asking}
-use Rattle.script_book.specs.Index.{advanced}
-use Rattle.script_book.specs.declared.index.Turns.{Turns}
-use Rattle.script_book.specs.declared.index.Endpoint.{Endpoint}
-use Rattle.script_book.specs.declared.index.Asking.{Asking}
-use Rattle.script_book.specs.contracts.index.AskingEq.TheImpl.Laws as asking
-use Rattle.script_book.specs.contracts.index.EndpointEq.TheImpl.Laws as endpoint
+use Rattle.script_index.specs.Keys.{same_endpoint, same_asking}
+use Rattle.script_index.specs.Index.{advanced}
+use Rattle.script_index.specs.declared.index.Turns.{Turns}
+use Rattle.script_index.specs.declared.index.Endpoint.{Endpoint}
+use Rattle.script_index.specs.declared.index.Asking.{Asking}
+use Rattle.script_index.specs.contracts.index.AskingEq.TheImpl.Laws as asking
+use Rattle.script_index.specs.contracts.index.EndpointEq.TheImpl.Laws as endpoint
 
 abbrev pub places_of : Option Turns → List ℕ
 places_of o = option_map_or (λ t. t.places) o []

@@ -1,10 +1,8 @@
-use Rattle.std.proofs.Common.{◌≡◌, List, refl, sym, ◌∙◌, subst}
+use Rattle.std.proofs.Common.{refl, ◌∙◌}
 use Rattle.std.proofs.lemmas.List.{take_more}
 use Rattle.std.proofs.lemmas.Option.{slice_get_read}
-use Rattle.script_book.specs.Index.{IsIndexed}
-use Rattle.script_lines.specs.declared.script.ScriptLine.{ScriptLine}
-use Rattle.script_book.proofs.Indexing.{indexed_more}
-use Rattle.script_book.proofs.index.Index.of.Goals as goal
+use Rattle.script_index.proofs.Indexing.{indexed_more}
+use Rattle.script_index.proofs.index.Index.of.Goals as goal
 
 pub loop-place-preserved : goal.loop-place-preserved
 loop-place-preserved c =

@@ -10,12 +10,12 @@ use Rattle.dns_core.specs.declared.message.Query.{Query}
 use Rattle.dns_core.specs.declared.log.ToldOutcome.TheVariants.{Connected}
 use Rattle.dns_core.specs.declared.log.LogEntry.{LogEntry}
 use Rattle.dns_core.specs.declared.log.LogEntry.TheVariants.{Opened, Asked, Waited, Told, GaveUp}
-use Rattle.script_book.specs.Keys.{same_endpoint, same_asking}
-use Rattle.script_book.specs.Course.{connect_course, reply_course}
-use Rattle.script_book.specs.declared.index.Endpoint.{Endpoint}
-use Rattle.script_book.specs.declared.index.Asking.{Asking}
-use Rattle.script_book.specs.declared.course.Course.{Course}
-use Rattle.script_book.specs.declared.course.Course.TheVariants.{Never, After}
+use Rattle.script_index.specs.Keys.{same_endpoint, same_asking}
+use Rattle.script_index.specs.Course.{connect_course, reply_course}
+use Rattle.script_index.specs.declared.index.Endpoint.{Endpoint}
+use Rattle.script_index.specs.declared.index.Asking.{Asking}
+use Rattle.script_index.specs.declared.course.Course.{Course}
+use Rattle.script_index.specs.declared.course.Course.TheVariants.{Never, After}
 use Rattle.script_lines.specs.declared.script.ScriptLine.{ScriptLine}
 use Rattle.script_lines.specs.declared.script.ScriptLine.TheVariants.{Connect, Refuse, Reply}
 use Rattle.script_lines.specs.declared.script.Script.{Script}

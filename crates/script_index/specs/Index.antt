@@ -3,12 +3,12 @@ use Rattle.std.specs.Prelude.{◌≡◌, ℕ, ◌+◌, ◌-◌, nat_lt, Bool, fa
 use Rattle.std.specs.Option.{option_map, option_map_or, option_or}
 use Rattle.std.specs.List.{list_any}
 use Rattle.std.specs.HashMap.{get}
-use Rattle.script_book.specs.Keys.{same_endpoint, same_asking}
-use Rattle.script_book.specs.Giving.{replies, refuses, connects}
+use Rattle.script_index.specs.Keys.{same_endpoint, same_asking}
+use Rattle.script_index.specs.Giving.{replies, refuses, connects}
 use Rattle.script_lines.specs.declared.script.ScriptLine.{ScriptLine}
-use Rattle.script_book.specs.declared.index.Endpoint.{Endpoint}
-use Rattle.script_book.specs.declared.index.Asking.{Asking}
-use Rattle.script_book.specs.declared.index.Index.{Index}
+use Rattle.script_index.specs.declared.index.Endpoint.{Endpoint}
+use Rattle.script_index.specs.declared.index.Asking.{Asking}
+use Rattle.script_index.specs.declared.index.Index.{Index}
 
 -- the places of the lines of a question, and how many of them are used up
 abbrev pub places_at : Index → Asking → List ℕ

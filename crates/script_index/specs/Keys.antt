@@ -5,8 +5,8 @@ use Rattle.std.specs.contracts.net.ip_addr.IpAddrPartialEq.TheImpl as address
 use Rattle.dns_core.specs.Name.{same_names}
 use Rattle.dns_core.specs.declared.connection.Protocol.{Protocol}
 use Rattle.dns_core.specs.contracts.connection.ProtocolPartialEq.TheImpl as protocol
-use Rattle.script_book.specs.declared.index.Endpoint.{Endpoint}
-use Rattle.script_book.specs.declared.index.Asking.{Asking}
+use Rattle.script_index.specs.declared.index.Endpoint.{Endpoint}
+use Rattle.script_index.specs.declared.index.Asking.{Asking}
 
 -- the same address
 abbrev pub same_ip : IpAddr → IpAddr → Bool

@@ -1,5 +1,5 @@
 -- The line that an index finds.
-use Rattle.std.proofs.Common.{◌≡◌, ℕ, zero, suc, ◌<◌, Bool, true, false, ◌&&◌, List, [], ◌∷◌, length, map, Option, Some, None, slice_get, refl, ap, ◌∙◌, sym, IsTrue}
+use Rattle.std.proofs.Common.{◌≡◌, ℕ, zero, suc, Bool, true, false, ◌&&◌, List, [], ◌∷◌, map, Option, Some, None, slice_get, refl, ap, ◌∙◌, sym, IsTrue}
 use Rattle.std.specs.Option.{option_map}
 use Rattle.std.specs.List.{list_all}
 use Rattle.std.specs.Prelude.{Result, Ok, Err, option_and_then}
@@ -10,7 +10,7 @@ use Rattle.dns_core.specs.declared.net_error.NetError.TheVariants.{Busy, Io, Tim
 use Rattle.dns_core.specs.declared.net_error.DnsError.TheVariants.{NoRecordsFound, ResponseCode}
 use Rattle.dns_core.specs.declared.message.Query.{Query}
 use Rattle.dns_core.specs.declared.message.Message.{Message as Response}
-use Rattle.script_book.specs.Course.{connect_course, reply_course, answer, error_about, is_qualified_course, is_qualified_told}
+use Rattle.script_index.specs.Course.{connect_course, reply_course, answer, error_about, is_qualified_course, is_qualified_told}
 use Rattle.script_lines.specs.Script.{is_qualified_line, is_qualified_outcome}
 use Rattle.script_lines.specs.declared.script.ScriptLine.{ScriptLine}
 use Rattle.script_lines.specs.declared.script.ScriptLine.TheVariants.{Connect, Refuse, Reply}

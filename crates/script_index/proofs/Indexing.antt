@@ -1,14 +1,13 @@
 -- An index of one line more.
 use Rattle.std.proofs.Common.{◌≡◌, ℕ, Bool, true, false, cond, ◌||◌, List, [], ◌∷◌, ◌++◌, map, filter, find, Option, Some, None, slice_get, refl, ap, ◌∙◌, sym}
 use Rattle.std.specs.Option.{option_map, option_or}
-use Rattle.std.specs.List.{list_any}
 use Rattle.std.proofs.lemmas.List.{map-append, append-nil}
 use Rattle.std.proofs.lemmas.List.Elements.{filter-append}
 use Rattle.std.proofs.lemmas.List.Folds.{list_any-append, find-append}
-use Rattle.script_book.specs.Giving.{replies, refuses, connects}
-use Rattle.script_book.specs.Index.{IsIndexed, AddsLine, places_at, refused_at, place_at}
+use Rattle.script_index.specs.Giving.{replies, refuses, connects}
+use Rattle.script_index.specs.Index.{IsIndexed, AddsLine, places_at, place_at}
 use Rattle.script_lines.specs.declared.script.ScriptLine.{ScriptLine}
-use Rattle.script_book.specs.declared.index.Index.{Index}
+use Rattle.script_index.specs.declared.index.Index.{Index}
 
 replying_more : {L : Type 0} (g : ℕ → Option L) (p : Bool) (ps : List ℕ) (fs : List L) (i : ℕ) (x : L) → g i ≡ Some x → map g ps ≡ map Some fs → map g (cond p (ps ++ i ∷ []) ps) ≡ map Some (fs ++ cond p (x ∷ []) [])
 replying_more g true ps fs i x e h = map-append g ps (i ∷ []) ∙ ap (λ y. map g ps ++ y ∷ []) e ∙ ap (λ ys. ys ++ Some x ∷ []) h ∙ sym (map-append Some fs (x ∷ []))

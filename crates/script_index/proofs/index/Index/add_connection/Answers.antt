@@ -1,11 +1,11 @@
-use Rattle.std.proofs.Common.{◌≡◌, false, Option, Some, ap, ◌∙◌, refl}
+use Rattle.std.proofs.Common.{false, Option, Some, ap, ◌∙◌, refl}
 use Rattle.std.specs.Prelude.{option_and_then}
 use Rattle.std.specs.Option.{option_or, option_map_or}
 use Rattle.std.specs.HashMap.{get}
-use Rattle.script_book.specs.Keys.{same_endpoint}
-use Rattle.script_book.specs.declared.index.Route.{Route}
-use Rattle.script_book.proofs.Putting.{same_route, put_same, put_first}
-use Rattle.script_book.proofs.index.Index.add_connection.Goals as goal
+use Rattle.script_index.specs.Keys.{same_endpoint}
+use Rattle.script_index.specs.declared.index.Route.{Route}
+use Rattle.script_index.proofs.Putting.{same_route, put_same, put_first}
+use Rattle.script_index.proofs.index.Index.add_connection.Goals as goal
 
 pub returns-clause-refused : goal.returns-clause-refused
 returns-clause-refused c = λ p.

@@ -1,10 +1,10 @@
-use Rattle.std.proofs.Common.{◌≡◌, Option, ap, ◌∙◌, refl}
+use Rattle.std.proofs.Common.{Option, ap, ◌∙◌, refl}
 use Rattle.std.specs.Prelude.{option_and_then}
 use Rattle.std.specs.HashMap.{get}
-use Rattle.script_book.specs.Keys.{same_endpoint}
-use Rattle.script_book.specs.declared.index.Route.{Route}
-use Rattle.script_book.proofs.Putting.{same_route, put_same}
-use Rattle.script_book.proofs.index.Index.add_refusal.Goals as goal
+use Rattle.script_index.specs.Keys.{same_endpoint}
+use Rattle.script_index.specs.declared.index.Route.{Route}
+use Rattle.script_index.proofs.Putting.{same_route, put_same}
+use Rattle.script_index.proofs.index.Index.add_refusal.Goals as goal
 
 pub returns-clause-place : goal.returns-clause-place
 returns-clause-place c = λ p.

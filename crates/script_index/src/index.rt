@@ -25,7 +25,7 @@ pub struct Asking {
 }
 
 impl Asking {
-    ghost use Rattle.script_book.specs.Giving.{asking_of};
+    ghost use Rattle.script_index.specs.Giving.{asking_of};
 
     /// The four values of a question that is asked over a connection.
     pub fn of(alloc: Global, endpoint: Endpoint, query: &Query) -> Result<Asking, NoMemory>
@@ -49,7 +49,7 @@ pub struct Turns {
 }
 
 impl Turns {
-    ghost use Rattle.script_book.specs.Index.{advanced};
+    ghost use Rattle.script_index.specs.Index.{advanced};
 
     /// The place of the line that is taken next.
     pub fn place(&self) -> Option<usize>
@@ -83,12 +83,12 @@ pub struct Index {
 }
 
 impl Index {
-    ghost use Rattle.script_book.specs.Keys.{same_endpoint, same_asking};
-    ghost use Rattle.script_book.specs.declared.index.Endpoint.{Endpoint};
-    ghost use Rattle.script_book.specs.declared.index.Asking.{Asking};
+    ghost use Rattle.script_index.specs.Keys.{same_endpoint, same_asking};
+    ghost use Rattle.script_index.specs.declared.index.Endpoint.{Endpoint};
+    ghost use Rattle.script_index.specs.declared.index.Asking.{Asking};
     ghost use Rattle.std.specs.HashMap.{get};
-    ghost use Rattle.script_book.specs.Index.{places_at, used_at, refused_at, place_at, AddsLine, IsIndexed};
-    ghost use Rattle.script_book.specs.Giving.{replies, refuses, connects};
+    ghost use Rattle.script_index.specs.Index.{places_at, used_at, refused_at, place_at, AddsLine, IsIndexed};
+    ghost use Rattle.script_index.specs.Giving.{replies, refuses, connects};
 
     pub fn new(alloc: Global) -> Index
         ensures places { (a : Asking) → places_at result a ≡ [] }

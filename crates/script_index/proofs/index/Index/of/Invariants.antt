@@ -1,7 +1,7 @@
 use Rattle.std.proofs.Common.{◌≡◌, take}
-use Rattle.script_book.specs.Index.{IsIndexed, used_at}
-use Rattle.script_book.specs.declared.index.Asking.{Asking}
-use Rattle.script_book.proofs.index.Index.of.Given as goal
+use Rattle.script_index.specs.Index.{IsIndexed, used_at}
+use Rattle.script_index.specs.declared.index.Asking.{Asking}
+use Rattle.script_index.proofs.index.Index.of.Given as goal
 
 abbrev pub invariant-loop-place : goal.invariant-loop-place
 invariant-loop-place l = record {

@@ -2,16 +2,16 @@
 use Rattle.std.specs.Prelude.{◌≡◌, false, IfSome, Result, Ok, Err}
 use Rattle.dns_core.specs.declared.net_error.NetError.{NetError}
 use Rattle.dns_core.specs.declared.message.Message.{Message as Response}
-use Rattle.script_book.specs.declared.index.Endpoint.{Endpoint}
+use Rattle.script_index.specs.declared.index.Endpoint.{Endpoint}
 use Rattle.dns_core.specs.NetError.{is_memory, is_no_records, negative_query}
 use Rattle.dns_core.specs.declared.message.Query.{Query}
 use Rattle.dns_core.specs.declared.log.ToldOutcome.{ToldOutcome}
 use Rattle.dns_core.specs.declared.log.ToldOutcome.TheVariants.{Connected, Message, Error}
-use Rattle.script_book.specs.Course.{IsWaiting}
-use Rattle.script_book.specs.declared.course.Course.{Course}
-use Rattle.script_book.specs.declared.course.Course.TheVariants.{Never, After}
-use Rattle.script_book.specs.declared.course.Stage.{Stage}
-use Rattle.script_book.specs.declared.course.Stage.TheVariants.{Unknown, Waits, Due}
+use Rattle.script_index.specs.Course.{IsWaiting}
+use Rattle.script_index.specs.declared.course.Course.{Course}
+use Rattle.script_index.specs.declared.course.Course.TheVariants.{Never, After}
+use Rattle.script_index.specs.declared.course.Stage.{Stage}
+use Rattle.script_index.specs.declared.course.Stage.TheVariants.{Unknown, Waits, Due}
 
 -- it can be told a connection
 abbrev pub TellsConnection : ToldOutcome → Type 0

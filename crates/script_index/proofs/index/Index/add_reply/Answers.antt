@@ -1,8 +1,8 @@
-use Rattle.std.proofs.Common.{◌≡◌, true, false, [], ◌∷◌, ◌++◌, Option, ap, ◌∙◌, refl}
+use Rattle.std.proofs.Common.{[], ◌∷◌, ◌++◌, ap, ◌∙◌}
 use Rattle.std.specs.HashMap.{get}
-use Rattle.script_book.specs.Keys.{same_asking}
-use Rattle.script_book.proofs.Putting.{places_of, used_of, same_turns, put, put_same}
-use Rattle.script_book.proofs.index.Index.add_reply.Goals as goal
+use Rattle.script_index.specs.Keys.{same_asking}
+use Rattle.script_index.proofs.Putting.{places_of, used_of, same_turns, put, put_same}
+use Rattle.script_index.proofs.index.Index.add_reply.Goals as goal
 
 pub returns-clause-places : goal.returns-clause-places
 returns-clause-places c = λ a.

@@ -1,0 +1,5 @@
+pub mod Course
+pub mod Giving
+pub mod Index
+pub mod Keys
+pub mod Stage
