@@ -91,8 +91,7 @@ fn poll_answer<P: ConnectionProvider>(
             Polled { slot, heard }
         }
         Poll::Ready(Ok(message)) => {
-            let slot = Slot::Over;
-            let heard = Heard::Answered(sent, message);
+            let (slot, heard) = (Slot::Over, Heard::Answered(sent, message));
             Polled { slot, heard }
         }
         Poll::Ready(Err(error)) => {
