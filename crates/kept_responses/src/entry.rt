@@ -34,6 +34,7 @@ fn is_same_name(left: &Name, right: &Name) -> bool
 }
 
 impl Entry {
+    /// Whether it is kept for this question: of the same type, class and name, without regard to case.
     pub fn is_for(&self, query: &Query) -> bool
         ensures { result ≡ is_for query.now self.now }
     {
@@ -42,6 +43,7 @@ impl Entry {
             && is_same_name(&self.query.name, &query.name)
     }
 
+    /// Whether it may still be read at this moment, in microseconds: up to its expiry, and at it.
     pub fn is_current(&self, now: u64) -> bool
         ensures { result ≡ is_current now self.now }
     {

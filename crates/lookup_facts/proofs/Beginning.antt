@@ -1,8 +1,8 @@
 -- What holds of a lookup that begins at the servers of a zone.
 use Rattle.lookup_facts.proofs.Names.{◌≡◌, ℕ, ◌<◌, ◌≤◌, ◌⊎◌, inl, inr, Bool, true, false, cond, List, [], ◌∷◌, map, filter, take, drop, length, All, Option, Some, None, refl, sym, ap, subst, ◌∙◌, arith, ◌&&◌, not, eqb-true, option_map, AllZip, list_any, AllByRecursion, IsPermutation, same_Some, none-some, All-weaker, All-from_recursion, recursion_from_All, take-append-drop, IsPermutation-append_comm, IsPermutation-refl, IsPermutation-map, All-permutation, IpAddr, DomainName, DnsRequest, NameServer, over_udp, over_tcp, no_send, Server, server_of, denies, HoldsBy, LookupState, BegunWith, begun_with, fresh, is_decided, begun, round_same, begun_by, started_moment, Asking, Decided, Answered, HasBegun, SentTo, HasSent, lookup_at, turn_at, configs, Shared, SameBut, OpenLookup, Candidate, at_address, View, config_at, server_at, IsAt, IsMet, SoughtHolds, AreFor, open_for}
 use Rattle.std.proofs.Common.{◌==◌}
-use Rattle.server_core.specs.Policy.{allows_config}
-use Rattle.server_core.specs.declared.policy.ConnectionPolicy.{ConnectionPolicy}
+use Rattle.server_send.specs.Policy.{allows_config}
+use Rattle.server_send.specs.declared.policy.ConnectionPolicy.{ConnectionPolicy}
 use Rattle.pool_lookups.specs.Candidates.{is_reached, candidate_of, candidates}
 use Rattle.resolver_settings.specs.declared.options.ResolverOpts.{ResolverOpts}
 use Rattle.resolver_settings.specs.declared.options.ServerOrderingStrategy.{ServerOrderingStrategy}

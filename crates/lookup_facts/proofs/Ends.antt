@@ -2,8 +2,8 @@
 use Rattle.lookup_facts.proofs.Names.{◌≡◌, ℕ, ◌+◌, ◌-◌, ◌^◌, ◌≤◌, min, Bool, true, false, Option, Some, None, Result, Ok, Err, refl, sym, ap, subst, ◌∙◌, arith, IsTrue, if◌then◌else◌, leb-true, same_Some, IpAddr, DomainName, Log, NoMemory, Query, Message, NetError, ToldOutcome, is_above, walk, class_of_error, Answered, class_of_answer, waits, EndsSend, answered, Serves, Heard, Serves-later, is_open, asked_of, pendings, end_of, is_last_poll, after_put, response_end, result_of, taken, come_to, After, Sent, Outcome, Pending, Connected, Told, Failed, Slept, class_of_sent, closing_entry, Closes, WaitsBy, OutcomeIs, told_class_itself, IsFor, IsGivenUpIn, is_given_up, LogGoesOnIf, LogGoesOn, last_entry, AskedAs, View, given_of, is_response, told_of, is_denial, IsSentOver, MayTake, sent_to}
 use Rattle.dns_core.specs.Classifying.{classify_of}
 use Rattle.resolution.specs.Serving.Heard.{heard}
-use Rattle.server_core.specs.declared.server_send.Asked.{Asked}
-use Rattle.server_core.specs.declared.server_send.ServerSend.{ServerSend}
+use Rattle.server_send.specs.declared.server_send.Asked.{Asked}
+use Rattle.server_send.specs.declared.server_send.ServerSend.{ServerSend}
 use Rattle.retry_lookup.proofs.SendEnds.{lost_end, polled_end, is_open_for, comes_open, asked_there, connected_goes_on}
 use Rattle.lookup_facts.proofs.Sends.{asked-entry, same_query-refl, lost-failed, lost-gave_up}
 use Rattle.retry_lookup.specs.Running.{IsFor as IsAt_stage}
@@ -11,7 +11,7 @@ use Rattle.dns_core.specs.declared.net_error.NetError.TheVariants as net
 use Rattle.dns_core.specs.declared.net_error.DnsError.TheVariants as dns
 use Rattle.dns_core.specs.declared.log.LogEntry.TheVariants as line
 use Rattle.dns_core.specs.declared.log.ToldOutcome.TheVariants as said
-use Rattle.server_core.specs.declared.order.After.TheVariants as after
+use Rattle.server_orders.specs.declared.order.After.TheVariants as after
 
 -- The send to the address ended so, by the entry, at the moment; what is a response was heard from a server of the zone.
 pub record IsEndedBy (seen : View) (now entry : ℕ) (zone : DomainName) (q : Query) (ip : IpAddr) (result : Answered) : Type 0 where

@@ -6,7 +6,7 @@ use Rattle.retry_lookup.proofs.Opens.{opens_started}
 use Rattle.server_pool.specs.Running.{RunsOn}
 use Rattle.lookup_facts.proofs.Carrying.{config-same}
 use Rattle.retry_lookup.specs.Running.{IsSentTo as IsSentOut}
-use Rattle.server_core.specs.declared.order.Order.TheVariants as order
+use Rattle.server_orders.specs.declared.order.Order.TheVariants as order
 use Rattle.retry_lookup.specs.declared.giving.LookupStep.TheVariants as step
 use Rattle.server_pool.specs.declared.pool_shared.PoolStep.TheVariants as gives
 use Rattle.lookup_facts.specs.declared.sought.Aim.TheVariants as aim

@@ -1,9 +1,9 @@
 -- The outcome of an open order is not late.
 use Rattle.lookup_facts.proofs.Names.{◌≡◌, ℕ, ◌+◌, Bool, true, false, List, [], ◌∷◌, find, ◌||◌, ◌&&◌, Option, Some, None, refl, sym, ap, ◌∙◌, nat_le, if◌then◌else◌, list_any, is_open, after_put, is_last_poll, After, Outcome, Pending, has_in, has_order, is_open_at, done_by, LookupState, Attempt, State, Asking, BackingOff, Decided}
 use Rattle.std.proofs.Common.{◌==◌}
-use Rattle.server_core.specs.Sending.{after_outcome}
-use Rattle.server_core.specs.declared.order.After.TheVariants.{Late, GiveUp, Kept}
-use Rattle.server_core.specs.declared.server_send.Stage.{Stage}
+use Rattle.server_send.specs.Sending.{after_outcome}
+use Rattle.server_orders.specs.declared.order.After.TheVariants.{Late, GiveUp, Kept}
+use Rattle.server_send.specs.declared.server_send.Stage.{Stage}
 use Rattle.retry_lookup.specs.Backoff.{is_order, after_backoff}
 
 poll-late : (last : Bool) → (if last then GiveUp else Kept) ≡ Late → ⊥

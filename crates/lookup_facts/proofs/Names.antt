@@ -57,14 +57,14 @@ pub use Rattle.dns_core.specs.declared.errors.NoMemory.{NoMemory}
 pub use Rattle.resolution.specs.Names.{is_above, walk, same_query}
 pub use Rattle.resolution.specs.Ending.EndsSend.{answered, open_refused, ask_refused, open_failed, ask_failed, given_up}
 pub use Rattle.resolution.proofs.Keeping.{Serves-later, Logged-extend, Serves-extend, Heard-extend}
-pub use Rattle.server_core.specs.Sending.{is_open, asked_of, pendings, end_of, is_last_poll, after_put, response_end, result_of, taken, come_to}
-pub use Rattle.server_core.specs.declared.order.After.{After}
-pub use Rattle.server_core.specs.declared.order.Sent.{Sent}
-pub use Rattle.server_core.specs.declared.order.Outcome.{Outcome}
-pub use Rattle.server_core.specs.declared.order.Outcome.TheVariants.{Pending, Connected, Told, Failed, Slept}
+pub use Rattle.server_send.specs.Sending.{is_open, asked_of, pendings, end_of, is_last_poll, after_put, response_end, result_of, taken, come_to}
+pub use Rattle.server_orders.specs.declared.order.After.{After}
+pub use Rattle.server_orders.specs.declared.order.Sent.{Sent}
+pub use Rattle.server_orders.specs.declared.order.Outcome.{Outcome}
+pub use Rattle.server_orders.specs.declared.order.Outcome.TheVariants.{Pending, Connected, Told, Failed, Slept}
 pub use Rattle.retry_lookup.specs.Running.{IsGivenFor, IsBackingOffUnder, heard_after, with_end, IsOpenTo}
 pub use Rattle.order_carrier.specs.Fits.{Closes, WaitsBy, OutcomeIs, GoesToServer, entry_for, IsSent}
-pub use Rattle.server_core.specs.declared.order.Order.{Order}
+pub use Rattle.server_orders.specs.declared.order.Order.{Order}
 pub use Rattle.retry_lookup.specs.declared.giving.LookupStep.{LookupStep}
 pub use Rattle.retry_lookup.specs.declared.attempt.Attempt.{Attempt}
 pub use Rattle.retry_lookup.specs.Attempts.{is_open_at}
@@ -82,8 +82,8 @@ pub use Rattle.resolution.specs.Life.{life_in_seconds}
 pub use Rattle.resolution.proofs.FailuresKept.{waits-extend, EndSends-extend, Listed-extend, Walked-extend, Finished-extend}
 pub use Rattle.resolution.proofs.Caseless.{both}
 pub use Rattle.recursor_setting.specs.declared.setting.Setting.{Setting}
-pub use Rattle.server_core.specs.Order.{entry_of}
-pub use Rattle.server_core.specs.declared.order.Tick.{Tick}
+pub use Rattle.server_orders.specs.Order.{entry_of}
+pub use Rattle.server_orders.specs.declared.order.Tick.{Tick}
 pub use Rattle.retry_lookup.proofs.Taken.{heard_none, heard_some, heard_sleep, open_has, sleep_has, open_did, keeps, kept_open, kept_has, rests_under, rests_has}
 pub use Rattle.dns_core.specs.declared.log.LogEntry.{LogEntry}
 pub use Rattle.resolution.specs.Telling.{Logged, moment_of}

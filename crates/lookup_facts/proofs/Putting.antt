@@ -8,7 +8,7 @@ use Rattle.lookup_facts.proofs.Sends.{outcome-extend, waits-extend_by}
 use Rattle.lookup_facts.proofs.Ends.{IsEndedBy, done-so, ended-by, ended-last}
 use Rattle.lookup_facts.proofs.Tries.{tried-more, tried-on, outcome-began}
 use Rattle.lookup_facts.proofs.Waited.{polled-more, polled-waited}
-use Rattle.server_core.specs.declared.order.After.TheVariants as after
+use Rattle.server_orders.specs.declared.order.After.TheVariants as after
 use Rattle.lookup_facts.specs.declared.sought.Aim.TheVariants as aim
 
 -- ---- one more end

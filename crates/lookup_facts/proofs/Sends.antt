@@ -12,7 +12,7 @@ use Rattle.order_carrier.proofs.Holding.{IsSent-extend}
 use Rattle.dns_core.specs.declared.net_error.NetError.TheVariants as net
 use Rattle.dns_core.specs.declared.log.LogEntry.TheVariants as line
 use Rattle.dns_core.specs.declared.log.ToldOutcome.TheVariants as said
-use Rattle.server_core.specs.declared.order.Outcome.TheVariants as outcome
+use Rattle.server_orders.specs.declared.order.Outcome.TheVariants as outcome
 
 -- ---- what was sent
 

@@ -7,16 +7,16 @@ use Rattle.dns_core.specs.declared.net_error.NetError.{NetError}
 use Rattle.resolution.specs.Given.{Given}
 use Rattle.resolution.specs.Telling.{Logged}
 use Rattle.resolution.specs.Ending.{EndsSend}
-use Rattle.server_core.specs.Order.{entry_of}
-use Rattle.server_core.specs.declared.order.After.{After}
-use Rattle.server_core.specs.declared.order.Outcome.{Outcome}
-use Rattle.server_core.specs.declared.order.Outcome.TheVariants.{Pending, Connected, Told, Failed, Slept}
-use Rattle.server_core.specs.declared.order.Sent.{Sent}
-use Rattle.server_core.specs.declared.order.Tick.{Tick}
+use Rattle.server_orders.specs.Order.{entry_of}
+use Rattle.server_orders.specs.declared.order.After.{After}
+use Rattle.server_orders.specs.declared.order.Outcome.{Outcome}
+use Rattle.server_orders.specs.declared.order.Outcome.TheVariants.{Pending, Connected, Told, Failed, Slept}
+use Rattle.server_orders.specs.declared.order.Sent.{Sent}
+use Rattle.server_orders.specs.declared.order.Tick.{Tick}
 use Rattle.order_carrier.specs.Fits.{Fits, WaitsBy, IsSent}
 use Rattle.lookup_facts.specs.View.{View}
 use Rattle.dns_core.specs.declared.log.LogEntry.TheVariants as line
-use Rattle.server_core.specs.declared.order.After.TheVariants as after
+use Rattle.server_orders.specs.declared.order.After.TheVariants as after
 
 -- ---- what was lost
 

@@ -12,14 +12,14 @@ use Rattle.resolution.specs.Serving.{Serves}
 use Rattle.resolution.specs.Lookups.{Answered, End, class_of_answer}
 use Rattle.resolution.specs.Ending.{Listed, waits}
 use Rattle.resolution.specs.Walking.{Walked}
-use Rattle.server_core.specs.Sending.{pendings}
+use Rattle.server_send.specs.Sending.{pendings}
 use Rattle.server_core.specs.Servers.{Server, server_of}
-use Rattle.server_core.specs.Order.{entry_of}
-use Rattle.server_core.specs.declared.order.After.{After}
-use Rattle.server_core.specs.declared.order.Sent.{Sent}
-use Rattle.server_core.specs.declared.order.Order.{Order}
-use Rattle.server_core.specs.declared.order.Outcome.{Outcome}
-use Rattle.server_core.specs.declared.order.Outcome.TheVariants.{Pending, Connected, Told, Failed, Slept}
+use Rattle.server_orders.specs.Order.{entry_of}
+use Rattle.server_orders.specs.declared.order.After.{After}
+use Rattle.server_orders.specs.declared.order.Sent.{Sent}
+use Rattle.server_orders.specs.declared.order.Order.{Order}
+use Rattle.server_orders.specs.declared.order.Outcome.{Outcome}
+use Rattle.server_orders.specs.declared.order.Outcome.TheVariants.{Pending, Connected, Told, Failed, Slept}
 use Rattle.retry_lookup.specs.Holds.{HeardEnd, ends_of, entries_of, HoldsBy}
 use Rattle.retry_lookup.specs.Lookup.{LookupState, question_of}
 use Rattle.retry_lookup.specs.Running.{IsOpenTo, IsBackingOffUnder}
@@ -38,8 +38,8 @@ use Rattle.lookup_facts.specs.declared.sought.Given.{Given}
 use Rattle.lookup_facts.specs.declared.sought.Sought.{Sought}
 use Rattle.dns_core.specs.declared.net_error.NetError.TheVariants as net
 use Rattle.dns_core.specs.declared.net_error.DnsError.TheVariants as dns
-use Rattle.server_core.specs.declared.order.After.TheVariants as after
-use Rattle.server_core.specs.declared.order.Order.TheVariants as order
+use Rattle.server_orders.specs.declared.order.After.TheVariants as after
+use Rattle.server_orders.specs.declared.order.Order.TheVariants as order
 use Rattle.lookup_facts.specs.declared.sought.Aim.TheVariants as aim
 
 -- how the server of a number is reached

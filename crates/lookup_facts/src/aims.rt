@@ -5,7 +5,7 @@ ghost use Rattle.lookup_facts.specs.Sought.{IsStill, is_denial, aim_of, sent_to,
 
 use crate::sought::{Aim, Given};
 use dns_core::{DnsError, Message, NetError, Query};
-use server_core::{Order, Outcome, Sent};
+use server_orders::{Order, Outcome, Sent};
 use std::net::IpAddr;
 
 /// Whether an error is a denial in place of a message.

@@ -5,7 +5,7 @@ ghost use Rattle.lookup_facts.specs.Sought.{IsSentOver, IsFirst, IsOf, MayWait, 
 use crate::aims::{is_denial, is_identical, is_still};
 use crate::found::Found;
 use dns_core::{Boxed, Name, Query};
-use server_core::{Outcome, Sent, same_address};
+use server_orders::{Outcome, Sent, same_address};
 use std::net::IpAddr;
 
 /// What an order does: it opens a connection to an address, asks there, or sleeps.

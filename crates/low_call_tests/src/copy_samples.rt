@@ -8,7 +8,7 @@ use dns_core::{
     LogEntry, Message, Name, NameError, NetError, NoMemory, NoRecords, Protocol, ProtocolConfig,
     Question, RData, Record, RecordType, Records, ResponseCode, Text, ToldOutcome,
 };
-use server_core::Order;
+use server_orders::Order;
 use std::alloc::Global;
 use std::net::Ipv6Addr;
 

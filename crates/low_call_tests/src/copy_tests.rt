@@ -11,7 +11,7 @@ use dns_core::{
     ToldOutcome, TryClone, try_clone_all,
 };
 use resolver_settings::{AccessControlSet, IpNet};
-use server_core::Order;
+use server_orders::Order;
 use std::alloc::Global;
 use std::fmt;
 use std::net::{IpAddr, Ipv4Addr};

@@ -1,6 +1,6 @@
 //! What an order waits for.
 
-use server_core::Sent;
+use server_orders::Sent;
 
 /// A connection that opens, the answer to a question, or a moment. The first two were sent by an entry
 /// of the log.

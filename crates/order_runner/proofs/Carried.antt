@@ -7,11 +7,11 @@ use Rattle.dns_core.specs.declared.log.LogEntry.{LogEntry}
 use Rattle.dns_core.specs.declared.log.LogEntry.TheVariants as line
 use Rattle.resolution.specs.Ending.{waits}
 use Rattle.resolution.specs.Telling.{Logged}
-use Rattle.server_core.specs.declared.order.Order.{Order}
-use Rattle.server_core.specs.declared.order.Order.TheVariants.{Open, Ask, Sleep}
-use Rattle.server_core.specs.declared.order.Outcome.{Outcome}
-use Rattle.server_core.specs.declared.order.Outcome.TheVariants.{Pending, Connected, Told, Failed, Slept}
-use Rattle.server_core.specs.declared.order.Sent.{Sent}
+use Rattle.server_orders.specs.declared.order.Order.{Order}
+use Rattle.server_orders.specs.declared.order.Order.TheVariants.{Open, Ask, Sleep}
+use Rattle.server_orders.specs.declared.order.Outcome.{Outcome}
+use Rattle.server_orders.specs.declared.order.Outcome.TheVariants.{Pending, Connected, Told, Failed, Slept}
+use Rattle.server_orders.specs.declared.order.Sent.{Sent}
 use Rattle.order_carrier.specs.Awaited.{IsSentFor, sent_for}
 use Rattle.order_carrier.specs.Carrying.{StateHolds}
 use Rattle.order_carrier.specs.Did.{Did, Stand, State, Carried, May, MayHear, HasNumbers, order_in, sent_in, start_entry, poll_entry, appended, told_by, handed, made_by, heard_stand, stand_after}

@@ -3,9 +3,9 @@ use Rattle.std.proofs.Common.{◌≡◌, ◌≢◌, ℕ, ◌≤◌, ◌<◌, max
 use Rattle.std.specs.BTreeMap.{BTreeMap}
 use Rattle.dns_core.specs.declared.provider.ConnectionProvider.{Ghosts}
 use Rattle.resolution.specs.Ending.{waits}
-use Rattle.server_core.specs.declared.order.Outcome.{Outcome}
-use Rattle.server_core.specs.declared.order.Sent.{Sent}
-use Rattle.server_core.specs.declared.order.Tick.{Tick}
+use Rattle.server_orders.specs.declared.order.Outcome.{Outcome}
+use Rattle.server_orders.specs.declared.order.Sent.{Sent}
+use Rattle.server_orders.specs.declared.order.Tick.{Tick}
 use Rattle.order_carrier.specs.Carrying.{CarrierHolds, Carries, state}
 use Rattle.order_carrier.specs.Did.{order_in, sent_in}
 use Rattle.order_carrier.specs.Did.Stand.{Unseen}

@@ -2,7 +2,7 @@
 use Rattle.std.proofs.Common.{◌≡◌, ◌&&◌, ℕ, Bool, true, false, not, List, Option, Some, None, refl, sym, subst, ap}
 use Rattle.std.specs.Prelude.{is_some}
 use Rattle.dns_core.specs.declared.log.LogEntry.{LogEntry}
-use Rattle.server_core.specs.declared.order.Order.{Order}
+use Rattle.server_orders.specs.declared.order.Order.{Order}
 use Rattle.order_carrier.specs.Did.{Stand, order_in}
 use Rattle.order_carrier.specs.Did.Stand.{Unseen}
 use Rattle.order_carrier.specs.Sent.{is_free}

@@ -6,7 +6,7 @@ use Rattle.dns_core.specs.declared.log.LogEntry.{LogEntry}
 use Rattle.dns_core.specs.declared.provider.ConnectionProvider.{Ghosts}
 use Rattle.resolution.specs.Ending.{waits}
 use Rattle.resolution.specs.Given.{Given}
-use Rattle.server_core.specs.declared.order.Sent.{Sent}
+use Rattle.server_orders.specs.declared.order.Sent.{Sent}
 use Rattle.order_carrier.specs.Carrying.{CarrierHolds, state}
 use Rattle.order_carrier.specs.Did.{Stand, order_in, sent_in}
 use Rattle.order_carrier.specs.Did.Stand.{Over}

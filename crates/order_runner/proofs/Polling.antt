@@ -7,8 +7,8 @@ use Rattle.std.specs.Ordering.{nat_cmp}
 use Rattle.std.specs.Prelude.{is_some}
 use Rattle.dns_core.specs.declared.provider.ConnectionProvider.{Ghosts}
 use Rattle.resolution.specs.Given.{Given}
-use Rattle.server_core.specs.declared.order.Outcome.{Outcome}
-use Rattle.server_core.specs.declared.order.Tick.{Tick}
+use Rattle.server_orders.specs.declared.order.Outcome.{Outcome}
+use Rattle.server_orders.specs.declared.order.Tick.{Tick}
 use Rattle.order_carrier.specs.Carrying.{CarrierHolds, Carries}
 use Rattle.order_carrier.specs.Did.Stand.{Unseen}
 use Rattle.order_carrier.specs.Growing.{TellsThat}

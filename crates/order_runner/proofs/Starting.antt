@@ -9,8 +9,8 @@ use Rattle.std.specs.Ordering.{nat_cmp}
 use Rattle.std.specs.Prelude.{is_some}
 use Rattle.dns_core.specs.declared.log.LogEntry.{LogEntry}
 use Rattle.dns_core.specs.declared.provider.ConnectionProvider.{Ghosts}
-use Rattle.server_core.specs.declared.order.Order.{Order}
-use Rattle.server_core.specs.declared.order.Tick.{Tick}
+use Rattle.server_orders.specs.declared.order.Order.{Order}
+use Rattle.server_orders.specs.declared.order.Tick.{Tick}
 use Rattle.order_carrier.specs.Sent.{is_free}
 use Rattle.order_carrier.specs.Stand.{stand_at}
 use Rattle.order_runner.specs.Runner.{held_at, polled_again, RunnerHolds, CanRun, RunnerMoves, GoesRight, StartsRight, IsCounted, Grows}

@@ -10,10 +10,10 @@ use Rattle.dns_core.specs.declared.provider.ConnectionProvider.{Ghosts}
 use Rattle.resolution.specs.Asking.{AsksServers}
 use Rattle.resolution.specs.Ending.{waits}
 use Rattle.resolution.specs.Given.{Given}
-use Rattle.server_core.specs.declared.order.Order.{Order}
-use Rattle.server_core.specs.declared.order.Outcome.{Outcome}
-use Rattle.server_core.specs.declared.order.Outcome.TheVariants.{Pending, Connected, Told, Failed, Slept}
-use Rattle.server_core.specs.declared.order.Sent.{Sent}
+use Rattle.server_orders.specs.declared.order.Order.{Order}
+use Rattle.server_orders.specs.declared.order.Outcome.{Outcome}
+use Rattle.server_orders.specs.declared.order.Outcome.TheVariants.{Pending, Connected, Told, Failed, Slept}
+use Rattle.server_orders.specs.declared.order.Sent.{Sent}
 use Rattle.order_carrier.specs.Carrying.{CarrierHolds}
 use Rattle.order_carrier.specs.Did.{Stand, order_in, sent_in}
 use Rattle.order_carrier.specs.Did.Stand.{Unseen}

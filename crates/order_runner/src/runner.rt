@@ -9,7 +9,7 @@ ghost use Rattle.order_runner.specs.Runner.{IsCounted, IsStarted, Grows, IsPolle
 
 use dns_core::{ConnectionProvider, NoMemory};
 use order_carrier::Carrier;
-use server_core::{Order, Outcome, Sent, Tick};
+use server_orders::{Order, Outcome, Sent, Tick};
 use std::alloc::Global;
 use std::collections::BTreeMap;
 

@@ -5,7 +5,7 @@ use crate::pool_samples::{Call, Course};
 use crate::sights::{End, Seen};
 use call_samples::runs;
 use dns_core::Protocol;
-use server_core::After;
+use server_orders::After;
 use std::test::Fail;
 
 const ENDED: Seen = Seen::Has(After::Ended);

@@ -2,7 +2,7 @@
 
 use call_samples::{ip, message, query, response};
 use dns_core::{IoKind, Message, NameError, NetError, Records, ResponseCode};
-use server_core::{Outcome, Sent, Tick};
+use server_orders::{Outcome, Sent, Tick};
 use std::alloc::Global;
 
 /// What comes of an order: beside an answer, one that is cut, a cut message without records, one without

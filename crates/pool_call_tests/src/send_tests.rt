@@ -5,7 +5,8 @@ use crate::send_samples::{Call, goes};
 use crate::server_samples::Reached;
 use crate::sights::{End, Kept, Seen};
 use dns_core::Protocol;
-use server_core::{After, Status};
+use server_core::Status;
+use server_orders::After;
 use std::alloc::Global;
 use std::test::Fail;
 

@@ -3,7 +3,8 @@
 use call_samples::{ip, options, plain};
 use dns_core::{ConnectionConfig, NameError, NoMemory, Protocol, ProtocolConfig};
 use resolver_settings::{NameServerConfig, ServerOrderingStrategy};
-use server_core::{Connection, DecayingSrtt, NameServer, PoolContext, Status};
+use server_core::{Connection, DecayingSrtt, NameServer, Status};
+use server_send::PoolContext;
 use std::alloc::Global;
 
 /// How a server is reached, and the connections that were opened to it, each with its number.

@@ -5,7 +5,7 @@ use crate::pool_samples::{Call, Course};
 use crate::sights::Seen;
 use call_samples::runs;
 use dns_core::Protocol;
-use server_core::After;
+use server_orders::After;
 use std::test::Fail;
 
 /// Six requests, of which the second is in another case, the third wants DNSSEC records, the fourth is

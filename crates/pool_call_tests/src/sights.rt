@@ -2,8 +2,10 @@
 
 use call_samples::Sight;
 use dns_core::{IoKind, Message, NetError, Protocol};
-use server_core::{After, Order, SendStep, Status};
+use server_core::Status;
+use server_orders::{After, Order};
 use server_pool::PoolStep;
+use server_send::SendStep;
 
 /// What a send ends with, and what a lookup answers.
 #[derive(Clone, Copy, Debug, PartialEq)]

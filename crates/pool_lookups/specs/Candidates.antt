@@ -1,8 +1,8 @@
 -- The servers of a pool that can be asked, as a lookup sees them.
 use Rattle.std.specs.Prelude.{ℕ, Bool, true, false, List, map, filter, Some, None}
 use Rattle.server_core.specs.Servers.{Server, server_of}
-use Rattle.server_core.specs.Policy.{allows_server}
-use Rattle.server_core.specs.declared.policy.ConnectionPolicy.{ConnectionPolicy}
+use Rattle.server_send.specs.Policy.{allows_server}
+use Rattle.server_send.specs.declared.policy.ConnectionPolicy.{ConnectionPolicy}
 use Rattle.retry_rules.specs.declared.candidate.Candidate.{Candidate}
 
 -- the policy allows one of the ways to reach the server of the number

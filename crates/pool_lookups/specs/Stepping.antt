@@ -2,11 +2,11 @@
 use Rattle.std.specs.Prelude.{◌≡◌, ℕ, Bool, List, Result, Ok, Err}
 use Rattle.std.specs.declared.net.ip_addr.IpAddr.{IpAddr}
 use Rattle.dns_core.specs.declared.errors.NoMemory.{NoMemory}
-use Rattle.server_core.specs.Context.{Context}
+use Rattle.server_send.specs.Context.{Context}
 use Rattle.server_core.specs.Servers.{Server}
-use Rattle.server_core.specs.declared.order.After.{After}
-use Rattle.server_core.specs.declared.order.Outcome.{Outcome}
-use Rattle.server_core.specs.declared.order.Tick.{Tick}
+use Rattle.server_orders.specs.declared.order.After.{After}
+use Rattle.server_orders.specs.declared.order.Outcome.{Outcome}
+use Rattle.server_orders.specs.declared.order.Tick.{Tick}
 use Rattle.retry_rules.specs.AnswerFilter.{denied_by}
 use Rattle.retry_lookup.specs.declared.giving.LookupStep.{LookupStep}
 use Rattle.retry_lookup.specs.Cancelling.{table_heard}

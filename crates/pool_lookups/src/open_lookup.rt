@@ -14,7 +14,9 @@ ghost use Rattle.pool_lookups.specs.declared.open_lookup.OpenLookup.{OpenLookup 
 use dns_core::{Boxed, DnsRequest, NetError, NoMemory};
 use retry_lookup::{Lookup, LookupStep};
 use retry_rules::same_key;
-use server_core::{After, Outcome, PoolContext, ServerTable, Tick};
+use server_core::ServerTable;
+use server_orders::{After, Outcome, Tick};
+use server_send::PoolContext;
 use std::alloc::Global;
 use std::collections::BTreeMap;
 

@@ -5,7 +5,8 @@ ghost use Rattle.pool_lookups.specs.Candidates.{candidate_of, candidates, is_rea
 
 use dns_core::NoMemory;
 use retry_rules::Candidate;
-use server_core::{ConnectionPolicy, NameServer, ServerTable};
+use server_core::{NameServer, ServerTable};
+use server_send::ConnectionPolicy;
 use std::alloc::Global;
 
 /// The server of a number, where the table has it.

@@ -12,7 +12,7 @@ use Rattle.resolution.specs.Telling.{Logged}
 use Rattle.resolution.specs.Ending.{waits}
 use Rattle.order_carrier.specs.Growing.{LongerOver}
 use Rattle.order_carrier.specs.Patience.{PatientSince}
-use Rattle.server_core.specs.Context.{Context}
+use Rattle.server_send.specs.Context.{Context}
 use Rattle.recursor_setting.specs.declared.setting.Setting.{Setting}
 use Rattle.lookup_facts.specs.View.{given_of}
 use Rattle.recursor_core.specs.Standing.{Standing, run_terms, run_moments, RepliesHold}

@@ -41,8 +41,8 @@ pub use Rattle.resolver_cache.specs.Cached.{Cached}
 pub use Rattle.recursor_setting.specs.Setting.{with_patience}
 pub use Rattle.lookup_facts.specs.Order.{is_given_up, IsGivenUpIn, LogGoesOnIf}
 pub use Rattle.order_runner.specs.Runner.{RunnerHolds, RunnerMoves, GoesNowhere, sent_by, still_awaited, IsLast, HasTold, polls_left}
-pub use Rattle.server_core.specs.declared.order.Order.{Order}
-pub use Rattle.server_core.specs.declared.order.After.{After}
+pub use Rattle.server_orders.specs.declared.order.Order.{Order}
+pub use Rattle.server_orders.specs.declared.order.After.{After}
 pub use Rattle.recursor_core.specs.Turns.{due}
 pub use Rattle.recursor_machine.specs.Plays.{open_plays, Begins, BeginsIf, BeginsAt, IsRefused, ReplyOf}
 pub use Rattle.recursor_machine.specs.declared.plays.Played.{Played}

@@ -8,8 +8,8 @@ use Rattle.dns_core.specs.declared.request.Turn.{Turn}
 use Rattle.dns_core.specs.declared.provider.ConnectionProvider.{Ghosts}
 use Rattle.resolver_settings.specs.Access.{Access}
 use Rattle.resolver_settings.specs.Ttl.{TtlTable}
-use Rattle.server_core.specs.Context.{Context}
-use Rattle.server_core.specs.declared.order.Tick.{Tick}
+use Rattle.server_send.specs.Context.{Context}
+use Rattle.server_orders.specs.declared.order.Tick.{Tick}
 use Rattle.resolution.specs.Telling.{MomentsRise}
 use Rattle.resolution.specs.Asking.{AsksServers}
 use Rattle.resolution.specs.Timing.{known_to_drive}

@@ -14,7 +14,7 @@ use order_carrier::Carrier;
 use order_runner::Runner;
 use recursor_machine::RecursorCore;
 use recursor_types::{MessageKind, RecursorError, RecursorOptions};
-use server_core::PoolContext;
+use server_send::PoolContext;
 use std::alloc::Global;
 use std::marker::Model;
 use std::net::IpAddr;

@@ -15,7 +15,7 @@ use recursor_machine::{
     waiting,
 };
 use recursor_types::Reply;
-use server_core::Tick;
+use server_orders::Tick;
 use std::alloc::Global;
 
 /// A run: the machine, what carries out its orders, what became of each question, and how many polls an

@@ -15,7 +15,7 @@ use order_runner::Runner;
 use recursor_machine::RecursorCore;
 use recursor_types::Reply;
 use recursor_walk::{Need, Step};
-use server_core::{After, Order, Outcome, Tick};
+use server_orders::{After, Order, Outcome, Tick};
 use std::alloc::Global;
 use std::collections::BTreeSet;
 

@@ -25,7 +25,7 @@ pub use Rattle.order_carrier.proofs.Growing.{Extends-refl}
 pub use Rattle.resolver_cache.specs.Cached.{Cached}
 pub use Rattle.recursor_setting.specs.Setting.{with_patience}
 pub use Rattle.lookup_facts.specs.Order.{IsNext, IsPut, last_entry, seen_with}
-pub use Rattle.server_core.specs.declared.order.After.{After}
+pub use Rattle.server_orders.specs.declared.order.After.{After}
 pub use Rattle.recursor_machine.specs.Derived.{seen_by, Derived, KeptHolds}
 pub use Rattle.recursor_machine.specs.Machine.{kept_in, Begun, begun_of, begun_at, IsOneMore, open_in, StepFor, ReplyGiven, StepGives, SameCore, need_in}
 pub use Rattle.recursor_machine.specs.declared.machine.RecursorCore.{RecursorCore}

@@ -6,10 +6,10 @@ use Rattle.std.specs.declared.net.ip_addr.IpAddr.{IpAddr}
 use Rattle.dns_core.specs.Log.{Log}
 use Rattle.dns_core.specs.declared.request.Question.{Question}
 use Rattle.order_carrier.specs.Fits.{GoesToServer}
-use Rattle.server_core.specs.declared.order.After.{After}
-use Rattle.server_core.specs.declared.order.Outcome.{Outcome}
-use Rattle.server_core.specs.declared.order.Sent.{Sent}
-use Rattle.server_core.specs.declared.order.Tick.{Tick}
+use Rattle.server_orders.specs.declared.order.After.{After}
+use Rattle.server_orders.specs.declared.order.Outcome.{Outcome}
+use Rattle.server_orders.specs.declared.order.Sent.{Sent}
+use Rattle.server_orders.specs.declared.order.Tick.{Tick}
 use Rattle.lookup_facts.specs.Order.{TellsOn}
 use Rattle.lookup_facts.specs.View.{View, given_of}
 use Rattle.zone_asking.specs.Replies.{Replied}

@@ -1,7 +1,7 @@
 //! The machine: it gives orders and is fed their outcomes, and knows neither a provider nor a log.
 ghost use Rattle.std.specs.Prelude.{◌≡◌, ◌≤◌, ◌<◌, ◌⊎◌, ◌↔◌, ℕ, [], true, false, max, length, None, Some, Ok, Err, IfOk, IfSome, IfNone, IfErr, IsSome, OnOk, IsTrue, option_copied, if◌then◌else◌};
 ghost use Rattle.dns_core.specs.Log.{Log};
-ghost use Rattle.server_core.specs.Order.{entry_of};
+ghost use Rattle.server_orders.specs.Order.{entry_of};
 ghost use Rattle.lookup_facts.specs.Order.{IsNext, is_given_up, closing_of, last_entry};
 ghost use Rattle.walk_tables.specs.Taking.{Takes, TablesHold};
 ghost use Rattle.std.specs.BTreeSet.{contains};
@@ -18,7 +18,8 @@ use recursor_setting::{Setting, connect_options};
 use recursor_types::{MessageKind, RecursorError, RecursorOptions};
 use recursor_walk::{Need, Resolution, Step};
 use resolver_cache::ResponseCache;
-use server_core::{After, Outcome, PoolContext, Sent, Tick};
+use server_orders::{After, Outcome, Sent, Tick};
+use server_send::PoolContext;
 use std::alloc::Global;
 use std::collections::BTreeSet;
 use std::mem;

@@ -2,7 +2,7 @@
 use Rattle.recursor_types.specs.Options.{server_filter_of, answer_filter_of}
 use Rattle.std.specs.Prelude.{ℕ, min, List, Some}
 use Rattle.std.specs.declared.net.ip_addr.IpAddr.{IpAddr}
-use Rattle.server_core.specs.Context.{Context}
+use Rattle.server_send.specs.Context.{Context}
 use Rattle.recursor_setting.specs.Asking.{resolver_of}
 use Rattle.recursor_types.specs.declared.options.RecursorOptions.{RecursorOptions}
 use Rattle.recursor_setting.specs.declared.setting.Setting.{Setting}

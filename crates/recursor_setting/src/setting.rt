@@ -7,7 +7,7 @@ use crate::asking::resolver_options;
 use dns_core::{Ips, NoMemory, TryClone};
 use recursor_types::RecursorOptions;
 use resolver_settings::{AccessControlSet, AccessControlSetBuilder, TtlConfig};
-use server_core::PoolContext;
+use server_send::PoolContext;
 use std::alloc::Global;
 use std::net::IpAddr;
 

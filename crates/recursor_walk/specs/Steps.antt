@@ -3,7 +3,7 @@ use Rattle.std.specs.Prelude.{◌≡◌, ◌≤◌, ◌<◌, ◌+◌, ℕ, lengt
 use Rattle.dns_core.specs.declared.errors.NoMemory.{NoMemory}
 use Rattle.dns_core.specs.declared.request.DnsRequest.{DnsRequest}
 use Rattle.dns_core.specs.declared.request.Question.{Question}
-use Rattle.server_core.specs.declared.order.Tick.{Tick}
+use Rattle.server_orders.specs.declared.order.Tick.{Tick}
 use Rattle.recursor_setting.specs.Asking.{request_options_of}
 use Rattle.recursor_setting.specs.declared.setting.Setting.{Setting}
 use Rattle.resolver_cache.specs.Cached.{Cached}

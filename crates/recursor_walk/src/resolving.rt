@@ -17,7 +17,7 @@ use dns_core::{DnsRequest, Ips, Name, NoMemory, Question, TryClone, in_box};
 use recursor_types::Reply;
 use resolver_cache::ResponseCache;
 use resolver_settings::AccessControlSet;
-use server_core::Tick;
+use server_orders::Tick;
 use std::alloc::Global;
 use std::mem;
 use walk_base::walked_name;

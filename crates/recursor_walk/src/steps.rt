@@ -16,7 +16,7 @@ use dns_core::{DnsRequest, NoMemory, TryClone, in_box};
 use recursor_setting::{Setting, request_options};
 use recursor_types::Reply;
 use resolver_cache::ResponseCache;
-use server_core::{Order, Tick};
+use server_orders::{Order, Tick};
 use std::alloc::Global;
 use std::mem;
 use walk_tables::{Pools, Stepped, Want};

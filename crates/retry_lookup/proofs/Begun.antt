@@ -5,11 +5,11 @@ use Rattle.std.specs.List.{position}
 use Rattle.std.specs.declared.net.ip_addr.IpAddr.{IpAddr}
 use Rattle.dns_core.specs.declared.net_error.NetError.TheVariants.{Timeout}
 use Rattle.resolution.specs.Lookups.{Answered}
-use Rattle.server_core.specs.Sending.{come_to}
+use Rattle.server_send.specs.Sending.{come_to}
 use Rattle.server_core.specs.Servers.{Server}
-use Rattle.server_core.specs.declared.order.Order.{Order}
-use Rattle.server_core.specs.declared.order.Outcome.{Outcome}
-use Rattle.server_core.specs.declared.order.Tick.{Tick}
+use Rattle.server_orders.specs.declared.order.Order.{Order}
+use Rattle.server_orders.specs.declared.order.Outcome.{Outcome}
+use Rattle.server_orders.specs.declared.order.Tick.{Tick}
 use Rattle.retry_rules.specs.Agenda.{may_sleep, class_of_sent, hearing_of, after_end as plan_after}
 use Rattle.retry_rules.specs.declared.candidate.Hearing.{Hearing}
 use Rattle.retry_rules.specs.declared.candidate.Hearing.TheVariants.{GoesOn, Answers}

@@ -3,10 +3,10 @@ use Rattle.std.proofs.Common.{◌≡◌, ◌∙◌, ℕ, List, [], ◌∷◌, �
 use Rattle.std.specs.Prelude.{drop}
 use Rattle.dns_core.specs.declared.request.DnsRequest.{DnsRequest}
 use Rattle.server_core.specs.Hearing.{changed_at}
-use Rattle.server_core.specs.Sending.{after_next, after_step, after_want}
+use Rattle.server_send.specs.Sending.{after_next, after_step, after_want}
 use Rattle.server_core.specs.Servers.{Server}
-use Rattle.server_core.specs.declared.order.Order.{Order}
-use Rattle.server_core.specs.declared.order.Order.TheVariants.{Sleep}
+use Rattle.server_orders.specs.declared.order.Order.{Order}
+use Rattle.server_orders.specs.declared.order.Order.TheVariants.{Sleep}
 use Rattle.retry_rules.specs.declared.candidate.Candidate.{Candidate}
 use Rattle.retry_lookup.specs.declared.attempt.Attempt.{Attempt}
 use Rattle.retry_lookup.specs.declared.giving.LookupStep.TheVariants as step

@@ -5,14 +5,14 @@ use Rattle.std.specs.List.{position}
 use Rattle.std.specs.declared.net.ip_addr.IpAddr.{IpAddr}
 use Rattle.resolution.specs.Lookups.{Answered, is_busy}
 use Rattle.resolution.specs.declared.class.Class.{Class}
-use Rattle.server_core.specs.Sending.{end_of, after_end as end_told, after_put, come_to}
+use Rattle.server_send.specs.Sending.{end_of, after_end as end_told, after_put, come_to}
 use Rattle.server_core.specs.Servers.{Server}
-use Rattle.server_core.specs.declared.order.After.{After}
-use Rattle.server_core.specs.declared.order.After.TheVariants.{Late}
-use Rattle.server_core.specs.declared.order.Outcome.{Outcome}
-use Rattle.server_core.specs.declared.order.Tick.{Tick}
-use Rattle.server_core.specs.declared.server_send.Stage.{Stage}
-use Rattle.server_core.specs.declared.server_send.Stage.TheVariants as stage
+use Rattle.server_orders.specs.declared.order.After.{After}
+use Rattle.server_orders.specs.declared.order.After.TheVariants.{Late}
+use Rattle.server_orders.specs.declared.order.Outcome.{Outcome}
+use Rattle.server_orders.specs.declared.order.Tick.{Tick}
+use Rattle.server_send.specs.declared.server_send.Stage.{Stage}
+use Rattle.server_send.specs.declared.server_send.Stage.TheVariants as stage
 use Rattle.retry_rules.specs.Agenda.{Plan, class_of_sent, hearing_of, ending_of, after_end as plan_after}
 use Rattle.retry_rules.specs.KeptError.{kept_after}
 use Rattle.retry_rules.specs.declared.candidate.Candidate.{Candidate}

@@ -9,9 +9,9 @@ use Rattle.dns_core.specs.declared.request.DnsRequest.{DnsRequest}
 use Rattle.dns_core.specs.declared.net_error.NetError.TheVariants.{Timeout, NoMemory}
 use Rattle.resolution.specs.Lookups.{Answered, End, PoolRun, IsBounded, is_busy}
 use Rattle.resolution.specs.declared.class.Class.{Class}
-use Rattle.server_core.specs.Sending.{come_to}
-use Rattle.server_core.specs.declared.order.Outcome.{Outcome}
-use Rattle.server_core.specs.declared.order.Tick.{Tick}
+use Rattle.server_send.specs.Sending.{come_to}
+use Rattle.server_orders.specs.declared.order.Outcome.{Outcome}
+use Rattle.server_orders.specs.declared.order.Tick.{Tick}
 use Rattle.retry_rules.specs.Agenda.{Plan, PlanStands, StandsAfter, may_ask, may_sleep, sleep_time, rules_of, class_of_sent, hearing_of, after_end as plan_end, ending_of, end_at}
 use Rattle.retry_rules.specs.KeptError.{kept_after}
 use Rattle.retry_rules.specs.declared.candidate.Candidate.{Candidate}

@@ -5,7 +5,7 @@ use Rattle.std.specs.List.{AllByRecursion}
 use Rattle.std.specs.declared.net.ip_addr.IpAddr.{IpAddr}
 use Rattle.std.proofs.lemmas.List.{map-append}
 use Rattle.server_core.specs.Servers.{Server}
-use Rattle.server_core.specs.declared.order.Order.{Order}
+use Rattle.server_orders.specs.declared.order.Order.{Order}
 use Rattle.retry_rules.specs.Agenda.{PlanStands, may_ask}
 use Rattle.retry_rules.specs.declared.candidate.Candidate.{Candidate}
 use Rattle.retry_lookup.specs.declared.attempt.Attempt.{Attempt}

@@ -2,13 +2,13 @@
 use Rattle.std.proofs.Common.{◌≡◌, ℕ, zero, suc, ◌+◌, Bool, true, false, List, [], ◌∷◌, ◌++◌, find, Some, inl, inr, refl, sym, ap, ◌∙◌, eq-eqb, ◌&&◌, ◌||◌}
 use Rattle.std.specs.Prelude.{count_by, slice_get, slice_set}
 use Rattle.std.specs.List.{list_any}
-use Rattle.server_core.specs.Sending.{is_open, pendings, StepIs}
+use Rattle.server_send.specs.Sending.{is_open, pendings, StepIs}
 use Rattle.server_core.specs.Servers.{Server}
-use Rattle.server_core.specs.declared.order.Order.{Order}
-use Rattle.server_core.specs.declared.server_send.SendStep.TheVariants as made
-use Rattle.server_core.specs.declared.server_send.ServerSend.{ServerSend}
-use Rattle.server_core.specs.declared.server_send.Stage.{Stage}
-use Rattle.server_core.specs.declared.server_send.Stage.TheVariants as stage
+use Rattle.server_orders.specs.declared.order.Order.{Order}
+use Rattle.server_send.specs.declared.server_send.SendStep.TheVariants as made
+use Rattle.server_send.specs.declared.server_send.ServerSend.{ServerSend}
+use Rattle.server_send.specs.declared.server_send.Stage.{Stage}
+use Rattle.server_send.specs.declared.server_send.Stage.TheVariants as stage
 use Rattle.retry_lookup.specs.declared.attempt.Attempt.{Attempt}
 use Rattle.retry_lookup.specs.declared.giving.Want.{Want}
 use Rattle.retry_lookup.specs.declared.giving.Want.TheVariants as want

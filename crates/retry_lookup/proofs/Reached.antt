@@ -11,15 +11,15 @@ use Rattle.dns_core.specs.Classifying.{classify_of}
 use Rattle.resolver_settings.specs.NameServer.{NameServer}
 use Rattle.resolution.specs.Lookups.{Answered}
 use Rattle.server_core.specs.Hearing.{changed_place, changed_at}
-use Rattle.server_core.specs.Policy.{allows_config}
-use Rattle.server_core.specs.Sending.{after_step, after_want, asked_of, is_last_poll, lost_put, told_put, heard_put}
+use Rattle.server_send.specs.Policy.{allows_config}
+use Rattle.server_send.specs.Sending.{after_step, after_want, asked_of, is_last_poll, lost_put, told_put, heard_put}
 use Rattle.server_core.specs.Servers.{Server, place_of}
-use Rattle.server_core.specs.declared.order.Outcome.{Outcome}
-use Rattle.server_core.specs.declared.order.Outcome.TheVariants.{Pending, Connected, Told, Failed, Slept}
-use Rattle.server_core.specs.declared.order.Tick.{Tick}
-use Rattle.server_core.specs.declared.server_send.Asked.{Asked}
-use Rattle.server_core.specs.declared.server_send.Stage.{Stage}
-use Rattle.server_core.specs.declared.server_send.Stage.TheVariants as stage
+use Rattle.server_orders.specs.declared.order.Outcome.{Outcome}
+use Rattle.server_orders.specs.declared.order.Outcome.TheVariants.{Pending, Connected, Told, Failed, Slept}
+use Rattle.server_orders.specs.declared.order.Tick.{Tick}
+use Rattle.server_send.specs.declared.server_send.Asked.{Asked}
+use Rattle.server_send.specs.declared.server_send.Stage.{Stage}
+use Rattle.server_send.specs.declared.server_send.Stage.TheVariants as stage
 use Rattle.retry_rules.specs.declared.candidate.Candidate.{Candidate}
 use Rattle.retry_lookup.specs.declared.attempt.Attempt.{Attempt}
 use Rattle.retry_lookup.specs.declared.lookup.State.{State}

@@ -5,15 +5,15 @@ use Rattle.dns_core.specs.declared.connection.Protocol.{Protocol}
 use Rattle.dns_core.specs.declared.net_error.NetError.{NetError}
 use Rattle.dns_core.specs.declared.net_error.NetError.TheVariants as net
 use Rattle.resolution.specs.Lookups.{Answered}
-use Rattle.server_core.specs.Sending.{is_open, asked_of, opening_of, pendings, end_of, is_last_poll, is_tried_again, after_error, after_opening, after_put, lost, polled, polled_once, taken, come_to}
-use Rattle.server_core.specs.declared.order.After.{After}
-use Rattle.server_core.specs.declared.order.After.TheVariants as after
-use Rattle.server_core.specs.declared.order.Outcome.{Outcome}
-use Rattle.server_core.specs.declared.order.Outcome.TheVariants.{Pending, Connected, Told, Failed, Slept}
-use Rattle.server_core.specs.declared.server_send.Asked.{Asked}
-use Rattle.server_core.specs.declared.server_send.Stage.{Stage}
-use Rattle.server_core.specs.declared.server_send.Stage.TheVariants as stage
-use Rattle.server_core.specs.declared.server_send.ServerSend.{ServerSend}
+use Rattle.server_send.specs.Sending.{is_open, asked_of, opening_of, pendings, end_of, is_last_poll, is_tried_again, after_error, after_opening, after_put, lost, polled, polled_once, taken, come_to}
+use Rattle.server_orders.specs.declared.order.After.{After}
+use Rattle.server_orders.specs.declared.order.After.TheVariants as after
+use Rattle.server_orders.specs.declared.order.Outcome.{Outcome}
+use Rattle.server_orders.specs.declared.order.Outcome.TheVariants.{Pending, Connected, Told, Failed, Slept}
+use Rattle.server_send.specs.declared.server_send.Asked.{Asked}
+use Rattle.server_send.specs.declared.server_send.Stage.{Stage}
+use Rattle.server_send.specs.declared.server_send.Stage.TheVariants as stage
+use Rattle.server_send.specs.declared.server_send.ServerSend.{ServerSend}
 use Rattle.retry_lookup.specs.Running.{IsFor}
 
 -- what an order that was lost leaves

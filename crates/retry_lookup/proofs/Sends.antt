@@ -9,19 +9,19 @@ use Rattle.dns_core.specs.declared.net_error.NetError.{NetError}
 use Rattle.dns_core.specs.declared.net_error.NetError.TheVariants.{Io, Timeout}
 use Rattle.dns_core.specs.declared.request.DnsRequest.{DnsRequest}
 use Rattle.resolution.specs.Lookups.{Answered}
-use Rattle.server_core.specs.Policy.{allows_server, allows_config}
-use Rattle.server_core.specs.Sending.{is_open, end_of, StepIs, asked_of, opening_of, is_last_poll, ended, tried_again, is_tried_again, after_error, lost, after_opening, polled_once, polled, taken, come_to}
+use Rattle.server_send.specs.Policy.{allows_server, allows_config}
+use Rattle.server_send.specs.Sending.{is_open, end_of, StepIs, asked_of, opening_of, is_last_poll, ended, tried_again, is_tried_again, after_error, lost, after_opening, polled_once, polled, taken, come_to}
 use Rattle.server_core.specs.Servers.{Server}
-use Rattle.server_core.specs.declared.order.Order.{Order}
-use Rattle.server_core.specs.declared.order.Outcome.{Outcome}
-use Rattle.server_core.specs.declared.order.Outcome.TheVariants as outcome
-use Rattle.server_core.specs.declared.policy.ConnectionPolicy.{ConnectionPolicy}
-use Rattle.server_core.specs.declared.server_send.Asked.{Asked}
-use Rattle.server_core.specs.declared.server_send.SendStep.{SendStep}
-use Rattle.server_core.specs.declared.server_send.SendStep.TheVariants as made
-use Rattle.server_core.specs.declared.server_send.ServerSend.{ServerSend}
-use Rattle.server_core.specs.declared.server_send.Stage.{Stage}
-use Rattle.server_core.specs.declared.server_send.Stage.TheVariants as stage
+use Rattle.server_orders.specs.declared.order.Order.{Order}
+use Rattle.server_orders.specs.declared.order.Outcome.{Outcome}
+use Rattle.server_orders.specs.declared.order.Outcome.TheVariants as outcome
+use Rattle.server_send.specs.declared.policy.ConnectionPolicy.{ConnectionPolicy}
+use Rattle.server_send.specs.declared.server_send.Asked.{Asked}
+use Rattle.server_send.specs.declared.server_send.SendStep.{SendStep}
+use Rattle.server_send.specs.declared.server_send.SendStep.TheVariants as made
+use Rattle.server_send.specs.declared.server_send.ServerSend.{ServerSend}
+use Rattle.server_send.specs.declared.server_send.Stage.{Stage}
+use Rattle.server_send.specs.declared.server_send.Stage.TheVariants as stage
 use Rattle.retry_rules.specs.Agenda.{may_ask}
 use Rattle.retry_lookup.specs.declared.attempt.Attempt.{Attempt}
 use Rattle.retry_lookup.specs.Attempts.{IsInFlight, GoesTo}

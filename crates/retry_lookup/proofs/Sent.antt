@@ -4,14 +4,14 @@ use Rattle.std.specs.Prelude.{slice_set, count_by, Contains}
 use Rattle.std.specs.declared.net.ip_addr.IpAddr.{IpAddr}
 use Rattle.resolution.proofs.Members.{Has, Has-append_right}
 use Rattle.server_core.specs.Hearing.{without_dead}
-use Rattle.server_core.specs.Sending.{is_open, StepIs}
+use Rattle.server_send.specs.Sending.{is_open, StepIs}
 use Rattle.server_core.specs.Servers.{Server}
-use Rattle.server_core.specs.declared.order.Order.{Order}
-use Rattle.server_core.specs.declared.order.Order.TheVariants as order
-use Rattle.server_core.specs.declared.server_send.SendStep.TheVariants as made
-use Rattle.server_core.specs.declared.server_send.ServerSend.{ServerSend}
-use Rattle.server_core.specs.declared.server_send.Stage.{Stage}
-use Rattle.server_core.specs.declared.server_send.Stage.TheVariants as stage
+use Rattle.server_orders.specs.declared.order.Order.{Order}
+use Rattle.server_orders.specs.declared.order.Order.TheVariants as order
+use Rattle.server_send.specs.declared.server_send.SendStep.TheVariants as made
+use Rattle.server_send.specs.declared.server_send.ServerSend.{ServerSend}
+use Rattle.server_send.specs.declared.server_send.Stage.{Stage}
+use Rattle.server_send.specs.declared.server_send.Stage.TheVariants as stage
 use Rattle.retry_rules.specs.declared.candidate.Candidate.{Candidate}
 use Rattle.retry_lookup.specs.declared.attempt.Attempt.{Attempt}
 use Rattle.retry_lookup.specs.declared.giving.Want.{Want}

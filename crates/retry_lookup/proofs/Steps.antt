@@ -11,11 +11,11 @@ use Rattle.std.proofs.lemmas.Option.{slice_get_within, slice_get-get_or}
 use Rattle.resolution.proofs.Members.{Has, Has-from_Contains, Has-append_right}
 use Rattle.dns_core.specs.declared.request.DnsRequest.{DnsRequest}
 use Rattle.server_core.specs.Servers.{Server, place_of, server_of}
-use Rattle.server_core.specs.Sending.{is_open, StepIs}
-use Rattle.server_core.specs.declared.order.Order.{Order}
-use Rattle.server_core.specs.declared.server_send.SendStep.{SendStep}
-use Rattle.server_core.specs.declared.server_send.SendStep.TheVariants as made
-use Rattle.server_core.specs.declared.server_send.Stage.{Stage}
+use Rattle.server_send.specs.Sending.{is_open, StepIs}
+use Rattle.server_orders.specs.declared.order.Order.{Order}
+use Rattle.server_send.specs.declared.server_send.SendStep.{SendStep}
+use Rattle.server_send.specs.declared.server_send.SendStep.TheVariants as made
+use Rattle.server_send.specs.declared.server_send.Stage.{Stage}
 use Rattle.retry_rules.specs.declared.candidate.Candidate.{Candidate}
 use Rattle.retry_rules.proofs.Plans.{room_to_hear}
 use Rattle.retry_lookup.specs.declared.attempt.Attempt.{Attempt}

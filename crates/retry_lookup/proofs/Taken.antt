@@ -4,13 +4,13 @@ use Rattle.std.specs.Prelude.{slice_set, nat_le, if◌then◌else◌}
 use Rattle.std.specs.List.{position}
 use Rattle.std.specs.declared.net.ip_addr.IpAddr.{IpAddr}
 use Rattle.resolution.specs.Lookups.{Answered}
-use Rattle.server_core.specs.Sending.{is_open, pendings, end_of, after_put, polled_once, come_to}
-use Rattle.server_core.specs.declared.order.After.{After}
-use Rattle.server_core.specs.declared.order.After.TheVariants as after
-use Rattle.server_core.specs.declared.order.Outcome.{Outcome}
-use Rattle.server_core.specs.declared.order.Outcome.TheVariants.{Pending, Connected, Told, Failed, Slept}
-use Rattle.server_core.specs.declared.order.Tick.{Tick}
-use Rattle.server_core.specs.declared.server_send.ServerSend.{ServerSend}
+use Rattle.server_send.specs.Sending.{is_open, pendings, end_of, after_put, polled_once, come_to}
+use Rattle.server_orders.specs.declared.order.After.{After}
+use Rattle.server_orders.specs.declared.order.After.TheVariants as after
+use Rattle.server_orders.specs.declared.order.Outcome.{Outcome}
+use Rattle.server_orders.specs.declared.order.Outcome.TheVariants.{Pending, Connected, Told, Failed, Slept}
+use Rattle.server_orders.specs.declared.order.Tick.{Tick}
+use Rattle.server_send.specs.declared.server_send.ServerSend.{ServerSend}
 use Rattle.retry_rules.specs.declared.candidate.Candidate.{Candidate}
 use Rattle.retry_lookup.specs.declared.attempt.Attempt.{Attempt}
 use Rattle.retry_lookup.specs.declared.lookup.State.{State}

@@ -3,7 +3,7 @@ use Rattle.std.proofs.Common.{◌≡◌, ℕ, Bool, true, false, not, cond, ◌&
 use Rattle.std.specs.Prelude.{nat_le}
 use Rattle.std.specs.List.{position}
 use Rattle.dns_core.specs.declared.net_error.NetError.TheVariants.{Timeout}
-use Rattle.server_core.specs.Sending.{is_open}
+use Rattle.server_send.specs.Sending.{is_open}
 use Rattle.retry_rules.specs.Agenda.{may_sleep}
 use Rattle.retry_rules.specs.declared.candidate.Candidate.{Candidate}
 use Rattle.retry_lookup.specs.declared.attempt.Attempt.{Attempt}

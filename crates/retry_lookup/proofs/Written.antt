@@ -3,14 +3,14 @@ use Rattle.std.proofs.Common.{◌≡◌, ◌∙◌, ℕ, ◌<◌, Bool, true, fa
 use Rattle.std.specs.Prelude.{slice_set, MatchResult}
 use Rattle.std.proofs.lemmas.Option.{slice_get-get_or, get_or_from_slice_get}
 use Rattle.std.proofs.lemmas.List.{set-get_or}
-use Rattle.server_core.specs.Sending.{StepIs, after_put, takes_memory}
+use Rattle.server_send.specs.Sending.{StepIs, after_put, takes_memory}
 use Rattle.server_core.specs.Servers.{Server}
-use Rattle.server_core.specs.declared.order.Order.{Order}
-use Rattle.server_core.specs.declared.order.Outcome.{Outcome}
-use Rattle.server_core.specs.declared.order.Tick.{Tick}
-use Rattle.server_core.specs.declared.server_send.SendStep.{SendStep}
-use Rattle.server_core.specs.declared.server_send.SendStep.TheVariants as made
-use Rattle.server_core.specs.declared.server_send.Stage.{Stage}
+use Rattle.server_orders.specs.declared.order.Order.{Order}
+use Rattle.server_orders.specs.declared.order.Outcome.{Outcome}
+use Rattle.server_orders.specs.declared.order.Tick.{Tick}
+use Rattle.server_send.specs.declared.server_send.SendStep.{SendStep}
+use Rattle.server_send.specs.declared.server_send.SendStep.TheVariants as made
+use Rattle.server_send.specs.declared.server_send.Stage.{Stage}
 use Rattle.retry_lookup.specs.declared.attempt.Attempt.{Attempt}
 use Rattle.retry_lookup.specs.declared.attempt.Put.{Put}
 use Rattle.retry_lookup.specs.Attempts.{CanGive}

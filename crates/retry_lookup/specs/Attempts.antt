@@ -1,11 +1,11 @@
 -- An attempt: one server that is tried once.
 use Rattle.std.specs.Prelude.{◌≡◌, ℕ, Bool, false, ◌&&◌, ◌==◌, not, IsTrue, List, Some}
 use Rattle.dns_core.specs.declared.request.DnsRequest.{DnsRequest}
-use Rattle.server_core.specs.Policy.{allows_server}
-use Rattle.server_core.specs.Sending.{is_open}
+use Rattle.server_send.specs.Policy.{allows_server}
+use Rattle.server_send.specs.Sending.{is_open}
 use Rattle.server_core.specs.Servers.{Server, server_of}
-use Rattle.server_core.specs.declared.server_send.Stage.{Stage}
-use Rattle.server_core.specs.declared.server_send.Stage.TheVariants as stage
+use Rattle.server_send.specs.declared.server_send.Stage.{Stage}
+use Rattle.server_send.specs.declared.server_send.Stage.TheVariants as stage
 use Rattle.retry_rules.specs.Agenda.{may_ask}
 use Rattle.retry_rules.specs.declared.candidate.Candidate.{Candidate}
 use Rattle.retry_lookup.specs.declared.attempt.Attempt.{Attempt}

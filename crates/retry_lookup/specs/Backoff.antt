@@ -1,11 +1,11 @@
 -- How a lookup backs off before it asks the servers again that were busy.
 use Rattle.std.specs.Prelude.{◌≡◌, ◌≤◌, ◌<◌, length, ℕ, ◌+◌, ◌==◌, nat_le, Bool, true, false, [], if◌then◌else◌, Option, Some, None}
 use Rattle.retry_rules.specs.Agenda.{Plan}
-use Rattle.server_core.specs.declared.order.Outcome.{Outcome}
-use Rattle.server_core.specs.declared.order.Outcome.TheVariants.{Pending, Connected, Told, Failed, Slept}
-use Rattle.server_core.specs.declared.order.After.{After}
-use Rattle.server_core.specs.declared.order.After.TheVariants.{Kept, Ended, GiveUp}
-use Rattle.server_core.specs.declared.order.Tick.{Tick}
+use Rattle.server_orders.specs.declared.order.Outcome.{Outcome}
+use Rattle.server_orders.specs.declared.order.Outcome.TheVariants.{Pending, Connected, Told, Failed, Slept}
+use Rattle.server_orders.specs.declared.order.After.{After}
+use Rattle.server_orders.specs.declared.order.After.TheVariants.{Kept, Ended, GiveUp}
+use Rattle.server_orders.specs.declared.order.Tick.{Tick}
 use Rattle.retry_lookup.specs.declared.lookup.State.TheVariants.{Asking, BackingOff}
 use Rattle.retry_lookup.specs.Lookup.{LookupState}
 use Rattle.retry_lookup.specs.Rounds.{settled}

@@ -7,9 +7,9 @@ use Rattle.resolution.specs.Lookups.{Answered}
 use Rattle.server_core.specs.Delays.{recorded}
 use Rattle.server_core.specs.Hearing.{changed_at}
 use Rattle.server_core.specs.Servers.{Server, server_of}
-use Rattle.server_core.specs.Sending.{heard_put}
-use Rattle.server_core.specs.declared.order.Outcome.{Outcome}
-use Rattle.server_core.specs.declared.order.Tick.{Tick}
+use Rattle.server_send.specs.Sending.{heard_put}
+use Rattle.server_orders.specs.declared.order.Outcome.{Outcome}
+use Rattle.server_orders.specs.declared.order.Tick.{Tick}
 use Rattle.retry_lookup.specs.declared.attempt.Attempt.{Attempt}
 use Rattle.retry_lookup.specs.declared.lookup.State.TheVariants.{Asking, BackingOff, Decided}
 use Rattle.retry_lookup.specs.Attempts.{is_open_at}

@@ -2,12 +2,12 @@
 use Rattle.std.specs.Prelude.{◌≡◌, ℕ, List, [], ◌∷◌, ◌++◌, slice_get, slice_set, Option, Some, None, ◌⊎◌}
 use Rattle.std.specs.List.{position}
 use Rattle.server_core.specs.Hearing.{changed_at}
-use Rattle.server_core.specs.Sending.{StepIs, after_step, after_want}
+use Rattle.server_send.specs.Sending.{StepIs, after_step, after_want}
 use Rattle.server_core.specs.Servers.{Server, server_of}
-use Rattle.server_core.specs.declared.order.Order.{Order}
-use Rattle.server_core.specs.declared.order.Order.TheVariants.{Sleep}
-use Rattle.server_core.specs.declared.server_send.SendStep.TheVariants as made
-use Rattle.server_core.specs.declared.server_send.Stage.{Stage}
+use Rattle.server_orders.specs.declared.order.Order.{Order}
+use Rattle.server_orders.specs.declared.order.Order.TheVariants.{Sleep}
+use Rattle.server_send.specs.declared.server_send.SendStep.TheVariants as made
+use Rattle.server_send.specs.declared.server_send.Stage.{Stage}
 use Rattle.retry_rules.specs.declared.candidate.Candidate.{Candidate}
 use Rattle.retry_lookup.specs.declared.attempt.Attempt.{Attempt}
 use Rattle.retry_lookup.specs.declared.giving.LookupStep.{LookupStep}

@@ -5,13 +5,13 @@ use Rattle.std.specs.declared.net.ip_addr.IpAddr.{IpAddr}
 use Rattle.dns_core.specs.declared.message.Query.{Query}
 use Rattle.dns_core.specs.declared.net_error.NetError.TheVariants.{NoMemory}
 use Rattle.resolution.specs.Lookups.{Answered}
-use Rattle.server_core.specs.Sending.{come_to, end_of, after_end as end_told, after_put, takes_memory}
-use Rattle.server_core.specs.declared.order.After.{After}
-use Rattle.server_core.specs.declared.order.After.TheVariants.{Late}
-use Rattle.server_core.specs.declared.order.Outcome.{Outcome}
-use Rattle.server_core.specs.declared.order.Outcome.TheVariants.{Pending, Connected, Told, Failed, Slept}
-use Rattle.server_core.specs.declared.order.Tick.{Tick}
-use Rattle.server_core.specs.declared.server_send.Stage.{Stage}
+use Rattle.server_send.specs.Sending.{come_to, end_of, after_end as end_told, after_put, takes_memory}
+use Rattle.server_orders.specs.declared.order.After.{After}
+use Rattle.server_orders.specs.declared.order.After.TheVariants.{Late}
+use Rattle.server_orders.specs.declared.order.Outcome.{Outcome}
+use Rattle.server_orders.specs.declared.order.Outcome.TheVariants.{Pending, Connected, Told, Failed, Slept}
+use Rattle.server_orders.specs.declared.order.Tick.{Tick}
+use Rattle.server_send.specs.declared.server_send.Stage.{Stage}
 use Rattle.retry_rules.specs.Agenda.{HasRoom, class_of_sent, hearing_of, after_end as plan_after}
 use Rattle.retry_rules.specs.AnswerFilter.{filtered}
 use Rattle.retry_rules.specs.declared.candidate.Candidate.{Candidate}

@@ -5,7 +5,7 @@ use Rattle.std.specs.declared.net.ip_addr.IpAddr.{IpAddr}
 use Rattle.dns_core.specs.NetError.{is_memory}
 use Rattle.dns_core.specs.declared.request.DnsRequest.{DnsRequest}
 use Rattle.resolution.specs.Lookups.{Answered, End, PoolRun, IsBounded}
-use Rattle.server_core.specs.Policy.{allows_server}
+use Rattle.server_send.specs.Policy.{allows_server}
 use Rattle.server_core.specs.Servers.{Server, server_of}
 use Rattle.retry_rules.specs.Agenda.{may_ask, may_sleep, rules_of, class_of_sent, PlanStands}
 use Rattle.retry_rules.specs.declared.candidate.Candidate.{Candidate}

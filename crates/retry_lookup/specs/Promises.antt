@@ -2,7 +2,7 @@
 use Rattle.std.specs.Prelude.{◌≡◌, IsTrue, slice_get, Some, ℕ, ◌+◌, ◌*◌, ◌≤◌, List, length}
 use Rattle.resolution.specs.Lookups.{IsBounded}
 use Rattle.retry_rules.specs.Agenda.{rules_of, class_of_sent}
-use Rattle.server_core.specs.Sending.{is_open}
+use Rattle.server_send.specs.Sending.{is_open}
 use Rattle.retry_lookup.specs.declared.attempt.Attempt.{Attempt}
 use Rattle.retry_lookup.specs.declared.lookup.State.{State}
 use Rattle.retry_lookup.specs.declared.lookup.State.TheVariants.{Asking, BackingOff, Decided}

@@ -1,7 +1,7 @@
 //! Attempts: each tries one server once.
 ghost use Rattle.std.specs.Prelude.{◌≡◌, ◌<◌, true, vec_capacity, length, slice_get, Some, IfOk, OnOk, OnErr, MatchResult};
 ghost use Rattle.server_core.specs.Hearing.{changed_at};
-ghost use Rattle.server_core.specs.Sending.{after_next, after_put, takes_memory};
+ghost use Rattle.server_send.specs.Sending.{after_next, after_put, takes_memory};
 ghost use Rattle.server_core.specs.Servers.{place_of};
 ghost use Rattle.retry_lookup.specs.declared.attempt.Attempt.{Attempt as InFlight};
 ghost use Rattle.retry_lookup.specs.Attempts.{CanGive, first_attempt, is_open_at, is_idle};
@@ -11,9 +11,9 @@ ghost use Rattle.retry_lookup.specs.Hearing.{end_by, put_in, Puts};
 
 use dns_core::{DnsRequest, Message, NetError, NoMemory};
 use retry_rules::Candidate;
-use server_core::{
-    After, ConnectionPolicy, Order, Outcome, PoolContext, SendStep, ServerSend, ServerTable, Tick,
-};
+use server_core::ServerTable;
+use server_orders::{After, Order, Outcome, Tick};
+use server_send::{ConnectionPolicy, PoolContext, SendStep, ServerSend};
 use std::alloc::Global;
 
 /// An attempt in flight: the server that is tried, the number of its last order, 0 before the first, and

@@ -3,7 +3,7 @@ ghost use Rattle.std.specs.Prelude.{◌≡◌, ◌<◌, ◌+◌, ◌^◌, IsTrue
 ghost use Rattle.retry_lookup.specs.Backoff.{CanWake, is_order, goes_on, after_backoff, woken, after_sleep};
 
 use crate::lookup::{Lookup, State};
-use server_core::{After, Outcome, Tick};
+use server_orders::{After, Outcome, Tick};
 
 pub(crate) fn is_order(number: u64, order: Option<u64>) -> bool
     ensures { result ≡ is_order number order }

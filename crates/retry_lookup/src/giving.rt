@@ -11,7 +11,9 @@ use crate::attempt::{Attempt, give_at};
 use crate::lookup::{Lookup, State};
 use dns_core::{Message, NetError, NoMemory, TryClone};
 use retry_rules::Candidate;
-use server_core::{Order, PoolContext, ServerTable, Tick};
+use server_core::ServerTable;
+use server_orders::{Order, Tick};
+use server_send::PoolContext;
 use std::alloc::Global;
 
 /// What a lookup does next: it gives an order of the number that it was handed, waits for the outcome of

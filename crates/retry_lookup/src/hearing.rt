@@ -15,7 +15,9 @@ use crate::cancelling::ends_by_message;
 use crate::lookup::{Lookup, State};
 use dns_core::{Message, NetError, NoMemory, Query};
 use retry_rules::{Candidate, Hearing, filtered};
-use server_core::{After, Outcome, PoolContext, ServerTable, Tick};
+use server_core::ServerTable;
+use server_orders::{After, Outcome, Tick};
+use server_send::PoolContext;
 use std::alloc::Global;
 
 /// The log entry that closes an attempt by an outcome: where its last poll gives it up, that is the

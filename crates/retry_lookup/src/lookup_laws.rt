@@ -2,8 +2,8 @@
 ghost use Rattle.std.specs.Prelude.{◌≡◌, ℕ, ◌≤◌, ◌++◌, Bool, List};
 ghost use Rattle.std.specs.declared.net.IpAddr.{IpAddr};
 ghost use Rattle.dns_core.specs.declared.request.DnsRequest.{DnsRequest};
-ghost use Rattle.server_core.specs.declared.order.Outcome.{Outcome};
-ghost use Rattle.server_core.specs.declared.order.Tick.{Tick};
+ghost use Rattle.server_orders.specs.declared.order.Outcome.{Outcome};
+ghost use Rattle.server_orders.specs.declared.order.Tick.{Tick};
 ghost use Rattle.server_core.specs.Hearing.{changed_at};
 ghost use Rattle.server_core.specs.Servers.{Server};
 ghost use Rattle.retry_rules.specs.declared.candidate.Candidate.{Candidate};

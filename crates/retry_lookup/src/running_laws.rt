@@ -2,10 +2,10 @@
 ghost use Rattle.std.specs.Prelude.{◌≡◌, ℕ, ◌+◌, ◌≤◌, ◌==◌, Bool, true, List, if◌then◌else◌};
 ghost use Rattle.std.specs.declared.net.IpAddr.{IpAddr};
 ghost use Rattle.dns_core.specs.declared.request.DnsRequest.{DnsRequest};
-ghost use Rattle.server_core.specs.declared.order.After.TheVariants.{Kept};
-ghost use Rattle.server_core.specs.declared.order.Order.{Order as Given};
-ghost use Rattle.server_core.specs.declared.order.Outcome.{Outcome};
-ghost use Rattle.server_core.specs.declared.order.Tick.{Tick};
+ghost use Rattle.server_orders.specs.declared.order.After.TheVariants.{Kept};
+ghost use Rattle.server_orders.specs.declared.order.Order.{Order as Given};
+ghost use Rattle.server_orders.specs.declared.order.Outcome.{Outcome};
+ghost use Rattle.server_orders.specs.declared.order.Tick.{Tick};
 ghost use Rattle.server_core.specs.Servers.{Server};
 ghost use Rattle.retry_rules.specs.declared.candidate.Candidate.{Candidate};
 ghost use Rattle.retry_lookup.specs.declared.lookup.State.TheVariants.{Asking};

@@ -14,7 +14,7 @@ use crate::answer_filter::{foreign_class, of_one_class};
 use crate::candidate::{Candidate, Ending, Hearing};
 use crate::kept_error::most_specific;
 use dns_core::{Message, NetError, NoMemory, Query, TryClone};
-use server_core::ConnectionPolicy;
+use server_send::ConnectionPolicy;
 use std::alloc::Global;
 use std::collections::VecDeque;
 use std::marker::Model;

@@ -4,11 +4,5 @@ pub mod Status
 pub mod Servers
 pub mod NewServer
 pub mod Protocols
-pub mod Choice
-pub mod Policy
-pub mod ChoiceLaws
 pub mod Lending
-pub mod Order
 pub mod Hearing
-pub mod Sending
-pub mod Context

@@ -24,7 +24,7 @@ fn heard_dns(error: &DnsError) -> Heard
 }
 
 /// What counts of a response.
-pub(crate) fn heard_of(took: u64, class: &Result<Message, DnsError>) -> Heard
+pub fn heard_of(took: u64, class: &Result<Message, DnsError>) -> Heard
     ensures { result ≡ heard_of took class.now }
 {
     match class {
@@ -34,7 +34,7 @@ pub(crate) fn heard_of(took: u64, class: &Result<Message, DnsError>) -> Heard
 }
 
 /// What counts of an error. A response that is told as an error counts as in a message.
-pub(crate) fn heard_error(error: &NetError) -> Heard
+pub fn heard_error(error: &NetError) -> Heard
     ensures { result ≡ heard_error error.now }
 {
     match error {

@@ -56,7 +56,8 @@ impl Model for NameServer {
     ghost invariant = { λ a. IsFirstDelay a.first_delay };
 }
 
-pub(crate) fn is_udp(protocol: Protocol) -> bool
+/// Whether a protocol is UDP.
+pub fn is_udp(protocol: Protocol) -> bool
     ensures { result ≡ is_udp protocol }
 {
     matches!(&protocol, Protocol::Udp)

@@ -99,7 +99,7 @@ impl ServerTable {
     }
 
     /// Drops the connections of a server that failed.
-    pub(crate) fn drop_dead(&mut self, server: u32)
+    pub fn drop_dead(&mut self, server: u32)
         requires { place_of server < length self.old }
         ensures { self.new ≡ changed_at without_dead server self.old }
     {
@@ -107,7 +107,7 @@ impl ServerTable {
     }
 
     /// Keeps the connection to a server that the order of a number opened.
-    pub(crate) fn keep_opened(
+    pub fn keep_opened(
         &mut self,
         server: u32,
         number: u64,
@@ -121,7 +121,7 @@ impl ServerTable {
     }
 
     /// Takes in what was heard over a connection of a server.
-    pub(crate) fn hear(&mut self, server: u32, number: u64, status: Status, heard: Heard, now: u64)
+    pub fn hear(&mut self, server: u32, number: u64, status: Status, heard: Heard, now: u64)
         requires { place_of server < length self.old }
         ensures { self.new ≡ changed_at (after_heard number status heard now) server self.old }
     {

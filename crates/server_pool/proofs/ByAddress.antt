@@ -20,7 +20,7 @@ use Rattle.resolution.proofs.Members.{Has, Has-from_Contains, Contains-from_Has}
 use Rattle.resolution.proofs.Addresses.{same_ip-true, same_ip-itself}
 use Rattle.resolution.proofs.Classified.{class_of_message-itself}
 use Rattle.resolution.proofs.Caseless.{class_of_message-same, classified-same}
-use Rattle.server_core.specs.Sending.{result_of}
+use Rattle.server_send.specs.Sending.{result_of}
 use Rattle.retry_rules.specs.Agenda.{rules_of, class_of_sent, end_at}
 use Rattle.retry_rules.specs.declared.candidate.Candidate.{Candidate}
 use Rattle.server_pool.specs.ByAddress.{Beside, IsSameEnd, SameEnds, at_address}

@@ -2,9 +2,9 @@
 use Rattle.std.proofs.Common.{◌≡◌, ◌∙◌, ℕ, Bool, false, cond, List, Option, Some, None, Result, Ok, Err, MatchResult, refl, ap, sym, subst}
 use Rattle.dns_core.specs.declared.errors.NoMemory.{NoMemory}
 use Rattle.server_core.specs.Servers.{Server}
-use Rattle.server_core.specs.declared.order.After.{After}
-use Rattle.server_core.specs.declared.order.Outcome.{Outcome}
-use Rattle.server_core.specs.declared.order.Tick.{Tick}
+use Rattle.server_orders.specs.declared.order.After.{After}
+use Rattle.server_orders.specs.declared.order.Outcome.{Outcome}
+use Rattle.server_orders.specs.declared.order.Tick.{Tick}
 use Rattle.retry_lookup.specs.Asked.{has_order}
 use Rattle.retry_lookup.specs.Hearing.{done_by, RunsOut}
 use Rattle.retry_lookup.specs.Lookup.{LookupState}

@@ -3,7 +3,7 @@ use Rattle.std.proofs.Common.{◌≡◌, ◌∙◌, ℕ, zero, suc, ◌≤◌, �
 use Rattle.std.specs.Prelude.{count_by}
 use Rattle.std.specs.declared.net.ip_addr.IpAddr.{IpAddr}
 use Rattle.resolution.specs.Lookups.{Answered}
-use Rattle.server_core.specs.Sending.{is_open}
+use Rattle.server_send.specs.Sending.{is_open}
 use Rattle.server_core.specs.Servers.{Server}
 use Rattle.retry_rules.proofs.Standing.{count_cons}
 use Rattle.retry_lookup.specs.declared.attempt.Attempt.{Attempt}

@@ -8,7 +8,7 @@ use Rattle.std.proofs.lemmas.Bool.{leb-false}
 use Rattle.std.specs.declared.net.ip_addr.IpAddr.{IpAddr}
 use Rattle.resolver_settings.specs.declared.options.ResolverOpts.{ResolverOpts}
 use Rattle.dns_core.specs.declared.request.DnsRequest.{DnsRequest}
-use Rattle.server_core.specs.Policy.{allows_server}
+use Rattle.server_send.specs.Policy.{allows_server}
 use Rattle.server_core.specs.Servers.{Server, server_of}
 use Rattle.retry_rules.specs.Agenda.{may_ask}
 use Rattle.retry_rules.specs.Ordering.{IsOrdered, next_turn, side_by_side}

@@ -6,7 +6,7 @@ use Rattle.dns_core.specs.declared.message.Query.{Query}
 use Rattle.dns_core.specs.declared.request.DnsRequest.{DnsRequest}
 use Rattle.dns_core.specs.declared.request.DnsRequestOptions.{DnsRequestOptions}
 use Rattle.resolver_settings.specs.declared.options.ResolverOpts.{ResolverOpts}
-use Rattle.server_core.specs.Context.{Context}
+use Rattle.server_send.specs.Context.{Context}
 use Rattle.server_core.specs.Servers.{Server}
 use Rattle.retry_rules.specs.Ordering.{IsOrdered, next_turn, side_by_side}
 use Rattle.retry_lookup.specs.Lookup.{LookupState}

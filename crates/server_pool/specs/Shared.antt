@@ -1,7 +1,7 @@
 -- What the pools of a resolver share.
 use Rattle.std.specs.Prelude.{◌≡◌, ◌≢◌, ℕ, Bool, List, Option, Some, unwrap_or}
 use Rattle.std.specs.declared.net.ip_addr.IpAddr.{IpAddr}
-use Rattle.server_core.specs.Context.{Context}
+use Rattle.server_send.specs.Context.{Context}
 use Rattle.server_core.specs.Servers.{Server}
 use Rattle.retry_rules.specs.AnswerFilter.{denied_by}
 pub use Rattle.retry_lookup.specs.Tables.{configs}

@@ -13,7 +13,7 @@ ghost use Rattle.server_pool.specs.Stepping.{HasStepped, HasHalted};
 use crate::pool::NameServerPool;
 use crate::pool_shared::{PoolShared, PoolStep};
 use dns_core::{DnsRequest, DnsRequestOptions, Message, NetError, NoMemory, Numbers, Query};
-use server_core::Tick;
+use server_orders::Tick;
 use std::alloc::Global;
 
 /// A lookup that waits for its answer together with others of its key, by its number, and the numbers of

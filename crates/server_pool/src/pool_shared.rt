@@ -20,7 +20,9 @@ use pool_lookups::{
 };
 use retry_lookup::{Lookup, LookupStep};
 use retry_rules::{ordered, side_by_side};
-use server_core::{After, NameServer, Order, Outcome, PoolContext, ServerTable, Tick};
+use server_core::{NameServer, ServerTable};
+use server_orders::{After, Order, Outcome, Tick};
+use server_send::PoolContext;
 use std::alloc::Global;
 use std::collections::BTreeMap;
 use std::marker::Model;

@@ -19,7 +19,7 @@ pub use Rattle.lookup_facts.specs.declared.sought.Sought.{Sought}
 pub use Rattle.lookup_facts.proofs.Sharing.{numbered-same, left-rest, left-numbered, stepped-numbered, halted-rest, halted-numbered, put-numbered, begun-there, begun-fresh, begun-rest, begun-numbered}
 pub use Rattle.lookup_facts.proofs.Carrying.{IsCarried, sought-carried, same-rest, config-before, carried-beside, carried-same, config-same, sought-with}
 pub use Rattle.lookup_facts.proofs.Beginning.{same_but-trans, begun-holds, has-begun}
-pub use Rattle.server_core.specs.declared.order.Order.{Order}
+pub use Rattle.server_orders.specs.declared.order.Order.{Order}
 pub use Rattle.server_pool.specs.Stepping.{HasStepped, HasHalted, HasPut}
 pub use Rattle.server_pool.specs.declared.pool_shared.PoolStep.{PoolStep}
 pub use Rattle.server_pool.proofs.Running.{next_rest, put_rest}
@@ -29,15 +29,15 @@ pub use Rattle.dns_core.specs.Name.{DomainName}
 pub use Rattle.dns_core.specs.declared.message.Query.{Query}
 pub use Rattle.resolver_cache.specs.Cached.{Cached}
 pub use Rattle.lookup_facts.proofs.Later.{answers-same, cache-later, found-later, sought-later}
-pub use Rattle.server_core.specs.Context.{Context}
+pub use Rattle.server_send.specs.Context.{Context}
 pub use Rattle.server_core.specs.Servers.{Server}
 pub use Rattle.recursor_setting.specs.declared.setting.Setting.{Setting}
 pub use Rattle.lookup_facts.proofs.Meeting.{equal-address, equal-at, met-last, delayed-last, more-met}
 pub use Rattle.server_pool.specs.Orders.{open_at, IsOpenOrder}
-pub use Rattle.server_core.specs.declared.order.Outcome.{Outcome}
-pub use Rattle.server_core.specs.declared.order.Sent.{Sent}
-pub use Rattle.server_core.specs.declared.order.After.{After}
-pub use Rattle.server_core.specs.declared.order.Tick.{Tick}
+pub use Rattle.server_orders.specs.declared.order.Outcome.{Outcome}
+pub use Rattle.server_orders.specs.declared.order.Sent.{Sent}
+pub use Rattle.server_orders.specs.declared.order.After.{After}
+pub use Rattle.server_orders.specs.declared.order.Tick.{Tick}
 pub use Rattle.lookup_facts.specs.Order.{IsPut, seen_with, closing_of}
 pub use Rattle.lookup_facts.proofs.Puts.{later-put, err-last, err-is, was-put}
 pub use Rattle.lookup_facts.specs.Found.{HasCome, FoundHolds, last_of}

@@ -6,10 +6,10 @@ use Rattle.dns_core.specs.Name.{DomainName}
 use Rattle.dns_core.specs.declared.errors.NoMemory.{NoMemory}
 use Rattle.dns_core.specs.declared.message.Query.{Query}
 use Rattle.server_core.specs.Servers.{Server}
-use Rattle.server_core.specs.declared.order.After.{After}
-use Rattle.server_core.specs.declared.order.Sent.{Sent}
-use Rattle.server_core.specs.declared.order.Tick.{Tick}
-use Rattle.server_core.specs.declared.order.Outcome.{Outcome}
+use Rattle.server_orders.specs.declared.order.After.{After}
+use Rattle.server_orders.specs.declared.order.Sent.{Sent}
+use Rattle.server_orders.specs.declared.order.Tick.{Tick}
+use Rattle.server_orders.specs.declared.order.Outcome.{Outcome}
 use Rattle.order_carrier.specs.Fits.{GoesToServer}
 use Rattle.pool_lookups.specs.Lookups.{is_last, after_leave, closed_by}
 use Rattle.server_pool.specs.Orders.{open_at}

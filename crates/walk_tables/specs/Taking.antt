@@ -1,8 +1,8 @@
 -- What the outcome of an order leaves of the pools, and what it writes into the cache.
 use Rattle.std.specs.Prelude.{◌≡◌, ◌⊎◌, ◌==◌, ℕ, Bool, false, if◌then◌else◌, Option, Some, None, Ok, IfSome, option_and_then}
-use Rattle.server_core.specs.declared.order.After.{After}
-use Rattle.server_core.specs.declared.order.Outcome.{Outcome}
-use Rattle.server_core.specs.declared.order.Tick.{Tick}
+use Rattle.server_orders.specs.declared.order.After.{After}
+use Rattle.server_orders.specs.declared.order.Outcome.{Outcome}
+use Rattle.server_orders.specs.declared.order.Tick.{Tick}
 use Rattle.resolver_cache.specs.Cached.{Cached}
 use Rattle.pool_lookups.specs.declared.open_lookup.OpenLookup.{OpenLookup}
 use Rattle.server_pool.specs.Orders.{IsOpenOrder, open_at}
@@ -18,7 +18,7 @@ use Rattle.walk_tables.specs.declared.pools.Pools.{Pools}
 use Rattle.lookup_facts.specs.declared.sought.Sought.{Sought}
 use Rattle.walk_tables.specs.declared.pools.Stepped.{Stepped}
 use Rattle.lookup_facts.specs.Coming.{ComesBy, has_more_ends, telling_by}
-use Rattle.server_core.specs.declared.order.After.TheVariants as after
+use Rattle.server_orders.specs.declared.order.After.TheVariants as after
 use Rattle.walk_tables.specs.declared.lookup.Ask.TheVariants as ask
 use Rattle.walk_tables.specs.declared.pools.Stepped.TheVariants as stepped
 

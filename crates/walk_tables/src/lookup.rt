@@ -12,7 +12,7 @@ ghost use Rattle.lookup_facts.specs.Found.{FoundHolds};
 use crate::pools::{Answer, Pools, Stepped};
 use dns_core::{Boxed, DnsRequest, Name, NoMemory, Numbers, Query};
 use lookup_facts::Found;
-use server_core::Tick;
+use server_orders::Tick;
 use server_pool::PoolLookup;
 use std::alloc::Global;
 use std::mem;

@@ -17,7 +17,7 @@ use lookup_facts::Found;
 use recursor_types::{RecursorError, Reply};
 use resolution::Verdict;
 use resolver_cache::ResponseCache;
-use server_core::Tick;
+use server_orders::Tick;
 use std::alloc::Global;
 use std::mem;
 use walk_base::{outcome_of, reply_by};

@@ -1,7 +1,7 @@
 use Rattle.std.proofs.Common.{◌∙◌, ap, length}
-use Rattle.server_core.specs.declared.server_send.ServerSend.{ServerSend}
+use Rattle.server_send.specs.declared.server_send.ServerSend.{ServerSend}
 use Rattle.server_core.proofs.Changing.{changed_length}
-use Rattle.server_core.proofs.Coming.{come_same}
+use Rattle.server_send.proofs.Coming.{come_same}
 use Rattle.pool_call_tests.proofs.send_samples.put_to.Goals as goal
 
 pub returns-clause-table : goal.returns-clause-table

@@ -1,6 +1,6 @@
 use Rattle.std.proofs.Common.{◌≡◌, subst}
 use Rattle.server_core.specs.Hearing.{changed_at}
-use Rattle.server_core.specs.Sending.{after_next}
+use Rattle.server_send.specs.Sending.{after_next}
 use Rattle.retry_lookup.specs.declared.attempt.Attempt.{Attempt}
 use Rattle.retry_lookup.proofs.Written.{read_at, same_at, put_back, given_at}
 use Rattle.retry_lookup.proofs.attempt.give_at.Goals as goal

@@ -1,8 +1,8 @@
 use Rattle.recursor_machine.proofs.Names.{◌≡◌, Bool, true, false, max, refl, sym, subst, Result, Ok, arith, option_copied, IsTrue, NoMemory, After, IsNext, IsPut, last_entry, seen_with, seen_by}
-use Rattle.server_core.specs.Order.{entry_of}
+use Rattle.server_orders.specs.Order.{entry_of}
 use Rattle.lookup_facts.proofs.Puts.{kept-extends, last-chosen, last-within, later-put}
 use Rattle.recursor_machine.proofs.Later.{Derived-extends, resolutions-later}
-use Rattle.server_core.specs.declared.order.After.TheVariants as after
+use Rattle.server_orders.specs.declared.order.After.TheVariants as after
 use Rattle.recursor_machine.proofs.machine.RecursorCore.put.Goals as goal
 
 -- what is not so is not so

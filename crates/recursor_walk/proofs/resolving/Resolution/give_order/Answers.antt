@@ -1,7 +1,7 @@
 use Rattle.std.proofs.Common.{rules}
 use Rattle.recursor_walk.proofs.Names.{sym, subst}
 use Rattle.std.proofs.lemmas.Result.{IfOk-from_err}
-use Rattle.server_core.specs.declared.order.Order.{Order}
+use Rattle.server_orders.specs.declared.order.Order.{Order}
 use Rattle.walk_tables.specs.Pools.{StepGoes}
 use Rattle.walk_tables.specs.declared.pools.Stepped.TheVariants as stepped
 use Rattle.recursor_walk.proofs.resolving.Resolution.give_order.Goals as goal

@@ -1,7 +1,7 @@
 use Rattle.std.proofs.Common.{◌≡◌, ◌∙◌, true, ap}
 use Rattle.std.proofs.lemmas.Result.{err_from_is_err_and}
-use Rattle.server_core.specs.Sending.{end_of, after_end, after_put, takes_memory}
-use Rattle.server_core.specs.declared.server_send.ServerSend.{ServerSend}
+use Rattle.server_send.specs.Sending.{end_of, after_end, after_put, takes_memory}
+use Rattle.server_send.specs.declared.server_send.ServerSend.{ServerSend}
 use Rattle.retry_lookup.specs.declared.attempt.Attempt.{Attempt}
 use Rattle.retry_lookup.specs.declared.attempt.Put.{Put}
 use Rattle.retry_lookup.proofs.Written.{on_error, was_taken}

@@ -1,6 +1,6 @@
 use Rattle.std.proofs.Common.{◌≡◌, ◌∙◌, List, length, refl, ap, sym, subst, arith, inl, inr}
 use Rattle.server_core.specs.Hearing.{changed_at}
-use Rattle.server_core.specs.Sending.{after_step, after_want}
+use Rattle.server_send.specs.Sending.{after_step, after_want}
 use Rattle.retry_rules.specs.declared.candidate.Candidate.{Candidate}
 use Rattle.retry_lookup.specs.declared.attempt.Attempt.{Attempt}
 use Rattle.retry_lookup.specs.Attempts.{CanGive}

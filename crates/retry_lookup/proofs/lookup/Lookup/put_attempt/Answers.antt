@@ -1,5 +1,5 @@
 use Rattle.std.proofs.Common.{◌∙◌, List, length, slice_get, ap, sym, subst, arith}
-use Rattle.server_core.specs.Context.{Context}
+use Rattle.server_send.specs.Context.{Context}
 use Rattle.retry_rules.specs.AnswerFilter.{denied_by}
 use Rattle.retry_lookup.specs.declared.attempt.Attempt.{Attempt}
 use Rattle.retry_lookup.specs.Hearing.{IsPutAt, run_out, after_attempt}

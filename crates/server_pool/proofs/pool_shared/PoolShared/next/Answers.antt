@@ -1,7 +1,7 @@
 use Rattle.std.proofs.Common.{◌≡◌, ◌∙◌, ℕ, ◌+◌, Some, None, Err, IfOk, OnErr, arith, ap, sym, subst}
 use Rattle.std.specs.Prelude.{◌⊎◌}
 use Rattle.dns_core.specs.declared.net_error.NetError.TheVariants.{NoConnections}
-use Rattle.server_core.specs.Context.{Context}
+use Rattle.server_send.specs.Context.{Context}
 use Rattle.retry_rules.specs.AnswerFilter.{denied_by}
 use Rattle.pool_lookups.specs.Stepping.{IsStepAt}
 use Rattle.pool_lookups.specs.Orders.{given_by}

@@ -1,5 +1,5 @@
 use Rattle.walk_tables.proofs.Names.{◌≡◌, ◌∙◌, ℕ, max, inr, sym, refl, ap, subst, Some, None, Ok, Result, arith, rules, Err, option_copied, NoMemory, After, open_at, IsOutcomeOf, closing_of, seen_with, View, seen_at, CacheHolds, remembered, Took, TablesHold, telling_at, later-put, err-last, err-is, was-put, cache-later}
-use Rattle.server_core.specs.declared.order.After.TheVariants.{Late}
+use Rattle.server_orders.specs.declared.order.After.TheVariants.{Late}
 use Rattle.walk_tables.proofs.Orders.{late-other}
 use Rattle.lookup_facts.proofs.Late.{open-late}
 use Rattle.walk_tables.proofs.Later.{tables-later}
