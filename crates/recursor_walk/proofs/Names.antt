@@ -11,7 +11,7 @@ pub use Rattle.resolution.specs.Ending.{Finished, is_timeout}
 pub use Rattle.resolution.specs.declared.verdict.Verdict.TheVariants.{Pos, Neg, Made}
 pub use Rattle.resolution.specs.declared.verdict.Verdict.{Verdict}
 pub use Rattle.lookup_facts.specs.View.{View, given_of, Later}
-pub use Rattle.resolution.specs.Walking.{Walked, NoCut, at_any_time, is_cut}
+pub use Rattle.resolution.specs.Walking.{Walked, NoCut, ReachesName, at_any_time, is_cut}
 pub use Rattle.walk_base.specs.Answer.{made_negative, ends_walk}
 pub use Rattle.recursor_types.specs.declared.error.RecursorError.TheVariants.{NoNameServer}
 pub use Rattle.recursor_types.specs.declared.reply.Reply.{Reply}
@@ -21,7 +21,7 @@ pub use Rattle.zone_asking.specs.Replies.{CameTo, HasCause, RepliesWith, reply_w
 pub use Rattle.recursor_walk.specs.Walk.{IsCourseOf, Goes, Recalls, EndsIf, steps_after, Passes, verdict_heard, verdict_found, counting}
 pub use Rattle.recursor_walk.specs.declared.walk.Course.{Course}
 pub use Rattle.zone_asking.specs.Counted.{Stands, recalled, answerable, ReadsAt}
-pub use Rattle.recursor_walk.specs.Way.{WalkComes, Passed, WayHolds, WalkHolds, LeavesBehind}
+pub use Rattle.recursor_walk.specs.Way.{WalkComes, Passed, WayHolds, WalkHolds, IsAtServers, LeavesBehind}
 pub use Rattle.recursor_walk.specs.declared.walk.Walk.{Walk}
 pub use Rattle.zone_asking.specs.Asking.{LastHolds, AskingHolds, SameSite, LeavesFewer}
 pub use Rattle.recursor_walk.specs.Resolved.{StateHolds, ResolutionHolds}

@@ -42,7 +42,7 @@ walk-holds seen r b a early h same asks = record { begun = early; state = walk-a
 pub asking-holds : (seen : View) (r : Resolution) (b : Box AtServers) (a : AtServers) → r.begun ≤ seen.moment
     → LastHolds seen r.begun r.question.query b.value → SameSite b.value a → AskingHolds seen r.begun a
     → ResolutionHolds seen (with-state r (Asking (record b { value = a })))
-asking-holds seen r b a early h same asks = record { begun = early; state = record { asks = same.2 ∙ h.asks; holds = asks } }
+asking-holds seen r b a early h same asks = record { begun = early; state = record { asks = same.2 ∙ h.asks; own = rw (same.0, same.2) h.own; holds = asks } }
 
 -- ---- a step that goes somewhere
 

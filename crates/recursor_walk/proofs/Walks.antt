@@ -1,5 +1,6 @@
 -- How a walk goes on.
-use Rattle.recursor_walk.proofs.Names.{◌≡◌, ◌≤◌, ◌<◌, ◌+◌, ◌↔◌, ℕ, Bool, true, false, List, length, Contains, refl, sym, ◌∙◌, ap, subst, arith, Result, Ok, Err, nat_lt, ◌&&◌, IsTrue, nat_tests, DomainName, Query, NetError, root, candidates, is_above, last_name, walk, question, Finished, is_timeout, NoCut, Walked, at_any_time, is_cut, Pos, Verdict, View, given_of, Stands, LookupHolds, AskingHolds, SameSite, Passed, LeavesBehind, WayHolds, WalkHolds, Walk, steps_after, Goes, Passes, Course, NoMemory, IfOk, Question, Reply, CameTo, IsCourseOf, WalkComes}
+use Rattle.recursor_walk.proofs.Names.{◌≡◌, ◌≤◌, ◌<◌, ◌+◌, ◌-◌, ◌↔◌, ℕ, Bool, true, false, List, length, Contains, refl, sym, ◌∙◌, ap, subst, arith, Result, Ok, Err, nat_lt, ◌&&◌, IsTrue, nat_tests, DomainName, Query, NetError, root, candidates, is_above, last_name, walk, question, Finished, is_timeout, NoCut, Walked, at_any_time, is_cut, Pos, Verdict, View, given_of, Stands, LookupHolds, AskingHolds, SameSite, Passed, LeavesBehind, IsAtServers, ReachesName, WayHolds, WalkHolds, Walk, steps_after, Goes, Passes, Course, NoMemory, IfOk, Question, Reply, CameTo, IsCourseOf, WalkComes}
+use Rattle.std.specs.Prelude.{drop}
 use Rattle.std.specs.Cmp.{second_so, first_so}
 use Rattle.std.specs.declared.net.ip_addr.IpAddr.{IpAddr}
 use Rattle.lookup_facts.specs.Tried.{Concluded, machine_timer}
@@ -13,7 +14,7 @@ use Rattle.walk_base.specs.Candidate.{candidate_query}
 use Rattle.lookup_facts.specs.Sought.{ArePool, AreFor}
 use Rattle.zone_asking.specs.declared.asking.Asking.{Asking}
 use Rattle.walk_tables.specs.declared.lookup.Lookup.{Lookup}
-use Rattle.resolution.proofs.WayDown.{above-last, last-above, last-length, walked-from-passed, walked-at-candidate}
+use Rattle.resolution.proofs.WayDown.{above-last, last-above, last-length, walked-from-passed, walked-at-candidate, passed-at-candidate}
 use Rattle.zone_asking.proofs.Denials.{has-failed}
 use Rattle.zone_asking.proofs.Earlier.{Finished-earlier}
 use Rattle.zone_asking.proofs.Sites.{among, cut-same, roots-pool, root-above-for, cut-delegates, cut-pool}
@@ -82,6 +83,7 @@ module _ (seen : View) (q : Query) (w : Walk) (way : WayHolds seen q w) where
   leaves-told t0 entry v stands none far =
       let now = subst (λ (p : Query). Stands seen t0 p entry v) candidate-asked stands in
       told_otherwise now.base.heard now.base.counts (sym (cut-same (question w.asking.lookup.query.name 2) v now.whole w.asking.lookup.query.name now.same) ∙ none)
+      (passed-at-candidate (given_of seen.setting) seen.log now.zone w.asking.lookup.query.name now.walked)
 
   -- no cut is shown at the candidate by a lookup that failed otherwise than by a timeout
   pub leaves-failed : (t0 : ℕ) (e : NetError) → Concluded seen t0 w.asking.zone w.asking.lookup.query w.asking.lookup.ends (Err e) → is_timeout e ≡ false
@@ -90,6 +92,8 @@ module _ (seen : View) (q : Query) (w : Walk) (way : WayHolds seen q w) where
       let f = subst (λ (p : Query). Finished (given_of seen.setting) (machine_timer seen.moment seen.log t0) seen.log t0 p w.asking.zone w.asking.lookup.ends (Err e)) candidate-asked ended in
       not_told (Finished-earlier (given_of seen.setting) seen.log 0 t0 (omega arith) (machine_timer seen.moment seen.log t0) at_any_time
       (λ p ips g moments ends start now sends asked t. (now, omega arith, tt)) f) otherwise
+      (passed-at-candidate (given_of seen.setting) seen.log w.asking.zone w.asking.lookup.query.name
+      (subst (λ (p : Query). Walked (given_of seen.setting) seen.log p w.asking.zone) candidate-asked candidate-walked))
 
   -- the servers stayed silent for the candidate
   pub timed-out : (t0 : ℕ) → Concluded seen t0 w.asking.zone w.asking.lookup.query w.asking.lookup.ends (Err net.Timeout)
@@ -128,15 +132,37 @@ goes-further seen t0 q w labels asked l way leaves more next ask query made =
       lookup = made w.asking.zone (subst (λ (p : Query). is_above w.asking.zone (walk p) ≡ true) (sym ask) above);
     }
 
+-- a walk that has passed all candidates: for NS records it has come to the name's own servers, since the last candidate is the name
+reaches-name : (seen : View) (q : Query) (w : Walk) → WayHolds seen q w → LeavesBehind seen w → length w.name.labels ≤ w.labels
+    → ReachesName (given_of seen.setting) seen.log q w.asking.zone
+reaches-name seen q w way leaves all ns far =
+    let no_ds : walk q ≡ q.name = rw ns refl in
+    let its_name : w.name ≡ q.name = way.name ∙ no_ds in
+    let n = length w.name.labels in
+    let count : n ≡ length q.name.labels = ap (λ (d : DomainName). length d.labels) its_name in
+    let none_left : n - n ≡ 0 = omega arith in
+    let whole : last_name n w.name ≡ w.name = ap (λ (k : ℕ). record w.name { labels = drop k w.name.labels }) none_left in
+    subst (NoCut (given_of seen.setting) seen.log) (whole ∙ its_name) (passed-by seen q w way leaves n (omega (arith, far, count)) (omega (arith, all)))
+
+-- where there is no candidate nothing is above the name
+pub reaches-root : (seen : View) (q : Query) (zone : DomainName) → length (walk q).labels ≡ 0 → ReachesName (given_of seen.setting) seen.log q zone
+reaches-root seen q zone none ns far =
+    let no_ds : walk q ≡ q.name = rw ns refl in
+    let count : length (walk q).labels ≡ length q.name.labels = ap (λ (d : DomainName). length d.labels) no_ds in
+    absurd (omega (arith, none, count, far))
+
 -- a walk that has gone down to its zone for the question: it has come to the servers of the name
 pub comes-there : (seen : View) (q : Query) (w : Walk) → WayHolds seen q w → LeavesBehind seen w → length w.name.labels ≤ w.labels
-    → AreFor seen q w.asking.zone w.asking.servers
+    → IsAtServers seen q w
 comes-there seen q w way leaves all =
     let passed = passed-by seen q w way leaves in
     record {
-      above = subst (λ (d : DomainName). is_above w.asking.zone d ≡ true) way.name way.above;
-      walked = walked-from-passed (given_of seen.setting) seen.log q w.asking.zone w.name way.name way.above (λ k low high. passed k low (omega (arith, high, all)));
-      pool = way.pool;
+      site = record {
+        above = subst (λ (d : DomainName). is_above w.asking.zone d ≡ true) way.name way.above;
+        walked = walked-from-passed (given_of seen.setting) seen.log q w.asking.zone w.name way.name way.above (λ k low high. passed k low (omega (arith, high, all)));
+        pool = way.pool;
+      };
+      own = reaches-name seen q w way leaves all;
     }
 
 -- ---- the beginning

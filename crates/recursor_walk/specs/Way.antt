@@ -7,7 +7,7 @@ use Rattle.dns_core.specs.declared.net_error.NetError.{NetError}
 use Rattle.dns_core.specs.declared.request.Question.{Question}
 use Rattle.dns_core.specs.declared.errors.NoMemory.{NoMemory}
 use Rattle.resolution.specs.Names.{is_above, walk, last_name}
-use Rattle.resolution.specs.Walking.{NoCut}
+use Rattle.resolution.specs.Walking.{NoCut, ReachesName}
 use Rattle.resolution.specs.declared.verdict.Verdict.{Verdict}
 use Rattle.resolver_settings.specs.Access.{Access}
 use Rattle.walk_base.specs.Candidate.{candidate_query}
@@ -46,10 +46,15 @@ pub record WalkHolds (seen : View) (t0 : ℕ) (q : Query) (w : Walk) : Type 0 wh
   pub way : WayHolds seen q w
   pub lookup : LookupHolds seen t0 w.asking.zone w.asking.lookup
 
+-- It has come to the servers of the name, and for its NS records to its own.
+pub record IsAtServers (seen : View) (q : Query) (w : Walk) : Type 0 where
+  pub site : AreFor seen q w.asking.zone w.asking.servers
+  pub own : ReachesName (given_of seen.setting) seen.log q w.asking.zone
+
 -- It goes further, has come to the servers for the question, or this has its reply.
 abbrev pub WalkComes : View → ℕ → Question → Walk → Course → Type 0
 WalkComes seen t0 question w course.Further = WalkHolds seen t0 question.query w
-WalkComes seen t0 question w course.Arrived = AreFor seen question.query w.asking.zone w.asking.servers
+WalkComes seen t0 question w course.Arrived = IsAtServers seen question.query w
 WalkComes seen t0 question w (course.Reply reply) = CameTo seen t0 question reply.value
 
 -- So it does, where memory was not wanting.

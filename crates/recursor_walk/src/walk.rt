@@ -5,12 +5,11 @@ ghost use Rattle.dns_core.specs.declared.message.Query.{Query};
 ghost use Rattle.dns_core.specs.declared.request.Question.{Question};
 ghost use Rattle.resolution.specs.Names.{walk};
 ghost use Rattle.walk_tables.specs.Lookup.{want_of};
-ghost use Rattle.lookup_facts.specs.Sought.{AreFor};
 ghost use Rattle.lookup_facts.specs.View.{View};
 ghost use Rattle.zone_asking.specs.Asking.{LastHolds};
 ghost use Rattle.zone_asking.specs.Counted.{ReadsAt, recalled};
 ghost use Rattle.recursor_walk.specs.Walk.{steps, Goes, Passes, Ends, EndsIf, IsOnward, Recalls, counting, verdict_found, verdict_heard, IsCourseOf};
-ghost use Rattle.recursor_walk.specs.Way.{WayHolds, WalkHolds, LeavesBehind, Comes, HasFailedAt, HasHeard, HasFound, HasRoots, FiltersBy};
+ghost use Rattle.recursor_walk.specs.Way.{WayHolds, WalkHolds, IsAtServers, LeavesBehind, Comes, HasFailedAt, HasHeard, HasFound, HasRoots, FiltersBy};
 ghost use Rattle.walk_tables.specs.declared.lookup.Want.TheVariants as want;
 ghost use Rattle.zone_asking.specs.Asking as asking;
 
@@ -242,7 +241,7 @@ impl Walk {
     /// The question itself at the servers of the name, at which the walk has come.
     pub fn into_asking(self, alloc: Global, query: Query) -> Asking
         ensures steps { asking.steps result ≡ 6 }
-        ensures holds { (seen : View) (t0 : ℕ) → AreFor seen query self.asking.zone self.asking.servers → LastHolds seen t0 query result }
+        ensures holds { (seen : View) (t0 : ℕ) → IsAtServers seen query self → LastHolds seen t0 query result }
     {
         let Walk {
             name: _,

@@ -15,9 +15,10 @@ use Rattle.resolution.specs.Ending.{Known, waits, is_wait_for, EndsSend, EndSend
 use Rattle.resolution.specs.Ending.EndsSend.{open_refused, ask_refused, open_failed, ask_failed, answered, given_up}
 use Rattle.resolution.specs.Ending.EndSends.{no_send, and_send}
 use Rattle.resolution.specs.Ending.Listed.{of_roots, of_told}
-use Rattle.resolution.specs.Walking.{at_any_time, NoCut, Walked, looked_at, Chain}
+use Rattle.resolution.specs.Walking.{at_any_time, NoCut, Walked, looked_at}
+use Rattle.resolution.specs.Answering.{Chain}
 use Rattle.resolution.specs.Walking.NoCut.{told_otherwise, not_told}
-use Rattle.resolution.specs.Walking.Chain.{last, then_alias}
+use Rattle.resolution.specs.Answering.Chain.{last, then_alias}
 use Rattle.resolution.specs.Failing.{Glueless, NoAddress, TriedFor, Tried, Lookups, Spent, Tour, Detours, Tours, Worn, Barren, Dry, WalkFail}
 use Rattle.resolution.specs.Failing.NoAddress.{none_in_answer, no_answer}
 use Rattle.resolution.specs.Failing.Lookups.{no_lookup, one_more}
@@ -108,8 +109,8 @@ module _ (given : Given) (less : ℕ) (fewer : less ≤ given.patience) (log new
     }
 
   pub NoCut-extend : {c : DomainName} → NoCut given log c → NoCut (with_patience less given) new c
-  NoCut-extend (told_otherwise h v n) = told_otherwise (Heard-extend given less log new extends h) v n
-  NoCut-extend (not_told f n) = not_told (Finished-extend at_any_time at_any_time (λ q ips g moments ends start now s t. t) (λ x. x) f) n
+  NoCut-extend (told_otherwise h v n below) = told_otherwise (Heard-extend given less log new extends h) v n (λ k low high. NoCut-extend (below k low high))
+  NoCut-extend (not_told f n below) = not_told (Finished-extend at_any_time at_any_time (λ q ips g moments ends start now s t. t) (λ x. x) f) n (λ k low high. NoCut-extend (below k low high))
 
   each_no_cut : (cs : List DomainName) → AllByRecursion (NoCut given log) cs → AllByRecursion (NoCut (with_patience less given) new) cs
   each_no_cut [] w = w

@@ -1,5 +1,5 @@
 -- What a log says another says that has its entries, also where less patience is given.
-use Rattle.std.proofs.Common.{ℕ, suc, ◌<◌, ◌≤◌, Bool, List, ◌∙◌, arith}
+use Rattle.std.proofs.Common.{ℕ, suc, ◌<◌, ◌≤◌, ◌∙◌, arith}
 use Rattle.std.specs.declared.net.ip_addr.IpAddr.{IpAddr}
 use Rattle.dns_core.specs.Name.{DomainName}
 use Rattle.dns_core.specs.Log.{Log, Extends}
@@ -13,8 +13,7 @@ use Rattle.resolution.specs.Serving.{Serves, Delegates, Heard}
 use Rattle.resolution.specs.Serving.Serves.{of_root, of_glue, of_target, of_answer}
 use Rattle.resolution.specs.Serving.Delegates.{delegates}
 use Rattle.resolution.specs.Serving.Heard.{heard}
-use Rattle.resolution.specs.Answering.{Base, Answers, Answer}
-use Rattle.resolution.specs.Answering.Answers.{direct, by_alias}
+use Rattle.resolution.specs.Answering.{Base}
 use Rattle.resolution.specs.declared.verdict.Verdict.{Verdict}
 
 pub Logged-extend : (old new : Log) → Extends old new → (n : ℕ) (e : LogEntry) → Logged old n e → Logged new n e
@@ -61,13 +60,6 @@ module _ (given : Given) (patience : ℕ) (old new : Log) (extends : Extends old
 
   abbrev pub Base-extend : {t0 : ℕ} {q : Query} {i : ℕ} {z : DomainName} {v : Verdict} → Base given old t0 q i z v → Base (with_patience patience given) new t0 q i z v
   Base-extend b = record { told = b.told; moment = b.moment; heard = Heard-extend b.heard; counts = b.counts; fresh = b.fresh }
-
-  pub Answers-extend : {t0 : ℕ} {dnssec : Bool} {q : Query} {g : List ℕ} {r : Message} → Answers given old t0 dnssec q g r → Answers (with_patience patience given) new t0 dnssec q g r
-  Answers-extend (direct b c f s) = direct (Base-extend b) c f s
-  Answers-extend (by_alias b c f a s) = by_alias (Base-extend b) c f (Answers-extend a) s
-
-  pub Answer-extend : {t0 : ℕ} {q : Query} {dnssec : Bool} {g : List ℕ} {r : Message} → Answer given old t0 q dnssec g r → Answer (with_patience patience given) new t0 q dnssec g r
-  Answer-extend a = record { answers = Answers-extend a.answers; few = a.few }
 
 -- A later number reads more.
 module _ (given : Given) (log : Log) where

@@ -8,6 +8,7 @@ pub mod ZoneCase
 pub mod Classified
 pub mod Numbered
 pub mod FailuresKept
+pub mod AnswersKept
 pub mod TimingKept
 pub mod FailuresCaseless
 pub mod RootsTried

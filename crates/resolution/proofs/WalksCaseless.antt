@@ -1,5 +1,5 @@
 -- Where a walk goes does not depend on the case of its question.
-use Rattle.std.proofs.Common.{◌≡◌, ℕ, ◌-◌, Bool, true, false, cond, ◌&&◌, List, [], ◌∷◌, length, drop, refl, ap, subst, ◌∙◌, sym}
+use Rattle.std.proofs.Common.{◌≡◌, ℕ, ◌-◌, ◌<◌, Bool, true, false, cond, ◌&&◌, List, [], ◌∷◌, length, drop, refl, ap, subst, ◌∙◌, sym}
 use Rattle.std.specs.Prelude.{not, ◌==◌, map, filter, if◌then◌else◌}
 use Rattle.std.specs.List.{AllByRecursion, range_with_len}
 use Rattle.std.specs.Cmp.{second_so}
@@ -27,13 +27,6 @@ is_cut-same (Pos k) c d e = is_delegation-same c d e k
 is_cut-same (Neg n) c d e = refl
 is_cut-same (Made cause) c d e = refl
 
-pub NoCut-same : (given : Given) (log : Log) (c d : DomainName) → same_names c d ≡ true → NoCut given log c → NoCut given log d
-NoCut-same given log c d e (told_otherwise {o = o} {z = z} {v = v} h w n) =
-    let asks = ns_question c d e in
-    told_otherwise (Heard-same (question c 2) (question d 2) asks h) (sym (verdict-same (question c 2) (question d 2) asks given o z) ∙ w) (sym (is_cut-same v c d e) ∙ n)
-NoCut-same given log c d e (not_told f n) =
-    not_told (Finished-same (question c 2) (question d 2) (ns_question c d e) at_any_time at_any_time (λ ips g moments ends start now t. t) f) n
-
 -- the last k labels
 abbrev last_of : DomainName → ℕ → DomainName
 last_of n k = record { labels = last_labels k n.labels; fqdn = n.fqdn }
@@ -44,6 +37,19 @@ last_of-same n m k e =
     let dropped = pointwise-drop (pointwise same_letter) (length n.labels - k) n.labels m.labels (labels_same n m e) in
     let last = subst (λ (l : ℕ). same_labels (drop (length n.labels - k) n.labels) (drop (l - k) m.labels) ≡ true) long dropped in
     both (same_labels (last_labels k n.labels) (last_labels k m.labels)) (beq n.fqdn m.fqdn) last (second_so (same_labels n.labels m.labels) _ e)
+
+-- a name in another case has as many labels
+longer-same : (c d : DomainName) → same_names c d ≡ true → (k : ℕ) → k < length d.labels → k < length c.labels
+longer-same c d e k h = subst (λ (n : ℕ). k < n) (sym (length-same (pointwise same_letter) c.labels d.labels (labels_same c d e))) h
+
+pub NoCut-same : (given : Given) (log : Log) {c : DomainName} (d : DomainName) → NoCut given log c → same_names c d ≡ true → NoCut given log d
+NoCut-same given log d (told_otherwise {c = c} {o = o} {z = z} {v = v} h w n below) e =
+    let asks = ns_question c d e in
+    told_otherwise (Heard-same (question c 2) (question d 2) asks h) (sym (verdict-same (question c 2) (question d 2) asks given o z) ∙ w) (sym (is_cut-same v c d e) ∙ n)
+    (λ k low high. NoCut-same given log (last_of d k) (below k low (longer-same c d e k high)) (last_of-same c d k e))
+NoCut-same given log d (not_told {c = c} f n below) e =
+    not_told (Finished-same (question c 2) (question d 2) (ns_question c d e) at_any_time at_any_time (λ ips g moments ends start now t. t) f) n
+    (λ k low high. NoCut-same given log (last_of d k) (below k low (longer-same c d e k high)) (last_of-same c d k e))
 
 -- what is said of each image that passes one test, for images and tests that agree
 each_passing : {X Y : Type 0} (P : Y → Type 0) (f g : X → Y) (s t : Y → Bool) → ((x : X) → s (f x) ≡ t (g x)) → ((x : X) → P (f x) → P (g x))
@@ -80,5 +86,5 @@ Walked-same given log q p z e w =
     let walks = walks_same q p e in
     let long = length-same (pointwise same_letter) (walk q).labels (walk p).labels (labels_same (walk q) (walk p) walks) in
     let same : (k : ℕ) → same_names (last_of (walk q) k) (last_of (walk p) k) ≡ true = λ k. last_of-same (walk q) (walk p) k walks in
-    let moved = each_passing (NoCut given log) (last_of (walk q)) (last_of (walk p)) (looks z q) (looks z p) (λ k. looks-same q p e z _ _ (same k)) (λ k. NoCut-same given log _ _ (same k)) (range_with_len 1 (length (walk q).labels)) w in
+    let moved = each_passing (NoCut given log) (last_of (walk q)) (last_of (walk p)) (looks z q) (looks z p) (λ k. looks-same q p e z _ _ (same k)) (λ k n. NoCut-same given log (last_of (walk p) k) n (same k)) (range_with_len 1 (length (walk q).labels)) w in
     subst (λ (n : ℕ). AllByRecursion (NoCut given log) (filter (looks z p) (map (last_of (walk p)) (range_with_len 1 n)))) long moved

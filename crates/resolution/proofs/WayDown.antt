@@ -15,7 +15,7 @@ use Rattle.resolution.specs.Names.{is_above, last_name, root, walk, question}
 use Rattle.resolution.specs.Given.{Given}
 use Rattle.resolution.specs.Walking.{NoCut, Walked}
 use Rattle.resolution.proofs.Above.{is_suffix-refl, labels_equiv, pointwise-drop}
-use Rattle.resolution.proofs.Caseless.{both}
+use Rattle.resolution.proofs.Caseless.{both, length-same, labels_same}
 
 -- the last k labels are k
 length-last : (k : ℕ) (ls : List (List ℕ)) → k ≤ length ls → length (last_labels k ls) ≡ k
@@ -182,3 +182,48 @@ walked-at-candidate given log zone name labels above low high each =
         let c = last_name labels name in
         let own : last_name k c ≡ c = all-labels c k (omega (arith, count, more, short)) in
         absurd (true-not-false (same_names (last_name k c) c) (subst (λ (x : DomainName). same_names x c ≡ true) (sym own) (same_names_equiv.refl c)) other)
+
+-- what is left of a range has the property where all of it has it
+left-had : {X : Type 0} (P : X → Type 0) (p : X → Bool) (f : ℕ → X) (a n : ℕ) → AllByRecursion P (filter p (map f (range_with_len a n)))
+    → (k : ℕ) → a ≤ k → k < a + n → p (f k) ≡ true → P (f k)
+left-had P p f a zero all k low high e = absurd (omega (arith, low, high))
+left-had {X} P p f a (suc n) all k low high e = pick (nat_lt a k) refl (left-had P p f (a + 1) n)
+  where
+    rest : List X
+    rest = filter p (map f (range_with_len (a + 1) n))
+
+    tail : (b : Bool) (xs : List X) → AllByRecursion P (cond b (f a ∷ xs) xs) → AllByRecursion P xs
+    tail true xs h = h.1
+    tail false xs h = h
+
+    head : (b : Bool) (xs : List X) → b ≡ true → AllByRecursion P (cond b (f a ∷ xs) xs) → P (f a)
+    head true xs t h = h.0
+    head false xs t h = cc
+
+    pick : (b : Bool) → nat_lt a k ≡ b
+        → (AllByRecursion P (filter p (map f (range_with_len (a + 1) n))) → (j : ℕ) → a + 1 ≤ j → j < (a + 1) + n → p (f j) ≡ true → P (f j)) → P (f k)
+    pick true t more = let later : a + 1 ≤ k = grind (arith, nat_tests) in more (tail (p (f a)) (filter p (map f (range_with_len (a + 1) n))) all) k later (omega (arith, high)) e
+    pick false t more =
+        let first : k ≤ a = grind (arith, nat_tests) in
+        let same : a ≡ k = omega (arith, first, low) in
+        subst (λ (j : ℕ). P (f j)) same (head (p (f a)) (filter p (map f (range_with_len (a + 1) n))) (ap (λ (j : ℕ). p (f j)) same ∙ e) all)
+
+-- Where a zone is the deepest cut that the log shows for a candidate, it shows none at the names between.
+pub passed-at-candidate : (given : Given) (log : Log) (zone c : DomainName) → Walked given log (question c 2) zone
+    → (k : ℕ) → length zone.labels < k → k < length c.labels → NoCut given log (last_name k c)
+passed-at-candidate given log zone c walked k low high =
+    left-had (NoCut given log) (λ (d : DomainName). not (is_above d zone) && not (2 == 2 && same_names d c)) (λ (j : ℕ). last_name j c) 1 (length c.labels) walked
+    k (omega (arith, low)) (omega (arith, high)) (passes (is_above (last_name k c) zone) (same_names (last_name k c) c) refl refl)
+  where
+    count : length (last_name k c).labels ≡ k
+    count = last-length c k (omega (arith, high))
+
+    passes : (a b : Bool) → is_above (last_name k c) zone ≡ a → same_names (last_name k c) c ≡ b → (not a && not b) ≡ true
+    passes true b e f =
+        let t = first_so (nat_le (length (last_name k c).labels) (length zone.labels)) _ (second_so (c.fqdn && zone.fqdn) _ e) in
+        let le : length (last_name k c).labels ≤ length zone.labels = grind (arith, nat_tests) in
+        absurd (omega (arith, le, count, low))
+    passes false true e f =
+        let same = length-same (pointwise same_letter) (last_name k c).labels c.labels (labels_same (last_name k c) c f) in
+        absurd (omega (arith, same, count, high))
+    passes false false e f = refl

@@ -1,5 +1,5 @@
 -- What a reply rests on.
-use Rattle.std.specs.Prelude.{◌≡◌, ℕ, ◌≤◌, ◌⊎◌, Bool, false, ◌||◌, ◌==◌, IsTrue, List, [], ◌∷◌, ◌++◌, filter, length, Some}
+use Rattle.std.specs.Prelude.{◌≡◌, ℕ, ◌≤◌, ◌⊎◌, Bool, false, ◌||◌, ◌==◌, IsTrue, List, [], ◌∷◌, ◌++◌, filter, length, sum_by, Some}
 use Rattle.dns_core.specs.Name.{DomainName}
 use Rattle.dns_core.specs.Log.{Log}
 use Rattle.dns_core.specs.Stripping.{strip_of}
@@ -15,6 +15,7 @@ use Rattle.resolution.specs.Verdict.{verdict}
 use Rattle.resolution.specs.Life.{Fresh}
 use Rattle.resolution.specs.Serving.{Heard}
 use Rattle.resolution.specs.Following.{follow}
+use Rattle.resolution.specs.Walking.{ReachesName}
 use Rattle.resolution.specs.declared.verdict.Verdict.{Verdict}
 use Rattle.resolution.specs.declared.verdict.Verdict.TheVariants.{Pos}
 use Rattle.resolution.specs.declared.following.Follow.TheVariants.{Done, Restart}
@@ -30,6 +31,11 @@ pub record Base (given : Given) (log : Log) (t0 : ℕ) (q : Query) (i : ℕ) (z 
 -- authoritative, or told at or after t0
 abbrev pub IsCurrent : ℕ → ℕ → Message → Type 0
 IsCurrent t0 moment k = IsTrue k.authoritative ⊎ (t0 ≤ moment)
+
+-- Authoritative; or told at or after t0, and for NS records by servers below which no cut is shown up to the name itself
+-- (RFC 1034 section 4.2.1: those above a cut have its NS records too, and not as their own).
+abbrev pub IsOwn : Given → Log → ℕ → Query → DomainName → ℕ → Message → Type 0
+IsOwn given log t0 q z moment k = IsTrue k.authoritative ⊎ ((t0 ≤ moment) × ReachesName given log q z)
 
 -- a signature of records of the type, or of CNAME
 abbrev pub is_signature_of : RecordType → Record → Bool
@@ -50,7 +56,7 @@ with_name n q = record q { name = n }
 pub data Answers (given : Given) (log : Log) (t0 : ℕ) (dnssec : Bool) : Query → List ℕ → Message → Type 0 where
   -- what counts of one entry is the reply, less the records that were not asked for
   direct : {q : Query} {i : ℕ} {z : DomainName} {k r : Message}
-      → (b : Base given log t0 q i z (Pos k)) → IsCurrent t0 b.moment k → follow k q ≡ Done
+      → (b : Base given log t0 q i z (Pos k)) → IsOwn given log t0 q z b.moment k → follow k q ≡ Done
       → Same r (strip_of k dnssec) → Answers given log t0 dnssec q (i ∷ []) r
   -- its aliases lead to another name, and the reply for this is appended
   by_alias : {q : Query} {i : ℕ} {z n : DomainName} {k r further : Message} {g : List ℕ}
@@ -62,3 +68,19 @@ pub data Answers (given : Given) (log : Log) (t0 : ℕ) (dnssec : Bool) : Query 
 pub record Answer (given : Given) (log : Log) (t0 : ℕ) (q : Query) (dnssec : Bool) (g : List ℕ) (r : Message) : Type 0 where
   pub answers : Answers given log t0 dnssec q g r
   pub few : length g ≤ 65
+
+-- ---- alias chains
+
+-- The numbers lead by aliases from the first question to p; the questions on the way, p included.
+pub data Chain (given : Given) (log : Log) (t0 : ℕ) : Query → List ℕ → Query → List Query → Type 0 where
+  last : {p : Query} → Chain given log t0 p [] p (p ∷ [])
+  then_alias : {q p : Query} {i : ℕ} {g : List ℕ} {z n : DomainName} {k : Message} {qs : List Query}
+      → (b : Base given log t0 q i z (Pos k)) → IsCurrent t0 b.moment k → follow k q ≡ Restart n
+      → Chain given log t0 (with_name n q) g p qs → Chain given log t0 q (i ∷ g) p (q ∷ qs)
+
+abbrev pub label_count : DomainName → ℕ
+label_count n = length n.labels
+
+-- the labels of the names on the way
+abbrev pub chain_labels : List Query → ℕ
+chain_labels qs = sum_by (λ q. label_count q.name) qs

@@ -13,10 +13,10 @@ use Rattle.resolution.specs.Records.{address}
 use Rattle.resolution.specs.Class.{class_of}
 use Rattle.resolution.specs.Given.{Given}
 use Rattle.resolution.specs.Serving.{Heard, targets, glue, allowed, is_delegation}
-use Rattle.resolution.specs.Answering.{Base}
+use Rattle.resolution.specs.Answering.{Base, label_count}
 use Rattle.resolution.specs.Lookups.{Answered}
 use Rattle.resolution.specs.Ending.{Known, Finished, Ended}
-use Rattle.resolution.specs.Walking.{Walked, label_count}
+use Rattle.resolution.specs.Walking.{Walked}
 use Rattle.resolution.specs.declared.class.Class.{Class}
 use Rattle.resolution.specs.declared.class.Class.TheVariants.{Error, Code, Truncated, Negative, Foreign, Positive}
 use Rattle.resolution.specs.declared.verdict.Verdict.{Verdict}

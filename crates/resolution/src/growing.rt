@@ -13,24 +13,22 @@ ghost use Rattle.resolution.specs.Answering.{Base, Answer};
 ghost use Rattle.resolution.specs.declared.verdict.Verdict.{Verdict};
 
 /// An address serves a zone, an entry answers a question and a reply rests on entries by a longer
-/// log too.
+/// log too; a reply also where less patience is given, by which a name is shown to be no cut.
 pub fn a_longer_log_keeps_answers()
     ensures serves { (given : Given) (old new : Log) (n : ℕ) (ip : IpAddr) (z : DomainName) →
         Extends old new → Serves given old n ip z → Serves given new n ip z }
     ensures base { (given : Given) (old new : Log) (t0 : ℕ) (q : Query) (i : ℕ) (z : DomainName) (v : Verdict) →
         Extends old new → Base given old t0 q i z v → Base given new t0 q i z v }
-    ensures answer { (given : Given) (old new : Log) (t0 : ℕ) (q : Query) (dnssec : Bool) (g : List ℕ) (r : Message) →
-        Extends old new → Answer given old t0 q dnssec g r → Answer given new t0 q dnssec g r }
+    ensures answer { (given : Given) (less : ℕ) (old new : Log) (t0 : ℕ) (q : Query) (dnssec : Bool) (g : List ℕ) (r : Message) →
+        less ≤ given.patience → Extends old new → Answer given old t0 q dnssec g r → Answer (with_patience less given) new t0 q dnssec g r }
 {}
 
-/// None of these reads how patient the resolver is.
+/// Neither who serves a zone nor what an entry answers reads how patient the resolver is.
 pub fn patience_is_not_read()
     ensures serves { (given : Given) (patience : ℕ) (log : Log) (n : ℕ) (ip : IpAddr) (z : DomainName) →
         Serves given log n ip z → Serves (with_patience patience given) log n ip z }
     ensures base { (given : Given) (patience : ℕ) (log : Log) (t0 : ℕ) (q : Query) (i : ℕ) (z : DomainName) (v : Verdict) →
         Base given log t0 q i z v → Base (with_patience patience given) log t0 q i z v }
-    ensures answer { (given : Given) (patience : ℕ) (log : Log) (t0 : ℕ) (q : Query) (dnssec : Bool) (g : List ℕ) (r : Message) →
-        Answer given log t0 q dnssec g r → Answer (with_patience patience given) log t0 q dnssec g r }
 {}
 
 /// Who serves a zone at a number is read from the entries below it alone, and at a later number it

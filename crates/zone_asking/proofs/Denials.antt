@@ -1,5 +1,5 @@
 -- What a reply rests on.
-use Rattle.zone_asking.proofs.Names.{◌≡◌, ℕ, Bool, true, false, cond, List, [], ◌∷◌, ◌++◌, Option, Some, None, Contains, refl, sym, ap, subst, ◌∙◌, ◌≤◌, arith, inl, inr, Result, Ok, Err, IfOk, ◌&&◌, ◌==◌, not, find, filter, if◌then◌else◌, is_none, same_Some, none-some, filter-append, second_so, IpAddr, DomainName, Log, Query, Message, Record, Question, NoRecords, ForwardNsData, NetError, candidates, walk, question, is_delegation, glue, allowed, Base, direct, Finished, Pos, Neg, Made, Verdict, Filter, Zone, Same-is_delegation, Same-glue, Same-strip, Same, View, given_of, IsToldAnswer, OutcomeCame, CameTo, HasCause, RepliesSo, Concluded, machine_timer, IsDenied, HasFailed, HasNoAddress, Walked, Same-refl, told_on_the_way, made_on_the_way, referred, Stands, Answers, IsCurrentVerdict, AskedAs, SameIfAny, SameReferrals, SameNegative, SameVerdict, ShowsAsked, IsMadeFor, IsShown, nothing_left_for, left_of_class, told_data, made_data, told_negative, made_negative, ends_walk, outcome_of, RecursorError, Negative, ForwardNS, Reply, same_query-refl, answer_whole}
+use Rattle.zone_asking.proofs.Names.{◌≡◌, ℕ, Bool, true, false, cond, List, [], ◌∷◌, ◌++◌, Option, Some, None, Contains, refl, sym, ap, subst, ◌∙◌, ◌≤◌, arith, inl, inr, Result, Ok, Err, IfOk, ◌&&◌, ◌==◌, not, find, filter, if◌then◌else◌, is_none, same_Some, none-some, filter-append, second_so, IpAddr, DomainName, Log, Query, Message, Record, Question, NoRecords, ForwardNsData, NetError, candidates, walk, question, is_delegation, glue, allowed, Base, direct, Finished, Pos, Neg, Made, Verdict, Filter, Zone, Same-is_delegation, Same-glue, Same-strip, Same, View, given_of, IsToldAnswer, OutcomeCame, CameTo, HasCause, RepliesSo, Concluded, machine_timer, IsDenied, HasFailed, HasNoAddress, Walked, Same-refl, told_on_the_way, made_on_the_way, referred, Stands, Answers, IsOwnVerdict, ReachesName, AskedAs, SameIfAny, SameReferrals, SameNegative, SameVerdict, ShowsAsked, IsMadeFor, IsShown, nothing_left_for, left_of_class, told_data, made_data, told_negative, made_negative, ends_walk, outcome_of, RecursorError, Negative, ForwardNS, Reply, same_query-refl, answer_whole}
 use Rattle.dns_core.specs.declared.errors.NoMemory.{NoMemory}
 use Rattle.std.specs.Global.{Box}
 use Rattle.std.proofs.lemmas.Result.{IfOk-weaker}
@@ -29,11 +29,12 @@ abbrev base-of : (seen : View) (t0 : ℕ) (zone : DomainName) (q : Query) (entry
 base-of seen t0 zone q entry at v h =
     record { told = h.outcome; moment = at; heard = h.heard; counts = h.counts; fresh = inl h.late }
 
--- what counts was told at or after t0
-current-of : (t0 moment : ℕ) (v : Verdict) → t0 ≤ moment → IsCurrentVerdict t0 moment v
-current-of t0 moment (Pos kept) late = inr late
-current-of t0 moment (Neg n) late = tt
-current-of t0 moment (Made cause) late = tt
+-- what counts was told at or after t0, and for NS records by the name's own servers
+own-of : (seen : View) (t0 : ℕ) (q : Query) (zone : DomainName) (moment : ℕ) (v : Verdict) → t0 ≤ moment
+    → ReachesName (given_of seen.setting) seen.log q zone → IsOwnVerdict seen t0 q zone moment v
+own-of seen t0 q zone moment (Pos kept) late reaches = inr (late, reaches)
+own-of seen t0 q zone moment (Neg n) late reaches = tt
+own-of seen t0 q zone moment (Made cause) late reaches = tt
 
 -- what is shown so is the same
 shown-same : (q : Query) (v whole : Verdict) → IsShown q v whole → SameVerdict q v whole
@@ -65,9 +66,10 @@ stands-of seen t0 zone q entry at v h walked = record {
 
 -- and it may be answered
 answers-of : (seen : View) (t0 : ℕ) (zone : DomainName) (q : Query) (entry at : ℕ) (v : Verdict)
-    → Counts seen t0 zone q entry at v → Walked (given_of seen.setting) seen.log q zone → Answers seen t0 q entry v
-answers-of seen t0 zone q entry at v h walked =
-    record { stands = stands-of seen t0 zone q entry at v h walked; current = current-of t0 at h.whole h.late }
+    → Counts seen t0 zone q entry at v → Walked (given_of seen.setting) seen.log q zone → ReachesName (given_of seen.setting) seen.log q zone
+    → Answers seen t0 q entry v
+answers-of seen t0 zone q entry at v h walked reaches =
+    record { stands = stands-of seen t0 zone q entry at v h walked; own = own-of seen t0 q zone at h.whole h.late reaches }
 
 -- what is not found is not found where less is left
 not_found_in : {X : Type 0} (p f : X → Bool) (xs : List X) → find p xs ≡ None → find p (filter f xs) ≡ None
@@ -124,16 +126,18 @@ told-stands seen t0 zone q entry v h walked = stands-of seen t0 zone q entry h.a
 
 -- and may be answered
 pub told-answers : (seen : View) (t0 : ℕ) (zone : DomainName) (q : Query) (entry : ℕ) (v : Verdict)
-    → IsToldAs seen t0 zone q entry (Ok v) → Walked (given_of seen.setting) seen.log q zone → Answers seen t0 q entry v
-told-answers seen t0 zone q entry v h walked = answers-of seen t0 zone q entry h.at v (counts-of seen t0 zone q entry h.at h.class v h.told h.counts) walked
+    → IsToldAs seen t0 zone q entry (Ok v) → Walked (given_of seen.setting) seen.log q zone → ReachesName (given_of seen.setting) seen.log q zone
+    → Answers seen t0 q entry v
+told-answers seen t0 zone q entry v h walked reaches =
+    answers-of seen t0 zone q entry h.at v (counts-of seen t0 zone q entry h.at h.class v h.told h.counts) walked reaches
 
 -- ---- replies
 
 -- a response that stands is the answer, less what was not asked for
 told-by : (seen : View) (t0 : ℕ) (q : Query) (entry : ℕ) (zone : DomainName) (kept : Message) (dnssec : Bool) (whole : Verdict)
-    → (base : Base (given_of seen.setting) seen.log t0 q entry zone whole) → IsCurrentVerdict t0 base.moment whole → Walked (given_of seen.setting) seen.log q zone
+    → (base : Base (given_of seen.setting) seen.log t0 q entry zone whole) → IsOwnVerdict seen t0 q zone base.moment whole → Walked (given_of seen.setting) seen.log q zone
     → SameVerdict q (Pos kept) whole → IsToldAnswer (given_of seen.setting) seen.log t0 q dnssec (entry ∷ []) (strip_of kept dnssec)
-told-by seen t0 q entry zone kept dnssec (Pos before) base current walked same =
+told-by seen t0 q entry zone kept dnssec (Pos before) base own walked same =
     let stripped = Same-strip kept before dnssec same in
     record {
       entry = entry;
@@ -142,16 +146,16 @@ told-by seen t0 q entry zone kept dnssec (Pos before) base current walked same =
       only = refl;
       base = base;
       walked = walked;
-      current = current;
+      own = own;
       same = stripped;
-      answer = λ done. record { answers = direct base current done stripped; few = omega arith };
+      answer = λ done. record { answers = direct base own done stripped; few = omega arith };
     }
-told-by seen t0 q entry zone kept dnssec _ base current walked same = absurd same
+told-by seen t0 q entry zone kept dnssec _ base own walked same = absurd same
 
 pub told-answer : (seen : View) (t0 : ℕ) (q : Query) (entry : ℕ) (kept : Message) (dnssec : Bool)
     → Answers seen t0 q entry (Pos kept) → IsToldAnswer (given_of seen.setting) seen.log t0 q dnssec (entry ∷ []) (strip_of kept dnssec)
 told-answer seen t0 q entry kept dnssec h =
-    told-by seen t0 q entry h.stands.zone kept dnssec h.stands.whole h.stands.base h.current h.stands.walked h.stands.same
+    told-by seen t0 q entry h.stands.zone kept dnssec h.stands.whole h.stands.base h.own h.stands.walked h.stands.same
 
 -- a reply with what a question has come to
 pub replies : (seen : View) (t0 : ℕ) (asked : Question) (r : Result (Box Reply) NoMemory) (outcome : Result Message RecursorError) (g : List ℕ)

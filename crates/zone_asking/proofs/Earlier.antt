@@ -1,5 +1,5 @@
 -- A reply to a question that began later is one to a question that began earlier, where as much is known of moments.
-use Rattle.zone_asking.proofs.Names.{◌≤◌, ◌+◌, ◌*◌, ℕ, Bool, List, Option, Some, None, arith, inl, inr, ⊎_elim, IsSomeAnd, Result, Ok, Err, last_or, IpAddr, DomainName, Log, Query, Message, Question, ForwardNsData, NetError, Given, Fresh, life_in_seconds, Base, IsCurrent, Answer, direct, by_alias, below-greater, run_later, Known, EndSends, Finished, Verdict, IsDenied, IsReferred, HasFailed, HasNoServer, ErrorHolds, told_on_the_way, made_on_the_way, referred, AuthorityData, WalkCause, RecursorError, View, given_of, IsToldAnswer, OutcomeHolds, Replied, machine_timer, Reply}
+use Rattle.zone_asking.proofs.Names.{◌≤◌, ◌+◌, ◌*◌, ℕ, Bool, List, Option, Some, None, arith, inl, inr, ⊎_elim, IsSomeAnd, Result, Ok, Err, last_or, IpAddr, DomainName, Log, Query, Message, Question, ForwardNsData, NetError, Given, Fresh, life_in_seconds, Base, IsCurrent, IsOwn, Answer, direct, by_alias, below-greater, run_later, Known, EndSends, Finished, Verdict, IsDenied, IsReferred, HasFailed, HasNoServer, ErrorHolds, told_on_the_way, made_on_the_way, referred, AuthorityData, WalkCause, RecursorError, View, given_of, IsToldAnswer, OutcomeHolds, Replied, machine_timer, Reply}
 use Rattle.resolution.specs.Answering.{Answers}
 use Rattle.resolution.specs.Lookups.{End, Answered}
 use Rattle.zone_asking.specs.Causes.IsDenied.{told as denial_told, made as denial_made}
@@ -20,6 +20,11 @@ Fresh-earlier given early late moment q v le = ⊎_elim (λ h. inl (omega arith)
 IsCurrent-earlier : (early late moment : ℕ) (k : Message) → early ≤ late → IsCurrent late moment k → IsCurrent early moment k
 IsCurrent-earlier early late moment k le = ⊎_elim (λ h. inl h) (λ h. inr (omega arith))
 
+-- and where it comes of the name's own servers
+IsOwn-earlier : (given : Given) (log : Log) (early late : ℕ) (q : Query) (z : DomainName) (moment : ℕ) (k : Message) → early ≤ late
+    → IsOwn given log late q z moment k → IsOwn given log early q z moment k
+IsOwn-earlier given log early late q z moment k le = ⊎_elim (λ h. inl h) (λ h. inr (let late_enough = h.0 in omega (arith, late_enough), h.1))
+
 -- The late moment may be the early one: then a reply holds by what else is known of moments.
 module _ (given : Given) (log : Log) (early late : ℕ) (le : early ≤ late) (known wider : Known)
     (timed : (q : Query) (ips : List IpAddr) (g moments : List ℕ) (ends : List (End IpAddr)) (start now : ℕ)
@@ -38,7 +43,7 @@ module _ (given : Given) (log : Log) (early late : ℕ) (le : early ≤ late) (k
 
   -- an answer of entries at late is one at early
   Answers-earlier : {dnssec : Bool} {q : Query} {g : List ℕ} {r : Message} → Answers given log late dnssec q g r → Answers given log early dnssec q g r
-  Answers-earlier (direct {k = k} b c f s) = direct (Base-earlier b) (IsCurrent-earlier early late b.moment k le c) f s
+  Answers-earlier {q = q} (direct {z = z} {k = k} b own f s) = direct (Base-earlier b) (IsOwn-earlier given log early late q z b.moment k le own) f s
   Answers-earlier (by_alias {k = k} b c f a s) = by_alias (Base-earlier b) (IsCurrent-earlier early late b.moment k le c) f (Answers-earlier a) s
 
   -- so is a whole answer
@@ -54,7 +59,7 @@ module _ (given : Given) (log : Log) (early late : ℕ) (le : early ≤ late) (k
     only = a.only;
     base = Base-earlier a.base;
     walked = a.walked;
-    current = IsCurrent-earlier early late a.base.moment a.kept le a.current;
+    own = IsOwn-earlier given log early late q a.zone a.base.moment a.kept le a.own;
     same = a.same;
     answer = λ done. Answer-earlier (a.answer done);
   }

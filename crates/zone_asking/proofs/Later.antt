@@ -1,7 +1,8 @@
 -- What holds of a question at the servers of its name, and of a reply, goes on holding as a machine comes further.
-use Rattle.zone_asking.proofs.Names.{ℕ, Bool, List, subst, Result, Ok, Err, DomainName, Query, Message, Question, ForwardNsData, NetError, Base, Known, Verdict, View, given_of, Later, machine_timer, RecursorError, Reply, Given, with_patience, given-is, walked-on, for-on, concluded-later, asked-kept, AuthorityData, WalkCause, IsToldAnswer, OutcomeHolds, Replied, IsDenied, HasFailed, IsReferred, HasNoServer, ErrorHolds, told_on_the_way, made_on_the_way, referred}
+use Rattle.zone_asking.proofs.Names.{ℕ, Bool, List, subst, Result, Ok, Err, DomainName, Query, Message, Question, ForwardNsData, NetError, Base, Known, Verdict, View, given_of, Later, ReachesName, machine_timer, RecursorError, Reply, Given, with_patience, given-is, walked-on, for-on, concluded-later, asked-kept, AuthorityData, WalkCause, IsToldAnswer, OutcomeHolds, Replied, IsDenied, HasFailed, IsReferred, HasNoServer, ErrorHolds, told_on_the_way, made_on_the_way, referred}
 use Rattle.zone_asking.specs.Asking.{LastHolds}
-use Rattle.resolution.proofs.Keeping.{Base-extend, Answer-extend}
+use Rattle.resolution.proofs.Keeping.{Base-extend}
+use Rattle.resolution.proofs.AnswersKept.{ReachesName-extend, IsOwn-extend, Answer-extend}
 use Rattle.resolution.proofs.FailuresKept.{Walked-extend, Glueless-extend}
 use Rattle.zone_asking.specs.Causes.IsDenied.{told as denial_told, made as denial_made}
 use Rattle.walk_tables.proofs.Later.{lookup-later}
@@ -29,6 +30,8 @@ module _ (old new : View) (later : Later old new) where
   pub last-later : (t0 : ℕ) (q : Query) (a : Asking) → LastHolds old t0 q a → LastHolds new t0 q a
   last-later t0 q a h = record {
     asks = h.asks;
+    own = as-given (λ (given : Given). ReachesName given new.log a.lookup.query a.zone)
+        (ReachesName-extend before less later.patience old.log new.log later.extends a.lookup.query a.zone h.own);
     holds = record {
       site = for-on old new later a.lookup.query a.zone a.servers h.holds.site;
       lookup = lookup-later old new later t0 a.zone a.lookup h.holds.lookup;
@@ -49,9 +52,9 @@ module _ (old new : View) (later : Later old new) where
         only = a.only;
         base = Base-extend before less old.log new.log later.extends a.base;
         walked = Walked-extend before less later.patience old.log new.log later.extends q a.zone a.walked;
-        current = a.current;
+        own = IsOwn-extend before less later.patience old.log new.log later.extends t0 q a.zone a.base.moment a.kept a.own;
         same = a.same;
-        answer = λ done. Answer-extend before less old.log new.log later.extends (a.answer done);
+        answer = λ done. Answer-extend before less later.patience old.log new.log later.extends (a.answer done);
       })
 
   -- a denial

@@ -16,7 +16,7 @@ pub use Rattle.dns_core.specs.declared.net_error.ForwardNsData.{ForwardNsData}
 pub use Rattle.dns_core.specs.declared.net_error.NetError.{NetError}
 pub use Rattle.resolution.specs.Names.{candidates, walk, question, last_name, same_query, root, base, is_above, is_root}
 pub use Rattle.resolution.specs.Serving.{is_delegation, glue, allowed, Serves, Delegates}
-pub use Rattle.resolution.specs.Answering.{Base, IsCurrent, Answer}
+pub use Rattle.resolution.specs.Answering.{Base, IsCurrent, IsOwn, Answer}
 pub use Rattle.resolution.specs.Answering.Answers.{direct, by_alias}
 pub use Rattle.resolution.specs.Ending.{Finished, Known, EndSends}
 pub use Rattle.resolution.specs.declared.verdict.Verdict.TheVariants.{Pos, Neg, Made}
@@ -26,7 +26,7 @@ pub use Rattle.resolution.proofs.SameDelegations.{Same-is_delegation, Same-glue,
 pub use Rattle.resolution.specs.Same.{Same, SameRecord, SameRecords}
 pub use Rattle.lookup_facts.specs.View.{View, given_of, Later}
 pub use Rattle.lookup_facts.specs.Tried.{Concluded, machine_timer}
-pub use Rattle.resolution.specs.Walking.{Walked, is_cut}
+pub use Rattle.resolution.specs.Walking.{Walked, ReachesName, is_cut}
 pub use Rattle.resolution.proofs.Sameness.{Same-refl, SameRecords-refl}
 pub use Rattle.lookup_facts.specs.Asked.{AskedAs}
 pub use Rattle.walk_base.specs.Shown.{IsShown, nothing_left_for, left_of_class}
@@ -46,5 +46,5 @@ pub use Rattle.zone_asking.specs.Replies.{IsToldAnswer, OutcomeCame, CameTo, Has
 pub use Rattle.zone_asking.specs.Causes.{IsDenied, HasFailed, HasNoAddress, IsReferred, HasNoServer, ErrorHolds}
 pub use Rattle.zone_asking.specs.Causes.IsDenied.{told_on_the_way, made_on_the_way}
 pub use Rattle.zone_asking.specs.Causes.IsReferred.{referred}
-pub use Rattle.zone_asking.specs.Counted.{Stands, Answers, IsCurrentVerdict, counted_for, recalled, may_answer, answerable, IsRecalled}
+pub use Rattle.zone_asking.specs.Counted.{Stands, Answers, IsOwnVerdict, counted_for, recalled, may_answer, answerable, IsRecalled}
 pub use Rattle.zone_asking.specs.SameTold.{SameIfAny, SameReferrals, SameNegative, SameVerdict, ShowsAsked, IsMadeFor, SameReferral, SameDenial}

@@ -1,5 +1,5 @@
 -- What is read from the cache stands for the question that reads it.
-use Rattle.zone_asking.proofs.Names.{◌≡◌, ℕ, ◌+◌, ◌*◌, ◌≤◌, Bool, true, false, cond, ◌&&◌, Option, Some, None, Result, Ok, IsTrue, IfSome, refl, sym, ap, subst, inl, inr, arith, ◌==◌, IsSomeAnd, option_and_then, option_map, first_so, second_so, same_Some, All-contains, same_names, Log, Query, Message, NetError, lowered, lowered_message, lowered_denial, same_query, Fresh, life_in_seconds, Base, Verdict, Pos, Neg, Made, Filter, NoRecords, counted_for, recalled, may_answer, answerable, IsCurrentVerdict, Stands, Answers, IsRecalled, View, given_of, AskedAs, IsShown, SameVerdict, ShowsAsked, same_query-refl}
+use Rattle.zone_asking.proofs.Names.{◌≡◌, ℕ, ◌+◌, ◌*◌, ◌≤◌, Bool, true, false, cond, ◌&&◌, Option, Some, None, Result, Ok, IsTrue, IfSome, refl, sym, ap, subst, inl, inr, arith, ◌==◌, IsSomeAnd, option_and_then, option_map, first_so, second_so, same_Some, All-contains, same_names, DomainName, Log, Query, Message, NetError, lowered, lowered_message, lowered_denial, same_query, Fresh, life_in_seconds, Base, Verdict, Pos, Neg, Made, Filter, NoRecords, counted_for, recalled, may_answer, answerable, IsOwnVerdict, Stands, Answers, IsRecalled, View, given_of, AskedAs, IsShown, SameVerdict, ShowsAsked, same_query-refl}
 use Rattle.zone_asking.specs.declared.counted.Counted.{Counted}
 use Rattle.resolver_cache.specs.Life.{seconds_between}
 use Rattle.kept_responses.specs.Entry.{is_same_question, current_for}
@@ -29,22 +29,22 @@ same_question a b h =
 -- what is read of a verdict that was kept as it is shown is the same but for TTLs, and answers only where that one may
 record ReadsAs (q : Query) (whole v : Verdict) : Type 0 where
   same : SameVerdict q v whole
-  current : (t0 moment : ℕ) → IsTrue (may_answer v) → IsCurrentVerdict t0 moment whole
+  own : (seen : View) (t0 : ℕ) (p : Query) (zone : DomainName) (moment : ℕ) → IsTrue (may_answer v) → IsOwnVerdict seen t0 p zone moment whole
   asked : (log : Log) (i : ℕ) (p : Query) → AskedAs log i q → ShowsAsked log i p v whole
 
 reads_as : (q : Query) (n : ℕ) (whole shown v : Verdict) (response : Result Message NetError) → IsShown q shown whole → kept_of shown ≡ Some response
     → verdict_kept (lowered n response) ≡ Some v → ReadsAs q whole v
 reads_as q n (Pos l) (Pos k) v response shown kept h =
     subst (ReadsAs q (Pos l)) (same_Some _ _ (rw (← same_Some _ _ kept) at h))
-    (subst (λ (m : Message). ReadsAs q (Pos m) (Pos (lowered_message n k))) shown (record { same = lower_message n k; current = λ t0 moment may. inl may; asked = λ log i p asked. tt }))
+    (subst (λ (m : Message). ReadsAs q (Pos m) (Pos (lowered_message n k))) shown (record { same = lower_message n k; own = λ seen t0 p zone moment may. inl may; asked = λ log i p asked. tt }))
 reads_as q n (Neg e) (Neg d) v response shown kept h =
     subst (ReadsAs q (Neg e)) (same_Some _ _ (rw (← same_Some _ _ kept) at h))
-    (subst (λ (x : NoRecords). ReadsAs q (Neg x) (Neg (lowered_denial n d))) shown (record { same = lower_denial n d; current = λ t0 moment may. tt; asked = λ log i p asked. tt }))
+    (subst (λ (x : NoRecords). ReadsAs q (Neg x) (Neg (lowered_denial n d))) shown (record { same = lower_denial n d; own = λ seen t0 p zone moment may. tt; asked = λ log i p asked. tt }))
 reads_as q n (Made Filter) (Neg d) v response shown kept h =
     subst (ReadsAs q (Made Filter)) (same_Some _ _ (rw (← same_Some _ _ kept) at h))
     (record {
       same = record { first = q; same = same_query-refl q; is = ap (lowered_denial n) shown };
-      current = λ t0 moment may. tt;
+      own = λ seen t0 p zone moment may. tt;
       asked = λ log i p asked. subst (λ (x : NoRecords). AskedAs log i x.query) (sym shown) asked;
     })
 reads_as q n whole (Made cause) v response shown kept h = cc
@@ -90,7 +90,7 @@ module _ (seen : View) (t0 : ℕ) (cache : Cached) (q : Query) (begun : t0 ≤ s
         asked = reads.asked seen.log e.source q held.asked;
       } in
       subst (λ (s : ℕ). IsRecalled seen t0 q (record { entry = s; verdict = v })) (sym found.source)
-      (record { stands = stands; current = reads.current t0 stands.base.moment })
+      (record { stands = stands; own = reads.own seen t0 q held.zone stands.base.moment })
 
   -- what was found, if anything
   by-found : (o : Option CachedResponse) → found_for cache q seen.moment ≡ o → (c : Counted) → option_and_then counted_for o ≡ Some c
@@ -126,7 +126,7 @@ pub kept-answers : (seen : View) (t0 : ℕ) (cache : Cached) (q : Query) → t0 
     → Answers seen t0 q e.source (Pos (lowered_message (seconds_between e.written seen.moment) m))
 kept-answers seen t0 cache q begun holds e m here is may =
     let stands = recalled-stands seen t0 cache q begun holds (counted-kept seen.moment e m) (kept-recalled cache q seen.moment e m here is) in
-    record { stands = stands.stands; current = stands.current may }
+    record { stands = stands.stands; own = stands.own may }
 
 -- what was read from the cache stands, if anything was
 pub recalled-for : (seen : View) (t0 : ℕ) (cache : Cached) (q : Query) (found : Option Counted) → t0 ≤ seen.moment
@@ -143,5 +143,5 @@ recalled-answers seen t0 p q (Some d) c same stands is = by (may_answer d.verdic
     by : (b : Bool) → may_answer d.verdict ≡ b → cond b (Some d) None ≡ Some c → Answers seen t0 q c.entry c.verdict
     by true may same_one =
         subst (λ (x : Counted). Answers seen t0 q x.entry x.verdict) (same_Some _ _ same_one)
-        (subst (λ (x : Query). Answers seen t0 x d.entry d.verdict) same (record { stands = stands.stands; current = stands.current may }))
+        (subst (λ (x : Query). Answers seen t0 x d.entry d.verdict) same (record { stands = stands.stands; own = stands.own may }))
     by false may none = cc

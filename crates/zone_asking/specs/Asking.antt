@@ -3,7 +3,7 @@ use Rattle.std.specs.Prelude.{◌≡◌, ℕ, ◌+◌, ◌<◌, Option, Some, No
 use Rattle.std.specs.Global.{Box}
 use Rattle.dns_core.specs.declared.message.Query.{Query}
 use Rattle.dns_core.specs.declared.request.Question.{Question}
-use Rattle.resolution.specs.Walking.{Walked}
+use Rattle.resolution.specs.Walking.{Walked, ReachesName}
 use Rattle.walk_tables.specs.Lookup.{LookupHolds}
 use Rattle.lookup_facts.specs.Found.{FoundHolds}
 use Rattle.lookup_facts.specs.Sought.{AreFor}
@@ -31,9 +31,10 @@ pub record AskingHolds (seen : View) (t0 : ℕ) (a : Asking) : Type 0 where
   pub site : AreFor seen a.lookup.query a.zone a.servers
   pub lookup : LookupHolds seen t0 a.zone a.lookup
 
--- So it is, and the question itself is asked.
+-- The question itself is asked, and for NS records the walk went down to the name's own servers.
 pub record LastHolds (seen : View) (t0 : ℕ) (q : Query) (a : Asking) : Type 0 where
   pub asks : a.lookup.query ≡ q
+  pub own : ReachesName (given_of seen.setting) seen.log a.lookup.query a.zone
   pub holds : AskingHolds seen t0 a
 
 -- it goes on, or has its reply
@@ -45,4 +46,5 @@ LastComes seen t0 question a (Some reply) = CameTo seen t0 question reply.value
 pub record HasFound (seen : View) (t0 : ℕ) (q : Query) (a : Asking) (found : Found) : Type 0 where
   pub asks : a.lookup.query ≡ q
   pub walked : Walked (given_of seen.setting) seen.log a.lookup.query a.zone
+  pub own : ReachesName (given_of seen.setting) seen.log a.lookup.query a.zone
   pub came : FoundHolds seen t0 a.zone a.lookup.query a.lookup.ends found

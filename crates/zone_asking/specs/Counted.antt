@@ -6,7 +6,7 @@ use Rattle.dns_core.specs.declared.message.Query.{Query}
 use Rattle.resolver_cache.specs.Cached.{Cached}
 use Rattle.resolver_cache.specs.Cache.{found_for}
 use Rattle.kept_responses.specs.declared.entry.CachedResponse.{CachedResponse}
-use Rattle.resolution.specs.Answering.{Base, IsCurrent}
+use Rattle.resolution.specs.Answering.{Base, IsOwn}
 use Rattle.resolution.specs.declared.verdict.Verdict.{Verdict}
 use Rattle.resolution.specs.declared.verdict.Verdict.TheVariants.{Pos, Neg, Made}
 use Rattle.resolution.specs.Walking.{Walked}
@@ -49,21 +49,21 @@ pub record Stands (seen : View) (t0 : ℕ) (q : Query) (entry : ℕ) (v : Verdic
   pub same : SameVerdict q v whole
   pub asked : ShowsAsked seen.log entry q v whole
 
--- an answer is authoritative, or was told at or after t0
-abbrev pub IsCurrentVerdict : ℕ → ℕ → Verdict → Type 0
-IsCurrentVerdict t0 moment (Pos k) = IsCurrent t0 moment k
-IsCurrentVerdict t0 moment (Neg n) = Unit {0}
-IsCurrentVerdict t0 moment (Made cause) = Unit {0}
+-- an answer is authoritative, or was told at or after t0, and for NS records by the name's own servers
+abbrev pub IsOwnVerdict : View → ℕ → Query → DomainName → ℕ → Verdict → Type 0
+IsOwnVerdict seen t0 q zone moment (Pos k) = IsOwn (given_of seen.setting) seen.log t0 q zone moment k
+IsOwnVerdict seen t0 q zone moment (Neg n) = Unit {0}
+IsOwnVerdict seen t0 q zone moment (Made cause) = Unit {0}
 
 -- So it is, and it may be answered.
 pub record Answers (seen : View) (t0 : ℕ) (q : Query) (entry : ℕ) (v : Verdict) : Type 0 where
   pub stands : Stands seen t0 q entry v
-  pub current : IsCurrentVerdict t0 stands.base.moment stands.whole
+  pub own : IsOwnVerdict seen t0 q stands.zone stands.base.moment stands.whole
 
 -- What is read from the cache is so; it may be answered where it is a negative, or authoritative.
 pub record IsRecalled (seen : View) (t0 : ℕ) (q : Query) (c : Counted) : Type 0 where
   pub stands : Stands seen t0 q c.entry c.verdict
-  pub current : IsTrue (may_answer c.verdict) → IsCurrentVerdict t0 stands.base.moment stands.whole
+  pub own : IsTrue (may_answer c.verdict) → IsOwnVerdict seen t0 q stands.zone stands.base.moment stands.whole
 
 -- A cache that holds is read at this moment, for a question that began no later.
 pub record ReadsAt (seen : View) (t0 now : ℕ) (cache : Cached) : Type 0 where

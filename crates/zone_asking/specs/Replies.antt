@@ -11,7 +11,7 @@ use Rattle.dns_core.specs.declared.errors.NoMemory.{NoMemory}
 use Rattle.resolution.specs.Same.{Same}
 use Rattle.resolution.specs.Given.{Given}
 use Rattle.resolution.specs.Following.{follow}
-use Rattle.resolution.specs.Answering.{Base, IsCurrent, Answer}
+use Rattle.resolution.specs.Answering.{Base, IsOwn, Answer}
 use Rattle.resolution.specs.Ending.{Known}
 use Rattle.resolution.specs.declared.verdict.Verdict.TheVariants.{Pos}
 use Rattle.resolution.specs.declared.following.Follow.TheVariants.{Done}
@@ -28,7 +28,8 @@ use Rattle.zone_asking.specs.Counted.{recalled, may_answer}
 use Rattle.zone_asking.specs.declared.counted.Counted.{Counted}
 use Rattle.recursor_types.specs.declared.error.RecursorError.TheVariants as error
 
--- The message is what counts of one entry, less the DNSSEC records that were not asked for, and the walk went down to the zone of its server.
+-- The message is what counts of one entry, less the DNSSEC records that were not asked for, and the walk went down to the zone of its server,
+-- for NS records to the name's own servers unless what it tells is authoritative.
 -- Where its aliases lead no further, it is the answer.
 pub record IsToldAnswer (given : Given) (log : Log) (t0 : ℕ) (q : Query) (dnssec : Bool) (g : List ℕ) (r : Message) : Type 0 where
   pub entry : ℕ
@@ -37,7 +38,7 @@ pub record IsToldAnswer (given : Given) (log : Log) (t0 : ℕ) (q : Query) (dnss
   pub only : g ≡ entry ∷ []
   pub base : Base given log t0 q entry zone (Pos kept)
   pub walked : Walked given log q zone
-  pub current : IsCurrent t0 base.moment kept
+  pub own : IsOwn given log t0 q zone base.moment kept
   pub same : Same r (strip_of kept dnssec)
   pub answer : follow kept q ≡ Done → Answer given log t0 q dnssec g r
 

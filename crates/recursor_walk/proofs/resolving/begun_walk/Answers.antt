@@ -1,5 +1,6 @@
 use Rattle.recursor_walk.proofs.Names.{◌∙◌, ◌≡◌, ℕ, List, length, sym, ap, arith, nat_tests, DomainName, walk}
 use Rattle.zone_asking.proofs.Sites.{at-root}
+use Rattle.recursor_walk.proofs.Walks.{reaches-root}
 use Rattle.recursor_walk.proofs.resolving.begun_walk.Goals as goal
 
 pub returns-then-is_empty-clause-holds : goal.returns-then-is_empty-clause-holds
@@ -14,6 +15,7 @@ returns-then-is_empty-clause-holds c seen t0 qualified roots =
     let site = at-root seen q c.root.result servers (rw roots.are roots.some) qualified none c.root.ensures (c.in_ok-servers.ensures ∙ sym roots.are) in
     rw c.in_ok-in_box.ensures (record {
       asks = a.ensures.is.2 ∙ c.in_ok-query.ensures;
+      own = rw (a.ensures.is.2, c.in_ok-query.ensures) (reaches-root seen q a.result.zone none);
       holds = a.ensures.holds seen t0 (rw c.in_ok-query.ensures site);
     })
 

@@ -1,4 +1,5 @@
-use Rattle.resolution.proofs.Keeping.{Serves-extend, Base-extend, Answer-extend}
+use Rattle.resolution.proofs.Keeping.{Serves-extend, Base-extend}
+use Rattle.resolution.proofs.AnswersKept.{Answer-extend}
 use Rattle.resolution.proofs.growing.a_longer_log_keeps_answers.Goals as goal
 
 pub returns-clause-serves : goal.returns-clause-serves
@@ -8,4 +9,4 @@ pub returns-clause-base : goal.returns-clause-base
 returns-clause-base c = λ given old new t0 q i z v x b. Base-extend given given.patience old new x b
 
 pub returns-clause-answer : goal.returns-clause-answer
-returns-clause-answer c = λ given old new t0 q dnssec g r x a. Answer-extend given given.patience old new x a
+returns-clause-answer c = λ given less old new t0 q dnssec g r fewer x a. Answer-extend given less fewer old new x a

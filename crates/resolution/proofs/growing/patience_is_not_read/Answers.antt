@@ -1,6 +1,6 @@
 use Rattle.std.proofs.Common.{refl, arith}
 use Rattle.dns_core.specs.Log.{Log, Extends}
-use Rattle.resolution.proofs.Keeping.{Serves-extend, Base-extend, Answer-extend}
+use Rattle.resolution.proofs.Keeping.{Serves-extend, Base-extend}
 use Rattle.resolution.proofs.growing.patience_is_not_read.Goals as goal
 
 itself : (log : Log) → Extends log log
@@ -11,6 +11,3 @@ returns-clause-serves c = λ given patience log n ip z s. Serves-extend given pa
 
 pub returns-clause-base : goal.returns-clause-base
 returns-clause-base c = λ given patience log t0 q i z v b. Base-extend given patience log log (itself log) b
-
-pub returns-clause-answer : goal.returns-clause-answer
-returns-clause-answer c = λ given patience log t0 q dnssec g r a. Answer-extend given patience log log (itself log) a

@@ -7,7 +7,7 @@ returns-in-Ok c seen t0 h =
     let a = c.args.self.now in
     let v = c.in-Ok.verdict in
     c.answer_with.ensures.holds seen t0 (subst (λ (p : Query). Answers seen t0 p c.args.entry v) h.asks
-    (told-answers seen t0 a.zone a.lookup.query c.args.entry v (rw c.in-Ok.is at h.came) h.walked))
+    (told-answers seen t0 a.zone a.lookup.query c.args.entry v (rw c.in-Ok.is at h.came) h.walked h.own))
 
 pub returns-in-Err : goal.returns-in-Err
 returns-in-Err c seen t0 h =

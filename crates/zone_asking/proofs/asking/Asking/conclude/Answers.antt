@@ -3,7 +3,7 @@ use Rattle.zone_asking.proofs.Denials.{replies, has-failed}
 use Rattle.zone_asking.proofs.asking.Asking.conclude.Goals as goal
 
 pub returns-in-Told : goal.returns-in-Told
-returns-in-Told c seen t0 h = c.answer.ensures seen t0 (record { asks = h.asks; walked = h.walked; came = rw c.in-Told.is at h.came })
+returns-in-Told c seen t0 h = c.answer.ensures seen t0 (record { asks = h.asks; walked = h.walked; own = h.own; came = rw c.in-Told.is at h.came })
 
 pub returns-in-Error : goal.returns-in-Error
 returns-in-Error c seen t0 h =

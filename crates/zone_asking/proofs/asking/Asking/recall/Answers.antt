@@ -13,6 +13,7 @@ pub returns-in-None-clause-holds : goal.returns-in-None-clause-holds
 returns-in-None-clause-holds c seen t0 reads h =
     record {
       asks = c.begin.ensures.query ∙ h.asks;
+      own = rw c.begin.ensures.query h.own;
       holds = record {
         site = rw c.begin.ensures.query h.holds.site;
         lookup = c.begin.ensures.holds seen t0 c.args.self.now.zone h.holds.lookup;
