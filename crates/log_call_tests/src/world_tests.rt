@@ -2,8 +2,12 @@
 //! whether a question is valid, by a scan, and its answer by an index. What the commands look up in a world
 //! is shown by cases.
 
-use call_samples::{address, authority, both, comes_to, domain, ip, name_server, put, query, v4};
-use dns_core::{Items, Message, NameError, NoMemory, Query, Records, TryClone};
+use call_samples::{
+    address, authority, both, comes_to, domain, ip, name_server, put, query, query_of, v4,
+};
+use dns_core::{
+    DnsClass, Items, Message, NameError, NoMemory, Query, RecordType, Records, TryClone,
+};
 use std::alloc::Global;
 use std::test::Fail;
 use zone_worlds::{
@@ -92,6 +96,19 @@ fn answers_by_index(
     Ok(count_of(&answer))
 }
 
+/// Whether the world answers that the name owns no record of the type.
+fn denies(alloc: Global, world: &World, query: &Query) -> Result<bool, NoMemory> {
+    let answer = world_answer(alloc, world, query)?;
+    Ok(matches!(answer, Some(WorldAnswer::NoData)))
+}
+
+/// An address tells a question for ANY every record of the name, and the world answers it by those of this very type.
+fn is_asked_for_any(alloc: Global, world: &World, query: &Query) -> Result<(), Fail> {
+    comes_to(tells(alloc, world, query), (0, 2))?;
+    comes_to(denies(alloc, world, query), true)?;
+    comes_to(valid_question(alloc, world, 24, 24, query), false)
+}
+
 fn is_asked(alloc: Global, world: &World, query: &Query) -> Result<(), Fail> {
     comes_to(tells(alloc, world, query), (0, 1))?;
     comes_to(answers(alloc, world, query), Some(1))?;
@@ -104,4 +121,12 @@ fn a_world_is_asked_by_a_scan_and_answers_by_an_index(rt: HostRuntime) -> Result
     let alloc = rt.alloc();
     let (world, query) = both(world(alloc), query(alloc, "ns."))?;
     is_asked(alloc, &world, &query)
+}
+
+#[test]
+fn any_is_told_all_records_and_answered_by_none(rt: HostRuntime) -> Result<(), Fail> {
+    let alloc = rt.alloc();
+    let any = query_of(alloc, ".", RecordType::ANY, DnsClass::IN);
+    let (world, query) = both(world(alloc), any)?;
+    is_asked_for_any(alloc, &world, &query)
 }

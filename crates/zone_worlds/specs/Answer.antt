@@ -1,13 +1,14 @@
 -- What a world answers to a question, whoever is asked.
-use Rattle.std.specs.Prelude.{◌≡◌, ◌==◌, false, List, [], ◌∷◌, ◌++◌, length, if◌then◌else◌, Option, Some, None}
+use Rattle.std.specs.Prelude.{◌≡◌, ◌==◌, false, List, [], ◌∷◌, ◌++◌, length, filter, if◌then◌else◌, Option, Some, None}
 use Rattle.std.specs.List.{list_any}
 use Rattle.dns_core.specs.Name.{DomainName, same_names}
 use Rattle.dns_core.specs.declared.message.Query.{Query}
 use Rattle.dns_core.specs.declared.record.Record.{Record}
 use Rattle.resolution.specs.Records.{cname_target}
+use Rattle.resolution.specs.Following.{is_owned}
 use Rattle.resolution.specs.Answering.{with_name}
 use Rattle.zone_rules.specs.Tree.{zone_of, exists_in}
-use Rattle.zone_rules.specs.Choosing.{owned, alias_in}
+use Rattle.zone_rules.specs.Choosing.{alias_in}
 use Rattle.zone_rules.specs.declared.world.World.{World}
 use Rattle.zone_rules.specs.declared.world.WorldAnswer.{WorldAnswer}
 use Rattle.zone_rules.specs.declared.world.WorldAnswer.TheVariants.{Records, NxDomain, NoData}
@@ -35,9 +36,9 @@ NoWay w q met n = (cs : List Record) (names : List DomainName) (last : DomainNam
 abbrev pub data_of : List Record → WorldAnswer
 data_of rs = if length rs == 0 then NoData else Records rs
 
--- the answer at a name without an alias
+-- the answer at a name without an alias: the records of the very type, and a question for ANY asks for no other type
 abbrev pub found : World → Query → WorldAnswer
-found w q = if exists_in w q.name then elim (zone_of w q) [ None ↦ NoData | Some z ↦ data_of (owned z q.name q.query_type) ] else NxDomain
+found w q = if exists_in w q.name then elim (zone_of w q) [ None ↦ NoData | Some z ↦ data_of (filter (is_owned q.query_type q.name) z.records) ] else NxDomain
 
 -- the aliases that led there, followed by the records; a negative is that of the last name (RFC 2308 section 2)
 abbrev pub after : List Record → WorldAnswer → WorldAnswer

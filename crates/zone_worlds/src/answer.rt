@@ -1,15 +1,16 @@
 //! What a world answers to a question, whoever is asked.
-ghost use Rattle.std.specs.Prelude.{◌≡◌, ◌==◌, [], length, IfOk, IfSome, IfNone, Some, None};
+ghost use Rattle.std.specs.Prelude.{◌≡◌, ◌==◌, [], length, filter, IfOk, IfSome, IfNone, Some, None};
 ghost use Rattle.resolution.specs.Records.{cname_target};
+ghost use Rattle.resolution.specs.Following.{is_owned};
 ghost use Rattle.resolution.specs.Answering.{with_name};
 ghost use Rattle.zone_worlds.specs.Index.{IsIndex};
 ghost use Rattle.zone_worlds.specs.Answer.{alias_for, next_alias_for, Leads, NoWay, data_of, found, after, Answers};
 
 use crate::index::Index;
 use crate::way::Way;
-use dns_core::{Items, Name, NoMemory, Query, Record};
+use dns_core::{Items, Name, NoMemory, Query, Record, RecordType, TryClone};
 use std::alloc::Global;
-use zone_rules::{Alias, World, WorldAnswer, alias_in, is_met, owned};
+use zone_rules::{Alias, World, WorldAnswer, Zone, alias_in, is_met};
 
 /// The alias of a name in that zone. A question for CNAME asks for the alias itself.
 fn alias_for<'w>(
@@ -82,6 +83,31 @@ pub(crate) fn way_of(
     Ok(Some(way))
 }
 
+/// Whether a record is of the very type at the name: ANY stands for no other type here.
+fn is_owned(r: &Record, name: &Name, asked: RecordType) -> bool
+    ensures { result ≡ is_owned asked name.now r.now }
+{
+    r.name == *name && r.record_type.code == asked.code
+}
+
+/// The records of the very type at a name.
+fn records_at(
+    alloc: Global,
+    zone: &Zone,
+    name: &Name,
+    asked: RecordType,
+) -> Result<Vec<Record>, NoMemory>
+    ensures { IfOk result (λ rs. rs.items ≡ filter (is_owned asked name.now) zone.now.records) }
+{
+    let mut found = Vec::new(alloc);
+    for r in zone.records.items() {
+        if is_owned(r, name, asked) {
+            found.push(r.try_clone(alloc)?)?;
+        }
+    }
+    Ok(found)
+}
+
 fn data_of(records: Vec<Record>) -> WorldAnswer
     ensures { result ≡ data_of records.items }
 {
@@ -109,7 +135,7 @@ fn found(
     let Some(zone) = index.zone_of(alloc, world, name, query)? else {
         return Ok(WorldAnswer::NoData);
     };
-    let records = owned(alloc, zone, name, query.query_type)?;
+    let records = records_at(alloc, zone, name, query.query_type)?;
     Ok(data_of(records))
 }
 
