@@ -1,7 +1,6 @@
 -- Each line of a record is read exactly where it is spelled so.
 use Rattle.std.proofs.Common.{◌≡◌, ℕ, ◌<◌, ◌≤◌, Bool, true, false, not, eqb, List, [], ◌∷◌, ◌++◌, length, Some, refl, sym, ap, subst, ◌∙◌, arith, lit<, inl, inr}
 use Rattle.std.specs.Prelude.{decimal}
-use Rattle.std.specs.List.{AllByRecursion}
 use Rattle.std.proofs.lemmas.Bool.{eqb-true, ne_eqb}
 use Rattle.std.proofs.Math.Bool.{Bool-set}
 use Rattle.std.specs.Net.Addr.{ipv4_octets, ipv6_segments, IsIpv4Addr, IsIpv6Addr}
@@ -25,13 +24,13 @@ use Rattle.text_words.specs.Pieces.{pieces}
 use Rattle.line_forms.specs.RecordLines.{record_head, soa_parts, soa_fields, soa_from, soa_of, signature_of, data_of, record_from, record_of_data, records_of, record_of}
 use Rattle.dns_core.specs.CodeTexts.{type_text, class_text}
 use Rattle.text_words.specs.Texts.{hex_text, data_words, record_words}
-use Rattle.text_words.specs.Spelling.{IsFullName, IsType, IsClass}
+use Rattle.text_words.specs.Spelling.{IsFullName, IsType, AreBytes, IsClass}
 use Rattle.line_forms.specs.Spelling.{record_text, IsData, IsRecord}
 use Rattle.text_words.proofs.AddressLaws.{ipv6_field}
 use Rattle.text_words.proofs.Binds.{bind_some, some_is, chosen}
 use Rattle.text_words.proofs.CodeLaws.{type_field, class_field, type_plain, class_plain}
 use Rattle.text_words.proofs.FieldLaws.{IsSeq, one, pair_law, whole_takes, whole_again, IsWithin, ipv4_field}
-use Rattle.text_words.proofs.HexLaws.{IsByte, bytes_field, bytes_plain}
+use Rattle.text_words.proofs.HexLaws.{bytes_field, bytes_plain}
 use Rattle.text_words.proofs.NumberLaws.{is_word_byte, ipv4_plain}
 use Rattle.text_words.proofs.PlainLaws.{AllPlain, pieces_take}
 use Rattle.text_words.proofs.WordLaws.{full_law, wide_law, low, ipv6_plain, named_plain, small, words_again}
@@ -44,11 +43,11 @@ ipv4_law = one _ _ _ ipv4_field
 ipv6_law : IsSeq (field ipv6_of) (λ a. hex_groups_text (ipv6_segments a) ∷ []) IsIpv6Addr
 ipv6_law = one _ _ _ ipv6_field
 
-bytes_law : IsSeq (field bytes_of) (λ bytes. hex_text bytes ∷ []) (AllByRecursion IsByte)
+bytes_law : IsSeq (field bytes_of) (λ bytes. hex_text bytes ∷ []) AreBytes
 bytes_law = one _ _ _ bytes_field
 
 -- the type that is covered, and bytes
-signature_law : IsSeq (both (field type_of) (field bytes_of)) (λ x. type_text x.0 ∷ hex_text x.1 ∷ []) (λ x. IsType x.0 × AllByRecursion IsByte x.1)
+signature_law : IsSeq (both (field type_of) (field bytes_of)) (λ x. type_text x.0 ∷ hex_text x.1 ∷ []) (λ x. IsType x.0 × AreBytes x.1)
 signature_law = pair_law _ _ _ _ _ _ (one _ _ _ type_field) bytes_law
 
 abbrev IsWide : ℕ → Type 0
@@ -145,9 +144,9 @@ data_plain (NS n) fits = (named_plain n fits.0, tt)
 data_plain (SOA s) fits =
     let number : (n : ℕ) → n ≤ 4294967295 → _ = λ n le. small 4294967295 n le (lit< tt) in
     (named_plain s.mname fits.mname.0, (named_plain s.rname fits.rname.0, (number s.serial fits.serial, (number s.refresh fits.refresh, (number s.retry fits.retry, (number s.expire fits.expire, (number s.minimum fits.minimum, tt)))))))
-data_plain (Opaque bytes) fits = (bytes_plain bytes fits, tt)
+data_plain (Opaque bytes) fits = (bytes_plain bytes fits.0, tt)
 data_plain (CNAME n) fits = (named_plain n fits.0, tt)
-data_plain (RRSIG covered rest) fits = (type_plain covered fits.0, (bytes_plain rest fits.1, tt))
+data_plain (RRSIG covered rest) fits = (type_plain covered fits.0, (bytes_plain rest fits.1.0, tt))
 
 -- ---- record lines
 

@@ -28,7 +28,7 @@ use Rattle.line_forms.specs.declared.option_form.OptionLine.TheVariants.{Respons
 use Rattle.text_words.specs.Codes.{class_in}
 use Rattle.text_words.specs.Texts.{flag_text, ip_text, protocol_text, error_word, flags_text, record_words}
 use Rattle.dns_core.specs.CodeTexts.{type_text, response_code_text}
-use Rattle.text_words.specs.Spelling.{nets_text, numbers_text, spelled, IsName, IsFullName, IsAddress, IsType, IsClass, IsCode, IsNet, ArePorts, AreFirstDelays}
+use Rattle.text_words.specs.Spelling.{nets_text, numbers_text, spelled, IsName, IsFullName, IsAddress, IsType, AreBytes, IsClass, IsCode, IsNet, ArePorts, AreFirstDelays}
 
 -- ---- the words of each line
 
@@ -145,10 +145,7 @@ pub record IsSoa (soa : Soa) : Type 0 where
   pub expire : soa.expire ≤ 4294967295
   pub minimum : soa.minimum ≤ 4294967295
 
-abbrev pub AreBytes : List ℕ → Type 0
-AreBytes bytes = AllByRecursion (λ b. b < 256) bytes
-
--- the data of a record
+-- the data of a record; bytes are 65,535 at most
 abbrev pub IsData : RData → Type 0
 IsData (A a) = IsIpv4Addr a
 IsData (AAAA a) = IsIpv6Addr a

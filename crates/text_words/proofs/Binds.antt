@@ -6,6 +6,16 @@ pub bind_some : {A B : Type 0} (r : Option A) (f : A → Option B) (y : B) → (
 bind_some (Some x) f y e = (x, refl, e)
 bind_some None f y e = absurd cc
 
+-- a step that leads to nothing from all that may be read
+pub bind_none : {A B : Type 0} (r : Option A) (f : A → Option B) → ((x : A) → r ≡ Some x → f x ≡ None) → (r >>= f) ≡ None
+bind_none (Some x) f h = h x refl
+bind_none None f h = refl
+
+-- a step that leaves all that may be read as it is
+pub bind_same : {A : Type 0} (r : Option A) (f : A → Option A) → ((x : A) → r ≡ Some x → f x ≡ Some x) → (r >>= f) ≡ r
+bind_same (Some x) f h = h x refl
+bind_same None f h = refl
+
 pub guard_some : {A : Type 0} (b : Bool) (r : Option A) (y : A) → cond b r None ≡ Some y → (b ≡ true) × (r ≡ Some y)
 guard_some true r y e = (refl, e)
 guard_some false r y e = absurd cc

@@ -1,5 +1,5 @@
 -- Bytes in base 16: each list has one word, which is read as it.
-use Rattle.std.proofs.Common.{◌≡◌, ℕ, ◌+◌, ◌-◌, ◌*◌, ◌/◌, ◌%◌, ◌<◌, ◌≤◌, true, false, ◌&&◌, leb, List, [], ◌∷◌, ◌++◌, length, get_or, take, drop, Option, Some, refl, sym, ap, subst, ◌∙◌, append_assoc, arith, inl, inr}
+use Rattle.std.proofs.Common.{◌≡◌, ℕ, ◌+◌, ◌-◌, ◌*◌, ◌/◌, ◌%◌, ◌<◌, ◌≤◌, true, false, ◌&&◌, eqb, leb, List, [], ◌∷◌, ◌++◌, length, get_or, take, drop, Option, Some, None, refl, sym, ap, subst, ◌∙◌, append_assoc, arith, inl, inr}
 use Rattle.std.specs.Prelude.{codes}
 use Rattle.std.specs.Char.{is_ascii_digit, digit_char}
 use Rattle.std.specs.Str.{bytes_eq}
@@ -8,10 +8,11 @@ use Rattle.std.proofs.lemmas.Bool.{and_parts, leb-true, le-leb, lt-ltb, le-ltb, 
 use Rattle.std.proofs.lemmas.List.{append-nil}
 use Rattle.std.proofs.lemmas.Nat.{div-mul-add, mod-mul-add}
 use Rattle.std.proofs.Math.Seq.{take-length}
-use Rattle.text_words.specs.Hex.{hex_value, pair_value, pairs_after, bytes_of}
+use Rattle.text_words.specs.Hex.{hex_value, pair_value, pairs_after, few, bytes_of}
 use Rattle.text_words.specs.Numbers.{◌>>=◌}
 use Rattle.text_words.specs.Texts.{hex_pair, hex_text}
-use Rattle.text_words.proofs.Binds.{bind_some, guard_some, some_is, chosen}
+use Rattle.text_words.specs.Spelling.{AreBytes}
+use Rattle.text_words.proofs.Binds.{bind_some, bind_none, bind_same, guard_some, some_is, chosen}
 use Rattle.text_words.proofs.FieldLaws.{IsField, bytes_same}
 use Rattle.text_words.proofs.NumberLaws.{is_word_byte}
 use Rattle.text_words.proofs.PlainLaws.{AllBytes, append_plain}
@@ -104,6 +105,39 @@ pairs_again front [] all = ap (λ (bs : List ℕ). Some bs) (sym (append-nil fro
 pairs_again front (x ∷ xs) all =
     rw (pair_again x all.0) (pairs_again (front ++ x ∷ []) xs all.1 ∙ ap (λ (bs : List ℕ). Some bs) (append_assoc front (x ∷ []) xs))
 
+-- ---- how many
+
+pairs_count : (xs : List ℕ) → length (flat_map hex_pair xs) ≡ 2 * length xs
+unfolding hex_pair
+pairs_count [] = refl
+pairs_count (x ∷ xs) = omega (arith, pairs_count xs)
+
+-- each byte that is read has two digits
+read_count : (w bytes : List ℕ) → pairs_after [] w ≡ Some bytes → length w ≡ 2 * length bytes
+read_count w bytes e = let t = pairs_take [] w bytes e in ap length t.2 ∙ pairs_count t.0 ∙ ap (λ (xs : List ℕ). 2 * length xs) (sym t.1)
+
+few_stay : (bytes : List ℕ) → length bytes ≤ 65535 → few bytes ≡ Some bytes
+few_stay bytes le = rw (le-leb (length bytes) 65535 le) refl
+
+many_go : (bytes : List ℕ) → 65535 < length bytes → few bytes ≡ None
+many_go bytes lt = rw (lt-leb (length bytes) 65535 lt) refl
+
+dash_count : (w : List ℕ) → bytes_eq w (codes "-") ≡ true → length w ≡ 1
+dash_count w e = ap length (bytes_same w (codes "-") e)
+
+-- a word of few digits is read as its pairs
+pub bytes_few : (w : List ℕ) → eqb (length w) 0 ≡ false → bytes_eq w (codes "-") ≡ false → length w ≤ 131070 → bytes_of w ≡ pairs_after [] w
+bytes_few [] some plain le = absurd cc
+bytes_few (c ∷ cs) some plain le =
+    rw plain (bind_same (pairs_after [] (c ∷ cs)) few (λ bytes e. few_stay bytes (let n = read_count (c ∷ cs) bytes e in omega (arith, n, le))))
+
+-- one of many is not read
+pub bytes_many : (w : List ℕ) → 131070 < length w → bytes_of w ≡ None
+bytes_many [] lt = refl
+bytes_many (c ∷ cs) lt =
+    let plain : bytes_eq (c ∷ cs) (codes "-") ≡ false = false_from_ne_true _ (λ e. omega (arith, dash_count (c ∷ cs) e, lt)) in
+    rw plain (bind_none (pairs_after [] (c ∷ cs)) few (λ bytes e. many_go bytes (let n = read_count (c ∷ cs) bytes e in omega (arith, n, lt))))
+
 -- ---- words
 
 pairs_text : (c : ℕ) (cs xs : List ℕ) → c ∷ cs ≡ flat_map hex_pair xs → c ∷ cs ≡ hex_text xs
@@ -111,26 +145,29 @@ pairs_text c cs [] e = absurd cc
 pairs_text c cs (x ∷ xs) e = e
 
 abbrev Spells : List ℕ → List ℕ → Type 0
-Spells w bytes = (w ≡ hex_text bytes) × AllByRecursion IsByte bytes
+Spells w bytes = (w ≡ hex_text bytes) × AreBytes bytes
 
 bytes_take : (w bytes : List ℕ) → bytes_of w ≡ Some bytes → Spells w bytes
 bytes_take [] bytes e = absurd cc
-bytes_take (c ∷ cs) bytes e = elim (chosen (bytes_eq (c ∷ cs) (codes "-")) (Some []) (pairs_after [] (c ∷ cs)) (Some bytes) e) [
-  | inl h ↦ subst (Spells (c ∷ cs)) (some_is [] bytes h.1) (bytes_same (c ∷ cs) (codes "-") h.0, tt)
+bytes_take (c ∷ cs) bytes e = elim (chosen (bytes_eq (c ∷ cs) (codes "-")) (Some []) (pairs_after [] (c ∷ cs) >>= few) (Some bytes) e) [
+  | inl h ↦ subst (Spells (c ∷ cs)) (some_is [] bytes h.1) (bytes_same (c ∷ cs) (codes "-") h.0, (tt, omega arith))
   | inr h ↦
-      let t = pairs_take [] (c ∷ cs) bytes h.1 in
-      subst (Spells (c ∷ cs)) (sym t.1) (pairs_text c cs t.0 t.2, t.3)
+      let r = bind_some (pairs_after [] (c ∷ cs)) few bytes h.1 in
+      let g = guard_some (leb (length r.0) 65535) (Some r.0) bytes r.2 in
+      let t = pairs_take [] (c ∷ cs) r.0 r.1 in
+      let le : length t.0 ≤ 65535 = subst (λ (xs : List ℕ). length xs ≤ 65535) t.1 (leb-true (length r.0) 65535 g.0) in
+      subst (Spells (c ∷ cs)) (sym t.1 ∙ some_is r.0 bytes g.1) (pairs_text c cs t.0 t.2, (t.3, le))
 ]
 
 no_dash : (a b : ℕ) (rest : List ℕ) → bytes_eq (a ∷ b ∷ rest) (codes "-") ≡ false
 no_dash a b rest = false_from_ne_true _ (λ e. omega (arith, ap length (bytes_same (a ∷ b ∷ rest) (codes "-") e)))
 
-bytes_again : (bytes : List ℕ) → AllByRecursion IsByte bytes → bytes_of (hex_text bytes) ≡ Some bytes
+bytes_again : (bytes : List ℕ) → AreBytes bytes → bytes_of (hex_text bytes) ≡ Some bytes
 unfolding hex_pair
-bytes_again [] all = refl
-bytes_again (x ∷ xs) all = rw (no_dash (digit_char (x / 16)) (digit_char (x % 16)) (flat_map hex_pair xs)) (pairs_again [] (x ∷ xs) all)
+bytes_again [] fits = refl
+bytes_again (x ∷ xs) fits = rw (no_dash (digit_char (x / 16)) (digit_char (x % 16)) (flat_map hex_pair xs), pairs_again [] (x ∷ xs) fits.0) (few_stay (x ∷ xs) fits.1)
 
-pub bytes_field : IsField bytes_of hex_text (AllByRecursion IsByte)
+pub bytes_field : IsField bytes_of hex_text AreBytes
 bytes_field = record { takes = bytes_take; again = bytes_again }
 
 -- ---- plain bytes

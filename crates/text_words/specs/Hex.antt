@@ -1,5 +1,5 @@
 -- The bytes that words spell, each as two digits in base 16.
-use Rattle.std.specs.Prelude.{ℕ, ◌+◌, ◌-◌, ◌*◌, ◌&&◌, nat_le, List, [], ◌∷◌, ◌++◌, Option, Some, None, if◌then◌else◌, codes}
+use Rattle.std.specs.Prelude.{ℕ, ◌+◌, ◌-◌, ◌*◌, ◌&&◌, nat_le, List, [], ◌∷◌, ◌++◌, length, Option, Some, None, if◌then◌else◌, codes}
 use Rattle.std.specs.Char.{is_ascii_digit}
 use Rattle.std.specs.Str.{bytes_eq}
 use Rattle.text_words.specs.Numbers.{◌>>=◌}
@@ -17,7 +17,11 @@ pairs_after bytes [] = Some bytes
 pairs_after bytes (c ∷ []) = None
 pairs_after bytes (high ∷ low ∷ more) = pair_value high low >>= λ b. pairs_after (bytes ++ b ∷ []) more
 
--- bytes, and a dash for none
+-- no more bytes than the data of a record may have
+abbrev pub few : List ℕ → Option (List ℕ)
+few bytes = if nat_le (length bytes) 65535 then Some bytes else None
+
+-- at most 65,535 bytes, and a dash for none
 abbrev pub bytes_of : List ℕ → Option (List ℕ)
 bytes_of [] = None
-bytes_of (c ∷ cs) = if bytes_eq (c ∷ cs) (codes "-") then Some [] else pairs_after [] (c ∷ cs)
+bytes_of (c ∷ cs) = if bytes_eq (c ∷ cs) (codes "-") then Some [] else pairs_after [] (c ∷ cs) >>= few

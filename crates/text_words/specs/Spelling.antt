@@ -54,6 +54,10 @@ IsType t = t.code ≤ 65535
 abbrev pub IsClass : DnsClass → Type 0
 IsClass c = c.code ≤ 65535
 
+-- as many bytes as the data of a record may have
+abbrev pub AreBytes : List ℕ → Type 0
+AreBytes bytes = AllByRecursion (λ b. b < 256) bytes × (length bytes ≤ 65535)
+
 -- a response code has 16 bits
 abbrev pub IsCode : ResponseCode → Type 0
 IsCode c = c.code ≤ 65535

@@ -47,7 +47,10 @@ fn pairs(alloc: Global, word: &[u8]) -> Result<Bytes, LineError>
     Ok(bytes)
 }
 
-/// The bytes that a word spells; a dash spells none.
+/// The most digits of a word: two for each of the 65,535 bytes that the data of a record may have.
+const MOST_DIGITS: usize = 131_070;
+
+/// The bytes that a word spells; a dash spells none, and too many are refused unread.
 pub fn bytes(alloc: Global, word: &[u8]) -> Result<Bytes, LineError>
     ensures { Gives result (bytes_of word.now) }
 {
@@ -56,6 +59,9 @@ pub fn bytes(alloc: Global, word: &[u8]) -> Result<Bytes, LineError>
     }
     if word == b"-".as_slice() {
         return Ok(Bytes::empty(alloc));
+    }
+    if word.len() > MOST_DIGITS {
+        return Err(LineError::Refused);
     }
     pairs(alloc, word)
 }
