@@ -1,0 +1,17 @@
+mod Passing
+mod ToldRecords
+mod ServersOfZones
+mod ZonesAsked
+mod AnswersAndDenials
+mod NoFailure
+mod CutsShown
+mod LogsGiven
+mod GlueTold
+mod DeepestZone
+mod AnyCase
+mod WorldAnswers
+mod WholeCounts
+mod WorldDenials
+mod CheckedWorlds
+mod OneZone
+mod ErrorsLeft

@@ -1,0 +1,9 @@
+pub mod Told
+pub mod Served
+pub mod Checked
+pub mod Deepest
+pub mod Answering
+pub mod Counting
+pub mod Denials
+pub mod Witness
+pub mod Rows
