@@ -9,11 +9,11 @@ pub mod kept;
 pub mod runs;
 
 use crate::run::words_of;
+use cases_subjects::first_line;
 use dns_core::{NoMemory, Text};
 use failure::Failure;
 use runs::{line_of, run_of};
 use std::alloc::Global;
-use value_subjects::first_line;
 
 /// What comes of the run that these words name, over a scenario.
 pub fn told(alloc: Global, words: &[Text], scenario: &[u8]) -> Result<String, Failure> {

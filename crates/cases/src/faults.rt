@@ -1,11 +1,11 @@
 //! Commands over a source and a sink of which calls fail, and the texts of faults.
 
 use crate::run::words_of;
+use cases_subjects::first_line;
 use dns_core::{Items, MemorySink, MemorySource, NoMemory, Numbers, Sink, Source};
 use recursor_command::{Fault, run};
 use std::alloc::Global;
 use std::fmt::Write;
-use value_subjects::first_line;
 
 /// That the call of this number fails; none has the number 0, for which every word stands that is no number.
 fn failing(alloc: Global, call: &str) -> Result<Numbers, NoMemory> {

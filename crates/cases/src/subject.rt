@@ -1,10 +1,9 @@
 //! What cases are of: each is a text that is handed in, and a text that comes of it.
 
 use crate::{benches, faults, run};
+use cases_subjects::{codes, delays, kept, names, networks, resolver, scenario};
 use dns_core::NoMemory;
-use reading_subjects::{networks, resolver, scenario};
 use std::alloc::{AllocError, Global};
-use value_subjects::{codes, delays, kept, names};
 
 /// What a file has cases of.
 #[derive(Clone, Copy)]

@@ -11,10 +11,10 @@ use Rattle.dns_core.specs.declared.net_error.NetError.{NetError}
 use Rattle.resolution.specs.Given.{Given, with_patience}
 use Rattle.resolution.specs.Asking.{IsServer, IsServerFor, AsksServers}
 use Rattle.resolution.proofs.Keeping.{Serves-later, Serves-extend}
-use Rattle.server_orders.specs.declared.order.Order.{Order}
-use Rattle.server_orders.specs.declared.order.Order.TheVariants.{Open, Ask, Sleep}
-use Rattle.server_orders.specs.declared.order.Outcome.{Outcome}
-use Rattle.server_orders.specs.declared.order.Sent.{Sent}
+use Rattle.server_core.specs.declared.orders.order.Order.{Order}
+use Rattle.server_core.specs.declared.orders.order.Order.TheVariants.{Open, Ask, Sleep}
+use Rattle.server_core.specs.declared.orders.order.Outcome.{Outcome}
+use Rattle.server_core.specs.declared.orders.order.Sent.{Sent}
 use Rattle.order_carrier.specs.Did.{Did, State, Carried, May, start_entry, poll_entry, appended, sent_in}
 use Rattle.order_carrier.specs.Did.Did.{Barred, LacksMemory, Refused, Started, Polled}
 use Rattle.order_carrier.specs.Did.Stand.{Unseen}

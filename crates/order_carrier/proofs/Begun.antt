@@ -8,9 +8,9 @@ use Rattle.dns_core.specs.declared.log.LogEntry.TheVariants.{Opened, Asked}
 use Rattle.dns_core.specs.declared.net_error.NetError.{NetError}
 use Rattle.resolution.specs.Telling.{Logged}
 use Rattle.resolution.proofs.Keeping.{Logged-extend}
-use Rattle.server_orders.specs.declared.order.Order.{Order}
-use Rattle.server_orders.specs.declared.order.Order.TheVariants.{Open, Ask, Sleep}
-use Rattle.server_orders.specs.declared.order.Outcome.{Outcome}
+use Rattle.server_core.specs.declared.orders.order.Order.{Order}
+use Rattle.server_core.specs.declared.orders.order.Order.TheVariants.{Open, Ask, Sleep}
+use Rattle.server_core.specs.declared.orders.order.Outcome.{Outcome}
 use Rattle.order_carrier.specs.Did.{Did, State, Carried, May, start_entry, poll_entry, appended, stand_after, MayHear}
 use Rattle.order_carrier.specs.Did.Did.{Barred, LacksMemory, Refused, Started, Polled}
 use Rattle.order_carrier.specs.Did.Stand.{Unseen}

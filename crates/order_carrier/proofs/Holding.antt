@@ -9,10 +9,10 @@ use Rattle.dns_core.specs.declared.log.LogEntry.{LogEntry}
 use Rattle.dns_core.specs.declared.log.LogEntry.TheVariants as line
 use Rattle.dns_core.specs.declared.net_error.NetError.{NetError}
 use Rattle.resolution.proofs.Keeping.{Logged-extend}
-use Rattle.server_orders.specs.declared.order.Order.{Order}
-use Rattle.server_orders.specs.declared.order.Order.TheVariants.{Open, Ask, Sleep}
-use Rattle.server_orders.specs.declared.order.Outcome.{Outcome}
-use Rattle.server_orders.specs.declared.order.Sent.{Sent}
+use Rattle.server_core.specs.declared.orders.order.Order.{Order}
+use Rattle.server_core.specs.declared.orders.order.Order.TheVariants.{Open, Ask, Sleep}
+use Rattle.server_core.specs.declared.orders.order.Outcome.{Outcome}
+use Rattle.server_core.specs.declared.orders.order.Sent.{Sent}
 use Rattle.order_carrier.specs.Awaited.{sent_for, counted_after}
 use Rattle.order_carrier.specs.Carrying.{AllSent, AreApart, IsUnwaited, StateHolds}
 use Rattle.order_carrier.specs.Closing.{AreClosedOnce, closings, closed_for, closed_by}

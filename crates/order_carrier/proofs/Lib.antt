@@ -12,3 +12,11 @@ mod Steps
 mod Polls
 mod Calls
 mod Taking
+pub mod Sums
+pub mod Held
+pub mod Carried
+pub mod Carrying
+pub mod PolledInFlight
+pub mod Free
+pub mod StartedInFlight
+pub mod GivenUpInFlight

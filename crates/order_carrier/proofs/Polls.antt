@@ -12,9 +12,9 @@ use Rattle.dns_core.specs.declared.message.Message.{Message}
 use Rattle.dns_core.specs.declared.message.Query.{Query}
 use Rattle.dns_core.specs.declared.net_error.NetError.{NetError}
 use Rattle.dns_core.specs.declared.provider.ConnectionProvider.{Ghosts}
-use Rattle.server_orders.specs.declared.order.Order.{Order}
-use Rattle.server_orders.specs.declared.order.Order.TheVariants.{Open, Ask, Sleep}
-use Rattle.server_orders.specs.declared.order.Sent.{Sent}
+use Rattle.server_core.specs.declared.orders.order.Order.{Order}
+use Rattle.server_core.specs.declared.orders.order.Order.TheVariants.{Open, Ask, Sleep}
+use Rattle.server_core.specs.declared.orders.order.Sent.{Sent}
 use Rattle.order_carrier.specs.Awaited.{aim, aim_of, may_be_polled, sent_of, Target, GoesFor, IsSentFor}
 use Rattle.order_carrier.specs.declared.awaited.Awaited.{Awaited}
 use Rattle.order_carrier.specs.declared.under_way.UnderWay.{UnderWay as Ongoing}

@@ -7,11 +7,11 @@ use Rattle.dns_core.specs.Log.{added}
 use Rattle.dns_core.specs.NetError.{is_memory}
 use Rattle.dns_core.specs.declared.log.LogEntry.{LogEntry}
 use Rattle.dns_core.specs.declared.net_error.NetError.{NetError}
-use Rattle.server_orders.specs.declared.order.Order.{Order}
-use Rattle.server_orders.specs.declared.order.Order.TheVariants.{Open, Ask, Sleep}
-use Rattle.server_orders.specs.declared.order.Outcome.{Outcome}
-use Rattle.server_orders.specs.declared.order.Outcome.TheVariants as outcome
-use Rattle.server_orders.specs.declared.order.Sent.{Sent}
+use Rattle.server_core.specs.declared.orders.order.Order.{Order}
+use Rattle.server_core.specs.declared.orders.order.Order.TheVariants.{Open, Ask, Sleep}
+use Rattle.server_core.specs.declared.orders.order.Outcome.{Outcome}
+use Rattle.server_core.specs.declared.orders.order.Outcome.TheVariants as outcome
+use Rattle.server_core.specs.declared.orders.order.Sent.{Sent}
 use Rattle.order_carrier.specs.Awaited.{IsSentFor, sent_for, target_of, counted_after}
 use Rattle.order_carrier.specs.Calling.{IsQuiet}
 use Rattle.order_carrier.specs.Did.{Stand, State, CallsNobody, Carried, IsHeard, IsReady, HasConnection, HasNumbers, MayHear, MayStart, start_entry, poll_entry, told_by, order_in, sent_in, heard_stand}

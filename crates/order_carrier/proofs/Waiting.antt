@@ -10,11 +10,11 @@ use Rattle.dns_core.specs.declared.log.ToldOutcome.TheVariants as said
 use Rattle.dns_core.specs.declared.net_error.NetError.{NetError}
 use Rattle.resolution.specs.Ending.{waits, is_wait_for}
 use Rattle.resolution.proofs.FailuresKept.{waits-extend}
-use Rattle.server_orders.specs.declared.order.Order.{Order}
-use Rattle.server_orders.specs.declared.order.Order.TheVariants.{Open, Ask, Sleep}
-use Rattle.server_orders.specs.declared.order.Outcome.{Outcome}
-use Rattle.server_orders.specs.declared.order.Outcome.TheVariants as outcome
-use Rattle.server_orders.specs.declared.order.Sent.{Sent}
+use Rattle.server_core.specs.declared.orders.order.Order.{Order}
+use Rattle.server_core.specs.declared.orders.order.Order.TheVariants.{Open, Ask, Sleep}
+use Rattle.server_core.specs.declared.orders.order.Outcome.{Outcome}
+use Rattle.server_core.specs.declared.orders.order.Outcome.TheVariants as outcome
+use Rattle.server_core.specs.declared.orders.order.Sent.{Sent}
 use Rattle.order_carrier.specs.Did.{Did, State, Carried, May, MayHear, start_entry, poll_entry, appended, sent_in, told_by, handed}
 use Rattle.order_carrier.specs.Did.Did.{Barred, LacksMemory, Refused, Started, Polled}
 use Rattle.order_carrier.specs.Awaited.{sent_for}

@@ -7,8 +7,8 @@ use Rattle.dns_core.specs.NetError.{is_memory}
 use Rattle.dns_core.specs.declared.log.LogEntry.{LogEntry}
 use Rattle.dns_core.specs.declared.provider.ConnectionProvider.{Ghosts}
 use Rattle.dns_core.specs.declared.request.DnsRequest.{DnsRequest}
-use Rattle.server_orders.specs.declared.order.Order.{Order}
-use Rattle.server_orders.specs.declared.order.Order.TheVariants.{Open, Ask, Sleep}
+use Rattle.server_core.specs.declared.orders.order.Order.{Order}
+use Rattle.server_core.specs.declared.orders.order.Order.TheVariants.{Open, Ask, Sleep}
 use Rattle.order_carrier.specs.Awaited.{GoesFor, IsNamed, sent_of, sent_for}
 use Rattle.order_carrier.specs.Did.{start_entry}
 use Rattle.order_carrier.specs.Growing.{with_entries}

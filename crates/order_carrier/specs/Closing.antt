@@ -2,7 +2,7 @@
 use Rattle.std.specs.Prelude.{◌≡◌, ◌≤◌, ◌<◌, ◌+◌, ℕ, List, [], ◌∷◌, length, Option, Some, None, if◌then◌else◌}
 use Rattle.dns_core.specs.declared.log.LogEntry.{LogEntry}
 use Rattle.resolution.specs.Timing.{closes}
-use Rattle.server_orders.specs.declared.order.Sent.{Sent}
+use Rattle.server_core.specs.declared.orders.order.Sent.{Sent}
 use Rattle.order_carrier.specs.Did.{Stand, Did, sent_in}
 use Rattle.order_carrier.specs.Did.Did.{Barred, LacksMemory, Refused, Started, Polled}
 use Rattle.order_carrier.specs.declared.key.OrderKey.{OrderKey}

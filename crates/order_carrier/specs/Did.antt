@@ -8,11 +8,11 @@ use Rattle.dns_core.specs.declared.log.LogEntry.{LogEntry}
 use Rattle.dns_core.specs.declared.log.LogEntry.TheVariants as line
 use Rattle.dns_core.specs.declared.log.ToldOutcome.TheVariants as said
 use Rattle.dns_core.specs.declared.net_error.NetError.{NetError}
-use Rattle.server_orders.specs.declared.order.Order.{Order}
-use Rattle.server_orders.specs.declared.order.Order.TheVariants.{Open, Ask, Sleep}
-use Rattle.server_orders.specs.declared.order.Sent.{Sent}
-use Rattle.server_orders.specs.declared.order.Outcome.{Outcome}
-use Rattle.server_orders.specs.declared.order.Outcome.TheVariants as outcome
+use Rattle.server_core.specs.declared.orders.order.Order.{Order}
+use Rattle.server_core.specs.declared.orders.order.Order.TheVariants.{Open, Ask, Sleep}
+use Rattle.server_core.specs.declared.orders.order.Sent.{Sent}
+use Rattle.server_core.specs.declared.orders.order.Outcome.{Outcome}
+use Rattle.server_core.specs.declared.orders.order.Outcome.TheVariants as outcome
 use Rattle.order_carrier.specs.Awaited.{IsSentFor, sent_for}
 use Rattle.order_carrier.specs.Growing.{with_entries}
 use Rattle.order_carrier.specs.declared.key.Form.TheVariants as form

@@ -9,12 +9,12 @@ use Rattle.dns_core.specs.declared.log.ToldOutcome.TheVariants as said
 use Rattle.resolution.specs.Given.{Given}
 use Rattle.resolution.specs.Telling.{Logged}
 use Rattle.resolution.specs.Asking.{IsServer, IsServerFor}
-use Rattle.server_orders.specs.Order.{entry_of}
-use Rattle.server_orders.specs.declared.order.Order.{Order}
-use Rattle.server_orders.specs.declared.order.Order.TheVariants.{Open, Ask, Sleep}
-use Rattle.server_orders.specs.declared.order.Sent.{Sent}
-use Rattle.server_orders.specs.declared.order.Outcome.{Outcome}
-use Rattle.server_orders.specs.declared.order.Outcome.TheVariants.{Pending, Connected, Told, Failed, Slept}
+use Rattle.server_core.specs.Order.{entry_of}
+use Rattle.server_core.specs.declared.orders.order.Order.{Order}
+use Rattle.server_core.specs.declared.orders.order.Order.TheVariants.{Open, Ask, Sleep}
+use Rattle.server_core.specs.declared.orders.order.Sent.{Sent}
+use Rattle.server_core.specs.declared.orders.order.Outcome.{Outcome}
+use Rattle.server_core.specs.declared.orders.order.Outcome.TheVariants.{Pending, Connected, Told, Failed, Slept}
 use Rattle.order_carrier.specs.Awaited.{IsSentFor}
 
 -- the entry of what was sent: an opening, or a question

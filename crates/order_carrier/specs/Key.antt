@@ -1,8 +1,8 @@
 -- By what an order is known.
 use Rattle.std.specs.Prelude.{ℕ, Bool}
 use Rattle.std.specs.Ordering.{is_eq}
-use Rattle.server_orders.specs.declared.order.Order.{Order}
-use Rattle.server_orders.specs.declared.order.Order.TheVariants.{Open, Ask, Sleep}
+use Rattle.server_core.specs.declared.orders.order.Order.{Order}
+use Rattle.server_core.specs.declared.orders.order.Order.TheVariants.{Open, Ask, Sleep}
 use Rattle.order_carrier.specs.contracts.key.OrderKeyOrd.TheImpl as key_order
 use Rattle.order_carrier.specs.declared.key.Form.{Form}
 use Rattle.order_carrier.specs.declared.key.Form.TheVariants as form

@@ -6,8 +6,8 @@ use Rattle.dns_core.specs.declared.log.LogEntry.{LogEntry}
 use Rattle.dns_core.specs.declared.log.LogEntry.TheVariants as line
 use Rattle.dns_core.specs.declared.net_error.NetError.{NetError}
 use Rattle.resolution.specs.Telling.{Logged}
-use Rattle.server_orders.specs.declared.order.Order.{Order}
-use Rattle.server_orders.specs.declared.order.Order.TheVariants.{Open, Ask, Sleep}
+use Rattle.server_core.specs.declared.orders.order.Order.{Order}
+use Rattle.server_core.specs.declared.orders.order.Order.TheVariants.{Open, Ask, Sleep}
 
 -- The log went on with the entry, refused or not.
 pub record IsBegunBy (entry : Option NetError → LogEntry) (old : Option (List LogEntry)) (es : List LogEntry) : Type 0 where

@@ -1,6 +1,6 @@
 //! What an order waits for.
 
-use server_orders::Sent;
+use server_core::Sent;
 
 /// A connection that opens, the answer to a question, or a moment. The first two were sent by an entry
 /// of the log.

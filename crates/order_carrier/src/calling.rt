@@ -4,11 +4,11 @@ ghost use Rattle.dns_core.specs.NetError.{is_memory};
 ghost use Rattle.dns_core.specs.declared.log.LogEntry.{LogEntry};
 ghost use Rattle.order_carrier.specs.Awaited.{query_of, sent_for};
 ghost use Rattle.order_carrier.specs.Calling.{IsOver, AsksOver, IsCalled, IsQuiet};
-ghost use Rattle.server_orders.specs.declared.order.Order.{Order as Ordered};
+ghost use Rattle.server_core.specs.declared.orders.order.Order.{Order as Ordered};
 
 use crate::awaited::Awaited;
 use dns_core::{ConnectOptions, ConnectionConfig, ConnectionProvider, DnsRequest, NetError, Query};
-use server_orders::{Order, Sent};
+use server_core::{Order, Sent};
 use std::net::IpAddr;
 
 /// What a call came to: no memory, a refusal of what was sent, or what is waited for.

@@ -16,7 +16,7 @@ use crate::polling::{Heard, Polled, poll_awaited};
 use crate::slot::Slot;
 use crate::under_way::UnderWay;
 use dns_core::{ConnectOptions, ConnectionProvider, NoMemory};
-use server_orders::{Order, Outcome};
+use server_core::{Order, Outcome};
 use std::alloc::Global;
 use std::collections::BTreeMap;
 use std::mem;

@@ -2,7 +2,7 @@
 ghost use Rattle.std.specs.Prelude.{◌≡◌};
 ghost use Rattle.order_carrier.specs.Key.{form_of, key_of};
 
-use server_orders::Order;
+use server_core::Order;
 
 /// The forms of orders.
 #[derive(Clone, Copy, Debug, PartialEq, Eq, PartialOrd, Ord)]

@@ -8,6 +8,7 @@ mod awaited;
 mod calling;
 mod carrier;
 mod giving_up;
+mod in_flight;
 mod key;
 mod polling;
 mod sent;
@@ -17,3 +18,4 @@ mod threads;
 mod under_way;
 
 pub use carrier::Carrier;
+pub use in_flight::runner::{Runner, Running};

@@ -8,7 +8,7 @@ use crate::awaited::Awaited;
 use crate::slot::Slot;
 use crate::under_way::{Connection, UnderWay};
 use dns_core::{ConnectionProvider, Message, NetError, Poll};
-use server_orders::{Order, Sent};
+use server_core::{Order, Sent};
 
 /// What a poll came to: of what an entry sent nothing yet, no memory, a connection, an answer or an
 /// error; a sleep rests, or has ended.

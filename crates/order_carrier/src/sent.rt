@@ -11,7 +11,7 @@ use crate::carrier::Carrier;
 use crate::key::{Form, OrderKey};
 use crate::slot::Slot;
 use dns_core::ConnectionProvider;
-use server_orders::{Order, Sent};
+use server_core::{Order, Sent};
 
 /// What was sent for what is waited for; nothing was for a moment.
 fn sent_of<F, E>(awaited: &Awaited<F, E>) -> Option<&Sent>

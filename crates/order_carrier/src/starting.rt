@@ -16,7 +16,7 @@ use crate::key::{Form, OrderKey};
 use crate::slot::Slot;
 use crate::under_way::UnderWay;
 use dns_core::{ConnectionProvider, NetError, NoMemory, Protocol, Query, TryClone, in_box};
-use server_orders::{Order, Outcome, Sent};
+use server_core::{Order, Outcome, Sent};
 use std::alloc::Global;
 use std::net::IpAddr;
 

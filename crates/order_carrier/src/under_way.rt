@@ -5,7 +5,7 @@ ghost use Rattle.order_carrier.specs.Awaited.Aim.{Reaches};
 
 use crate::awaited::Awaited;
 use dns_core::{ConnectionProvider, Protocol};
-use server_orders::{Order, same_address};
+use server_core::{Order, same_address};
 use std::net::IpAddr;
 
 /// An order, and what it waits for. That may be polled, goes where the order goes, and was sent for it.

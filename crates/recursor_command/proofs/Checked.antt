@@ -1,10 +1,10 @@
 -- What `check` says of a scenario that was read.
 use Rattle.std.proofs.Common.{◌≡◌, ◌≤◌, ℕ, List, length, Some, None, Result, Ok, Err, inl, sym, ap, subst, ◌∙◌}
 use Rattle.std.specs.Prelude.{IfOk}
-use Rattle.text_words.specs.Pieces.{pieces}
-use Rattle.text_words.proofs.Binds.{some_is}
+use Rattle.text_lines.specs.Pieces.{pieces}
+use Rattle.text_lines.proofs.Binds.{some_is}
 use Rattle.zone_rules.specs.declared.world.World.{World}
-use Rattle.script_lines.specs.declared.script.Script.{Script}
+use Rattle.script_upstream.specs.declared.script.script.Script.{Script}
 use Rattle.recursor_text.specs.declared.scenario.Scenario.{Scenario}
 use Rattle.recursor_text.specs.declared.scenario.Upstream.TheVariants.{Script as FromScript, World as FromWorld}
 use Rattle.recursor_text.specs.Reading.{scenario_in}

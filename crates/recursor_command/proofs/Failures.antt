@@ -7,9 +7,9 @@ use Rattle.dns_core.specs.declared.net_error.IoKind.{IoKind}
 use Rattle.dns_core.specs.declared.net_error.IoKind.TheVariants.{Other, Closed, Refused}
 use Rattle.dns_core.specs.declared.net_error.NetError.{NetError}
 use Rattle.dns_core.specs.declared.net_error.NetError.TheVariants.{Busy, Io, Timeout, NoConnections, Truncated, QueryCaseMismatch, ForeignClassRecord, Dns, Msg, NoMemory}
-use Rattle.script_index.specs.Course.{error_about}
-use Rattle.text_words.specs.Texts.{has_error_word}
-use Rattle.line_forms.specs.Spelling.{IsFailure}
+use Rattle.script_upstream.specs.Course.{error_about}
+use Rattle.text_lines.specs.Texts.{has_error_word}
+use Rattle.text_lines.specs.LineSpelling.{IsFailure}
 
 -- what holds of each error that a line tells
 by_failure : (P : NetError → Type 0) → ((kind : IoKind) → P (Io kind)) → P Timeout → P NoConnections → P Busy → P QueryCaseMismatch → (e : NetError) → IsFailure e → P e

@@ -11,18 +11,18 @@ use Rattle.dns_core.specs.declared.net_error.NetError.{NetError}
 use Rattle.dns_core.specs.declared.net_error.NetError.TheVariants.{Io}
 use Rattle.dns_core.specs.declared.log.LogEntry.{LogEntry}
 use Rattle.dns_core.specs.declared.log.LogEntry.TheVariants.{Opened, Asked, Waited, Told, GaveUp}
-use Rattle.script_index.specs.Course.{reply_course, connect_course}
-use Rattle.script_index.specs.Giving.{Gives, Fits, course_after, refuses, connects, replies, asks, asking_of, connection_course, question_course_for, waits}
-use Rattle.script_index.specs.declared.course.Course.{Course}
-use Rattle.script_index.specs.declared.course.Course.TheVariants.{Never, After}
-use Rattle.script_index.specs.declared.index.Asking.{Asking}
-use Rattle.script_index.specs.declared.index.Endpoint.{Endpoint}
-use Rattle.script_lines.specs.declared.script.Script.{Script}
-use Rattle.script_lines.specs.declared.script.ScriptLine.{ScriptLine}
-use Rattle.script_lines.specs.declared.script.ScriptLine.TheVariants.{Connect, Refuse, Reply}
-use Rattle.text_words.specs.Texts.{has_error_word}
+use Rattle.script_upstream.specs.Course.{reply_course, connect_course}
+use Rattle.script_upstream.specs.Giving.{Gives, Fits, course_after, refuses, connects, replies, asks, asking_of, connection_course, question_course_for, waits}
+use Rattle.script_upstream.specs.declared.courses.course.Course.{Course}
+use Rattle.script_upstream.specs.declared.courses.course.Course.TheVariants.{Never, After}
+use Rattle.script_upstream.specs.declared.courses.index.Asking.{Asking}
+use Rattle.script_upstream.specs.declared.courses.index.Endpoint.{Endpoint}
+use Rattle.script_upstream.specs.declared.script.script.Script.{Script}
+use Rattle.script_upstream.specs.declared.script.script.ScriptLine.{ScriptLine}
+use Rattle.script_upstream.specs.declared.script.script.ScriptLine.TheVariants.{Connect, Refuse, Reply}
+use Rattle.text_lines.specs.Texts.{has_error_word}
 use Rattle.transcript_printer.specs.Log.{has_refusal_word, has_outcome_words, has_entry_words, has_log_words}
-use Rattle.line_forms.specs.Spelling.{IsScriptLine}
+use Rattle.text_lines.specs.LineSpelling.{IsScriptLine}
 use Rattle.recursor_command.proofs.Failures.{failure_word, failure_stays}
 
 -- ---- what holds of each element holds of those that are found

@@ -8,15 +8,15 @@ use Rattle.dns_core.specs.NetError.{is_qualified_error, is_no_records}
 use Rattle.dns_core.specs.declared.record.Record.{Record}
 use Rattle.dns_core.specs.declared.record.RData.{RData}
 use Rattle.dns_core.specs.declared.record.RData.TheVariants.{A, AAAA, NS, CNAME, SOA, RRSIG, Opaque}
-use Rattle.script_lines.specs.declared.script.ScriptLine.{ScriptLine}
-use Rattle.script_lines.specs.declared.script.ScriptLine.TheVariants.{Connect, Refuse, Reply}
-use Rattle.script_lines.specs.Script.{is_qualified_line, is_qualified_script}
-use Rattle.script_lines.specs.declared.script.Script.{Script}
+use Rattle.script_upstream.specs.declared.script.script.ScriptLine.{ScriptLine}
+use Rattle.script_upstream.specs.declared.script.script.ScriptLine.TheVariants.{Connect, Refuse, Reply}
+use Rattle.script_upstream.specs.Script.{is_qualified_line, is_qualified_script}
+use Rattle.script_upstream.specs.declared.script.script.Script.{Script}
 use Rattle.zone_rules.specs.declared.world.Zone.{Zone}
 use Rattle.zone_rules.specs.declared.world.World.{World}
 use Rattle.world_upstream.specs.Qualified.{is_qualified_world}
-use Rattle.line_forms.specs.Spelling.{IsData, IsRecord, IsScriptLine}
-use Rattle.world_lines.specs.Spelling.{IsZoneRecord, IsZone, IsWorld}
+use Rattle.text_lines.specs.LineSpelling.{IsData, IsRecord, IsScriptLine}
+use Rattle.recursor_text.specs.WorldSpelling.{IsZoneRecord, IsZone, IsWorld}
 use Rattle.recursor_text.specs.Spelling.{IsUpstream}
 use Rattle.recursor_text.specs.declared.scenario.Upstream.{Upstream}
 use Rattle.recursor_text.specs.declared.scenario.Upstream.TheVariants.{Script as FromScript, World as FromWorld}

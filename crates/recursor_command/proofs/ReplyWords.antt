@@ -30,12 +30,12 @@ use Rattle.recursor_types.specs.declared.error.MessageKind.{MessageKind}
 use Rattle.recursor_types.specs.declared.error.MessageKind.TheVariants.{NotQualified}
 use Rattle.recursor_types.specs.declared.error.RecursorError.{RecursorError}
 use Rattle.recursor_types.specs.declared.reply.Reply.{Reply}
-use Rattle.zone_asking.specs.Causes.{ErrorHolds, HasFailed}
-use Rattle.lookup_facts.specs.Found.{is_lookup_error}
-use Rattle.recursor_setting.specs.declared.setting.Setting.{Setting}
-use Rattle.zone_asking.specs.Replies.{OutcomeHolds}
+use Rattle.recursor_walk.specs.Causes.{ErrorHolds, HasFailed}
+use Rattle.walk_lookup.specs.Found.{is_lookup_error}
+use Rattle.walk_lookup.specs.declared.settings.setting.Setting.{Setting}
+use Rattle.recursor_walk.specs.Replies.{OutcomeHolds}
 use Rattle.recursor_core.specs.Standing.{RepliesHold}
-use Rattle.text_words.specs.Texts.{has_error_word}
+use Rattle.text_lines.specs.Texts.{has_error_word}
 use Rattle.transcript_printer.specs.Errors.{has_words, has_net_words, is_not_qualified}
 use Rattle.transcript_printer.specs.Log.{has_entry_words}
 use Rattle.transcript_printer.specs.Transcript.{has_result_words, has_reply_words}

@@ -7,11 +7,11 @@ use Rattle.std.proofs.lemmas.Bool.Decides.{nat_tests}
 use Rattle.resolver_settings.specs.Ttl.{is_reversed, has_reversed}
 use Rattle.recursor_types.specs.Options.{is_first_delay, has_bad_first_delays}
 use Rattle.recursor_types.specs.declared.options.RecursorOptions.{RecursorOptions}
-use Rattle.line_forms.specs.declared.option_form.OptionLine.{OptionLine}
-use Rattle.line_forms.specs.declared.option_form.OptionLine.TheVariants.{ResponseCacheSize, RecursionLimit, NsRecursionLimit, AllowAnswers, DenyAnswers, AllowServer, DenyServer, AvoidLocalUdpPorts, PositiveTtl, NegativeTtl, CaseRandomization, EdnsPayloadLen, FirstDelays}
+use Rattle.text_lines.specs.declared.lines.option_form.OptionLine.{OptionLine}
+use Rattle.text_lines.specs.declared.lines.option_form.OptionLine.TheVariants.{ResponseCacheSize, RecursionLimit, NsRecursionLimit, AllowAnswers, DenyAnswers, AllowServer, DenyServer, AvoidLocalUdpPorts, PositiveTtl, NegativeTtl, CaseRandomization, EdnsPayloadLen, FirstDelays}
 use Rattle.recursor_text.specs.declared.scenario.Scenario.{Scenario}
-use Rattle.text_words.specs.Spelling.{AreFirstDelays}
-use Rattle.line_forms.specs.Spelling.{IsOption, standard_options, changed, changed_by}
+use Rattle.text_lines.specs.Spelling.{AreFirstDelays}
+use Rattle.text_lines.specs.LineSpelling.{IsOption, standard_options, changed, changed_by}
 use Rattle.recursor_text.specs.Spelling.{Reads}
 use Rattle.recursor_command.specs.Command.{IsRunnable}
 

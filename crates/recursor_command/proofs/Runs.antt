@@ -12,9 +12,9 @@ use Rattle.resolution.specs.Telling.{Logged}
 use Rattle.resolution.specs.Ending.{waits}
 use Rattle.order_carrier.specs.Growing.{LongerOver}
 use Rattle.order_carrier.specs.Patience.{PatientSince}
-use Rattle.server_send.specs.Context.{Context}
-use Rattle.recursor_setting.specs.declared.setting.Setting.{Setting}
-use Rattle.lookup_facts.specs.View.{given_of}
+use Rattle.server_core.specs.Context.{Context}
+use Rattle.walk_lookup.specs.declared.settings.setting.Setting.{Setting}
+use Rattle.walk_lookup.specs.View.{given_of}
 use Rattle.recursor_core.specs.Standing.{Standing, run_terms, run_moments, RepliesHold}
 use Rattle.recursor_types.specs.declared.reply.Reply.{Reply}
 use Rattle.recursor_command.specs.Command.{HappensAt, IsUntold}

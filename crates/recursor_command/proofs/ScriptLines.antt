@@ -3,12 +3,12 @@ use Rattle.std.proofs.Common.{◌≡◌, ◌≤◌, ℕ, ◌+◌, Bool, true, fa
 use Rattle.std.specs.List.{flat_map}
 use Rattle.std.proofs.lemmas.Bool.{ltb-false, eqb-true}
 use Rattle.std.proofs.lemmas.List.{nil_from_length, append-nil}
-use Rattle.text_words.specs.Pieces.{pieces}
-use Rattle.text_words.specs.Spelling.{spelled}
-use Rattle.text_words.proofs.Cuts.{split_cons}
-use Rattle.script_lines.specs.declared.script.Script.{Script}
-use Rattle.line_forms.specs.declared.option_form.OptionLine.{OptionLine}
-use Rattle.line_forms.specs.Spelling.{script_lines, question_line, turn_line, end_words}
+use Rattle.text_lines.specs.Pieces.{pieces}
+use Rattle.text_lines.specs.Spelling.{spelled}
+use Rattle.text_lines.proofs.Cuts.{split_cons}
+use Rattle.script_upstream.specs.declared.script.script.Script.{Script}
+use Rattle.text_lines.specs.declared.lines.option_form.OptionLine.{OptionLine}
+use Rattle.text_lines.specs.LineSpelling.{script_lines, question_line, turn_line, end_words}
 use Rattle.recursor_text.specs.declared.reading.whole.WholeDraft.{WholeDraft}
 use Rattle.recursor_text.specs.declared.reading.draft.Refusal.{Refusal}
 use Rattle.recursor_text.specs.declared.scenario.Scenario.{Scenario}

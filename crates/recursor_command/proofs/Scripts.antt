@@ -3,12 +3,12 @@ use Rattle.std.proofs.Common.{◌≡◌, ◌≤◌, ◌<◌, ℕ, zero, suc, eqb
 use Rattle.std.specs.Prelude.{Contains, codes}
 use Rattle.std.specs.Str.{bytes_eq}
 use Rattle.std.proofs.lemmas.List.{append-nil}
-use Rattle.text_words.specs.Pieces.{pieces}
-use Rattle.text_words.specs.Spelling.{spelled}
-use Rattle.text_words.proofs.Cuts.{split_cons}
-use Rattle.text_words.proofs.Binds.{chosen, some_is}
-use Rattle.text_words.proofs.FieldLaws.{bytes_same}
-use Rattle.line_forms.specs.Spelling.{told_words}
+use Rattle.text_lines.specs.Pieces.{pieces}
+use Rattle.text_lines.specs.Spelling.{spelled}
+use Rattle.text_lines.proofs.Cuts.{split_cons}
+use Rattle.text_lines.proofs.Binds.{chosen, some_is}
+use Rattle.text_lines.proofs.FieldLaws.{bytes_same}
+use Rattle.text_lines.specs.LineSpelling.{told_words}
 use Rattle.recursor_text.specs.Faults.{CanStand, IsWhole, IsFirstBad, IsTrailing, IsCut}
 use Rattle.recursor_command.specs.Checking.{TellsScript, TellsNoScript, first_told}
 

@@ -13,8 +13,8 @@ use Rattle.recursor_command.specs.Command.{IsUnread, IsUnchecked}
 use Rattle.recursor_command.specs.Checking.{IsNoWorld, TellsNoScript, first_told, is_at_line, earlier_fault}
 use Rattle.recursor_command.specs.declared.faults.Fault.{Fault}
 use Rattle.recursor_command.specs.declared.faults.Fault.TheVariants.{Words, Line, NotBuilt, Read, Memory}
-use Rattle.text_words.specs.Pieces.{pieces}
-use Rattle.text_words.proofs.Binds.{some_is}
+use Rattle.text_lines.specs.Pieces.{pieces}
+use Rattle.text_lines.proofs.Binds.{some_is}
 use Rattle.recursor_command.proofs.Scripts.{Stood, first_bad, trailing, cut_off, tells, tells_none}
 use Rattle.recursor_text.specs.declared.scenario.Cause.TheVariants as cause
 

@@ -6,7 +6,7 @@ use Rattle.dns_core.specs.declared.net_error.NetError.{NetError}
 use Rattle.dns_core.specs.declared.log.LogEntry.{LogEntry}
 use Rattle.dns_core.specs.declared.log.LogEntry.TheVariants.{Opened, Asked, Waited, Told, GaveUp}
 use Rattle.dns_core.specs.declared.log.ToldOutcome.TheVariants.{Connected, Message, Error}
-use Rattle.script_index.specs.Giving.{waits}
+use Rattle.script_upstream.specs.Giving.{waits}
 use Rattle.world_upstream.specs.Giving.{delay, ComesTo, Fits, Gives}
 use Rattle.zone_rules.specs.declared.world.World.{World}
 use Rattle.transcript_printer.specs.Log.{has_refusal_word, has_entry_words}

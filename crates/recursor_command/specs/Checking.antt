@@ -1,16 +1,16 @@
 -- What `check` tells of a scenario, and the line at which it refuses a script.
 use Rattle.std.specs.Prelude.{◌≡◌, ◌≤◌, ◌+◌, ℕ, nat_lt, Bool, true, false, Contains, Option, Some, None, List, [], ◌∷◌, ◌++◌, length, codes, if◌then◌else◌}
 use Rattle.std.specs.Str.{bytes_eq}
-use Rattle.text_words.specs.Pieces.{pieces}
-use Rattle.text_words.specs.Spelling.{spelled}
-use Rattle.line_forms.specs.Spelling.{told_words}
+use Rattle.text_lines.specs.Pieces.{pieces}
+use Rattle.text_lines.specs.Spelling.{spelled}
+use Rattle.text_lines.specs.LineSpelling.{told_words}
 use Rattle.zone_rules.specs.declared.world.World.{World}
 use Rattle.recursor_text.specs.declared.scenario.Cause.{Cause}
 use Rattle.recursor_text.specs.declared.scenario.Scenario.{Scenario}
 use Rattle.recursor_text.specs.declared.scenario.ScenarioError.{ScenarioError}
 use Rattle.recursor_text.specs.Spelling.{Reads}
 use Rattle.recursor_text.specs.Faults.{CanStand}
-use Rattle.check_text.specs.Checking.{Tells as TellsOf}
+use Rattle.transcript_printer.specs.Checking.{Tells as TellsOf}
 use Rattle.recursor_command.specs.Faults.{fault_of}
 use Rattle.recursor_command.specs.declared.faults.Fault.{Fault}
 use Rattle.recursor_command.specs.declared.faults.Fault.TheVariants.{Line}

@@ -4,16 +4,16 @@ use Rattle.std.specs.declared.option.Option.{Option}
 use Rattle.std.specs.Io.KnownBytes.{Appends, Keeps}
 use Rattle.std.specs.Str.{bytes_eq}
 use Rattle.dns_core.specs.Faults.{Rose}
-use Rattle.script_index.specs.Giving.{Gives as ScriptGives}
+use Rattle.script_upstream.specs.Giving.{Gives as ScriptGives}
 use Rattle.world_upstream.specs.Giving.{Gives as WorldGives}
 use Rattle.dns_core.specs.Log.{Log, log_of}
 use Rattle.dns_core.specs.declared.log.LogEntry.{LogEntry}
 use Rattle.resolution.specs.Telling.{Logged, moment_of, MomentsRise}
 use Rattle.resolution.specs.Ending.{waits}
 use Rattle.resolution.specs.Asking.{AsksServers}
-use Rattle.recursor_setting.specs.Setting.{setting_of, context_of}
-use Rattle.recursor_setting.specs.declared.setting.Setting.{Setting}
-use Rattle.lookup_facts.specs.View.{given_of}
+use Rattle.walk_lookup.specs.Setting.{setting_of, context_of}
+use Rattle.walk_lookup.specs.declared.settings.setting.Setting.{Setting}
+use Rattle.walk_lookup.specs.View.{given_of}
 use Rattle.resolver_settings.specs.Ttl.{has_reversed}
 use Rattle.recursor_types.specs.Options.{has_bad_first_delays, server_filter_of, answer_filter_of}
 use Rattle.recursor_core.specs.Standing.{Standing, RepliesHold, run_moments}

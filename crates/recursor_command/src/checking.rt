@@ -1,16 +1,16 @@
 //! The command `check`: a scenario over a world in, and what there is to tell of it out.
 ghost use Rattle.std.specs.Prelude.{◌≡◌, ◌≢◌, ◌≤◌, length, None, Some, Ok, Err, IfOk, IfErr};
-ghost use Rattle.text_words.specs.Pieces.{pieces};
+ghost use Rattle.text_lines.specs.Pieces.{pieces};
 ghost use Rattle.recursor_text.specs.Reading.{GivesScenario, scenario_in};
 ghost use Rattle.recursor_command.specs.Command.{HasOutput, IsFaultOf};
 ghost use Rattle.recursor_command.specs.Checking.{HasFindings, first_told, is_at_line, earlier_fault};
 
 use crate::faults::{Fault, fault_of};
 use crate::words::Command;
-use check_text::check_text;
 use recursor_text::{Cause, Scenario, ScenarioError, Upstream, read_scenario};
 use std::alloc::Global;
-use text_words::cut;
+use text_lines::cut;
+use transcript_printer::check_text;
 use zone_worlds::World;
 
 /// The number of the first line that says that a script is told, where one does; lines count from 1.

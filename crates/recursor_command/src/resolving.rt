@@ -1,9 +1,9 @@
 //! The command `resolve`: a scenario in, a transcript out.
 ghost use Rattle.std.specs.Prelude.{min, ◌≡◌, ◌≢◌, false, List, [], Some, IfOk, IfErr, IsTrue};
 ghost use Rattle.dns_core.specs.declared.log.LogEntry.{LogEntry};
-ghost use Rattle.script_index.specs.Giving.{Gives as ScriptGives};
-ghost use Rattle.script_lines.specs.Script.{is_qualified_script};
-ghost use Rattle.recursor_world.specs.Upstream.{told_by as script_told};
+ghost use Rattle.script_upstream.specs.Giving.{Gives as ScriptGives};
+ghost use Rattle.script_upstream.specs.Script.{is_qualified_script};
+ghost use Rattle.script_upstream.specs.Upstream.{told_by as script_told};
 ghost use Rattle.world_upstream.specs.Giving.{Gives as WorldGives};
 ghost use Rattle.world_upstream.specs.Upstream.{told_by as world_told};
 ghost use Rattle.world_upstream.specs.Qualified.{is_qualified_world};
@@ -18,7 +18,7 @@ use crate::words::Command;
 use dns_core::{ConnectionProvider, Ips, Items, Log, NoMemory, Question, TryClone, Turn};
 use recursor_core::{Recursor, RecursorError, RecursorOptions, Reply, drive};
 use recursor_text::{Scenario, Transcript, Upstream, print_transcript, read_scenario};
-use recursor_world::{Script, ScriptUpstream};
+use script_upstream::{Script, ScriptUpstream};
 use std::alloc::Global;
 use world_upstream::WorldUpstream;
 use zone_worlds::World;

@@ -4,3 +4,9 @@ pub mod Leading
 pub mod Playing
 pub mod Standing
 pub mod Timed
+pub mod MachineWords
+pub mod Cores
+pub mod Later
+pub mod Places
+pub mod Answered
+pub mod Begins

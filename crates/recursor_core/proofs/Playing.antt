@@ -1,11 +1,11 @@
 -- The questions of a run, as their turns are played.
 use Rattle.recursor_core.proofs.Names.{◌≡◌, ◌≢◌, ◌≤◌, ◌<◌, ◌+◌, ◌-◌, ◌∙◌, ◌⊎◌, ⊎_elim, inl, inr, ℕ, zero, suc, max, List, [], ◌∷◌, length, Option, Some, None, Err, refl, sym, ap, subst, arith, slice_get, if◌then◌else◌, eq-eqb, All, Contains, Box, set, same_Some, slice_get_within, get_or_from_slice_get, All-get_or, Log, log_of, LogEntry, Question, Turn, Ghosts, Timer, machine_timer, ReplyHolds, TellsThat, Grown, Begun, begun_at, begun_of, kept_in, IsOneMore, Moves, ReplyTold, first_moment, last_moment, begin_moment, run_moments, run_timer, PlayHolds, PlaysHold, RepliesHold, ReplyFor, BeginsIf, BeginsAt, IsRefused, ReplyOf, Setting, Carrier, RecursorCore, Reply, Played, reply-earlier, Grown-refl, seen_at, Resolution, option_map}
 use Rattle.std.proofs.lemmas.Bool.{ne_eqb}
-use Rattle.recursor_machine.proofs.Places.{slice_get-set_same, slice_get-set_other}
+use Rattle.recursor_core.proofs.Places.{slice_get-set_same, slice_get-set_other}
 use Rattle.recursor_core.proofs.Standing.{ReplyHolds-grown}
 use Rattle.recursor_core.proofs.Timed.{reply-timed, run_first}
 use Rattle.recursor_types.specs.declared.error.RecursorError.TheVariants as error
-use Rattle.recursor_machine.specs.declared.plays.Played.TheVariants as played
+use Rattle.recursor_core.specs.declared.machine.plays.Played.TheVariants as played
 
 -- two numbers are equal, or not
 same_or_not : (k n : ℕ) → (k ≡ n) ⊎ (k ≢ n)

@@ -6,15 +6,15 @@ use Rattle.resolution.specs.Asking.{AsksServers}
 use Rattle.order_carrier.specs.GivingUp.{give_up_entry}
 use Rattle.recursor_types.specs.declared.options.RecursorOptions.{RecursorOptions}
 use Rattle.recursor_core.specs.declared.turns.Turned.{Turned}
-use Rattle.server_orders.specs.declared.order.Outcome.{Outcome}
-use Rattle.server_orders.specs.declared.order.Outcome.TheVariants.{Pending, Connected, Told, Failed, Slept}
-use Rattle.server_orders.specs.declared.order.Sent.{Sent}
-use Rattle.server_orders.specs.declared.order.Tick.{Tick}
+use Rattle.server_core.specs.declared.orders.order.Outcome.{Outcome}
+use Rattle.server_core.specs.declared.orders.order.Outcome.TheVariants.{Pending, Connected, Told, Failed, Slept}
+use Rattle.server_core.specs.declared.orders.order.Sent.{Sent}
+use Rattle.server_core.specs.declared.orders.order.Tick.{Tick}
 use Rattle.order_carrier.proofs.Asking.{AsksServers-patience, GoesToServer-later}
-use Rattle.order_runner.proofs.Carried.{waits-still}
-use Rattle.recursor_machine.proofs.Later.{Derived-extends}
-use Rattle.recursor_setting.specs.Setting.{with_patience as setting_with}
-use Rattle.recursor_walk.specs.declared.steps.Step.TheVariants as step
+use Rattle.order_carrier.proofs.Carried.{waits-still}
+use Rattle.recursor_core.proofs.Later.{Derived-extends}
+use Rattle.walk_lookup.specs.Setting.{with_patience as setting_with}
+use Rattle.recursor_question.specs.declared.steps.Step.TheVariants as step
 use Rattle.recursor_core.specs.declared.turns.Turned.TheVariants as turned
 
 -- ---- growing logs

@@ -2,3 +2,6 @@ pub mod Turns
 pub mod Standing
 pub mod Runs
 pub mod Recursor
+pub mod Derived
+pub mod Machine
+pub mod Plays

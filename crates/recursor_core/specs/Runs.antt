@@ -6,11 +6,11 @@ use Rattle.dns_core.specs.declared.request.Question.{Question}
 use Rattle.dns_core.specs.declared.request.Turn.{Turn}
 use Rattle.order_carrier.specs.Growing.{GrownOver}
 use Rattle.order_carrier.specs.Patience.{IsPatient}
-use Rattle.order_runner.specs.declared.runner.Runner.{Runner}
+use Rattle.order_carrier.specs.declared.in_flight.runner.Runner.{Runner}
 use Rattle.recursor_core.specs.Standing.{Holds, PlaysHold, first_moment, last_moment, begin_moment, run_moments}
 use Rattle.recursor_core.specs.Turns.{due}
-use Rattle.recursor_machine.specs.Plays.{open_plays}
-use Rattle.recursor_machine.specs.declared.machine.RecursorCore.{RecursorCore}
+use Rattle.recursor_core.specs.Plays.{open_plays}
+use Rattle.recursor_core.specs.declared.machine.resolutions.RecursorCore.{RecursorCore}
 use Rattle.recursor_core.specs.declared.run.Run.{Run}
 
 -- what the provider of a run has told so far

@@ -8,33 +8,33 @@ use Rattle.dns_core.specs.declared.request.Turn.{Turn}
 use Rattle.dns_core.specs.declared.provider.ConnectionProvider.{Ghosts}
 use Rattle.resolver_settings.specs.Access.{Access}
 use Rattle.resolver_settings.specs.Ttl.{TtlTable}
-use Rattle.server_send.specs.Context.{Context}
-use Rattle.server_orders.specs.declared.order.Tick.{Tick}
+use Rattle.server_core.specs.Context.{Context}
+use Rattle.server_core.specs.declared.orders.order.Tick.{Tick}
 use Rattle.resolution.specs.Telling.{MomentsRise}
 use Rattle.resolution.specs.Asking.{AsksServers}
 use Rattle.resolution.specs.Timing.{known_to_drive}
 use Rattle.recursor_types.specs.Options.{server_filter_of, answer_filter_of}
 use Rattle.recursor_types.specs.declared.options.RecursorOptions.{RecursorOptions}
-use Rattle.recursor_setting.specs.Setting.{context_of}
-use Rattle.recursor_setting.specs.declared.setting.Setting.{Setting}
-use Rattle.lookup_facts.specs.View.{given_of}
-use Rattle.lookup_facts.specs.Tried.{Timer, machine_timer}
-use Rattle.zone_asking.specs.Replies.{ReplyHolds}
+use Rattle.walk_lookup.specs.Setting.{context_of}
+use Rattle.walk_lookup.specs.declared.settings.setting.Setting.{Setting}
+use Rattle.walk_lookup.specs.View.{given_of}
+use Rattle.walk_lookup.specs.Tried.{Timer, machine_timer}
+use Rattle.recursor_walk.specs.Replies.{ReplyHolds}
 use Rattle.order_carrier.specs.Growing.{TellsThat, Grown, IsPast}
-use Rattle.recursor_machine.specs.Derived.{seen_by, Derived}
+use Rattle.recursor_core.specs.Derived.{seen_by, Derived}
 use Rattle.order_carrier.specs.Patience.{IsPatient}
 use Rattle.walk_tables.specs.Pools.{PoolsHold}
-use Rattle.lookup_facts.specs.Remembered.{CacheHolds}
-use Rattle.order_runner.specs.Runner.{RunnerHolds}
-use Rattle.order_runner.specs.declared.runner.Runner.{Runner}
-use Rattle.recursor_machine.specs.Machine.{Begun, begun_at}
+use Rattle.walk_lookup.specs.Remembered.{CacheHolds}
+use Rattle.order_carrier.specs.Runner.{RunnerHolds}
+use Rattle.order_carrier.specs.declared.in_flight.runner.Runner.{Runner}
+use Rattle.recursor_core.specs.Machine.{Begun, begun_at}
 use Rattle.order_carrier.specs.declared.carrier.Carrier.{Carrier}
-use Rattle.recursor_machine.specs.declared.machine.RecursorCore.{RecursorCore}
+use Rattle.recursor_core.specs.declared.machine.resolutions.RecursorCore.{RecursorCore}
 use Rattle.recursor_types.specs.declared.reply.Reply.{Reply}
 use Rattle.recursor_core.specs.declared.turns.Turned.{Turned}
-use Rattle.recursor_machine.specs.declared.plays.Played.{Played}
+use Rattle.recursor_core.specs.declared.machine.plays.Played.{Played}
 use Rattle.recursor_core.specs.declared.turns.Turned.TheVariants as turned
-use Rattle.recursor_machine.specs.declared.plays.Played.TheVariants as played
+use Rattle.recursor_core.specs.declared.machine.plays.Played.TheVariants as played
 
 -- a recursor: its provider, its roots, the filters of other servers and of the addresses of answers, the bounds of lives, what its pools are set to,
 -- the least patience of its runs, and the greatest moment handed in so far

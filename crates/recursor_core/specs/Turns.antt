@@ -3,10 +3,10 @@ use Rattle.std.specs.Prelude.{◌≡◌, ◌≤◌, ◌<◌, ◌+◌, ◌-◌, �
 use Rattle.std.specs.BTreeSet.{BTreeSet, contains}
 use Rattle.std.specs.Ordering.{nat_cmp}
 use Rattle.dns_core.specs.declared.provider.ConnectionProvider.{Ghosts}
-use Rattle.recursor_machine.specs.Machine.{given_by, open_at}
-use Rattle.order_runner.specs.Runner.{polls_left}
-use Rattle.order_runner.specs.declared.runner.Runner.{Runner}
-use Rattle.recursor_machine.specs.declared.machine.RecursorCore.{RecursorCore}
+use Rattle.recursor_core.specs.Machine.{given_by, open_at}
+use Rattle.order_carrier.specs.Runner.{polls_left}
+use Rattle.order_carrier.specs.declared.in_flight.runner.Runner.{Runner}
+use Rattle.recursor_core.specs.declared.machine.resolutions.RecursorCore.{RecursorCore}
 use Rattle.recursor_core.specs.declared.turns.Turned.{Turned}
 use Rattle.recursor_core.specs.declared.turns.Turned.TheVariants as turned
 

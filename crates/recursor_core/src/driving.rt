@@ -2,7 +2,7 @@
 ghost use Rattle.std.specs.Prelude.{◌≡◌, ◌≤◌, List, Contains, length, min, max, IfOk, vec_len};
 ghost use Rattle.dns_core.specs.declared.log.LogEntry.{LogEntry};
 ghost use Rattle.resolution.specs.Asking.{AsksServers};
-ghost use Rattle.lookup_facts.specs.View.{given_of};
+ghost use Rattle.walk_lookup.specs.View.{given_of};
 ghost use Rattle.order_carrier.specs.Growing.{TellsThat, IsPast, GrownOver};
 ghost use Rattle.order_carrier.specs.Patience.{IsPatient};
 ghost use Rattle.resolution.specs.Telling.{MomentsRise};

@@ -2,12 +2,18 @@
 #![tactic(auto)]
 
 mod driving;
+mod machine;
 mod recursor;
 mod run;
 mod threads;
 mod turns;
 
 pub use driving::drive;
+pub use machine::plays::{
+    Played, begin_at, is_waiting, leave_unanswered, put_answer, replies, under_way, waiting,
+};
+pub use machine::resolutions::RecursorCore;
+pub use order_carrier::Carrier;
 pub use recursor::Recursor;
 pub use recursor_types::{
     AuthorityData, MessageKind, RecursorError, RecursorOptions, Reply, WalkCause,

@@ -5,17 +5,17 @@ ghost use Rattle.dns_core.specs.declared.request.Turn.{Turn};
 ghost use Rattle.order_carrier.specs.Growing.{TellsThat};
 ghost use Rattle.recursor_core.specs.Runs.{Runs, Leads, PlaysOn, PlaysGoOn, IsDue, ComesIn, IsOver, told_by, work};
 ghost use Rattle.recursor_core.specs.Standing.{RepliesHold, last_moment, run_moments};
-ghost use Rattle.recursor_machine.specs.Plays.{IsUnderWay};
+ghost use Rattle.recursor_core.specs.Plays.{IsUnderWay};
 
+use crate::machine::plays::{
+    Played, begin_at, is_waiting, leave_unanswered, put_answer, replies, under_way, waiting,
+};
+use crate::machine::resolutions::RecursorCore;
 use crate::turns::answer_of;
 use dns_core::{ConnectionProvider, NoMemory, Question, Turn};
-use order_runner::Runner;
-use recursor_machine::{
-    Played, RecursorCore, begin_at, is_waiting, leave_unanswered, put_answer, replies, under_way,
-    waiting,
-};
+use order_carrier::Runner;
 use recursor_types::Reply;
-use server_orders::Tick;
+use server_core::Tick;
 use std::alloc::Global;
 
 /// A run: the machine, what carries out its orders, what became of each question, and how many polls an

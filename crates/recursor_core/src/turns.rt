@@ -2,20 +2,20 @@
 ghost use Rattle.std.specs.Prelude.{◌≡◌, ◌≤◌, ◌<◌, ◌+◌, ℕ, max, true, false, Some, None, IfOk, IfSome, IfNone, IsSome, OnOk, MatchBool};
 ghost use Rattle.std.specs.BTreeSet.{contains};
 ghost use Rattle.std.specs.Ordering.{nat_cmp};
-ghost use Rattle.lookup_facts.specs.View.{given_of};
+ghost use Rattle.walk_lookup.specs.View.{given_of};
 ghost use Rattle.order_carrier.specs.Growing.{TellsThat};
-ghost use Rattle.order_runner.specs.Runner.{GoesRight, held_at, sent_by, HasTold};
-ghost use Rattle.recursor_machine.specs.Machine.{begun_at, need_at, open_at, given_by};
-ghost use Rattle.recursor_machine.specs.declared.machine.RecursorCore.{RecursorCore};
+ghost use Rattle.order_carrier.specs.Runner.{GoesRight, held_at, sent_by, HasTold};
+ghost use Rattle.recursor_core.specs.Machine.{begun_at, need_at, open_at, given_by};
+ghost use Rattle.recursor_core.specs.declared.machine.resolutions.RecursorCore.{RecursorCore};
 ghost use Rattle.recursor_core.specs.Standing.{Holds, Ready, Goes, ReplyTold, TurnedTold};
 ghost use Rattle.recursor_core.specs.Turns.{due, TurnFalls, AskFalls, AllPolled};
 
+use crate::machine::resolutions::RecursorCore;
 use dns_core::{ConnectionProvider, NoMemory};
-use order_runner::Runner;
-use recursor_machine::RecursorCore;
+use order_carrier::Runner;
+use recursor_question::{Need, Step};
 use recursor_types::Reply;
-use recursor_walk::{Need, Step};
-use server_orders::{After, Order, Outcome, Tick};
+use server_core::{After, Order, Outcome, Tick};
 use std::alloc::Global;
 use std::collections::BTreeSet;
 

@@ -12,27 +12,27 @@ use Rattle.dns_core.specs.declared.record.Record.{Record}
 use Rattle.dns_core.specs.declared.request.Question.{Question}
 use Rattle.dns_core.specs.declared.request.Turn.{Turn}
 use Rattle.recursor_types.specs.declared.options.RecursorOptions.{RecursorOptions}
-use Rattle.script_lines.specs.declared.script.ScriptLine.{ScriptLine}
-use Rattle.script_lines.specs.declared.script.ScriptLine.TheVariants.{Connect, Refuse, Reply}
+use Rattle.script_upstream.specs.declared.script.script.ScriptLine.{ScriptLine}
+use Rattle.script_upstream.specs.declared.script.script.ScriptLine.TheVariants.{Connect, Refuse, Reply}
 use Rattle.recursor_text.specs.declared.scenario.Scenario.{Scenario}
 use Rattle.recursor_text.specs.declared.scenario.Upstream.TheVariants.{Script as FromScript}
-use Rattle.line_forms.specs.declared.lines.Form.{Form}
-use Rattle.line_forms.specs.declared.lines.Form.TheVariants as form
-use Rattle.line_forms.specs.declared.option_form.OptionLine.{OptionLine}
-use Rattle.line_forms.specs.declared.rules.OpenRule.{OpenRule}
+use Rattle.text_lines.specs.declared.lines.lines.Form.{Form}
+use Rattle.text_lines.specs.declared.lines.lines.Form.TheVariants as form
+use Rattle.text_lines.specs.declared.lines.option_form.OptionLine.{OptionLine}
+use Rattle.text_lines.specs.declared.lines.rules.OpenRule.{OpenRule}
 use Rattle.recursor_text.specs.declared.reading.draft.Stage.{Stage}
 use Rattle.recursor_text.specs.declared.reading.draft.Stage.TheVariants.{Headed, Rooted, Optioned, Patient, Scripted, Asked, Turned, Ended}
 use Rattle.recursor_text.specs.declared.reading.draft.Draft.{Draft}
-use Rattle.text_words.specs.Numbers.{◌>>=◌}
-use Rattle.text_words.specs.Codes.{class_in}
+use Rattle.text_lines.specs.Numbers.{◌>>=◌}
+use Rattle.text_lines.specs.Codes.{class_in}
 use Rattle.recursor_text.specs.Steps.{start, may_turn, may_end, is_settled, rule_of, settle, add, is_short, put, taken_at, taken, scenario_of}
-use Rattle.text_words.specs.Spelling.{spelled, IsAddress}
-use Rattle.line_forms.specs.Spelling.{record_text, record_texts, script_lines, root_line, option_line, question_line, turn_line, patience_words, told_words, end_words, options_with, option_rank, last_rank, RiseAbove, IsRecord, IsRule, IsScriptLine, IsTurn, IsOption}
+use Rattle.text_lines.specs.Spelling.{spelled, IsAddress}
+use Rattle.text_lines.specs.LineSpelling.{record_text, record_texts, script_lines, root_line, option_line, question_line, turn_line, patience_words, told_words, end_words, options_with, option_rank, last_rank, RiseAbove, IsRecord, IsRule, IsScriptLine, IsTurn, IsOption}
 use Rattle.recursor_text.specs.Spelling.{rules_of, to_roots, to_options, to_patience, to_told, to_rules, to_questions, to_turns, scenario_lines, most_roots, most_questions, most_turns, NoneFalls, last_moment, IsAsked, IsScenario}
-use Rattle.text_words.proofs.Binds.{bind_some}
-use Rattle.line_forms.proofs.LineLaws.{rule_words, form_words, IsBare, IsLone, IsForm, form_again}
-use Rattle.line_forms.proofs.OptionLaws.{last_push}
-use Rattle.line_forms.proofs.RecordLaws.{record_again}
+use Rattle.text_lines.proofs.Binds.{bind_some}
+use Rattle.text_lines.proofs.LineLaws.{rule_words, form_words, IsBare, IsLone, IsForm, form_again}
+use Rattle.text_lines.proofs.OptionLaws.{last_push}
+use Rattle.text_lines.proofs.RecordLaws.{record_again}
 use Rattle.recursor_text.proofs.TurnLaws.{moment_push}
 
 abbrev pub run : Draft → List (List ℕ) → Option Draft

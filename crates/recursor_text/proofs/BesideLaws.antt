@@ -3,19 +3,19 @@ use Rattle.std.proofs.Common.{◌≡◌, ℕ, ◌<◌, ◌≤◌, true, ◌&&◌
 use Rattle.std.specs.Prelude.{codes}
 use Rattle.std.proofs.lemmas.Bool.{and_parts, ltb-true, leb-true}
 use Rattle.std.proofs.lemmas.List.{append-nil}
-use Rattle.text_words.specs.Numbers.{◌>>=◌}
-use Rattle.text_words.specs.Spelling.{spelled}
-use Rattle.text_words.proofs.Binds.{bind_some, guard_some, some_is, chosen}
-use Rattle.text_words.proofs.FieldLaws.{bytes_same}
-use Rattle.line_forms.specs.declared.lines.Form.{Form}
-use Rattle.line_forms.specs.declared.lines.Form.TheVariants as form
-use Rattle.line_forms.specs.Lines.{form_of}
-use Rattle.line_forms.specs.Spelling.{question_line, turn_line, end_words}
-use Rattle.line_forms.proofs.LineLaws.{form_words, IsForm, form_takes}
-use Rattle.world_lines.specs.declared.draft.WorldDraft.{WorldDraft}
-use Rattle.world_lines.specs.Steps.{may_close, world_of}
-use Rattle.world_lines.specs.Steps as world
-use Rattle.world_lines.proofs.DraftLaws as told
+use Rattle.text_lines.specs.Numbers.{◌>>=◌}
+use Rattle.text_lines.specs.Spelling.{spelled}
+use Rattle.text_lines.proofs.Binds.{bind_some, guard_some, some_is, chosen}
+use Rattle.text_lines.proofs.FieldLaws.{bytes_same}
+use Rattle.text_lines.specs.declared.lines.lines.Form.{Form}
+use Rattle.text_lines.specs.declared.lines.lines.Form.TheVariants as form
+use Rattle.text_lines.specs.Lines.{form_of}
+use Rattle.text_lines.specs.LineSpelling.{question_line, turn_line, end_words}
+use Rattle.text_lines.proofs.LineLaws.{form_words, IsForm, form_takes}
+use Rattle.recursor_text.specs.declared.world_reading.draft.WorldDraft.{WorldDraft}
+use Rattle.recursor_text.specs.WorldSteps.{may_close, world_of}
+use Rattle.recursor_text.specs.WorldSteps as world
+use Rattle.recursor_text.proofs.WorldDraftLaws as told
 use Rattle.recursor_text.specs.declared.scenario.Scenario.{Scenario}
 use Rattle.recursor_text.specs.declared.reading.draft.Stage.{Stage}
 use Rattle.recursor_text.specs.declared.reading.draft.Stage.TheVariants.{Start, Headed, Rooted, Optioned, Patient, Scripted, Asked, Turned, Ended}

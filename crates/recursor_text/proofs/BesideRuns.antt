@@ -6,28 +6,28 @@ use Rattle.std.proofs.lemmas.Bool.{and_parts, cases_Bool}
 use Rattle.std.proofs.lemmas.List.{append-nil, length_push}
 use Rattle.dns_core.specs.declared.request.Question.{Question}
 use Rattle.dns_core.specs.declared.request.Turn.{Turn}
-use Rattle.text_words.specs.Numbers.{◌>>=◌}
-use Rattle.text_words.specs.Spelling.{spelled}
-use Rattle.text_words.proofs.Binds.{bind_some}
-use Rattle.text_words.proofs.FieldLaws.{bytes_same}
-use Rattle.text_words.proofs.WordLaws.{words_again}
-use Rattle.line_forms.specs.declared.lines.Form.{Form}
-use Rattle.line_forms.specs.declared.lines.Form.TheVariants as form
-use Rattle.line_forms.specs.declared.option_form.OptionLine.{OptionLine}
-use Rattle.line_forms.specs.declared.rules.OpenRule.{OpenRule}
-use Rattle.line_forms.specs.Lines.{form_of, forms_of, told_of}
-use Rattle.line_forms.specs.RecordLines.{records_of, record_head}
-use Rattle.line_forms.specs.Spelling.{question_line, turn_line, end_words, options_with, IsTurn}
-use Rattle.line_forms.proofs.LineLaws.{form_words, IsForm, form_plain, form_again}
+use Rattle.text_lines.specs.Numbers.{◌>>=◌}
+use Rattle.text_lines.specs.Spelling.{spelled}
+use Rattle.text_lines.proofs.Binds.{bind_some}
+use Rattle.text_lines.proofs.FieldLaws.{bytes_same}
+use Rattle.text_lines.proofs.WordLaws.{words_again}
+use Rattle.text_lines.specs.declared.lines.lines.Form.{Form}
+use Rattle.text_lines.specs.declared.lines.lines.Form.TheVariants as form
+use Rattle.text_lines.specs.declared.lines.option_form.OptionLine.{OptionLine}
+use Rattle.text_lines.specs.declared.lines.rules.OpenRule.{OpenRule}
+use Rattle.text_lines.specs.Lines.{form_of, forms_of, told_of}
+use Rattle.text_lines.specs.RecordLines.{records_of, record_head}
+use Rattle.text_lines.specs.LineSpelling.{question_line, turn_line, end_words, options_with, IsTurn}
+use Rattle.text_lines.proofs.LineLaws.{form_words, IsForm, form_plain, form_again}
 use Rattle.zone_rules.specs.declared.world.World.{World}
-use Rattle.world_lines.specs.declared.draft.OpenZone.{OpenZone}
-use Rattle.world_lines.specs.declared.draft.WorldDraft.{WorldDraft}
-use Rattle.world_lines.specs.Lines.{world_form_of, starts_world, is_world_line}
-use Rattle.world_lines.specs.Spelling.{world_lines}
-use Rattle.world_lines.specs.Steps.{may_host, may_close, world_of}
-use Rattle.world_lines.specs.Steps as world
-use Rattle.world_lines.proofs.FormLaws.{form_starts}
-use Rattle.world_lines.proofs.RunLaws as told
+use Rattle.recursor_text.specs.declared.world_reading.draft.OpenZone.{OpenZone}
+use Rattle.recursor_text.specs.declared.world_reading.draft.WorldDraft.{WorldDraft}
+use Rattle.recursor_text.specs.Lines.{world_form_of, starts_world, is_world_line}
+use Rattle.recursor_text.specs.WorldSpelling.{world_lines}
+use Rattle.recursor_text.specs.WorldSteps.{may_host, may_close, world_of}
+use Rattle.recursor_text.specs.WorldSteps as world
+use Rattle.recursor_text.proofs.FormLaws.{form_starts}
+use Rattle.recursor_text.proofs.RunLaws as told
 use Rattle.recursor_text.specs.declared.scenario.Scenario.{Scenario}
 use Rattle.recursor_text.specs.declared.scenario.Upstream.{Upstream}
 use Rattle.recursor_text.specs.declared.scenario.Upstream.TheVariants.{Script as FromScript, World as FromWorld}

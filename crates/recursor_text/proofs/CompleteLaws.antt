@@ -9,20 +9,20 @@ use Rattle.dns_core.specs.Name.{DomainName}
 use Rattle.dns_core.specs.declared.codes.RecordType.{RecordType}
 use Rattle.dns_core.specs.declared.record.RData.TheVariants.{A}
 use Rattle.dns_core.specs.declared.record.Record.{Record}
-use Rattle.line_forms.specs.declared.lines.Form.{Form}
-use Rattle.line_forms.specs.declared.lines.Form.TheVariants as form
-use Rattle.line_forms.specs.declared.rules.Counts.{Counts}
-use Rattle.line_forms.specs.declared.rules.OpenRule.{OpenRule}
+use Rattle.text_lines.specs.declared.lines.lines.Form.{Form}
+use Rattle.text_lines.specs.declared.lines.lines.Form.TheVariants as form
+use Rattle.text_lines.specs.declared.lines.rules.Counts.{Counts}
+use Rattle.text_lines.specs.declared.lines.rules.OpenRule.{OpenRule}
 use Rattle.recursor_text.specs.declared.reading.draft.Stage.{Stage}
 use Rattle.recursor_text.specs.declared.reading.draft.Stage.TheVariants.{Start, Headed, Rooted, Optioned, Patient, Scripted, Asked, Turned, Ended}
 use Rattle.recursor_text.specs.declared.reading.draft.Draft.{Draft}
-use Rattle.text_words.specs.Numbers.{◌>>=◌}
-use Rattle.text_words.specs.Codes.{class_in}
+use Rattle.text_lines.specs.Numbers.{◌>>=◌}
+use Rattle.text_lines.specs.Codes.{class_in}
 use Rattle.recursor_text.specs.Steps.{may_wait, may_end, settle, rule_of, add, put, is_settled}
-use Rattle.text_words.specs.Spelling.{spelled}
-use Rattle.line_forms.specs.Spelling.{record_text, IsRecord}
-use Rattle.text_words.proofs.NumberLaws.{octet_fits}
-use Rattle.line_forms.proofs.LineLaws.{form_words, IsForm}
+use Rattle.text_lines.specs.Spelling.{spelled}
+use Rattle.text_lines.specs.LineSpelling.{record_text, IsRecord}
+use Rattle.text_lines.proofs.NumberLaws.{octet_fits}
+use Rattle.text_lines.proofs.LineLaws.{form_words, IsForm}
 use Rattle.recursor_text.proofs.DraftLaws.{rank, Good}
 use Rattle.recursor_text.proofs.AgainLaws.{run, takes_form, takes_record}
 

@@ -8,27 +8,27 @@ use Rattle.std.specs.declared.net.ip_addr.IpAddr.{IpAddr}
 use Rattle.dns_core.specs.declared.record.Record.{Record}
 use Rattle.dns_core.specs.declared.request.Question.{Question}
 use Rattle.dns_core.specs.declared.request.Turn.{Turn}
-use Rattle.script_lines.specs.declared.script.ScriptLine.{ScriptLine}
-use Rattle.line_forms.specs.declared.lines.Form.{Form}
-use Rattle.line_forms.specs.declared.lines.Form.TheVariants as form
-use Rattle.line_forms.specs.declared.option_form.OptionLine.{OptionLine}
-use Rattle.line_forms.specs.declared.rules.Counts.{Counts}
-use Rattle.line_forms.specs.declared.rules.OpenRule.{OpenRule}
+use Rattle.script_upstream.specs.declared.script.script.ScriptLine.{ScriptLine}
+use Rattle.text_lines.specs.declared.lines.lines.Form.{Form}
+use Rattle.text_lines.specs.declared.lines.lines.Form.TheVariants as form
+use Rattle.text_lines.specs.declared.lines.option_form.OptionLine.{OptionLine}
+use Rattle.text_lines.specs.declared.lines.rules.Counts.{Counts}
+use Rattle.text_lines.specs.declared.lines.rules.OpenRule.{OpenRule}
 use Rattle.recursor_text.specs.declared.reading.draft.Stage.{Stage}
 use Rattle.recursor_text.specs.declared.reading.draft.Stage.TheVariants.{Start, Headed, Rooted, Optioned, Patient, Scripted, Asked, Turned, Ended}
 use Rattle.recursor_text.specs.declared.reading.draft.Draft.{Draft}
-use Rattle.text_words.specs.Numbers.{◌>>=◌}
-use Rattle.line_forms.specs.Lines.{form_of}
-use Rattle.line_forms.specs.RecordLines.{record_of}
+use Rattle.text_lines.specs.Numbers.{◌>>=◌}
+use Rattle.text_lines.specs.Lines.{form_of}
+use Rattle.text_lines.specs.RecordLines.{record_of}
 use Rattle.recursor_text.specs.Steps.{may_head, may_root, may_option, may_wait, may_tell, may_reply, may_ask, may_turn, may_end, is_ended, start, is_settled, rule_of, settle, add, is_short, put, taken_at, taken, scenario_of}
-use Rattle.text_words.specs.Spelling.{spelled, IsAddress}
-use Rattle.line_forms.specs.Spelling.{head_words, patience_words, told_words, end_words, record_text, script_lines, root_line, option_line, question_line, turn_line, IsScriptLine, IsTurn, IsOption, option_rank, RiseAbove, last_rank, options_with}
+use Rattle.text_lines.specs.Spelling.{spelled, IsAddress}
+use Rattle.text_lines.specs.LineSpelling.{head_words, patience_words, told_words, end_words, record_text, script_lines, root_line, option_line, question_line, turn_line, IsScriptLine, IsTurn, IsOption, option_rank, RiseAbove, last_rank, options_with}
 use Rattle.recursor_text.specs.Spelling.{to_roots, to_options, to_patience, to_told, to_rules, to_questions, to_turns, scenario_lines, most_roots, most_questions, most_turns, NoneFalls, last_moment, IsAsked, IsScenario}
-use Rattle.text_words.proofs.Binds.{bind_some, guard_some, some_is}
-use Rattle.line_forms.proofs.LineLaws.{rule_words, form_words, IsBare, IsLone, IsForm, lone_lines, form_takes}
-use Rattle.line_forms.proofs.OptionLaws.{rise_push}
+use Rattle.text_lines.proofs.Binds.{bind_some, guard_some, some_is}
+use Rattle.text_lines.proofs.LineLaws.{rule_words, form_words, IsBare, IsLone, IsForm, lone_lines, form_takes}
+use Rattle.text_lines.proofs.OptionLaws.{rise_push}
 use Rattle.recursor_text.proofs.OpenRuleLaws.{all_push, mapped_push, IsOpen, open_lines, same_head, add_takes}
-use Rattle.line_forms.proofs.RecordLaws.{record_takes}
+use Rattle.text_lines.proofs.RecordLaws.{record_takes}
 use Rattle.recursor_text.proofs.TurnLaws.{timed_push}
 
 -- ---- a draft

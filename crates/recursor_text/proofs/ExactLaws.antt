@@ -10,15 +10,15 @@ use Rattle.recursor_text.specs.declared.scenario.Cause.TheVariants as cause
 use Rattle.recursor_text.specs.declared.reading.whole.WholeDraft.{WholeDraft}
 use Rattle.recursor_text.specs.declared.reading.draft.Refusal.{Refusal}
 use Rattle.recursor_text.specs.declared.reading.draft.Refusal.TheVariants.{Bad, NotBuilt}
-use Rattle.text_words.specs.Pieces.{pieces}
-use Rattle.text_words.specs.Numbers.{◌>>=◌}
+use Rattle.text_lines.specs.Pieces.{pieces}
+use Rattle.text_lines.specs.Numbers.{◌>>=◌}
 use Rattle.recursor_text.specs.Steps.{is_ended}
 use Rattle.recursor_text.specs.Whole.{start, taken, scenario_of, refusal_of}
 use Rattle.recursor_text.specs.Reading.{cause_of, step_by, finish, onward, read_from, scenario_in, GivesScenario, FailsBy}
 use Rattle.recursor_text.specs.Faults.{CanStand, IsWhole, IsFirstBad, FaultIn, HasFault}
 use Rattle.recursor_text.specs.Spelling.{scenario_lines}
-use Rattle.text_words.proofs.Binds.{bind_some}
-use Rattle.text_words.proofs.Cuts.{split_cons}
+use Rattle.text_lines.proofs.Binds.{bind_some}
+use Rattle.text_lines.proofs.Cuts.{split_cons}
 use Rattle.recursor_text.proofs.BesideLaws.{Good, so_far, taken_takes, start_good, ended_is}
 use Rattle.recursor_text.proofs.BesideRuns.{run, run_append, run_again, draft_is, completes}
 

@@ -9,3 +9,8 @@ pub mod OnlyLaws
 pub mod OpenRuleLaws
 pub mod TurnLaws
 pub mod WholeLaws
+pub mod CountLaws
+pub mod WorldDraftLaws
+pub mod FormLaws
+pub mod Keys
+pub mod RunLaws

@@ -1,13 +1,13 @@
 -- One line of a text that is read line by line.
 use Rattle.std.proofs.Common.{◌≡◌, ℕ, ◌+◌, List, ◌∷◌, ◌==◌, Option, Some, None, Result, refl, sym, ap, ◌∙◌}
-use Rattle.text_words.specs.Pieces.{pieces}
+use Rattle.text_lines.specs.Pieces.{pieces}
 use Rattle.recursor_text.specs.declared.reading.whole.WholeDraft.{WholeDraft}
 use Rattle.recursor_text.specs.declared.scenario.Scenario.{Scenario}
 use Rattle.recursor_text.specs.declared.scenario.ScenarioError.{ScenarioError}
 use Rattle.recursor_text.specs.Unbuilt.{refusal_at}
 use Rattle.recursor_text.specs.Whole.{taken, place_of, refusal_of}
 use Rattle.recursor_text.specs.Reading.{fails_at, cause_of, step_by, step, onward, read_from}
-use Rattle.text_words.proofs.Cuts.{split_cons}
+use Rattle.text_lines.proofs.Cuts.{split_cons}
 
 pub read_line : (d : WholeDraft) (n : ℕ) (line after : List ℕ) → read_from d n (line ∷ pieces 10 after) ≡ onward n (step d line) (λ e. read_from e (n + 1) (pieces 10 after))
 unfolding read_from

@@ -2,35 +2,35 @@
 use Rattle.std.proofs.Common.{◌≡◌, ℕ, ◌+◌, Bool, true, false, ◌&&◌, ◌||◌, cond, eqb, ltb, List, [], ◌∷◌, ◌++◌, length, Option, Some, None, Result, Ok, Err, refl, sym, ap, subst, ◌∙◌, append_assoc, inl, inr}
 use Rattle.std.specs.Prelude.{IfOk, codes}
 use Rattle.std.proofs.lemmas.Bool.{le-ltb, and_parts}
-use Rattle.text_words.specs.Pieces.{pieces}
-use Rattle.text_words.specs.Numbers.{◌>>=◌}
-use Rattle.line_forms.specs.declared.rules.OpenRule.{OpenRule}
+use Rattle.text_lines.specs.Pieces.{pieces}
+use Rattle.text_lines.specs.Numbers.{◌>>=◌}
+use Rattle.text_lines.specs.declared.lines.rules.OpenRule.{OpenRule}
 use Rattle.recursor_text.specs.declared.reading.draft.Stage.TheVariants.{Ended}
 use Rattle.recursor_text.specs.declared.reading.draft.Draft.{Draft}
 use Rattle.recursor_text.specs.declared.reading.whole.WholeDraft.{WholeDraft}
 use Rattle.recursor_text.specs.declared.scenario.Scenario.{Scenario}
 use Rattle.recursor_text.specs.declared.scenario.ScenarioError.{ScenarioError}
-use Rattle.line_forms.specs.Lines.{form_of}
-use Rattle.line_forms.specs.RecordLines.{record_of}
+use Rattle.text_lines.specs.Lines.{form_of}
+use Rattle.text_lines.specs.RecordLines.{record_of}
 use Rattle.recursor_text.specs.Steps.{may_tell, settle, add, put, taken_at, is_ended}
 use Rattle.recursor_text.specs.Steps as draft
 use Rattle.recursor_text.specs.Whole.{start, is_late, late, is_told_world, in_world, beside, world_taken, late_taken, taken_by, taken, scenario_of, refusal_of}
-use Rattle.world_lines.specs.declared.draft.OpenZone.{OpenZone}
-use Rattle.world_lines.specs.declared.draft.WorldDraft.{WorldDraft}
-use Rattle.world_lines.specs.Lines.{world_form_of}
-use Rattle.world_lines.specs.Steps.{may_close}
-use Rattle.world_lines.specs.Steps as told
-use Rattle.world_lines.proofs.FormLaws as world
-use Rattle.text_words.specs.Texts.{record_words}
+use Rattle.recursor_text.specs.declared.world_reading.draft.OpenZone.{OpenZone}
+use Rattle.recursor_text.specs.declared.world_reading.draft.WorldDraft.{WorldDraft}
+use Rattle.recursor_text.specs.Lines.{world_form_of}
+use Rattle.recursor_text.specs.WorldSteps.{may_close}
+use Rattle.recursor_text.specs.WorldSteps as told
+use Rattle.recursor_text.proofs.FormLaws as world
+use Rattle.text_lines.specs.Texts.{record_words}
 use Rattle.recursor_text.specs.Reading.{step_by, step, finish, onward, read_from, scenario_in, GivesScenario}
-use Rattle.text_words.specs.Spelling.{spelled}
+use Rattle.text_lines.specs.Spelling.{spelled}
 use Rattle.recursor_text.specs.Spelling.{scenario_lines, text_of, Reads}
-use Rattle.text_words.proofs.Binds.{bind_some, guard_some, chosen}
-use Rattle.text_words.proofs.FieldLaws.{bytes_same}
-use Rattle.text_words.proofs.PlainLaws.{AllBytes, AllPlain, split_at_byte, weaker, joined_plain}
-use Rattle.text_words.proofs.NumberLaws.{is_word_byte}
-use Rattle.line_forms.proofs.LineLaws.{form_words, form_takes, form_plain}
-use Rattle.line_forms.proofs.RecordLaws.{record_takes, record_plain}
+use Rattle.text_lines.proofs.Binds.{bind_some, guard_some, chosen}
+use Rattle.text_lines.proofs.FieldLaws.{bytes_same}
+use Rattle.text_lines.proofs.PlainLaws.{AllBytes, AllPlain, split_at_byte, weaker, joined_plain}
+use Rattle.text_lines.proofs.NumberLaws.{is_word_byte}
+use Rattle.text_lines.proofs.LineLaws.{form_words, form_takes, form_plain}
+use Rattle.text_lines.proofs.RecordLaws.{record_takes, record_plain}
 use Rattle.recursor_text.proofs.BesideRuns.{run, run_again, draft_is}
 use Rattle.recursor_text.proofs.WholeLaws.{found}
 

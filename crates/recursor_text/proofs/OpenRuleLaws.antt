@@ -4,12 +4,12 @@ use Rattle.std.specs.List.{AllByRecursion}
 use Rattle.std.proofs.lemmas.Bool.{ltb-true, ltb-false}
 use Rattle.std.proofs.lemmas.List.{append-nil, map_push, length_push}
 use Rattle.dns_core.specs.declared.record.Record.{Record}
-use Rattle.line_forms.specs.declared.rules.OpenRule.{OpenRule}
-use Rattle.text_words.specs.Codes.{class_in}
+use Rattle.text_lines.specs.declared.lines.rules.OpenRule.{OpenRule}
+use Rattle.text_lines.specs.Codes.{class_in}
 use Rattle.recursor_text.specs.Steps.{add}
-use Rattle.text_words.specs.Spelling.{spelled, IsFullName, IsAddress, IsType, IsCode}
-use Rattle.line_forms.specs.Spelling.{reply_words, record_text, record_texts, most_delay, IsTransport, IsRecord}
-use Rattle.text_words.proofs.Binds.{guard_some, some_is, chosen}
+use Rattle.text_lines.specs.Spelling.{spelled, IsFullName, IsAddress, IsType, IsCode}
+use Rattle.text_lines.specs.LineSpelling.{reply_words, record_text, record_texts, most_delay, IsTransport, IsRecord}
+use Rattle.text_lines.proofs.Binds.{guard_some, some_is, chosen}
 
 -- ---- lists that grow
 

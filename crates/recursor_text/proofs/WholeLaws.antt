@@ -3,9 +3,9 @@ use Rattle.std.proofs.Common.{◌≡◌, ℕ, ◌+◌, Bool, true, false, cond, 
 use Rattle.std.specs.List.{join_with_byte}
 use Rattle.std.proofs.lemmas.Bool.{ltb-false, eqb-true}
 use Rattle.std.proofs.lemmas.List.{nil_from_length, append-nil}
-use Rattle.text_words.specs.Pieces.{pieces}
+use Rattle.text_lines.specs.Pieces.{pieces}
 use Rattle.recursor_text.specs.declared.reading.whole.WholeDraft.{WholeDraft}
-use Rattle.line_forms.specs.declared.option_form.OptionLine.{OptionLine}
+use Rattle.text_lines.specs.declared.lines.option_form.OptionLine.{OptionLine}
 use Rattle.recursor_text.specs.declared.reading.draft.Refusal.{Refusal}
 use Rattle.recursor_text.specs.declared.scenario.Scenario.{Scenario}
 use Rattle.recursor_text.specs.declared.scenario.ScenarioError.{ScenarioError}
@@ -15,8 +15,8 @@ use Rattle.recursor_text.specs.Steps.{is_ended}
 use Rattle.recursor_text.specs.Whole.{start, taken, scenario_of, refusal_of}
 use Rattle.recursor_text.specs.Reading.{fails_at, step_by, finish, onward, read_from, scenario_in}
 use Rattle.recursor_text.specs.Spelling.{scenario_lines, text_of, IsScenario, Reads}
-use Rattle.text_words.proofs.Cuts.{split_cons}
-use Rattle.text_words.proofs.PlainLaws.{pieces_take}
+use Rattle.text_lines.proofs.Cuts.{split_cons}
+use Rattle.text_lines.proofs.PlainLaws.{pieces_take}
 use Rattle.recursor_text.proofs.BesideLaws.{Good, so_far, taken_takes, start_good, ended_is}
 
 abbrev Read : Type 0

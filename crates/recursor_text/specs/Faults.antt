@@ -1,10 +1,10 @@
 -- Where a text is no scenario, and why.
 use Rattle.std.specs.Prelude.{◌≡◌, ℕ, ◌+◌, ◌<◌, ◌≤◌, ◌⊎◌, List, [], ◌∷◌, ◌++◌, length}
-use Rattle.line_forms.specs.declared.option_form.OptionLine.{OptionLine}
+use Rattle.text_lines.specs.declared.lines.option_form.OptionLine.{OptionLine}
 use Rattle.recursor_text.specs.declared.scenario.Scenario.{Scenario}
 use Rattle.recursor_text.specs.declared.scenario.Cause.{Cause}
 use Rattle.recursor_text.specs.declared.scenario.Cause.TheVariants as cause
-use Rattle.text_words.specs.Pieces.{pieces}
+use Rattle.text_lines.specs.Pieces.{pieces}
 use Rattle.recursor_text.specs.Spelling.{scenario_lines, IsScenario}
 
 -- Some scenario begins with these lines.

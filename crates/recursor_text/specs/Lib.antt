@@ -6,3 +6,9 @@ pub mod Spelling
 pub mod Steps
 pub mod Unbuilt
 pub mod Whole
+pub mod Counts
+pub mod Lines
+pub mod Listed
+pub mod WorldReading
+pub mod WorldSpelling
+pub mod WorldSteps

@@ -1,10 +1,10 @@
 -- Option lines of the whole format, which are not all read yet.
 use Rattle.std.specs.Prelude.{ℕ, nat_lt, Bool, ◌||◌, List, [], ◌∷◌, Option, Some, None, if◌then◌else◌, codes}
 use Rattle.std.specs.Str.{bytes_eq}
-use Rattle.text_words.specs.Fields.{Fields, checked, field, both, whole, nothing}
-use Rattle.text_words.specs.Networks.{nets_of}
-use Rattle.text_words.specs.NumberLists.{ports_of, delays_of}
-use Rattle.text_words.specs.Numbers.{◌>>=◌, number_within}
+use Rattle.text_lines.specs.Fields.{Fields, checked, field, both, whole, nothing}
+use Rattle.text_lines.specs.Networks.{nets_of}
+use Rattle.text_lines.specs.NumberLists.{ports_of, delays_of}
+use Rattle.text_lines.specs.Numbers.{◌>>=◌, number_within}
 
 abbrev pub Line : Type 0
 Line = List (List ℕ) → Option (Unit {0})

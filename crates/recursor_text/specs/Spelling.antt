@@ -5,14 +5,14 @@ use Rattle.std.specs.declared.net.ip_addr.IpAddr.{IpAddr}
 use Rattle.dns_core.specs.declared.request.Question.{Question}
 use Rattle.dns_core.specs.declared.request.Turn.{Turn}
 use Rattle.recursor_types.specs.declared.options.RecursorOptions.{RecursorOptions}
-use Rattle.script_lines.specs.declared.script.ScriptLine.{ScriptLine}
-use Rattle.line_forms.specs.declared.option_form.OptionLine.{OptionLine}
-use Rattle.world_lines.specs.Spelling.{world_lines, IsWorld}
+use Rattle.script_upstream.specs.declared.script.script.ScriptLine.{ScriptLine}
+use Rattle.text_lines.specs.declared.lines.option_form.OptionLine.{OptionLine}
+use Rattle.recursor_text.specs.WorldSpelling.{world_lines, IsWorld}
 use Rattle.recursor_text.specs.declared.scenario.Scenario.{Scenario}
 use Rattle.recursor_text.specs.declared.scenario.Upstream.{Upstream}
 use Rattle.recursor_text.specs.declared.scenario.Upstream.TheVariants.{Script as FromScript, World as FromWorld}
-use Rattle.text_words.specs.Spelling.{spelled, IsAddress}
-use Rattle.line_forms.specs.Spelling.{head_words, patience_words, told_words, end_words, script_lines, root_line, option_line, question_line, turn_line, IsScriptLine, IsQuestion, IsTurn, IsOption, RiseAbove, options_with}
+use Rattle.text_lines.specs.Spelling.{spelled, IsAddress}
+use Rattle.text_lines.specs.LineSpelling.{head_words, patience_words, told_words, end_words, script_lines, root_line, option_line, question_line, turn_line, IsScriptLine, IsQuestion, IsTurn, IsOption, RiseAbove, options_with}
 
 -- ---- the lines of a scenario, in order
 

@@ -2,22 +2,22 @@
 use Rattle.std.specs.Prelude.{ℕ, ◌-◌, List, [], ◌∷◌, ◌++◌, length, ◌&&◌, ◌==◌, nat_lt, nat_le, Bool, true, false, Option, Some, None, Ok, if◌then◌else◌}
 use Rattle.dns_core.specs.declared.record.Record.{Record}
 use Rattle.dns_core.specs.declared.request.Question.{Question}
-use Rattle.script_lines.specs.declared.script.ScriptLine.{ScriptLine}
-use Rattle.script_lines.specs.declared.script.ScriptLine.TheVariants.{Reply}
+use Rattle.script_upstream.specs.declared.script.script.ScriptLine.{ScriptLine}
+use Rattle.script_upstream.specs.declared.script.script.ScriptLine.TheVariants.{Reply}
 use Rattle.recursor_text.specs.declared.scenario.Scenario.{Scenario}
 use Rattle.recursor_text.specs.declared.scenario.Upstream.TheVariants.{Script as FromScript}
-use Rattle.line_forms.specs.declared.lines.Form.{Form}
-use Rattle.line_forms.specs.declared.lines.Form.TheVariants as form
-use Rattle.line_forms.specs.declared.option_form.OptionLine.{OptionLine}
-use Rattle.line_forms.specs.declared.rules.Counts.{Counts}
-use Rattle.line_forms.specs.declared.rules.OpenRule.{OpenRule}
+use Rattle.text_lines.specs.declared.lines.lines.Form.{Form}
+use Rattle.text_lines.specs.declared.lines.lines.Form.TheVariants as form
+use Rattle.text_lines.specs.declared.lines.option_form.OptionLine.{OptionLine}
+use Rattle.text_lines.specs.declared.lines.rules.Counts.{Counts}
+use Rattle.text_lines.specs.declared.lines.rules.OpenRule.{OpenRule}
 use Rattle.recursor_text.specs.declared.reading.draft.Stage.{Stage}
 use Rattle.recursor_text.specs.declared.reading.draft.Stage.TheVariants.{Start, Headed, Rooted, Optioned, Patient, Scripted, Asked, Turned, Ended}
 use Rattle.recursor_text.specs.declared.reading.draft.Draft.{Draft}
-use Rattle.text_words.specs.Numbers.{◌>>=◌}
-use Rattle.line_forms.specs.Lines.{form_of}
-use Rattle.line_forms.specs.RecordLines.{record_of}
-use Rattle.line_forms.specs.Spelling.{option_rank, last_rank, options_with}
+use Rattle.text_lines.specs.Numbers.{◌>>=◌}
+use Rattle.text_lines.specs.Lines.{form_of}
+use Rattle.text_lines.specs.RecordLines.{record_of}
+use Rattle.text_lines.specs.LineSpelling.{option_rank, last_rank, options_with}
 use Rattle.recursor_text.specs.Spelling.{last_moment, most_roots, most_questions, most_turns}
 
 abbrev pub may_head : Stage → Bool

@@ -8,14 +8,14 @@ use Rattle.recursor_text.specs.declared.reading.draft.Stage.TheVariants.{Rooted,
 use Rattle.recursor_text.specs.declared.reading.draft.Place.{Place}
 use Rattle.recursor_text.specs.declared.reading.draft.Refusal.{Refusal}
 use Rattle.recursor_text.specs.declared.reading.draft.Refusal.TheVariants.{Bad, NotBuilt}
-use Rattle.text_words.specs.Addresses.{ip_of}
-use Rattle.text_words.specs.Codes.{type_of}
-use Rattle.text_words.specs.Fields.{checked, field, both, whole}
-use Rattle.line_forms.specs.Lines.{delay_field, connected_fields, answered_fields, question_fields}
-use Rattle.text_words.specs.Names.{full_name}
+use Rattle.text_lines.specs.Addresses.{ip_of}
+use Rattle.text_lines.specs.Codes.{type_of}
+use Rattle.text_lines.specs.Fields.{checked, field, both, whole}
+use Rattle.text_lines.specs.Lines.{delay_field, connected_fields, answered_fields, question_fields}
+use Rattle.text_lines.specs.Names.{full_name}
 use Rattle.recursor_text.specs.OptionLines.{Line, option_line}
-use Rattle.text_words.specs.Pieces.{pieces}
-use Rattle.line_forms.specs.Spelling.{last_rank}
+use Rattle.text_lines.specs.Pieces.{pieces}
+use Rattle.text_lines.specs.LineSpelling.{last_rank}
 use Rattle.recursor_text.specs.Spelling.{most_questions}
 
 -- ---- words

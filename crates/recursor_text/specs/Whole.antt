@@ -1,14 +1,14 @@
 -- What has come of a whole scenario so far: a draft, and beside it that of a world where it is told one.
 use Rattle.std.specs.Prelude.{ℕ, List, Bool, true, false, not, ◌&&◌, ◌||◌, Option, Some, None, is_some, if◌then◌else◌, codes}
 use Rattle.std.specs.Str.{bytes_eq}
-use Rattle.text_words.specs.Numbers.{◌>>=◌}
-use Rattle.line_forms.specs.Lines.{form_of}
-use Rattle.line_forms.specs.declared.lines.Form.{Form}
-use Rattle.line_forms.specs.declared.lines.Form.TheVariants as form
-use Rattle.world_lines.specs.Lines.{is_world_line}
-use Rattle.world_lines.specs.Steps as world
-use Rattle.world_lines.specs.Steps.{may_close, world_of}
-use Rattle.world_lines.specs.declared.draft.WorldDraft.{WorldDraft}
+use Rattle.text_lines.specs.Numbers.{◌>>=◌}
+use Rattle.text_lines.specs.Lines.{form_of}
+use Rattle.text_lines.specs.declared.lines.lines.Form.{Form}
+use Rattle.text_lines.specs.declared.lines.lines.Form.TheVariants as form
+use Rattle.recursor_text.specs.Lines.{is_world_line}
+use Rattle.recursor_text.specs.WorldSteps as world
+use Rattle.recursor_text.specs.WorldSteps.{may_close, world_of}
+use Rattle.recursor_text.specs.declared.world_reading.draft.WorldDraft.{WorldDraft}
 use Rattle.recursor_text.specs.declared.scenario.Scenario.{Scenario}
 use Rattle.recursor_text.specs.declared.scenario.Upstream.TheVariants.{World as FromWorld}
 use Rattle.recursor_text.specs.declared.reading.draft.Stage.{Stage}

@@ -9,9 +9,15 @@ mod fault_text;
 mod reading;
 mod scenario;
 mod threads;
+mod world_reading;
 
 pub use scenario::{Cause, Scenario, ScenarioError, Upstream, one_reading, read_scenario};
 pub use transcript_printer::{
     Transcript, has_log_words, has_transcript_words, has_words, print_error, print_log,
     print_message, print_record, print_transcript,
 };
+pub use world_reading::counts::Count;
+pub use world_reading::draft::{OpenZone, WorldDraft, WorldStage};
+pub use world_reading::laws::{a_line_is_taken_where_it_can_stand, a_world_is_what_its_lines_say};
+pub use world_reading::lines::{WorldForm, ZoneHead, is_world_line, world_line};
+pub use world_reading::listed::{HostList, ZoneList};

@@ -7,7 +7,7 @@ ghost use Rattle.recursor_text.specs.Reading.{GivesScenario, scenario_in};
 use crate::reading::text::read_lines;
 use dns_core::{Ips, Items, Question, Turn};
 use recursor_types::RecursorOptions;
-use recursor_world::Script;
+use script_upstream::Script;
 use std::alloc::Global;
 use zone_worlds::World;
 

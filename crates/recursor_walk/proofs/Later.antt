@@ -1,10 +1,9 @@
 -- What holds of a walk goes on holding as a machine comes further.
-use Rattle.recursor_walk.proofs.Names.{ℕ, subst, arith, DomainName, Query, Question, last_name, View, given_of, Later, NoCut, Passed, WayHolds, WalkHolds, Walk, StateHolds, ResolutionHolds, State, Walking, Asking, Done, Resolution}
+use Rattle.recursor_walk.proofs.Names.{ℕ, subst, DomainName, Query, last_name, View, given_of, Later, NoCut, Passed, WayHolds, WalkHolds, Walk}
 use Rattle.resolution.specs.Given.{Given}
-use Rattle.lookup_facts.proofs.Later.{given-is, pool-on}
+use Rattle.walk_lookup.proofs.Later.{given-is, pool-on}
 use Rattle.resolution.proofs.FailuresKept.{NoCut-extend}
 use Rattle.walk_tables.proofs.Later.{lookup-later}
-use Rattle.zone_asking.proofs.Later.{last-later, reply-later}
 
 module _ (old new : View) (later : Later old new) where
   -- the candidates that were passed
@@ -27,15 +26,5 @@ module _ (old new : View) (later : Later old new) where
   }
 
   -- a walk
-  walk-later : (t0 : ℕ) (q : Query) (w : Walk) → WalkHolds old t0 q w → WalkHolds new t0 q w
+  pub walk-later : (t0 : ℕ) (q : Query) (w : Walk) → WalkHolds old t0 q w → WalkHolds new t0 q w
   walk-later t0 q w h = record { way = way-later q w h.way; lookup = lookup-later old new later t0 w.asking.zone w.asking.lookup h.lookup }
-
-  -- where a resolution stands
-  state-later : (t0 : ℕ) (question : Question) (s : State) → StateHolds old t0 question s → StateHolds new t0 question s
-  state-later t0 question (Walking w) h = walk-later t0 question.query w.value h
-  state-later t0 question (Asking a) h = last-later old new later t0 question.query a.value h
-  state-later t0 question (Done reply) h = (reply-later old new later t0 question reply.value h.0, h.1)
-  state-later t0 question _ h = h
-
-  pub resolution-later : (r : Resolution) → ResolutionHolds old r → ResolutionHolds new r
-  resolution-later r h = record { begun = let b = h.begun in let m = later.moment in omega (arith, b, m); state = state-later r.begun r.question r.state h.state }

@@ -1,5 +1,10 @@
 pub mod Names
 pub mod Walks
-pub mod Resolved
-pub mod Stepping
 pub mod Later
+pub mod AskingWords
+pub mod Lowered
+pub mod Denials
+pub mod Recalling
+pub mod Sites
+pub mod AskingLater
+pub mod Earlier

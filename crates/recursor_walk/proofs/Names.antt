@@ -10,23 +10,18 @@ pub use Rattle.resolution.specs.Names.{candidates, walk, question, last_name, ro
 pub use Rattle.resolution.specs.Ending.{Finished, is_timeout}
 pub use Rattle.resolution.specs.declared.verdict.Verdict.TheVariants.{Pos, Neg, Made}
 pub use Rattle.resolution.specs.declared.verdict.Verdict.{Verdict}
-pub use Rattle.lookup_facts.specs.View.{View, given_of, Later}
+pub use Rattle.walk_lookup.specs.View.{View, given_of, Later}
 pub use Rattle.resolution.specs.Walking.{Walked, NoCut, ReachesName, at_any_time, is_cut}
-pub use Rattle.walk_base.specs.Answer.{made_negative, ends_walk}
+pub use Rattle.walk_response.specs.Answer.{made_negative, ends_walk}
 pub use Rattle.recursor_types.specs.declared.error.RecursorError.TheVariants.{NoNameServer}
 pub use Rattle.recursor_types.specs.declared.reply.Reply.{Reply}
 pub use Rattle.walk_tables.specs.Lookup.{LeavesLess, want_after, want_steps, LookupHolds, want_of}
 pub use Rattle.recursor_types.specs.declared.error.WalkCause.TheVariants.{NoAddress, Timeout}
-pub use Rattle.zone_asking.specs.Replies.{CameTo, HasCause, RepliesWith, reply_with, IsReplyKept}
+pub use Rattle.recursor_walk.specs.Replies.{CameTo, HasCause, RepliesWith, reply_with, IsReplyKept}
 pub use Rattle.recursor_walk.specs.Walk.{IsCourseOf, Goes, Recalls, EndsIf, steps_after, Passes, verdict_heard, verdict_found, counting}
 pub use Rattle.recursor_walk.specs.declared.walk.Course.{Course}
-pub use Rattle.zone_asking.specs.Counted.{Stands, recalled, answerable, ReadsAt}
+pub use Rattle.recursor_walk.specs.Counted.{Stands, recalled, answerable, ReadsAt}
 pub use Rattle.recursor_walk.specs.Way.{WalkComes, Passed, WayHolds, WalkHolds, IsAtServers, LeavesBehind}
 pub use Rattle.recursor_walk.specs.declared.walk.Walk.{Walk}
-pub use Rattle.zone_asking.specs.Asking.{LastHolds, AskingHolds, SameSite, LeavesFewer}
-pub use Rattle.recursor_walk.specs.Resolved.{StateHolds, ResolutionHolds}
-pub use Rattle.recursor_walk.specs.declared.resolving.State.{State}
-pub use Rattle.recursor_walk.specs.declared.resolving.State.TheVariants.{Walking, Asking, Done, New}
-pub use Rattle.recursor_walk.specs.declared.resolving.Resolution.{Resolution}
-pub use Rattle.zone_asking.specs.declared.counted.Counted.{Counted}
-pub use Rattle.recursor_walk.specs.Resolving.{state_want, state_steps, steps, asked_of, IsWalked, IsSettled, IsOpen, StaysOpen, AsksOn, SameBegun, IsUnder, IsDone, IsDoneWith, IsAnswered}
+pub use Rattle.recursor_walk.specs.Asking.{LastHolds, AskingHolds, SameSite, LeavesFewer}
+pub use Rattle.recursor_walk.specs.declared.zone_query.counted.Counted.{Counted}

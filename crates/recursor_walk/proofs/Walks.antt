@@ -3,21 +3,21 @@ use Rattle.recursor_walk.proofs.Names.{◌≡◌, ◌≤◌, ◌<◌, ◌+◌, �
 use Rattle.std.specs.Prelude.{drop}
 use Rattle.std.specs.Cmp.{second_so, first_so}
 use Rattle.std.specs.declared.net.ip_addr.IpAddr.{IpAddr}
-use Rattle.lookup_facts.specs.Tried.{Concluded, machine_timer}
-use Rattle.zone_asking.specs.Causes.{HasNoServer}
+use Rattle.walk_lookup.specs.Tried.{Concluded, machine_timer}
+use Rattle.recursor_walk.specs.Causes.{HasNoServer}
 use Rattle.dns_core.specs.declared.message.Message.{Message}
 use Rattle.resolution.specs.Serving.{is_delegation, glue, allowed}
 use Rattle.std.proofs.lemmas.Result.{IfOk-weaker}
 use Rattle.resolver_settings.specs.Access.{denies}
 use Rattle.resolution.specs.Walking.NoCut.{told_otherwise, not_told}
-use Rattle.walk_base.specs.Candidate.{candidate_query}
-use Rattle.lookup_facts.specs.Sought.{ArePool, AreFor}
-use Rattle.zone_asking.specs.declared.asking.Asking.{Asking}
+use Rattle.walk_response.specs.Candidate.{candidate_query}
+use Rattle.walk_lookup.specs.Sought.{ArePool, AreFor}
+use Rattle.recursor_walk.specs.declared.zone_query.asking.Asking.{Asking}
 use Rattle.walk_tables.specs.declared.lookup.Lookup.{Lookup}
 use Rattle.resolution.proofs.WayDown.{above-last, last-above, last-length, walked-from-passed, walked-at-candidate, passed-at-candidate}
-use Rattle.zone_asking.proofs.Denials.{has-failed}
-use Rattle.zone_asking.proofs.Earlier.{Finished-earlier}
-use Rattle.zone_asking.proofs.Sites.{among, cut-same, roots-pool, root-above-for, cut-delegates, cut-pool}
+use Rattle.recursor_walk.proofs.Denials.{has-failed}
+use Rattle.recursor_walk.proofs.Earlier.{Finished-earlier}
+use Rattle.recursor_walk.proofs.Sites.{among, cut-same, roots-pool, root-above-for, cut-delegates, cut-pool}
 use Rattle.recursor_walk.specs.Walk.{steps}
 use Rattle.dns_core.specs.declared.net_error.NetError.TheVariants as net
 use Rattle.recursor_types.specs.declared.error.WalkCause.TheVariants as why

@@ -1,5 +1,7 @@
 pub mod Walk
 pub mod Way
-pub mod Resolving
-pub mod Resolved
-pub mod Steps
+pub mod SameTold
+pub mod Causes
+pub mod Replies
+pub mod Counted
+pub mod Asking

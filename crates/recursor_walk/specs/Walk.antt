@@ -5,14 +5,14 @@ use Rattle.dns_core.specs.declared.errors.NoMemory.{NoMemory}
 use Rattle.dns_core.specs.declared.net_error.NetError.{NetError}
 use Rattle.resolution.specs.Failing.{ends_walk}
 use Rattle.resolution.specs.declared.verdict.Verdict.{Verdict}
-use Rattle.lookup_facts.specs.declared.found.Found.{Found}
-use Rattle.zone_asking.specs.declared.counted.Counted.{Counted}
+use Rattle.walk_lookup.specs.declared.found.Found.{Found}
+use Rattle.recursor_walk.specs.declared.zone_query.counted.Counted.{Counted}
 use Rattle.recursor_types.specs.declared.reply.Reply.{Reply}
 use Rattle.recursor_walk.specs.declared.walk.Course.{Course}
 use Rattle.recursor_walk.specs.declared.walk.Walk.{Walk}
 use Rattle.resolution.specs.Names.{walk as name_walked}
 use Rattle.walk_tables.specs.Lookup as lookup
-use Rattle.lookup_facts.specs.declared.found.Found.TheVariants as found
+use Rattle.walk_lookup.specs.declared.found.Found.TheVariants as found
 use Rattle.recursor_walk.specs.declared.walk.Course.TheVariants as course
 
 -- how many steps a walk has before it once the lookup of its candidate was heard, beside those by which it gives orders and waits for them, and

@@ -10,14 +10,14 @@ use Rattle.resolution.specs.Names.{is_above, walk, last_name}
 use Rattle.resolution.specs.Walking.{NoCut, ReachesName}
 use Rattle.resolution.specs.declared.verdict.Verdict.{Verdict}
 use Rattle.resolver_settings.specs.Access.{Access}
-use Rattle.walk_base.specs.Candidate.{candidate_query}
+use Rattle.walk_response.specs.Candidate.{candidate_query}
 use Rattle.walk_tables.specs.Lookup.{LookupHolds}
-use Rattle.lookup_facts.specs.Found.{FoundHolds, HasFailedBy}
-use Rattle.lookup_facts.specs.Sought.{ArePool, AreFor}
-use Rattle.lookup_facts.specs.View.{View, given_of}
-use Rattle.lookup_facts.specs.declared.found.Found.{Found}
-use Rattle.zone_asking.specs.Counted.{Stands}
-use Rattle.zone_asking.specs.Replies.{CameTo}
+use Rattle.walk_lookup.specs.Found.{FoundHolds, HasFailedBy}
+use Rattle.walk_lookup.specs.Sought.{ArePool, AreFor}
+use Rattle.walk_lookup.specs.View.{View, given_of}
+use Rattle.walk_lookup.specs.declared.found.Found.{Found}
+use Rattle.recursor_walk.specs.Counted.{Stands}
+use Rattle.recursor_walk.specs.Replies.{CameTo}
 use Rattle.recursor_walk.specs.declared.walk.Course.{Course}
 use Rattle.recursor_walk.specs.declared.walk.Walk.{Walk}
 use Rattle.recursor_walk.specs.declared.walk.Course.TheVariants as course

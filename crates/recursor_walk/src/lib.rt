@@ -1,14 +1,12 @@
-//! One question: its walk from the roots down the delegations to the servers of its name, and the question
-//! itself at these, one lookup at a time, before each of which comes what the cache has. Whoever steps it
-//! lends it the pools and the cache: it takes no outcome, and knows of no other question.
+//! The walk of a question from the roots down the delegations to the servers of its name, and a question at
+//! the servers of a zone: at each candidate of the walk, and at last the question itself, what the cache has
+//! comes first (RFC 1034 section 5.3.3).
 #![tactic(auto)]
 
-mod resolving;
-mod short_way;
-mod steps;
 mod threads;
 mod walk;
+mod zone_query;
 
-pub use resolving::{Need, Resolution, State};
-pub use steps::Step;
 pub use walk::{Course, Walk};
+pub use zone_query::asking::{Asking, answer_with};
+pub use zone_query::counted::{Counted, answerable, recalled};

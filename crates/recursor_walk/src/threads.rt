@@ -1,18 +1,8 @@
 //! Which types of this crate may go to another thread, and be shared among threads.
 
-use crate::resolving::{Need, Resolution, State};
-use crate::steps::Step;
 use crate::walk::{Course, Walk};
 use dns_core::CrossesThreads;
 
 impl CrossesThreads for Course {}
 
-impl CrossesThreads for Need {}
-
-impl CrossesThreads for Resolution {}
-
-impl CrossesThreads for State {}
-
 impl CrossesThreads for Walk {}
-
-impl CrossesThreads for Step {}

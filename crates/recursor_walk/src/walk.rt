@@ -5,28 +5,29 @@ ghost use Rattle.dns_core.specs.declared.message.Query.{Query};
 ghost use Rattle.dns_core.specs.declared.request.Question.{Question};
 ghost use Rattle.resolution.specs.Names.{walk};
 ghost use Rattle.walk_tables.specs.Lookup.{want_of};
-ghost use Rattle.lookup_facts.specs.View.{View};
-ghost use Rattle.zone_asking.specs.Asking.{LastHolds};
-ghost use Rattle.zone_asking.specs.Counted.{ReadsAt, recalled};
+ghost use Rattle.walk_lookup.specs.View.{View};
+ghost use Rattle.recursor_walk.specs.Asking.{LastHolds};
+ghost use Rattle.recursor_walk.specs.Counted.{ReadsAt, recalled};
 ghost use Rattle.recursor_walk.specs.Walk.{steps, Goes, Passes, Ends, EndsIf, IsOnward, Recalls, counting, verdict_found, verdict_heard, IsCourseOf};
 ghost use Rattle.recursor_walk.specs.Way.{WayHolds, WalkHolds, IsAtServers, LeavesBehind, Comes, HasFailedAt, HasHeard, HasFound, HasRoots, FiltersBy};
 ghost use Rattle.walk_tables.specs.declared.lookup.Want.TheVariants as want;
-ghost use Rattle.zone_asking.specs.Asking as asking;
+ghost use Rattle.recursor_walk.specs.Asking as asking;
 
+use crate::zone_query::asking::Asking;
+use crate::zone_query::counted::{Counted, recalled};
 use dns_core::{
     Ips, Message, Name, NetError, NoMemory, NoRecords, Numbers, Query, TryClone, in_box,
 };
-use lookup_facts::Found;
 use recursor_types::{RecursorError, Reply, WalkCause};
 use resolution::Verdict;
 use resolver_cache::ResponseCache;
 use resolver_settings::AccessControlSet;
 use std::alloc::Global;
-use walk_base::{
+use walk_lookup::Found;
+use walk_response::{
     addresses, candidate_query, ends_walk, is_delegation, made_negative, reply_by, told_negative,
 };
 use walk_tables::Lookup;
-use zone_asking::{Asking, Counted, recalled};
 
 /// A walk to a name: the NS records of the candidate that has the last `labels` labels of the name are
 /// looked for at the servers of the deepest zone that was found at or above the name.

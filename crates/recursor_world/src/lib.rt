@@ -1,17 +1,10 @@
-//! Upstreams in memory: scripts, which say line by line what is told of each connection and each
-//! question.
-//!
-//! A `ScriptUpstream` is a provider of connections whose log is, at every moment, one that its script
-//! gives (`Gives`).
+//! What stands for the servers of the world where there are none: scripts and worlds, the check of a world,
+//! and the upstream that each of them is.
 #![tactic(auto)]
 
-mod laws;
-mod provider;
-mod threads;
-mod upstream;
-
-pub use laws::fronts_are_given;
-pub use provider::{ScriptExchange, ScriptOpening};
-pub use script_index::Endpoint;
-pub use script_lines::{Late, Room, Script, ScriptLine, push_or_back};
-pub use upstream::ScriptUpstream;
+pub use script_upstream::{Script, ScriptExchange, ScriptLine, ScriptOpening, ScriptUpstream};
+pub use world_check::{Verdict, WorldFilters, check_indexed, check_world};
+pub use world_upstream::{WorldExchange, WorldOpening, WorldUpstream};
+pub use zone_worlds::{
+    Host, IndexedWorld, World, WorldAnswer, Zone, told, valid_question, world_answer,
+};

@@ -6,3 +6,9 @@ pub mod NewServer
 pub mod Protocols
 pub mod Lending
 pub mod Hearing
+pub mod Order
+pub mod Context
+pub mod Choice
+pub mod Policy
+pub mod ChoiceLaws
+pub mod Sending

@@ -4,7 +4,7 @@ use Rattle.std.specs.Prelude.{◌&&◌, ◌||◌}
 use Rattle.std.specs.List.{list_any, list_all, last_or, after_first, AllByRecursion}
 use Rattle.server_pool.specs.ByAddress.{Beside}
 use Rattle.server_pool.specs.ByAddress.Beside.{no_more, one_more}
-use Rattle.retry_rules.proofs.Turning.{but, but_yes, but_no, after_yes, after_no}
+use Rattle.pool_rules.proofs.Turning.{but, but_yes, but_no, after_yes, after_no}
 
 module _ {X Y : Type 0} (R : X → Y → Type 0) where
   -- two elements that may be wanting: both are, or they are related

@@ -20,14 +20,14 @@ use Rattle.resolution.proofs.Members.{Has, Has-from_Contains, Contains-from_Has}
 use Rattle.resolution.proofs.Addresses.{same_ip-true, same_ip-itself}
 use Rattle.resolution.proofs.Classified.{class_of_message-itself}
 use Rattle.resolution.proofs.Caseless.{class_of_message-same, classified-same}
-use Rattle.server_send.specs.Sending.{result_of}
-use Rattle.retry_rules.specs.Agenda.{rules_of, class_of_sent, end_at}
-use Rattle.retry_rules.specs.declared.candidate.Candidate.{Candidate}
+use Rattle.server_core.specs.Sending.{result_of}
+use Rattle.pool_rules.specs.Agenda.{rules_of, class_of_sent, end_at}
+use Rattle.pool_rules.specs.declared.candidate.Candidate.{Candidate}
 use Rattle.server_pool.specs.ByAddress.{Beside, IsSameEnd, SameEnds, at_address}
 use Rattle.server_pool.proofs.Beside.{BesideOption, beside_parted, beside_length, beside_map, beside_last, beside_any, beside_all, beside_filter, beside_find, beside_after, beside_but, beside_image, beside_and}
 use Rattle.server_pool.proofs.Narrowed.{or_follows, last_passing, IsNarrower, length_narrowed, last_narrowed, any_follows, all_follow}
-use Rattle.retry_rules.proofs.Standing.{or_right}
-use Rattle.retry_rules.proofs.Plans.{same_self, same_is}
+use Rattle.pool_rules.proofs.Standing.{or_right}
+use Rattle.pool_rules.proofs.Plans.{same_self, same_is}
 use Rattle.server_pool.proofs.Beside.BesideOption.{neither, both}
 
 -- ---- what holds of all

@@ -7,17 +7,17 @@ use Rattle.std.specs.Ordering.{nat_cmp}
 use Rattle.dns_core.specs.declared.errors.NoMemory.{NoMemory}
 use Rattle.dns_core.specs.declared.net_error.NetError.TheVariants.{NoConnections}
 use Rattle.server_core.specs.Servers.{Server}
-use Rattle.retry_lookup.specs.declared.giving.LookupStep.{LookupStep}
-use Rattle.retry_lookup.specs.declared.giving.LookupStep.TheVariants as step
-use Rattle.retry_lookup.specs.Giving.{Halts}
-use Rattle.retry_lookup.specs.Lookup.{LookupState}
-use Rattle.retry_lookup.specs.Rounds.{started}
-use Rattle.retry_lookup.proofs.Reached.{stepped_configs, halted_configs}
-use Rattle.pool_lookups.specs.Lookups.{moved_to, under}
-use Rattle.pool_lookups.specs.Orders.{without_order, orders_by, given_by}
-use Rattle.pool_lookups.specs.Stepping.{IsStepAt, IsHaltedAt}
-use Rattle.pool_lookups.specs.declared.open_lookup.OpenLookup.{OpenLookup}
-use Rattle.pool_lookups.proofs.UnderNumbers.{found_with, remove_inserted}
+use Rattle.pool_lookup.specs.declared.giving.LookupStep.{LookupStep}
+use Rattle.pool_lookup.specs.declared.giving.LookupStep.TheVariants as step
+use Rattle.pool_lookup.specs.Giving.{Halts}
+use Rattle.pool_lookup.specs.Lookup.{LookupState}
+use Rattle.pool_lookup.specs.Rounds.{started}
+use Rattle.pool_lookup.proofs.Reached.{stepped_configs, halted_configs}
+use Rattle.server_pool.specs.OpenLookups.{moved_to, under}
+use Rattle.server_pool.specs.LookupOrders.{without_order, orders_by, given_by}
+use Rattle.server_pool.specs.LookupSteps.{IsStepAt, IsHaltedAt}
+use Rattle.server_pool.specs.declared.open_lookups.open_lookup.OpenLookup.{OpenLookup}
+use Rattle.server_pool.proofs.UnderNumbers.{found_with, remove_inserted}
 use Rattle.server_pool.specs.Holds.{times_of, SharedHolds}
 use Rattle.server_pool.specs.Promises.{IsFairly, IfDone, IfWaiting}
 use Rattle.server_pool.specs.Shared.{Shared, lookup_at, denied_in, configs}

@@ -5,29 +5,29 @@ use Rattle.std.specs.Ordering.{nat_cmp}
 use Rattle.std.specs.declared.net.ip_addr.IpAddr.{IpAddr}
 use Rattle.dns_core.specs.declared.errors.NoMemory.{NoMemory}
 use Rattle.server_core.specs.Servers.{Server}
-use Rattle.server_orders.specs.declared.order.After.{After}
-use Rattle.server_orders.specs.declared.order.Outcome.{Outcome}
-use Rattle.server_orders.specs.declared.order.Tick.{Tick}
-use Rattle.retry_lookup.specs.declared.giving.LookupStep.{LookupStep}
-use Rattle.retry_lookup.specs.declared.giving.LookupStep.TheVariants as step
-use Rattle.retry_lookup.specs.Asked.{opens, has_order}
-use Rattle.retry_lookup.specs.Giving.{Gives, Halts, stepped_table}
-use Rattle.retry_lookup.specs.Hearing.{RunsOut}
-use Rattle.retry_lookup.specs.Holds.{Holds}
-use Rattle.retry_lookup.specs.Lookup.{LookupState, BegunWith, begun_with}
-use Rattle.retry_lookup.specs.Rounds.{started}
-use Rattle.retry_lookup.proofs.Begun.{started_same, next_same, outcome_same, out_of_memory_same}
-use Rattle.retry_lookup.proofs.Laws.{holds_started, holds_outcome, holds_out_of_memory}
-use Rattle.retry_lookup.proofs.Next.{holds_next}
-use Rattle.retry_lookup.proofs.Opens.{bit, opens_started, opens_order, opens_outcome, opens_out_of_memory, opens_none}
-use Rattle.retry_lookup.proofs.Reached.{are_reached, stepped_configs, halted_configs, heard_configs}
-use Rattle.pool_lookups.specs.Lookups.{with_at, moved_to, joined, left, under}
-use Rattle.pool_lookups.specs.Orders.{without_order, orders_by, orders_left}
-use Rattle.pool_lookups.specs.Stepping.{IsStepAt, IsHaltedAt, put_lookup, put_table}
-use Rattle.pool_lookups.specs.declared.open_lookup.OpenLookup.{OpenLookup}
-use Rattle.pool_lookups.proofs.UnderNumbers.{inserted, inserted_other, removed_other, removed_none, with_other, IsSame, is_same, IsFound, found_in}
-use Rattle.pool_lookups.proofs.UnderNumbers.IsSame.{is_one, are_two}
-use Rattle.pool_lookups.proofs.UnderNumbers.IsFound.{is_changed, is_other}
+use Rattle.server_core.specs.declared.orders.order.After.{After}
+use Rattle.server_core.specs.declared.orders.order.Outcome.{Outcome}
+use Rattle.server_core.specs.declared.orders.order.Tick.{Tick}
+use Rattle.pool_lookup.specs.declared.giving.LookupStep.{LookupStep}
+use Rattle.pool_lookup.specs.declared.giving.LookupStep.TheVariants as step
+use Rattle.pool_lookup.specs.Asked.{opens, has_order}
+use Rattle.pool_lookup.specs.Giving.{Gives, Halts, stepped_table}
+use Rattle.pool_lookup.specs.Hearing.{RunsOut}
+use Rattle.pool_lookup.specs.Holds.{Holds}
+use Rattle.pool_lookup.specs.Lookup.{LookupState, BegunWith, begun_with}
+use Rattle.pool_lookup.specs.Rounds.{started}
+use Rattle.pool_lookup.proofs.Begun.{started_same, next_same, outcome_same, out_of_memory_same}
+use Rattle.pool_lookup.proofs.Laws.{holds_started, holds_outcome, holds_out_of_memory}
+use Rattle.pool_lookup.proofs.Next.{holds_next}
+use Rattle.pool_lookup.proofs.Opens.{bit, opens_started, opens_order, opens_outcome, opens_out_of_memory, opens_none}
+use Rattle.pool_lookup.proofs.Reached.{are_reached, stepped_configs, halted_configs, heard_configs}
+use Rattle.server_pool.specs.OpenLookups.{with_at, moved_to, joined, left, under}
+use Rattle.server_pool.specs.LookupOrders.{without_order, orders_by, orders_left}
+use Rattle.server_pool.specs.LookupSteps.{IsStepAt, IsHaltedAt, put_lookup, put_table}
+use Rattle.server_pool.specs.declared.open_lookups.open_lookup.OpenLookup.{OpenLookup}
+use Rattle.server_pool.proofs.UnderNumbers.{inserted, inserted_other, removed_other, removed_none, with_other, IsSame, is_same, IsFound, found_in}
+use Rattle.server_pool.proofs.UnderNumbers.IsSame.{is_one, are_two}
+use Rattle.server_pool.proofs.UnderNumbers.IsFound.{is_changed, is_other}
 use Rattle.server_pool.specs.Holds.{LookupHolds, times_of, SharedHolds}
 use Rattle.server_pool.specs.Shared.{configs}
 

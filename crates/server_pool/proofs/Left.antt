@@ -19,9 +19,9 @@ use Rattle.resolution.specs.Lookups.{Answered, class_of_answer, End, Rules, is_r
 use Rattle.resolution.specs.Ending.{by_address}
 use Rattle.resolution.specs.declared.class.Class.{Class}
 use Rattle.resolution.specs.declared.class.Class.TheVariants.{Error, Code, Truncated, Negative, Foreign, Positive}
-use Rattle.retry_rules.specs.declared.candidate.Candidate.{Candidate}
-use Rattle.retry_rules.proofs.Turning.{but_none}
-use Rattle.retry_lookup.specs.Holds.{HeardEnd, ends_of}
+use Rattle.pool_rules.specs.declared.candidate.Candidate.{Candidate}
+use Rattle.pool_rules.proofs.Turning.{but_none}
+use Rattle.pool_lookup.specs.Holds.{HeardEnd, ends_of}
 
 -- an error that is left where no end decides
 abbrev pub IsLeft : NetError → Type 0

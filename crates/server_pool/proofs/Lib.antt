@@ -12,3 +12,5 @@ pub mod Running
 pub mod Sendings
 pub mod Bounding
 pub mod Left
+pub mod UnderNumbers
+pub mod Changed

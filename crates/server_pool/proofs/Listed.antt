@@ -9,10 +9,10 @@ use Rattle.std.specs.Map.{keys_of}
 use Rattle.std.specs.Ordering.{nat_cmp}
 use Rattle.std.proofs.lemmas.List.Elements.{Contains-push_cases, Contains-append_left, Contains-push}
 use Rattle.std.proofs.lemmas.Map.Views.{Contains-keys_from_lookup}
-use Rattle.retry_lookup.specs.Asked.{has_order}
-use Rattle.pool_lookups.specs.declared.open_lookup.OpenLookup.{OpenLookup}
-use Rattle.pool_lookups.specs.Lookups.{is_open_in, under}
-use Rattle.pool_lookups.proofs.UnderNumbers.{same_number}
+use Rattle.pool_lookup.specs.Asked.{has_order}
+use Rattle.server_pool.specs.declared.open_lookups.open_lookup.OpenLookup.{OpenLookup}
+use Rattle.server_pool.specs.OpenLookups.{is_open_in, under}
+use Rattle.server_pool.proofs.UnderNumbers.{same_number}
 use Rattle.server_pool.specs.Orders.{IsOpenOrder, open_at, is_withdrawn, first_withdrawn}
 use Rattle.server_pool.specs.Shared.{Shared, lookup_of}
 

@@ -2,18 +2,18 @@
 use Rattle.std.proofs.Common.{◌≡◌, ◌∙◌, ℕ, Bool, false, cond, List, Option, Some, None, Result, Ok, Err, MatchResult, refl, ap, sym, subst}
 use Rattle.dns_core.specs.declared.errors.NoMemory.{NoMemory}
 use Rattle.server_core.specs.Servers.{Server}
-use Rattle.server_orders.specs.declared.order.After.{After}
-use Rattle.server_orders.specs.declared.order.Outcome.{Outcome}
-use Rattle.server_orders.specs.declared.order.Tick.{Tick}
-use Rattle.retry_lookup.specs.Asked.{has_order}
-use Rattle.retry_lookup.specs.Hearing.{done_by, RunsOut}
-use Rattle.retry_lookup.specs.Lookup.{LookupState}
-use Rattle.retry_lookup.proofs.Reached.{heard_configs}
-use Rattle.pool_lookups.specs.Lookups.{with_at, moved_to, is_open_in, under}
-use Rattle.pool_lookups.specs.Orders.{without_order, orders_left}
-use Rattle.pool_lookups.specs.Stepping.{put_lookup, put_table}
-use Rattle.pool_lookups.specs.declared.open_lookup.OpenLookup.{OpenLookup}
-use Rattle.pool_lookups.proofs.UnderNumbers.{found_with}
+use Rattle.server_core.specs.declared.orders.order.After.{After}
+use Rattle.server_core.specs.declared.orders.order.Outcome.{Outcome}
+use Rattle.server_core.specs.declared.orders.order.Tick.{Tick}
+use Rattle.pool_lookup.specs.Asked.{has_order}
+use Rattle.pool_lookup.specs.Hearing.{done_by, RunsOut}
+use Rattle.pool_lookup.specs.Lookup.{LookupState}
+use Rattle.pool_lookup.proofs.Reached.{heard_configs}
+use Rattle.server_pool.specs.OpenLookups.{with_at, moved_to, is_open_in, under}
+use Rattle.server_pool.specs.LookupOrders.{without_order, orders_left}
+use Rattle.server_pool.specs.LookupSteps.{put_lookup, put_table}
+use Rattle.server_pool.specs.declared.open_lookups.open_lookup.OpenLookup.{OpenLookup}
+use Rattle.server_pool.proofs.UnderNumbers.{found_with}
 use Rattle.server_pool.specs.Holds.{SharedHolds}
 use Rattle.server_pool.specs.Orders.{IsOpenOrder, open_at}
 use Rattle.server_pool.specs.Shared.{Shared, denied_in, configs}

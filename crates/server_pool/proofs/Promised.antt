@@ -3,28 +3,28 @@ use Rattle.std.proofs.Common.{◌≡◌, ◌∙◌, ℕ, zero, suc, ◌≤◌, �
 use Rattle.std.specs.Prelude.{count_by}
 use Rattle.std.specs.declared.net.ip_addr.IpAddr.{IpAddr}
 use Rattle.resolution.specs.Lookups.{Answered}
-use Rattle.server_send.specs.Sending.{is_open}
+use Rattle.server_core.specs.Sending.{is_open}
 use Rattle.server_core.specs.Servers.{Server}
-use Rattle.retry_rules.proofs.Standing.{count_cons}
-use Rattle.retry_lookup.specs.declared.attempt.Attempt.{Attempt}
-use Rattle.retry_lookup.specs.declared.giving.LookupStep.{LookupStep}
-use Rattle.retry_lookup.specs.declared.giving.LookupStep.TheVariants as step
-use Rattle.retry_lookup.specs.declared.lookup.State.{State}
-use Rattle.retry_lookup.specs.declared.lookup.State.TheVariants.{Asking, BackingOff, Decided}
-use Rattle.retry_lookup.specs.Asked.{opens_in, opens}
-use Rattle.retry_lookup.specs.Attempts.{is_open_at}
-use Rattle.retry_lookup.specs.Giving.{Gives}
-use Rattle.retry_lookup.specs.Holds.{IsAt, Holds}
-use Rattle.retry_lookup.specs.Lookup.{LookupState}
-use Rattle.retry_lookup.specs.Promises.{HasOpen}
-use Rattle.retry_lookup.specs.Rounds.{started}
-use Rattle.retry_lookup.proofs.Fair.{is_fair}
-use Rattle.retry_lookup.proofs.Opens.{bit, opens_has}
-use Rattle.retry_lookup.proofs.Waits.{waits_for}
-use Rattle.pool_lookups.specs.Lookups.{moved_to, under}
-use Rattle.pool_lookups.specs.Stepping.{IsStepAt}
-use Rattle.pool_lookups.specs.declared.open_lookup.OpenLookup.{OpenLookup}
-use Rattle.pool_lookups.proofs.UnderNumbers.{found_with}
+use Rattle.pool_rules.proofs.Standing.{count_cons}
+use Rattle.pool_lookup.specs.declared.attempt.Attempt.{Attempt}
+use Rattle.pool_lookup.specs.declared.giving.LookupStep.{LookupStep}
+use Rattle.pool_lookup.specs.declared.giving.LookupStep.TheVariants as step
+use Rattle.pool_lookup.specs.declared.lookup.State.{State}
+use Rattle.pool_lookup.specs.declared.lookup.State.TheVariants.{Asking, BackingOff, Decided}
+use Rattle.pool_lookup.specs.Asked.{opens_in, opens}
+use Rattle.pool_lookup.specs.Attempts.{is_open_at}
+use Rattle.pool_lookup.specs.Giving.{Gives}
+use Rattle.pool_lookup.specs.Holds.{IsAt, Holds}
+use Rattle.pool_lookup.specs.Lookup.{LookupState}
+use Rattle.pool_lookup.specs.Promises.{HasOpen}
+use Rattle.pool_lookup.specs.Rounds.{started}
+use Rattle.pool_lookup.proofs.Fair.{is_fair}
+use Rattle.pool_lookup.proofs.Opens.{bit, opens_has}
+use Rattle.pool_lookup.proofs.Waits.{waits_for}
+use Rattle.server_pool.specs.OpenLookups.{moved_to, under}
+use Rattle.server_pool.specs.LookupSteps.{IsStepAt}
+use Rattle.server_pool.specs.declared.open_lookups.open_lookup.OpenLookup.{OpenLookup}
+use Rattle.server_pool.proofs.UnderNumbers.{found_with}
 use Rattle.server_pool.specs.Holds.{SharedHolds, times_of}
 use Rattle.server_pool.specs.Promises.{IsFairly, IsAnswered, IfDone, IfWaiting}
 use Rattle.server_pool.specs.Shared.{Shared}

@@ -8,21 +8,21 @@ use Rattle.std.proofs.lemmas.Bool.{leb-false}
 use Rattle.std.specs.declared.net.ip_addr.IpAddr.{IpAddr}
 use Rattle.resolver_settings.specs.declared.options.ResolverOpts.{ResolverOpts}
 use Rattle.dns_core.specs.declared.request.DnsRequest.{DnsRequest}
-use Rattle.server_send.specs.Policy.{allows_server}
+use Rattle.server_core.specs.Policy.{allows_server}
 use Rattle.server_core.specs.Servers.{Server, server_of}
-use Rattle.retry_rules.specs.Agenda.{may_ask}
-use Rattle.retry_rules.specs.Ordering.{IsOrdered, next_turn, side_by_side}
-use Rattle.retry_rules.specs.declared.candidate.Candidate.{Candidate}
-use Rattle.retry_lookup.specs.Asked.{opens}
-use Rattle.retry_lookup.specs.Holds.{Holds, IsReached}
-use Rattle.retry_lookup.specs.Lookup.{LookupState, BegunWith, fresh}
-use Rattle.retry_lookup.specs.Rounds.{begun}
-use Rattle.retry_lookup.proofs.Begun.{round_same}
-use Rattle.retry_lookup.proofs.Opens.{opens_begun}
-use Rattle.retry_lookup.proofs.Reached.{more_reached}
-use Rattle.pool_lookups.specs.Candidates.{is_reached, candidate_of, candidates}
-use Rattle.pool_lookups.specs.Lookups.{is_last, under}
-use Rattle.pool_lookups.specs.declared.open_lookup.OpenLookup.{OpenLookup}
+use Rattle.pool_rules.specs.Agenda.{may_ask}
+use Rattle.pool_rules.specs.Ordering.{IsOrdered, next_turn, side_by_side}
+use Rattle.pool_rules.specs.declared.candidate.Candidate.{Candidate}
+use Rattle.pool_lookup.specs.Asked.{opens}
+use Rattle.pool_lookup.specs.Holds.{Holds, IsReached}
+use Rattle.pool_lookup.specs.Lookup.{LookupState, BegunWith, fresh}
+use Rattle.pool_lookup.specs.Rounds.{begun}
+use Rattle.pool_lookup.proofs.Begun.{round_same}
+use Rattle.pool_lookup.proofs.Opens.{opens_begun}
+use Rattle.pool_lookup.proofs.Reached.{more_reached}
+use Rattle.server_pool.specs.UsableServers.{is_reached, candidate_of, candidates}
+use Rattle.server_pool.specs.OpenLookups.{is_last, under}
+use Rattle.server_pool.specs.declared.open_lookups.open_lookup.OpenLookup.{OpenLookup}
 use Rattle.server_pool.specs.Holds.{LookupHolds, SharedHolds}
 use Rattle.server_pool.specs.Sending.{Begins, HasBegun}
 use Rattle.server_pool.specs.Shared.{Shared, turn_at}

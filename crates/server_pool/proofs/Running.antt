@@ -6,33 +6,33 @@ use Rattle.std.specs.Ordering.{nat_cmp}
 use Rattle.std.specs.declared.net.ip_addr.IpAddr.{IpAddr}
 use Rattle.dns_core.specs.declared.errors.NoMemory.{NoMemory}
 use Rattle.server_core.specs.Servers.{Server}
-use Rattle.server_orders.specs.declared.order.After.{After}
-use Rattle.server_orders.specs.declared.order.Order.{Order}
-use Rattle.server_orders.specs.declared.order.Order.TheVariants as order
-use Rattle.server_orders.specs.declared.order.Outcome.{Outcome}
-use Rattle.server_orders.specs.declared.order.Tick.{Tick}
-use Rattle.retry_lookup.specs.declared.giving.LookupStep.{LookupStep}
-use Rattle.retry_lookup.specs.declared.giving.LookupStep.TheVariants as step
-use Rattle.retry_lookup.specs.Asked.{opens, has_in, has_order}
-use Rattle.retry_lookup.specs.Attempts.{is_open_at}
-use Rattle.retry_lookup.specs.Giving.{Gives}
-use Rattle.retry_lookup.specs.Holds.{HeardEnd, HoldsBy}
-use Rattle.retry_lookup.specs.Lookup.{LookupState}
-use Rattle.retry_lookup.specs.Rounds.{started}
-use Rattle.retry_lookup.specs.Running.{IsOpenTo, IsGivenFor, heard_after, heard_out}
-use Rattle.retry_lookup.proofs.Begun.{next_same, outcome_same, out_of_memory_same}
-use Rattle.retry_lookup.proofs.Laws.{started_by, outcome_by, out_of_memory_by}
-use Rattle.retry_lookup.proofs.Moments.{next_moment, outcome_moment, out_of_memory_moment}
-use Rattle.retry_lookup.proofs.Next.{next_by}
-use Rattle.retry_lookup.proofs.Opens.{opens_started}
-use Rattle.retry_lookup.proofs.Reached.{stepped_configs, heard_configs}
-use Rattle.retry_lookup.proofs.Sent.{order_sent}
-use Rattle.pool_lookups.specs.Lookups.{moved_to, under}
-use Rattle.pool_lookups.specs.Orders.{without_order, orders_by}
-use Rattle.pool_lookups.specs.Stepping.{put_lookup, put_table}
-use Rattle.pool_lookups.specs.declared.open_lookup.OpenLookup.{OpenLookup}
-use Rattle.pool_lookups.proofs.UnderNumbers.{inserted, inserted_other, removed_other, found_with, with_other, IsSame, is_same}
-use Rattle.pool_lookups.proofs.UnderNumbers.IsSame.{is_one, are_two}
+use Rattle.server_core.specs.declared.orders.order.After.{After}
+use Rattle.server_core.specs.declared.orders.order.Order.{Order}
+use Rattle.server_core.specs.declared.orders.order.Order.TheVariants as order
+use Rattle.server_core.specs.declared.orders.order.Outcome.{Outcome}
+use Rattle.server_core.specs.declared.orders.order.Tick.{Tick}
+use Rattle.pool_lookup.specs.declared.giving.LookupStep.{LookupStep}
+use Rattle.pool_lookup.specs.declared.giving.LookupStep.TheVariants as step
+use Rattle.pool_lookup.specs.Asked.{opens, has_in, has_order}
+use Rattle.pool_lookup.specs.Attempts.{is_open_at}
+use Rattle.pool_lookup.specs.Giving.{Gives}
+use Rattle.pool_lookup.specs.Holds.{HeardEnd, HoldsBy}
+use Rattle.pool_lookup.specs.Lookup.{LookupState}
+use Rattle.pool_lookup.specs.Rounds.{started}
+use Rattle.pool_lookup.specs.Running.{IsOpenTo, IsGivenFor, heard_after, heard_out}
+use Rattle.pool_lookup.proofs.Begun.{next_same, outcome_same, out_of_memory_same}
+use Rattle.pool_lookup.proofs.Laws.{started_by, outcome_by, out_of_memory_by}
+use Rattle.pool_lookup.proofs.Moments.{next_moment, outcome_moment, out_of_memory_moment}
+use Rattle.pool_lookup.proofs.Next.{next_by}
+use Rattle.pool_lookup.proofs.Opens.{opens_started}
+use Rattle.pool_lookup.proofs.Reached.{stepped_configs, heard_configs}
+use Rattle.pool_lookup.proofs.Sent.{order_sent}
+use Rattle.server_pool.specs.OpenLookups.{moved_to, under}
+use Rattle.server_pool.specs.LookupOrders.{without_order, orders_by}
+use Rattle.server_pool.specs.LookupSteps.{put_lookup, put_table}
+use Rattle.server_pool.specs.declared.open_lookups.open_lookup.OpenLookup.{OpenLookup}
+use Rattle.server_pool.proofs.UnderNumbers.{inserted, inserted_other, removed_other, found_with, with_other, IsSame, is_same}
+use Rattle.server_pool.proofs.UnderNumbers.IsSame.{is_one, are_two}
 use Rattle.server_pool.specs.Orders.{IsOpenOrder}
 use Rattle.server_pool.specs.Running.{RunsOn}
 use Rattle.server_pool.specs.Shared.{Shared, lookup_at, lookup_of, denied_in, configs, SameBut}

@@ -1,8 +1,8 @@
 -- A request joins a lookup, or begins one.
 use Rattle.std.proofs.Common.{◌≡◌, ℕ, true, List, Option, Some, None, Result, Ok, Err, IfOk, OnOk, subst}
 use Rattle.dns_core.specs.declared.request.DnsRequest.{DnsRequest}
-use Rattle.pool_lookups.specs.Lookups.{is_for, open_for, under}
-use Rattle.pool_lookups.specs.declared.open_lookup.OpenLookup.{OpenLookup}
+use Rattle.server_pool.specs.OpenLookups.{is_for, open_for, under}
+use Rattle.server_pool.specs.declared.open_lookups.open_lookup.OpenLookup.{OpenLookup}
 use Rattle.server_pool.specs.Sending.{HasBegun, after_join, SentTo, HasSent}
 use Rattle.server_pool.specs.Shared.{Shared}
 

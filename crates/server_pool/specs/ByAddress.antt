@@ -3,7 +3,7 @@ use Rattle.std.specs.Prelude.{◌≡◌, ℕ, List, [], ◌∷◌}
 use Rattle.std.specs.declared.net.ip_addr.IpAddr.{IpAddr}
 use Rattle.resolution.specs.Lookups.{Answered, End}
 use Rattle.resolution.specs.declared.class.Class.{Class}
-use Rattle.retry_rules.specs.declared.candidate.Candidate.{Candidate}
+use Rattle.pool_rules.specs.declared.candidate.Candidate.{Candidate}
 
 module _ {X Y : Type 0} (R : X → Y → Type 0) where
   -- Each element of the one list is related to the one beside it in the other, and none is over.

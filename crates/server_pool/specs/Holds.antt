@@ -2,10 +2,10 @@
 use Rattle.std.specs.Prelude.{◌≡◌, ℕ, ◌≤◌, ◌<◌, Bool, ◌==◌, List, if◌then◌else◌, Option, Some, None}
 use Rattle.std.specs.declared.net.ip_addr.IpAddr.{IpAddr}
 use Rattle.server_core.specs.Servers.{Server}
-use Rattle.retry_lookup.specs.Asked.{opens}
-use Rattle.retry_lookup.specs.Holds.{Holds, AreReached}
-use Rattle.pool_lookups.specs.Lookups.{under}
-use Rattle.pool_lookups.specs.declared.open_lookup.OpenLookup.{OpenLookup}
+use Rattle.pool_lookup.specs.Asked.{opens}
+use Rattle.pool_lookup.specs.Holds.{Holds, AreReached}
+use Rattle.server_pool.specs.OpenLookups.{under}
+use Rattle.server_pool.specs.declared.open_lookups.open_lookup.OpenLookup.{OpenLookup}
 
 -- a lookup is as its rules want it, its servers are reached, and somebody waits for it, of those that sent a request
 pub record LookupHolds (denied : IpAddr → Bool) (table : List Server) (sent : ℕ) (l : OpenLookup) : Type 0 where

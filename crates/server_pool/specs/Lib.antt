@@ -9,3 +9,7 @@ pub mod Promises
 pub mod Running
 pub mod TableLaws
 pub mod NewPool
+pub mod UsableServers
+pub mod OpenLookups
+pub mod LookupOrders
+pub mod LookupSteps

@@ -1,9 +1,9 @@
 -- The orders that were given and have not ended: which of them are open, and which were withdrawn.
 use Rattle.std.specs.Prelude.{◌≡◌, ℕ, Bool, true, find, if◌then◌else◌, Option, Some, None, option_map, is_none}
-use Rattle.retry_lookup.specs.Asked.{has_order}
-use Rattle.pool_lookups.specs.Lookups.{is_open_in}
-use Rattle.pool_lookups.specs.Orders.{without_order}
-use Rattle.pool_lookups.specs.declared.open_lookup.OpenLookup.{OpenLookup}
+use Rattle.pool_lookup.specs.Asked.{has_order}
+use Rattle.server_pool.specs.OpenLookups.{is_open_in}
+use Rattle.server_pool.specs.LookupOrders.{without_order}
+use Rattle.server_pool.specs.declared.open_lookups.open_lookup.OpenLookup.{OpenLookup}
 use Rattle.server_pool.specs.Shared.{Shared, lookup_at, lookup_of}
 
 -- The order of the number is open at the lookup of the number n, which is this one.

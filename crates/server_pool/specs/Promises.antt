@@ -2,10 +2,10 @@
 use Rattle.std.specs.Prelude.{ℕ, ◌⊎◌, Bool, List, IsTrue}
 use Rattle.std.specs.declared.net.ip_addr.IpAddr.{IpAddr}
 use Rattle.resolution.specs.Lookups.{Answered}
-use Rattle.retry_lookup.specs.Holds.{HeardEnd, IsRun, out_of_memory}
-use Rattle.retry_lookup.specs.Lookup.{LookupState}
-use Rattle.retry_lookup.specs.Promises.{IsFair}
-use Rattle.pool_lookups.specs.declared.open_lookup.OpenLookup.{OpenLookup}
+use Rattle.pool_lookup.specs.Holds.{HeardEnd, IsRun, out_of_memory}
+use Rattle.pool_lookup.specs.Lookup.{LookupState}
+use Rattle.pool_lookup.specs.Promises.{IsFair}
+use Rattle.server_pool.specs.declared.open_lookups.open_lookup.OpenLookup.{OpenLookup}
 use Rattle.server_pool.specs.Orders.{IsOpenOrder}
 use Rattle.server_pool.specs.Shared.{Shared}
 use Rattle.server_pool.specs.declared.pool_shared.PoolStep.{PoolStep}

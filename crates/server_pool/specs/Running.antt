@@ -1,10 +1,10 @@
 -- How the lookups run, as whoever carries out their orders sees it.
 use Rattle.std.specs.Prelude.{◌≡◌, ℕ, Bool, List, Some}
 use Rattle.std.specs.declared.net.ip_addr.IpAddr.{IpAddr}
-use Rattle.retry_lookup.specs.Holds.{HeardEnd, HoldsBy}
-use Rattle.retry_lookup.specs.Lookup.{begun_with}
-use Rattle.retry_lookup.specs.Running.{DecidesAt}
-use Rattle.pool_lookups.specs.declared.open_lookup.OpenLookup.{OpenLookup}
+use Rattle.pool_lookup.specs.Holds.{HeardEnd, HoldsBy}
+use Rattle.pool_lookup.specs.Lookup.{begun_with}
+use Rattle.pool_lookup.specs.Running.{DecidesAt}
+use Rattle.server_pool.specs.declared.open_lookups.open_lookup.OpenLookup.{OpenLookup}
 use Rattle.server_pool.specs.Shared.{Shared, lookup_at}
 
 -- The lookup of the number stands by these ends after a step of the moment. It asks what it asked, at the same servers of its pool, and as many wait for it.

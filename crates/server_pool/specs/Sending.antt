@@ -6,14 +6,14 @@ use Rattle.dns_core.specs.declared.message.Query.{Query}
 use Rattle.dns_core.specs.declared.request.DnsRequest.{DnsRequest}
 use Rattle.dns_core.specs.declared.request.DnsRequestOptions.{DnsRequestOptions}
 use Rattle.resolver_settings.specs.declared.options.ResolverOpts.{ResolverOpts}
-use Rattle.server_send.specs.Context.{Context}
+use Rattle.server_core.specs.Context.{Context}
 use Rattle.server_core.specs.Servers.{Server}
-use Rattle.retry_rules.specs.Ordering.{IsOrdered, next_turn, side_by_side}
-use Rattle.retry_lookup.specs.Lookup.{LookupState}
-use Rattle.retry_lookup.specs.Rounds.{begun}
-use Rattle.pool_lookups.specs.Candidates.{candidates}
-use Rattle.pool_lookups.specs.Lookups.{with_at, joined, is_for, open_for}
-use Rattle.pool_lookups.specs.declared.open_lookup.OpenLookup.{OpenLookup}
+use Rattle.pool_rules.specs.Ordering.{IsOrdered, next_turn, side_by_side}
+use Rattle.pool_lookup.specs.Lookup.{LookupState}
+use Rattle.pool_lookup.specs.Rounds.{begun}
+use Rattle.server_pool.specs.UsableServers.{candidates}
+use Rattle.server_pool.specs.OpenLookups.{with_at, joined, is_for, open_for}
+use Rattle.server_pool.specs.declared.open_lookups.open_lookup.OpenLookup.{OpenLookup}
 use Rattle.server_pool.specs.Shared.{Shared, lookup_at, turn_at}
 
 -- the request for a question, with the case of its letters by chance where the settings say so

@@ -1,12 +1,12 @@
 -- What the pools of a resolver share.
 use Rattle.std.specs.Prelude.{◌≡◌, ◌≢◌, ℕ, Bool, List, Option, Some, unwrap_or}
 use Rattle.std.specs.declared.net.ip_addr.IpAddr.{IpAddr}
-use Rattle.server_send.specs.Context.{Context}
+use Rattle.server_core.specs.Context.{Context}
 use Rattle.server_core.specs.Servers.{Server}
-use Rattle.retry_rules.specs.AnswerFilter.{denied_by}
-pub use Rattle.retry_lookup.specs.Tables.{configs}
-use Rattle.pool_lookups.specs.Lookups.{under}
-use Rattle.pool_lookups.specs.declared.open_lookup.OpenLookup.{OpenLookup}
+use Rattle.pool_rules.specs.AnswerFilter.{denied_by}
+pub use Rattle.pool_lookup.specs.Tables.{configs}
+use Rattle.server_pool.specs.OpenLookups.{under}
+use Rattle.server_pool.specs.declared.open_lookups.open_lookup.OpenLookup.{OpenLookup}
 
 -- the servers, each with its place as its number; the settings of all pools; how many pools were numbered so far; the lookups that are under way, by their numbers; the lookup of each order that was given
 -- and has not ended, by its number; whose turn it is in each pool that takes turns; and how many requests were sent and how many orders were given so far

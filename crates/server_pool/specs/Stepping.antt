@@ -3,17 +3,17 @@ use Rattle.std.specs.Prelude.{◌≡◌, ℕ, ◌+◌, false, None, Result, Ok, 
 use Rattle.std.specs.BTreeMap.{insert_entry}
 use Rattle.std.specs.Ordering.{nat_cmp}
 use Rattle.dns_core.specs.declared.errors.NoMemory.{NoMemory}
-use Rattle.server_orders.specs.declared.order.After.{After}
-use Rattle.server_orders.specs.declared.order.Outcome.{Outcome}
-use Rattle.server_orders.specs.declared.order.Tick.{Tick}
-use Rattle.retry_lookup.specs.declared.giving.LookupStep.{LookupStep}
-use Rattle.retry_lookup.specs.declared.giving.LookupStep.TheVariants as step
-use Rattle.retry_lookup.specs.Asked.{opens, has_order}
-use Rattle.retry_lookup.specs.Hearing.{done_by, RunsOut}
-use Rattle.pool_lookups.specs.Lookups.{with_at, moved_to}
-use Rattle.pool_lookups.specs.Orders.{orders_by, orders_left}
-use Rattle.pool_lookups.specs.Stepping.{IsStepAt, IsHaltedAt, put_lookup, put_table}
-use Rattle.pool_lookups.specs.declared.open_lookup.OpenLookup.{OpenLookup}
+use Rattle.server_core.specs.declared.orders.order.After.{After}
+use Rattle.server_core.specs.declared.orders.order.Outcome.{Outcome}
+use Rattle.server_core.specs.declared.orders.order.Tick.{Tick}
+use Rattle.pool_lookup.specs.declared.giving.LookupStep.{LookupStep}
+use Rattle.pool_lookup.specs.declared.giving.LookupStep.TheVariants as step
+use Rattle.pool_lookup.specs.Asked.{opens, has_order}
+use Rattle.pool_lookup.specs.Hearing.{done_by, RunsOut}
+use Rattle.server_pool.specs.OpenLookups.{with_at, moved_to}
+use Rattle.server_pool.specs.LookupOrders.{orders_by, orders_left}
+use Rattle.server_pool.specs.LookupSteps.{IsStepAt, IsHaltedAt, put_lookup, put_table}
+use Rattle.server_pool.specs.declared.open_lookups.open_lookup.OpenLookup.{OpenLookup}
 use Rattle.server_pool.specs.Shared.{Shared, lookup_of, denied_in}
 use Rattle.server_pool.specs.declared.pool_shared.PoolStep.{PoolStep}
 use Rattle.server_pool.specs.declared.pool_shared.PoolStep.TheVariants as gives

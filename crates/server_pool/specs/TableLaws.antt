@@ -2,13 +2,13 @@
 use Rattle.std.specs.Prelude.{◌≡◌, ℕ, Bool, List, Some, Result, Ok, Err}
 use Rattle.std.specs.declared.net.ip_addr.IpAddr.{IpAddr}
 use Rattle.dns_core.specs.declared.errors.NoMemory.{NoMemory}
-use Rattle.server_orders.specs.declared.order.After.{After}
-use Rattle.server_orders.specs.declared.order.Order.{Order}
-use Rattle.server_orders.specs.declared.order.Outcome.{Outcome}
-use Rattle.server_orders.specs.declared.order.Tick.{Tick}
-use Rattle.retry_lookup.specs.Holds.{HeardEnd, HoldsBy}
-use Rattle.retry_lookup.specs.Running.{IsGivenFor, heard_after, heard_out}
-use Rattle.pool_lookups.specs.declared.open_lookup.OpenLookup.{OpenLookup}
+use Rattle.server_core.specs.declared.orders.order.After.{After}
+use Rattle.server_core.specs.declared.orders.order.Order.{Order}
+use Rattle.server_core.specs.declared.orders.order.Outcome.{Outcome}
+use Rattle.server_core.specs.declared.orders.order.Tick.{Tick}
+use Rattle.pool_lookup.specs.Holds.{HeardEnd, HoldsBy}
+use Rattle.pool_lookup.specs.Running.{IsGivenFor, heard_after, heard_out}
+use Rattle.server_pool.specs.declared.open_lookups.open_lookup.OpenLookup.{OpenLookup}
 use Rattle.server_pool.specs.Orders.{IsOpenOrder}
 use Rattle.server_pool.specs.Running.{RunsOn}
 use Rattle.server_pool.specs.Shared.{Shared, lookup_at, denied_in}

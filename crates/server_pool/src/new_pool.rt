@@ -10,8 +10,7 @@ use crate::pool::NameServerPool;
 use crate::pool_shared::PoolShared;
 use dns_core::{Delays, NoMemory};
 use resolver_settings::NameServerConfig;
-use server_core::NameServer;
-use server_send::PoolContext;
+use server_core::{NameServer, PoolContext};
 use std::alloc::Global;
 
 /// The delay of a place: they are taken in turn, round and round.

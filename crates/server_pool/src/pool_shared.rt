@@ -2,27 +2,27 @@
 ghost use Rattle.std.specs.Prelude.{◌≡◌, ◌≢◌, ◌+◌, ◌⊎◌, ◌++◌, ℕ, Bool, ◌∷◌, [], length, IfOk, IfSome, true, Contains, OnOk, OnErr, Ok, Err, Some, None, ◌↔◌, IsTrue, option_and_then};
 ghost use Rattle.std.specs.List.Sorted.{IsStrictlyIncreasing};
 ghost use Rattle.std.specs.declared.net.IpAddr.{IpAddr};
-ghost use Rattle.retry_rules.specs.Ordering.{next_turn};
-ghost use Rattle.retry_lookup.specs.Asked.{answer_of};
-ghost use Rattle.retry_lookup.specs.Holds.{Holds};
-ghost use Rattle.pool_lookups.specs.Lookups.{is_last, after_leave, closed_by};
-ghost use Rattle.pool_lookups.specs.declared.open_lookup.OpenLookup.{OpenLookup as Seen};
+ghost use Rattle.pool_rules.specs.Ordering.{next_turn};
+ghost use Rattle.pool_lookup.specs.Asked.{answer_of};
+ghost use Rattle.pool_lookup.specs.Holds.{Holds};
+ghost use Rattle.server_pool.specs.OpenLookups.{is_last, after_leave, closed_by};
+ghost use Rattle.server_pool.specs.declared.open_lookups.open_lookup.OpenLookup.{OpenLookup as Seen};
 ghost use Rattle.server_pool.specs.Orders.{IsOpenOrder, open_at, first_withdrawn, after_withdrawn};
 ghost use Rattle.server_pool.specs.Promises.{IsFairly, IfDone, IfWaiting};
 ghost use Rattle.server_pool.specs.Sending.{Begins, HasBegun, after_join, HasSent};
 ghost use Rattle.server_pool.specs.Shared.{lookup_at, lookup_of, turn_at, denied_in};
 ghost use Rattle.server_pool.specs.Stepping.{told_by, HasStepped, HasHalted, HasPut};
 
-use dns_core::{Boxed, DnsRequest, Message, NetError, NoMemory, Numbers, TryClone};
-use pool_lookups::{
-    OpenLookup, add_begun, candidates, drop_closed, is_last, is_open_in, join_at, keep_order,
-    leave_at, open_for, put_at, step_at, take_lookup, take_out,
+use crate::open_lookups::beginning::add_begun;
+use crate::open_lookups::open_lookup::{
+    OpenLookup, is_last, is_open_in, join_at, leave_at, open_for, put_at, step_at, take_lookup,
 };
-use retry_lookup::{Lookup, LookupStep};
-use retry_rules::{ordered, side_by_side};
-use server_core::{NameServer, ServerTable};
-use server_orders::{After, Order, Outcome, Tick};
-use server_send::PoolContext;
+use crate::open_lookups::orders::{drop_closed, keep_order, take_out};
+use crate::open_lookups::reached::candidates;
+use dns_core::{Boxed, DnsRequest, Message, NetError, NoMemory, Numbers, TryClone};
+use pool_lookup::{Lookup, LookupStep};
+use pool_rules::{ordered, side_by_side};
+use server_core::{After, NameServer, Order, Outcome, PoolContext, ServerTable, Tick};
 use std::alloc::Global;
 use std::collections::BTreeMap;
 use std::marker::Model;
@@ -90,7 +90,7 @@ impl Drop for PoolShared {
 
 impl Model for PoolShared {
     ghost use Rattle.std.specs.Prelude.{◌<◌, ◌^◌, length};
-    ghost use Rattle.retry_rules.specs.AnswerFilter.{denied_by};
+    ghost use Rattle.pool_rules.specs.AnswerFilter.{denied_by};
     ghost use Rattle.server_pool.specs.Holds.{SharedHolds};
     ghost use Rattle.server_pool.specs.Shared.{Shared};
 

@@ -2,11 +2,11 @@
 ghost use Rattle.std.specs.Prelude.{◌≡◌, ℕ, Bool, Some, Result};
 ghost use Rattle.std.specs.declared.net.IpAddr.{IpAddr};
 ghost use Rattle.dns_core.specs.declared.errors.NoMemory.{NoMemory};
-ghost use Rattle.server_orders.specs.declared.order.After.{After};
-ghost use Rattle.server_orders.specs.declared.order.Order.{Order as Given};
-ghost use Rattle.server_orders.specs.declared.order.Outcome.{Outcome};
-ghost use Rattle.server_orders.specs.declared.order.Tick.{Tick};
-ghost use Rattle.pool_lookups.specs.declared.open_lookup.OpenLookup.{OpenLookup as Seen};
+ghost use Rattle.server_core.specs.declared.orders.order.After.{After};
+ghost use Rattle.server_core.specs.declared.orders.order.Order.{Order as Given};
+ghost use Rattle.server_core.specs.declared.orders.order.Outcome.{Outcome};
+ghost use Rattle.server_core.specs.declared.orders.order.Tick.{Tick};
+ghost use Rattle.server_pool.specs.declared.open_lookups.open_lookup.OpenLookup.{OpenLookup as Seen};
 ghost use Rattle.server_pool.specs.Shared.{Shared, lookup_of, SameBut};
 ghost use Rattle.server_pool.specs.Stepping.{HasStepped, HasPut};
 ghost use Rattle.server_pool.specs.TableLaws.{RunsBy, RunsByOutcome, GoesToServer};

@@ -1,7 +1,7 @@
 //! Which types of this crate may go to another thread, and be shared among threads.
 
+use crate::interest::PoolLookup;
 use crate::pool::NameServerPool;
-use crate::pool_lookup::PoolLookup;
 use crate::pool_shared::{PoolShared, PoolStep};
 use dns_core::CrossesThreads;
 

@@ -6,7 +6,7 @@ use Rattle.std.proofs.lemmas.List.Concat.{flat_map-append}
 use Rattle.dns_core.specs.declared.record.Record.{Record}
 use Rattle.transcript_printer.specs.Appending.{Extends, spaced}
 use Rattle.transcript_printer.specs.Log.{numbered_text}
-use Rattle.text_words.specs.Texts.{line_of, record_line, record_lines}
+use Rattle.text_lines.specs.Texts.{line_of, record_line, record_lines}
 
 -- where nothing was appended
 pub extends_none : (old : List ℕ) → Extends old old

@@ -14,7 +14,7 @@ use Rattle.recursor_types.specs.declared.error.WalkCause.TheVariants as cause
 use Rattle.recursor_types.specs.declared.error.RecursorError.{RecursorError}
 use Rattle.recursor_types.specs.declared.error.RecursorError.TheVariants.{MaxRecordLimitExceeded, Message, Msg, Negative, ForwardNS, Io, Net, Timeout, RecursionLimitExceeded, QueryBudgetExceeded, NoNameServer, NoMemory}
 use Rattle.dns_core.specs.CodeTexts.{type_text, class_text, response_code_text}
-use Rattle.text_words.specs.Texts.{line_of, record_words, record_lines, flag_text}
+use Rattle.text_lines.specs.Texts.{line_of, record_words, record_lines, flag_text}
 
 -- the name of its variant
 abbrev pub cause_text : WalkCause → List ℕ

@@ -9,7 +9,7 @@ use Rattle.dns_core.specs.declared.log.ToldOutcome.TheVariants.{Connected, Messa
 use Rattle.dns_core.specs.declared.log.LogEntry.{LogEntry}
 use Rattle.dns_core.specs.declared.log.LogEntry.TheVariants.{Opened, Asked, Waited, Told, GaveUp}
 use Rattle.dns_core.specs.CodeTexts.{type_text}
-use Rattle.text_words.specs.Texts.{ip_text, protocol_text, error_word, has_error_word, line_of, record_lines, message_words, message_records}
+use Rattle.text_lines.specs.Texts.{ip_text, protocol_text, error_word, has_error_word, line_of, record_lines, message_words, message_records}
 
 -- the texts of values that are numbered from n on
 unfoldable pub numbered_text : {X : Type 0} → (ℕ → X → List ℕ) → ℕ → List X → List ℕ

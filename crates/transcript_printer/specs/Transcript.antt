@@ -5,7 +5,7 @@ use Rattle.dns_core.specs.declared.message.Message.{Message}
 use Rattle.recursor_types.specs.declared.error.RecursorError.{RecursorError}
 use Rattle.recursor_types.specs.declared.reply.Reply.{Reply}
 use Rattle.transcript_printer.specs.declared.transcript.Transcript.{Transcript}
-use Rattle.text_words.specs.Texts.{line_of, record_lines, message_words, message_records}
+use Rattle.text_lines.specs.Texts.{line_of, record_lines, message_words, message_records}
 use Rattle.transcript_printer.specs.Errors.{error_words, error_tail, has_words}
 use Rattle.transcript_printer.specs.Log.{numbered_text, log_text, has_log_words}
 

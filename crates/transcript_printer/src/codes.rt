@@ -2,7 +2,7 @@
 ghost use Rattle.std.specs.Prelude.{◌≡◌, ◌++◌, option_copied, unwrap_or, decimal};
 ghost use Rattle.transcript_printer.specs.Appending.{Appends};
 ghost use Rattle.dns_core.specs.CodeTexts.{name_in, type_names, class_names, code_names, type_text, class_text, response_code_text};
-ghost use Rattle.text_words.specs.Texts.{protocol_text, flags_text, error_word};
+ghost use Rattle.text_lines.specs.Texts.{protocol_text, flags_text, error_word};
 
 use crate::words::{put_bytes, put_number};
 use dns_core::{DnsClass, IoKind, NetError, NoMemory, Protocol, RecordType, ResponseCode};

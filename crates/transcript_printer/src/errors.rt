@@ -1,8 +1,8 @@
 //! The errors that questions are answered with.
 ghost use Rattle.std.specs.Prelude.{◌≡◌, ◌++◌, ◌∷◌, [], IsTrue, OnOk, OnErr, codes, decimal, flat_map, option_to_list, is_some};
 ghost use Rattle.transcript_printer.specs.Appending.{Appends, spaced};
-ghost use Rattle.text_words.specs.Texts.{record_lines, line_of};
-ghost use Rattle.text_words.specs.Texts.{flag_text};
+ghost use Rattle.text_lines.specs.Texts.{record_lines, line_of};
+ghost use Rattle.text_lines.specs.Texts.{flag_text};
 ghost use Rattle.transcript_printer.specs.Errors.{cause_text, net_kind, net_details, net_words, has_net_words, message_kind_text, negative_words, error_kind, error_details, error_words, forward_text, error_tail, error_text, has_words};
 
 use crate::records::{
@@ -160,7 +160,7 @@ fn put_glue_count(count: usize, out: &mut Vec<u8>) -> Result<(), NoMemory>
     put_bytes(b" ", out)
 }
 
-#[tactic(auto, unfolding(crate::specs::Errors::forward_text, text_words::specs::Texts::record_line))]
+#[tactic(auto, unfolding(crate::specs::Errors::forward_text, text_lines::specs::Texts::record_line))]
 fn put_forward(alloc: Global, forward: &ForwardNsData, out: &mut Vec<u8>) -> Result<(), NoMemory>
     ensures { Appends result out.old.items out.new.items (forward_text forward.now) }
 {

@@ -5,6 +5,7 @@
 //! what it was.
 #![tactic(auto)]
 
+mod checks;
 mod codes;
 mod copies;
 mod errors;
@@ -15,6 +16,7 @@ mod threads;
 mod transcript;
 mod words;
 
+pub use checks::checking::check_text;
 pub use errors::{has_words, print_error};
 pub use log::{has_log_words, print_log};
 pub use records::{print_message, print_record};

@@ -3,7 +3,7 @@ ghost use Rattle.std.specs.Prelude.{◌≡◌, ◌+◌, ◌++◌, ◌∷◌, [],
 ghost use Rattle.dns_core.specs.NameText.{text_of};
 ghost use Rattle.transcript_printer.specs.Appending.{Appends, spaced};
 ghost use Rattle.dns_core.specs.CodeTexts.{type_text};
-ghost use Rattle.text_words.specs.Texts.{ip_text, protocol_text, error_word, has_error_word, line_of, record_lines};
+ghost use Rattle.text_lines.specs.Texts.{ip_text, protocol_text, error_word, has_error_word, line_of, record_lines};
 ghost use Rattle.transcript_printer.specs.Log.{numbered_text, refused_words, outcome_words, entry_words, outcome_records, entry_records, entry_text, log_text, has_refusal_word, has_entry_words, has_log_words};
 ghost use Rattle.dns_core.specs.declared.log.LogEntry.TheVariants.{Opened, Asked, Told};
 

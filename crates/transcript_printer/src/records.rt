@@ -6,7 +6,7 @@ ghost use Rattle.dns_core.specs.NameText.{text_of};
 ghost use Rattle.dns_core.specs.declared.record.RData.TheVariants.{SOA, RRSIG};
 ghost use Rattle.transcript_printer.specs.Appending.{Appends, spaced};
 ghost use Rattle.dns_core.specs.CodeTexts.{type_text, class_text, response_code_text};
-ghost use Rattle.text_words.specs.Texts.{flags_text, hex_text, data_words, record_details, record_line, record_lines, message_details, message_words, message_records, message_text, line_of};
+ghost use Rattle.text_lines.specs.Texts.{flags_text, hex_text, data_words, record_details, record_line, record_lines, message_details, message_words, message_records, message_text, line_of};
 
 use crate::codes::{put_class, put_flags, put_response_code, put_type};
 use crate::words::{put_bytes, put_count, put_hex, put_ipv4, put_ipv6, put_name, put_number};
@@ -112,7 +112,7 @@ fn put_record_details(alloc: Global, entry: &Record, out: &mut Vec<u8>) -> Resul
     put_data(alloc, &entry.rdata, out)
 }
 
-#[tactic(auto, unfolding(text_words::specs::Texts::record_line), using(crate::proofs::Appended::line_of_words))]
+#[tactic(auto, unfolding(text_lines::specs::Texts::record_line), using(crate::proofs::Appended::line_of_words))]
 pub fn put_record(alloc: Global, entry: &Record, out: &mut Vec<u8>) -> Result<(), NoMemory>
     ensures { Appends result out.old.items out.new.items (record_line entry.now) }
 {
@@ -179,7 +179,7 @@ fn put_message_line(m: &Message, out: &mut Vec<u8>) -> Result<(), NoMemory>
     put_bytes(b"\n", out)
 }
 
-#[tactic(auto, unfolding(text_words::specs::Texts::message_text))]
+#[tactic(auto, unfolding(text_lines::specs::Texts::message_text))]
 pub fn put_message(alloc: Global, m: &Message, out: &mut Vec<u8>) -> Result<(), NoMemory>
     ensures { Appends result out.old.items out.new.items (message_text m.now) }
 {

@@ -36,7 +36,7 @@ fn put_failure(
     put_error(alloc, error, out)
 }
 
-#[tactic(auto, unfolding(text_words::specs::Texts::message_text, crate::specs::Transcript::answer_text, crate::specs::Transcript::reply_text))]
+#[tactic(auto, unfolding(text_lines::specs::Texts::message_text, crate::specs::Transcript::answer_text, crate::specs::Transcript::reply_text))]
 fn put_reply(alloc: Global, number: u64, reply: &Reply, out: &mut Vec<u8>) -> Result<(), NoMemory>
     ensures { Appends result out.old.items out.new.items (reply_text number reply.now) }
 {

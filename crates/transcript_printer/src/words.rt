@@ -5,7 +5,7 @@ ghost use Rattle.std.specs.Net.Addr.{ipv4_octets, ipv6_segments};
 ghost use Rattle.std.specs.Net.Text.{ipv4_text, hex_groups_text};
 ghost use Rattle.dns_core.specs.NameText.{text_of};
 ghost use Rattle.transcript_printer.specs.Appending.{Appends};
-ghost use Rattle.text_words.specs.Texts.{ip_text, hex_pair, hex_text};
+ghost use Rattle.text_lines.specs.Texts.{ip_text, hex_pair, hex_text};
 
 use dns_core::{Name, NoMemory};
 use std::alloc::Global;
@@ -58,7 +58,7 @@ fn hex_digit(value: u8) -> u8
     }
 }
 
-#[tactic(auto, unfolding(text_words::specs::Texts::hex_pair))]
+#[tactic(auto, unfolding(text_lines::specs::Texts::hex_pair))]
 fn put_hex_pair(b: u8, out: &mut Vec<u8>) -> Result<(), NoMemory>
     ensures { Appends result out.old.items out.new.items (hex_pair b) }
 {

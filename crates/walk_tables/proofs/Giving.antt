@@ -2,7 +2,7 @@
 use Rattle.walk_tables.proofs.Names.{◌≡◌, ℕ, ◌+◌, true, Option, Some, None, refl, sym, ap, subst, ◌∙◌, Result, Ok, Err, IfOk, OnErr, ◌⊎◌, inl, inr, is_some, Order, Shared, lookup_at, SameBut, HasStepped, HasHalted, OpenLookup, PoolStep, next_rest, View, given_of, AreNumbered, SoughtHolds, aim_of, noted, PoolsHold, HasNoted, sought_at, HasForgotten, answer_at, Given, Pools, Sought, same-rest, stepped-numbered, halted-rest, halted-numbered, NoMemory}
 use Rattle.order_carrier.specs.Fits.{GoesToServer}
 use Rattle.resolution.specs.Lookups.{Answered}
-use Rattle.lookup_facts.proofs.Giving.{done-answer, done-holds, order-goes, ordered-holds}
+use Rattle.walk_lookup.proofs.Giving.{done-answer, done-holds, order-goes, ordered-holds}
 use Rattle.walk_tables.proofs.Pooling.{pools-lost, pools-noted}
 use Rattle.server_pool.specs.declared.pool_shared.PoolStep.TheVariants as gives
 

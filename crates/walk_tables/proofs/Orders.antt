@@ -1,7 +1,7 @@
 -- The orders of lookups: the one that is waited for, how many were given, and which outcomes are late.
 use Rattle.walk_tables.proofs.Names.{◌≡◌, ℕ, Bool, true, false, cond, ◌==◌, Option, Some, None, Err, refl, sym, ap, subst, ◌∙◌, eq-eqb, Result, Ok, IfOk, OnErr, is_some, option_and_then, option_map, Order, open_at, Shared, lookup_at, HasStepped, OpenLookup, PoolStep, noted, HasNoted, sought_at, IsGivenFor, IsOutcomeOf, given_so_far, HasKept, HasLeft, awaited_in, if_open_at, is_open_at, Given, Pools, Sought, same_Some, Outcome, Sent, NoMemory, PoolLookup}
 use Rattle.walk_tables.proofs.Giving.{sought-there}
-use Rattle.lookup_facts.proofs.Opening.{opens-it}
+use Rattle.walk_lookup.proofs.Opening.{opens-it}
 use Rattle.dns_core.specs.declared.net_error.NetError.TheVariants as net
 use Rattle.server_pool.specs.declared.pool_shared.PoolStep.TheVariants as gives
 

@@ -2,9 +2,9 @@
 use Rattle.walk_tables.proofs.Names.{◌≡◌, ℕ, Bool, length, Option, Some, None, Result, sym, ap, subst, ◌∙◌, if◌then◌else◌, nat_lt, NoMemory, After, Outcome, Sent, Tick, closed_by, IsOpenOrder, Shared, lookup_at, SameBut, denied_in, HasPut, put_rest, IsPut, seen_with, View, AreNumbered, SoughtHolds, given_after, first_of, polled_by, noted, PoolsHold, IsGivenFor, NotesOutcome, HasForgotten, HasNoted, Given, Pools, Sought, later-put, put-numbered, has_more_ends, same_Some}
 use Rattle.dns_core.specs.Log.{Log}
 use Rattle.resolver_settings.specs.Access.{Access, denies}
-use Rattle.retry_rules.specs.AnswerFilter.{denied_by}
-use Rattle.lookup_facts.proofs.Ends.{done-so}
-use Rattle.lookup_facts.proofs.Outcomes.{after-holds, open-order}
+use Rattle.pool_rules.specs.AnswerFilter.{denied_by}
+use Rattle.walk_lookup.proofs.Ends.{done-so}
+use Rattle.walk_lookup.proofs.Outcomes.{after-holds, open-order}
 use Rattle.walk_tables.proofs.Later.{pools-later}
 use Rattle.walk_tables.proofs.Pooling.{pools-lost, pools-noted}
 

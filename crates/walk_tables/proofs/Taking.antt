@@ -2,8 +2,8 @@
 use Rattle.walk_tables.proofs.Names.{◌≡◌, ℕ, List, Option, Some, None, IfSome, Ok, refl, sym, ap, subst, ◌∙◌, length, nat_lt, if◌then◌else◌, option_and_then, IpAddr, DomainName, Query, Cached, After, Outcome, Sent, Tick, closed_by, IsOpenOrder, open_at, Shared, lookup_at, HasPut, OpenLookup, opened, HasCome, FoundHolds, IsGivenFor, NotesOutcome, HasNoted, PoolsHold, sought_at, came_at, Seeks, with_came, given_after, noted, CacheHolds, Telling, remembered, answer_at, telling_by, has_more_ends, ComesBy, telling_at, Took, Comes, View, Found, Given, Pools, Sought, at-more, sought-tells, telling-came}
 use Rattle.std.specs.Prelude.{length}
 use Rattle.std.specs.Option.{option_map}
-use Rattle.lookup_facts.proofs.Remembering.{TellingHolds, remembered-holds}
-use Rattle.lookup_facts.proofs.Answering.{came-holds}
+use Rattle.walk_lookup.proofs.Remembering.{TellingHolds, remembered-holds}
+use Rattle.walk_lookup.proofs.Answering.{came-holds}
 
 -- ---- what was taken
 

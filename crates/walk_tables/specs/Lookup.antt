@@ -3,15 +3,15 @@ use Rattle.std.specs.Prelude.{ℕ, ◌≤◌, ◌<◌, IsTrue, List, Option, Som
 use Rattle.dns_core.specs.Name.{DomainName}
 use Rattle.dns_core.specs.declared.message.Query.{Query}
 use Rattle.resolution.specs.Names.{is_above, walk}
-use Rattle.lookup_facts.specs.View.{View}
+use Rattle.walk_lookup.specs.View.{View}
 use Rattle.walk_tables.specs.declared.pools.Answer.{Answer}
 use Rattle.walk_tables.specs.declared.pools.Stepped.{Stepped}
 use Rattle.walk_tables.specs.declared.lookup.Ask.{Ask}
 use Rattle.walk_tables.specs.declared.lookup.Want.{Want}
 use Rattle.walk_tables.specs.declared.lookup.Want.TheVariants.{Recall, Begin, Step, Hear}
 use Rattle.walk_tables.specs.declared.lookup.Lookup.{Lookup}
-use Rattle.lookup_facts.specs.declared.found.Found.{Found}
-use Rattle.lookup_facts.specs.Found.{FoundHolds}
+use Rattle.walk_lookup.specs.declared.found.Found.{Found}
+use Rattle.walk_lookup.specs.Found.{FoundHolds}
 use Rattle.walk_tables.specs.declared.pools.Stepped.TheVariants as stepped
 use Rattle.walk_tables.specs.declared.lookup.Ask.TheVariants as ask
 

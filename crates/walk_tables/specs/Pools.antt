@@ -6,22 +6,22 @@ use Rattle.dns_core.specs.Name.{DomainName}
 use Rattle.dns_core.specs.declared.errors.NoMemory.{NoMemory}
 use Rattle.dns_core.specs.declared.message.Query.{Query}
 use Rattle.server_core.specs.Servers.{Server}
-use Rattle.server_orders.specs.declared.order.After.{After}
-use Rattle.server_orders.specs.declared.order.Sent.{Sent}
-use Rattle.server_orders.specs.declared.order.Tick.{Tick}
-use Rattle.server_orders.specs.declared.order.Outcome.{Outcome}
+use Rattle.server_core.specs.declared.orders.order.After.{After}
+use Rattle.server_core.specs.declared.orders.order.Sent.{Sent}
+use Rattle.server_core.specs.declared.orders.order.Tick.{Tick}
+use Rattle.server_core.specs.declared.orders.order.Outcome.{Outcome}
 use Rattle.order_carrier.specs.Fits.{GoesToServer}
-use Rattle.pool_lookups.specs.Lookups.{is_last, after_leave, closed_by}
+use Rattle.server_pool.specs.OpenLookups.{is_last, after_leave, closed_by}
 use Rattle.server_pool.specs.Orders.{open_at}
 use Rattle.server_pool.specs.Shared.{lookup_at}
-use Rattle.recursor_setting.specs.declared.setting.Setting.{Setting}
-use Rattle.lookup_facts.specs.View.{View, given_of}
-use Rattle.lookup_facts.specs.declared.found.Found.{Found}
-use Rattle.lookup_facts.specs.declared.sought.Given.{Given}
-use Rattle.lookup_facts.specs.declared.sought.Sought.{Sought}
+use Rattle.walk_lookup.specs.declared.settings.setting.Setting.{Setting}
+use Rattle.walk_lookup.specs.View.{View, given_of}
+use Rattle.walk_lookup.specs.declared.found.Found.{Found}
+use Rattle.walk_lookup.specs.declared.sought.Given.{Given}
+use Rattle.walk_lookup.specs.declared.sought.Sought.{Sought}
 use Rattle.walk_tables.specs.declared.pools.Stepped.{Stepped}
 use Rattle.walk_tables.specs.declared.pools.Pools.{Pools}
-use Rattle.lookup_facts.specs.Sought.{AreNumbered, MayTakeBy, SoughtHolds, config_at, given_after, noted, server_at}
+use Rattle.walk_lookup.specs.Sought.{AreNumbered, MayTakeBy, SoughtHolds, config_at, given_after, noted, server_at}
 use Rattle.std.specs.BTreeMap as tree
 use Rattle.std.specs.contracts.net.ip_addr.IpAddrOrd.TheImpl as address
 use Rattle.walk_tables.specs.declared.pools.Stepped.TheVariants as stepped

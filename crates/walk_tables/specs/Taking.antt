@@ -1,24 +1,24 @@
 -- What the outcome of an order leaves of the pools, and what it writes into the cache.
 use Rattle.std.specs.Prelude.{◌≡◌, ◌⊎◌, ◌==◌, ℕ, Bool, false, if◌then◌else◌, Option, Some, None, Ok, IfSome, option_and_then}
-use Rattle.server_orders.specs.declared.order.After.{After}
-use Rattle.server_orders.specs.declared.order.Outcome.{Outcome}
-use Rattle.server_orders.specs.declared.order.Tick.{Tick}
+use Rattle.server_core.specs.declared.orders.order.After.{After}
+use Rattle.server_core.specs.declared.orders.order.Outcome.{Outcome}
+use Rattle.server_core.specs.declared.orders.order.Tick.{Tick}
 use Rattle.resolver_cache.specs.Cached.{Cached}
-use Rattle.pool_lookups.specs.declared.open_lookup.OpenLookup.{OpenLookup}
+use Rattle.server_pool.specs.declared.open_lookups.open_lookup.OpenLookup.{OpenLookup}
 use Rattle.server_pool.specs.Orders.{IsOpenOrder, open_at}
 use Rattle.server_pool.specs.Stepping.{HasPut}
 use Rattle.walk_tables.specs.Pools.{sought_at, PoolsHold, HasGone}
-use Rattle.lookup_facts.specs.Remembered.{CacheHolds, Telling, remembered}
-use Rattle.lookup_facts.specs.View.{View}
-use Rattle.lookup_facts.specs.declared.found.Found.{Found}
+use Rattle.walk_lookup.specs.Remembered.{CacheHolds, Telling, remembered}
+use Rattle.walk_lookup.specs.View.{View}
+use Rattle.walk_lookup.specs.declared.found.Found.{Found}
 use Rattle.walk_tables.specs.declared.lookup.Ask.{Ask}
 use Rattle.walk_tables.specs.declared.lookup.Lookup.{Lookup}
-use Rattle.lookup_facts.specs.declared.sought.Given.{Given}
+use Rattle.walk_lookup.specs.declared.sought.Given.{Given}
 use Rattle.walk_tables.specs.declared.pools.Pools.{Pools}
-use Rattle.lookup_facts.specs.declared.sought.Sought.{Sought}
+use Rattle.walk_lookup.specs.declared.sought.Sought.{Sought}
 use Rattle.walk_tables.specs.declared.pools.Stepped.{Stepped}
-use Rattle.lookup_facts.specs.Coming.{ComesBy, has_more_ends, telling_by}
-use Rattle.server_orders.specs.declared.order.After.TheVariants as after
+use Rattle.walk_lookup.specs.Coming.{ComesBy, has_more_ends, telling_by}
+use Rattle.server_core.specs.declared.orders.order.After.TheVariants as after
 use Rattle.walk_tables.specs.declared.lookup.Ask.TheVariants as ask
 use Rattle.walk_tables.specs.declared.pools.Stepped.TheVariants as stepped
 

@@ -3,20 +3,20 @@ ghost use Rattle.std.specs.Prelude.{◌≡◌, ◌<◌, ℕ, IfOk, IsTrue, Match
 ghost use Rattle.dns_core.specs.Name.{DomainName};
 ghost use Rattle.resolution.specs.Names.{is_above, walk};
 ghost use Rattle.walk_tables.specs.Taking.{awaited_by, Leaves, IfAwaits};
-ghost use Rattle.lookup_facts.specs.View.{View};
+ghost use Rattle.walk_lookup.specs.View.{View};
 ghost use Rattle.walk_tables.specs.Pools.{PoolsHold, StepGoes, IsStepAt, given_so_far, GivesNext};
-ghost use Rattle.lookup_facts.specs.Sought.{AreFor};
+ghost use Rattle.walk_lookup.specs.Sought.{AreFor};
 ghost use Rattle.walk_tables.specs.Lookup.{want_of, want_after, steps, LookupHolds};
-ghost use Rattle.lookup_facts.specs.Found.{FoundHolds};
+ghost use Rattle.walk_lookup.specs.Found.{FoundHolds};
 
 use crate::pools::{Answer, Pools, Stepped};
 use dns_core::{Boxed, DnsRequest, Name, NoMemory, Numbers, Query};
-use lookup_facts::Found;
-use server_orders::Tick;
+use server_core::Tick;
 use server_pool::PoolLookup;
 use std::alloc::Global;
 use std::mem;
 use std::net::IpAddr;
+use walk_lookup::Found;
 
 /// Where a lookup stands. At first the cache was not looked at; then it is to begin, or is under way at
 /// a pool; at last it came to something, which is to be heard.

@@ -5,38 +5,37 @@ ghost use Rattle.std.specs.List.{AllZip};
 ghost use Rattle.std.specs.declared.net.ip_addr.IpAddr.{IpAddr};
 ghost use Rattle.dns_core.specs.declared.message.Query.{Query};
 ghost use Rattle.server_core.specs.Servers.{IsFirstDelay};
-ghost use Rattle.lookup_facts.specs.Order.{HoldsOn};
-ghost use Rattle.lookup_facts.specs.View.{View, Later};
+ghost use Rattle.walk_lookup.specs.Order.{HoldsOn};
+ghost use Rattle.walk_lookup.specs.View.{View, Later};
 ghost use Rattle.recursor_types.specs.Options.{answer_filter_of};
-ghost use Rattle.recursor_setting.specs.Setting.{context_of};
-ghost use Rattle.recursor_setting.specs.declared.setting.Setting.{Setting};
-ghost use Rattle.recursor_setting.specs.Delays.{turn_at, delay_at};
+ghost use Rattle.walk_lookup.specs.Setting.{context_of};
+ghost use Rattle.walk_lookup.specs.declared.settings.setting.Setting.{Setting};
+ghost use Rattle.walk_lookup.specs.Delays.{turn_at, delay_at};
 ghost use Rattle.walk_tables.specs.Pools.{number_of, sought_at, came_at, IfCame, ServersHold, PoolsHold, IsOutcomeOf, IsGrown, HasForgotten, HasNoted, HasKept, HasLeft, HasGone, StepGoes, IsGivenFor, NotesOutcome, Seeks, IsStepAt, given_so_far, GivesNext};
-ghost use Rattle.lookup_facts.specs.Sought.{first_delay_at, IsMet, with_came, aim_of, first_of, polled_by, AreFor, noted};
+ghost use Rattle.walk_lookup.specs.Sought.{first_delay_at, IsMet, with_came, aim_of, first_of, polled_by, AreFor, noted};
 ghost use Rattle.walk_tables.specs.Lookup.{AnswerHolds};
-ghost use Rattle.lookup_facts.specs.Remembered.{remembered};
-ghost use Rattle.lookup_facts.specs.Coming.{answer_at, with_sought};
+ghost use Rattle.walk_lookup.specs.Remembered.{remembered};
+ghost use Rattle.walk_lookup.specs.Coming.{answer_at, with_sought};
 ghost use Rattle.walk_tables.specs.Taking.{telling_at, Took, Takes, Comes, TablesHold, is_open_at, awaited_in, IfAwaits};
 ghost use Rattle.server_pool.specs.Orders.{open_at};
-ghost use Rattle.lookup_facts.specs.declared.sought.Given.{Given};
+ghost use Rattle.walk_lookup.specs.declared.sought.Given.{Given};
 
 use dns_core::{
     Boxed, Delays, DnsRequest, Message, Name, NetError, NoMemory, Numbers, Query, TryClone,
 };
-use lookup_facts::{
-    Found, Given, Sought, aim_of, first_of, found_by, is_memory, last_of, polled_by, write_verdict,
-};
-use recursor_setting::{FirstDelay, first_delay, pool_context};
 use recursor_types::RecursorOptions;
 use resolver_cache::ResponseCache;
 use resolver_settings::NameServerConfig;
-use server_core::NameServer;
-use server_orders::{After, Order, Outcome, Sent, Tick};
+use server_core::{After, NameServer, Order, Outcome, Sent, Tick};
 use server_pool::{NameServerPool, PoolLookup, PoolShared, PoolStep};
 use std::alloc::Global;
 use std::collections::BTreeMap;
 use std::mem;
 use std::net::IpAddr;
+use walk_lookup::{
+    FirstDelay, Found, Given, Sought, aim_of, first_delay, first_of, found_by, is_memory, last_of,
+    polled_by, pool_context, write_verdict,
+};
 
 /// What a lookup came to, and the entries of its ends.
 #[derive(Drop)]

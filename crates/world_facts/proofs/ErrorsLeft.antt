@@ -17,8 +17,8 @@ use Rattle.recursor_types.specs.declared.error.RecursorError.{RecursorError}
 use Rattle.recursor_types.specs.declared.error.RecursorError.TheVariants as error
 use Rattle.recursor_types.specs.declared.error.WalkCause.{WalkCause}
 use Rattle.recursor_types.specs.declared.error.WalkCause.TheVariants as why
-use Rattle.lookup_facts.specs.Found.{is_lookup_error}
-use Rattle.zone_asking.specs.Causes.{ErrorHolds, HasNoServer}
+use Rattle.walk_lookup.specs.Found.{is_lookup_error}
+use Rattle.recursor_walk.specs.Causes.{ErrorHolds, HasNoServer}
 use Rattle.zone_rules.specs.declared.world.World.{World}
 use Rattle.world_facts.specs.Told.{TellsLog}
 use Rattle.world_facts.specs.Served.{IsServed}

@@ -7,7 +7,7 @@ use Rattle.dns_core.specs.Log.{numbered, log_of}
 use Rattle.dns_core.specs.declared.log.LogEntry.{LogEntry}
 use Rattle.dns_core.specs.declared.log.LogEntry.TheVariants.{Opened, Asked, Waited, Told, GaveUp}
 use Rattle.resolution.specs.Ending.{is_wait_for, waits}
-use Rattle.script_index.specs.Giving.{waits_of, waits as script_waits, HasNoEnd}
+use Rattle.script_upstream.specs.Giving.{waits_of, waits as script_waits, HasNoEnd}
 use Rattle.world_upstream.specs.Giving.{Gives, ComesTo, delay}
 use Rattle.zone_rules.specs.declared.world.World.{World}
 use Rattle.world_facts.specs.Told.{TellsLog}

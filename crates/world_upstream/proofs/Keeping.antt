@@ -8,7 +8,7 @@ use Rattle.dns_core.specs.Log.{numbered}
 use Rattle.dns_core.specs.declared.log.LogEntry.{LogEntry}
 use Rattle.dns_core.specs.declared.log.LogEntry.TheVariants.{Opened, Asked, Waited, Told, GaveUp}
 use Rattle.dns_core.specs.declared.log.ToldOutcome.{ToldOutcome}
-use Rattle.script_index.specs.Giving.{waits, waits_of, ends}
+use Rattle.script_upstream.specs.Giving.{waits, waits_of, ends}
 use Rattle.world_upstream.specs.Giving.{Gives, Fits, ComesTo, delay}
 use Rattle.world_upstream.specs.Qualified.{is_qualified_world}
 use Rattle.world_upstream.specs.Book.{told, open_at, IsKept, Awaits, Begins, Holds}

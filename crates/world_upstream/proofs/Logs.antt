@@ -11,7 +11,7 @@ use Rattle.std.proofs.lemmas.Bool.Decides.{nat_tests}
 use Rattle.dns_core.specs.Log.{numbered}
 use Rattle.dns_core.specs.declared.log.LogEntry.{LogEntry}
 use Rattle.dns_core.specs.declared.log.LogEntry.TheVariants.{Opened, Asked, Waited, Told, GaveUp}
-use Rattle.script_index.specs.Giving.{waits, waits_of, ends, HasNoEnd}
+use Rattle.script_upstream.specs.Giving.{waits, waits_of, ends, HasNoEnd}
 use Rattle.world_upstream.specs.Giving.{Gives, Fits, delay}
 use Rattle.zone_rules.specs.declared.world.World.{World}
 

@@ -5,7 +5,7 @@ use Rattle.dns_core.specs.Log.{numbered}
 use Rattle.dns_core.specs.declared.log.LogEntry.{LogEntry}
 use Rattle.dns_core.specs.declared.log.LogEntry.TheVariants.{Opened, Asked, Waited, Told, GaveUp}
 use Rattle.dns_core.specs.declared.log.ToldOutcome.{ToldOutcome}
-use Rattle.script_index.specs.Giving.{waits, HasNoEnd}
+use Rattle.script_upstream.specs.Giving.{waits, HasNoEnd}
 use Rattle.world_upstream.specs.Giving.{Gives, ComesTo, delay}
 use Rattle.world_upstream.specs.Qualified.{is_qualified_world}
 use Rattle.world_upstream.specs.declared.book.Book.{Book}

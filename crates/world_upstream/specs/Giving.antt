@@ -7,7 +7,7 @@ use Rattle.dns_core.specs.declared.log.ToldOutcome.{ToldOutcome}
 use Rattle.dns_core.specs.declared.log.ToldOutcome.TheVariants.{Connected, Message, Error}
 use Rattle.dns_core.specs.declared.log.LogEntry.{LogEntry}
 use Rattle.dns_core.specs.declared.log.LogEntry.TheVariants.{Opened, Asked, Waited, Told, GaveUp}
-use Rattle.script_index.specs.Giving.{waits, HasNoEnd}
+use Rattle.script_upstream.specs.Giving.{waits, HasNoEnd}
 use Rattle.zone_worlds.specs.Telling.{Tells}
 use Rattle.zone_rules.specs.declared.world.World.{World}
 

@@ -6,7 +6,7 @@ use dns_core::{
     ConnectOptions, ConnectionConfig, ConnectionProvider, DnsRequest, Message, NetError, NoMemory,
     Poll, Query, TryClone,
 };
-use recursor_world::{Endpoint, Room};
+use script_upstream::{Endpoint, Room};
 use std::net::IpAddr;
 
 /// A connection that is being opened.
@@ -76,7 +76,7 @@ impl ConnectionProvider for WorldUpstream {
 
     type Exchange = WorldExchange;
 
-    ghost use Rattle.recursor_world.specs.Upstream.{peer_of};
+    ghost use Rattle.script_upstream.specs.Upstream.{peer_of};
     ghost use Rattle.world_upstream.specs.Upstream.{told_by};
     ghost use Rattle.world_upstream.specs.Giving.{Gives};
     ghost use Rattle.std.specs.Prelude.{Some, not};

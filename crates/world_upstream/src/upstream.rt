@@ -6,7 +6,7 @@ ghost use Rattle.dns_core.specs.declared.log.LogEntry.TheVariants.{Opened, Asked
 
 use crate::book::Book;
 use dns_core::{Log, LogEntry, Message, NoMemory, Poll, Query, TryClone};
-use recursor_world::{Endpoint, Room};
+use script_upstream::{Endpoint, Room};
 use std::alloc::Global;
 use std::marker::Model;
 use zone_worlds::{IndexedWorld, World};

@@ -4,7 +4,7 @@ use crate::benches::failure::Failure;
 use dns_core::{Items, NoMemory, Question, TryClone};
 use recursor_core::{Recursor, Reply, drive};
 use recursor_text::{Scenario, Upstream, read_scenario};
-use recursor_world::{Script, ScriptUpstream};
+use script_upstream::{Script, ScriptUpstream};
 use std::alloc::Global;
 
 /// A recursor over a script, and its question.

@@ -1,8 +1,8 @@
 //! What has come of a scenario so far.
 ghost use Rattle.std.specs.Prelude.{◌≡◌, Some, None, OnOk, IfOk, if◌then◌else◌};
-ghost use Rattle.line_forms.specs.declared.lines.Form.TheVariants as form;
-ghost use Rattle.text_words.specs.Fields.{Gives};
-ghost use Rattle.world_lines.specs.Steps.{Steps};
+ghost use Rattle.text_lines.specs.declared.lines.lines.Form.TheVariants as form;
+ghost use Rattle.text_lines.specs.Fields.{Gives};
+ghost use Rattle.recursor_text.specs.WorldSteps.{Steps};
 ghost use Rattle.recursor_text.specs.Spelling.{last_moment};
 ghost use Rattle.recursor_text.specs.Whole.{is_late, late};
 ghost use Rattle.recursor_text.specs.declared.reading.draft.Stage.TheVariants.{Scripted};
@@ -11,14 +11,13 @@ ghost use Rattle.recursor_text.specs.Steps.{may_head, may_root, may_option, may_
 
 use crate::scenario::{Scenario, Upstream};
 use dns_core::{Ips, Items, NoMemory, Question, Record, TryClone, Turn};
-use line_forms::{
-    Counts, Form, OpenRule, OptionLine, form_line, last_rank, ns_recursion_limit, options_with,
-    record_line,
-};
-use recursor_world::{Script, ScriptLine};
+use script_upstream::{Script, ScriptLine};
 use std::alloc::Global;
 use std::net::IpAddr;
-use text_words::{LineError, pass};
+use text_lines::{
+    Counts, Form, LineError, OpenRule, OptionLine, form_line, last_rank, ns_recursion_limit,
+    options_with, pass, record_line,
+};
 
 /// How many roots, questions and turns a scenario may have.
 const MOST_ROOTS: usize = 64;

@@ -1,11 +1,11 @@
 //! Option lines of the whole format, which are not all read yet: which values they may have, and in
 //! which order they stand.
 ghost use Rattle.std.specs.Prelude.{◌≡◌};
-ghost use Rattle.text_words.specs.Fields.{Gives, GivesFields, checked};
+ghost use Rattle.text_lines.specs.Fields.{Gives, GivesFields, checked};
 ghost use Rattle.recursor_text.specs.OptionLines.{number_line, networks_line, ports_line, delays_line, bounds_line, damping_line, encryption_line, is_minimization, minimization_line, is_network_option, is_bounds_option, most_of, listed_line, value_line, rank_of, option_line};
 
 use std::alloc::Global;
-use text_words::{LineError, Words, pass};
+use text_lines::{LineError, Words, pass};
 
 fn is_minimization(word: &[u8]) -> bool
     ensures { result ≡ is_minimization word.now }

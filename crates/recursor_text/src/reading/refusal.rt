@@ -1,14 +1,13 @@
 //! Lines that are not taken: which of them the format has, though they are not read yet.
 ghost use Rattle.std.specs.Prelude.{◌≡◌, Option, IfOk};
-ghost use Rattle.text_words.specs.Fields.{Gives, GivesFields, checked};
+ghost use Rattle.text_lines.specs.Fields.{Gives, GivesFields, checked};
 ghost use Rattle.recursor_text.specs.Unbuilt.{is_protocol, refuse_line, connect_line, reply_line, question_line, stands, is_at_options, is_at_rules, is_at_questions, rule_line, late_line, other_line, line_at, refusal_at};
 
 use super::draft::{Place, Refusal, Stage};
 use super::option_lines::option_line;
 use dns_core::NoMemory;
-use line_forms::{answered, connected, delay, dnssec_word};
 use std::alloc::Global;
-use text_words::{LineError, Words, pass};
+use text_lines::{LineError, Words, answered, connected, delay, dnssec_word, pass};
 
 // ---- words
 

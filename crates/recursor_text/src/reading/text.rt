@@ -8,7 +8,7 @@ use super::refusal::refusal;
 use super::whole::WholeDraft;
 use crate::scenario::{Cause, Scenario, ScenarioError};
 use std::alloc::Global;
-use text_words::{LineError, cut};
+use text_lines::{LineError, cut};
 
 /// How many bytes a text may have.
 const MOST: usize = 16_777_216;

@@ -1,15 +1,16 @@
 //! What has come of a whole scenario so far: a draft, and beside it that of a world where it is told one.
 ghost use Rattle.std.specs.Prelude.{◌≡◌, Some, None, IfOk};
-ghost use Rattle.world_lines.specs.Steps.{Steps};
+ghost use Rattle.recursor_text.specs.WorldSteps.{Steps};
 ghost use Rattle.recursor_text.specs.Steps.{is_ended};
 ghost use Rattle.recursor_text.specs.Whole.{is_told_world, in_world, place_beside, told_from, start, plain_taken, world_taken, late_taken, beside_taken, taken, scenario_of, place_of};
 
 use super::draft::{Draft, Place, Stage};
 use crate::scenario::{Scenario, Upstream};
+use crate::world_reading::draft::WorldDraft;
+use crate::world_reading::lines::is_world_line;
 use dns_core::NoMemory;
 use std::alloc::Global;
-use text_words::LineError;
-use world_lines::{WorldDraft, is_world_line};
+use text_lines::LineError;
 
 /// The draft of a scenario. One that is told a world has no rules.
 #[derive(Drop)]

@@ -1,7 +1,7 @@
 use Rattle.std.proofs.Common.{refl}
 use Rattle.dns_core.specs.Connection.{protocol_of}
 use Rattle.dns_core.specs.declared.log.LogEntry.TheVariants.{Opened}
-use Rattle.server_orders.specs.declared.order.Order.TheVariants.{Open}
+use Rattle.server_core.specs.declared.orders.order.Order.TheVariants.{Open}
 use Rattle.order_carrier.proofs.Calls.{opened-called, refused-called}
 use Rattle.order_carrier.proofs.calling.call_open.Goals as goal
 

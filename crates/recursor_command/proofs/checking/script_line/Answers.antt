@@ -1,7 +1,7 @@
 use Rattle.std.proofs.Common.{◌≡◌, ◌+◌, ℕ, subst, Bool, true, cond, List, Some, sym, ap, ◌∙◌}
 use Rattle.std.specs.Prelude.{codes}
 use Rattle.std.specs.Str.{bytes_eq}
-use Rattle.text_words.specs.Pieces.{pieces}
+use Rattle.text_lines.specs.Pieces.{pieces}
 use Rattle.recursor_command.specs.Checking.{first_told}
 use Rattle.recursor_command.proofs.Scripts.{told_step}
 use Rattle.recursor_command.proofs.checking.script_line.Goals as goal

@@ -1,5 +1,5 @@
 use Rattle.std.proofs.Common.{◌≡◌, ◌+◌, ◌≤◌, length}
-use Rattle.text_words.specs.Pieces.{pieces}
+use Rattle.text_lines.specs.Pieces.{pieces}
 use Rattle.recursor_command.specs.Checking.{first_told}
 use Rattle.recursor_command.proofs.checking.script_line.Given as goal
 

@@ -1,6 +1,6 @@
 use Rattle.std.proofs.Common.{◌≡◌, ◌∙◌, sym, ap, subst, min, arith}
 use Rattle.recursor_types.specs.Options.{server_filter_of, answer_filter_of}
-use Rattle.recursor_setting.specs.Setting.{context_of}
+use Rattle.walk_lookup.specs.Setting.{context_of}
 use Rattle.recursor_core.specs.Standing.{run_terms}
 use Rattle.recursor_command.specs.Command.{IsUntold, terms_by}
 use Rattle.recursor_command.proofs.Runs.{terms-are, asks-of, replies-of, moments-of, patient-of}

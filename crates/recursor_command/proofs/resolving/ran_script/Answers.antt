@@ -1,8 +1,8 @@
 use Rattle.std.proofs.Common.{◌≡◌, List, Some, ap, sym, subst}
 use Rattle.recursor_types.specs.declared.reply.Reply.{Reply}
-use Rattle.script_index.specs.Giving.{Gives}
-use Rattle.recursor_world.specs.Upstream.{Upstream}
-use Rattle.script_lines.specs.declared.script.Script.{Script}
+use Rattle.script_upstream.specs.Giving.{Gives}
+use Rattle.script_upstream.specs.Upstream.{Upstream}
+use Rattle.script_upstream.specs.declared.script.script.Script.{Script}
 use Rattle.recursor_command.specs.Command.{terms_by, Resolves}
 use Rattle.recursor_command.proofs.resolving.ran_script.Goals as goal
 

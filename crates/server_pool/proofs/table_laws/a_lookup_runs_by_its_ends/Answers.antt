@@ -1,9 +1,9 @@
 use Rattle.std.proofs.Common.{ℕ, Result, Ok, Err}
 use Rattle.dns_core.specs.declared.errors.NoMemory.{NoMemory}
-use Rattle.server_orders.specs.declared.order.After.{After}
-use Rattle.server_orders.specs.declared.order.Outcome.{Outcome}
-use Rattle.server_orders.specs.declared.order.Tick.{Tick}
-use Rattle.pool_lookups.specs.declared.open_lookup.OpenLookup.{OpenLookup}
+use Rattle.server_core.specs.declared.orders.order.After.{After}
+use Rattle.server_core.specs.declared.orders.order.Outcome.{Outcome}
+use Rattle.server_core.specs.declared.orders.order.Tick.{Tick}
+use Rattle.server_pool.specs.declared.open_lookups.open_lookup.OpenLookup.{OpenLookup}
 use Rattle.server_pool.specs.Shared.{Shared}
 use Rattle.server_pool.specs.Stepping.{HasPut}
 use Rattle.server_pool.specs.TableLaws.{RunsByOutcome}

@@ -1,5 +1,5 @@
 use Rattle.std.proofs.Common.{◌≡◌, ◌++◌, take}
-use Rattle.text_words.specs.Texts.{record_lines}
+use Rattle.text_lines.specs.Texts.{record_lines}
 use Rattle.transcript_printer.proofs.records.put_records.Given as goal
 
 abbrev pub invariant-loop-entry : goal.invariant-loop-entry

@@ -1,5 +1,5 @@
 use Rattle.std.proofs.Common.{◌≡◌, ◌++◌, take, flat_map}
-use Rattle.text_words.specs.Texts.{hex_pair}
+use Rattle.text_lines.specs.Texts.{hex_pair}
 use Rattle.transcript_printer.proofs.words.put_hex_pairs.Given as goal
 
 abbrev pub invariant-loop-b : goal.invariant-loop-b

@@ -1,6 +1,6 @@
 use Rattle.std.proofs.Common.{sym, ◌∙◌, ap, subst, arith}
 use Rattle.std.specs.Result.{result_ok}
-use Rattle.server_orders.specs.declared.order.Order.{Order}
+use Rattle.server_core.specs.declared.orders.order.Order.{Order}
 use Rattle.order_carrier.specs.Awaited.{aim_of, IsSentFor, sent_of}
 use Rattle.order_carrier.specs.Carrying.{Hears}
 use Rattle.order_carrier.proofs.Calls.{numbered-next}

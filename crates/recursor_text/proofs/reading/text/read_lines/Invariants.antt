@@ -1,5 +1,5 @@
 use Rattle.std.proofs.Common.{◌≡◌, ◌+◌, ◌≤◌, length}
-use Rattle.text_words.specs.Pieces.{pieces}
+use Rattle.text_lines.specs.Pieces.{pieces}
 use Rattle.recursor_text.specs.Whole.{start}
 use Rattle.recursor_text.specs.Reading.{read_from}
 use Rattle.recursor_text.proofs.reading.text.read_lines.Given as goal

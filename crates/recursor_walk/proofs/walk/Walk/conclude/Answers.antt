@@ -1,5 +1,5 @@
 use Rattle.recursor_walk.proofs.Names.{sym, subst, EndsIf, verdict_found}
-use Rattle.lookup_facts.specs.declared.found.Found.{Found}
+use Rattle.walk_lookup.specs.declared.found.Found.{Found}
 use Rattle.recursor_walk.proofs.walk.Walk.conclude.Goals as goal
 
 pub returns-in-Told-clause-holds : goal.returns-in-Told-clause-holds

@@ -1,5 +1,5 @@
 use Rattle.recursor_walk.proofs.Names.{sym, subst, ◌∙◌, [], ◌∷◌, refl, ◌≡◌, true, false, Query, Neg, ends_walk, Stands, CameTo, HasCause}
-use Rattle.zone_asking.proofs.Denials.{answers-on-the-way}
+use Rattle.recursor_walk.proofs.Denials.{answers-on-the-way}
 use Rattle.recursor_walk.proofs.Walks.{candidate-asked, candidate-on-the-way, leaves-told}
 use Rattle.recursor_walk.proofs.walk.Walk.deny.Goals as goal
 

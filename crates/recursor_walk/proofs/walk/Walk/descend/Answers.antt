@@ -1,5 +1,5 @@
 use Rattle.recursor_walk.proofs.Names.{◌∙◌, sym, refl, [], Err, arith, nat_tests, NoNameServer, NoAddress, Pos}
-use Rattle.zone_asking.proofs.Denials.{glueless-of}
+use Rattle.recursor_walk.proofs.Denials.{glueless-of}
 use Rattle.recursor_walk.proofs.Walks.{stops, cut-way, cut-leaves, candidate-asked, candidate-on-the-way, leaves-told}
 use Rattle.recursor_walk.proofs.walk.Walk.descend.Goals as goal
 

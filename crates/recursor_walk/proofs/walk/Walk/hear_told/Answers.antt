@@ -1,5 +1,5 @@
 use Rattle.recursor_walk.proofs.Names.{sym, subst, Result, NetError, Verdict, EndsIf, counting}
-use Rattle.zone_asking.proofs.Denials.{told-stands, told-no-error}
+use Rattle.recursor_walk.proofs.Denials.{told-stands, told-no-error}
 use Rattle.recursor_walk.proofs.Walks.{candidate-walked}
 use Rattle.recursor_walk.proofs.walk.Walk.hear_told.Goals as goal
 

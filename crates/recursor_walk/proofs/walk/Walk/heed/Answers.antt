@@ -1,5 +1,5 @@
 use Rattle.recursor_walk.proofs.Names.{sym, subst, [], ◌∷◌, Query, Made, made_negative, Stands, CameTo, HasCause}
-use Rattle.zone_asking.proofs.Denials.{made-on-the-way}
+use Rattle.recursor_walk.proofs.Denials.{made-on-the-way}
 use Rattle.recursor_walk.proofs.Walks.{candidate-asked, candidate-on-the-way}
 use Rattle.recursor_walk.proofs.walk.Walk.heed.Goals as goal
 

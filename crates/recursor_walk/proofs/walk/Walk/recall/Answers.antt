@@ -1,6 +1,6 @@
 use Rattle.recursor_walk.proofs.Names.{Ok, Option, sym, subst, ◌∙◌, refl, arith, Recalls, Counted}
 use Rattle.recursor_walk.specs.declared.walk.Course.TheVariants.{Further}
-use Rattle.zone_asking.proofs.Recalling.{recalled-for}
+use Rattle.recursor_walk.proofs.Recalling.{recalled-for}
 use Rattle.recursor_walk.proofs.Walks.{way-looked, past-falls}
 use Rattle.recursor_walk.proofs.walk.Walk.recall.Goals as goal
 

@@ -1,5 +1,5 @@
 use Rattle.std.proofs.Common.{◌∷◌, [], List, length, ap, sym, subst, arith, length-append}
-use Rattle.retry_rules.specs.AnswerFilter.{denied_by}
+use Rattle.pool_rules.specs.AnswerFilter.{denied_by}
 use Rattle.server_core.specs.Servers.{Server}
 use Rattle.server_pool.specs.Holds.{SharedHolds}
 use Rattle.server_pool.specs.Shared.{Shared}

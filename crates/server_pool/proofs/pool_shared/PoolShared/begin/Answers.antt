@@ -1,6 +1,6 @@
 use Rattle.std.proofs.Common.{arith, sym, subst}
-use Rattle.retry_rules.specs.AnswerFilter.{denied_by}
-use Rattle.pool_lookups.specs.declared.open_lookup.OpenLookup.{OpenLookup}
+use Rattle.pool_rules.specs.AnswerFilter.{denied_by}
+use Rattle.server_pool.specs.declared.open_lookups.open_lookup.OpenLookup.{OpenLookup}
 use Rattle.server_pool.specs.Sending.{Begins}
 use Rattle.server_pool.specs.Shared.{Shared}
 use Rattle.server_pool.proofs.Kept.{begun_holds}

@@ -1,8 +1,8 @@
 use Rattle.std.proofs.Common.{◌≡◌, ◌∙◌, ℕ, List, ap, subst, IfOk}
 use Rattle.resolver_settings.specs.declared.options.ResolverOpts.{ResolverOpts}
-use Rattle.retry_rules.specs.Ordering.{IsOrdered, side_by_side}
-use Rattle.retry_lookup.specs.Rounds.{begun}
-use Rattle.pool_lookups.specs.Candidates.{candidates}
+use Rattle.pool_rules.specs.Ordering.{IsOrdered, side_by_side}
+use Rattle.pool_lookup.specs.Rounds.{begun}
+use Rattle.server_pool.specs.UsableServers.{candidates}
 use Rattle.server_pool.specs.Sending.{Begins}
 use Rattle.server_pool.specs.Shared.{Shared}
 use Rattle.server_pool.proofs.Reaching.{begins_so}

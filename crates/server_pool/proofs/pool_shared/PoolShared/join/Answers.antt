@@ -1,5 +1,5 @@
 use Rattle.std.proofs.Common.{arith}
-use Rattle.retry_rules.specs.AnswerFilter.{denied_by}
+use Rattle.pool_rules.specs.AnswerFilter.{denied_by}
 use Rattle.server_pool.proofs.Kept.{joined_holds}
 use Rattle.server_pool.proofs.pool_shared.PoolShared.join.Goals as goal
 

@@ -1,6 +1,6 @@
 use Rattle.std.proofs.Common.{ℕ, List, sym, subst}
-use Rattle.retry_rules.specs.AnswerFilter.{denied_by}
-use Rattle.pool_lookups.specs.declared.open_lookup.OpenLookup.{OpenLookup}
+use Rattle.pool_rules.specs.AnswerFilter.{denied_by}
+use Rattle.server_pool.specs.declared.open_lookups.open_lookup.OpenLookup.{OpenLookup}
 use Rattle.server_pool.specs.Holds.{SharedHolds}
 use Rattle.server_pool.proofs.Kept.{left_holds, removed_holds}
 use Rattle.server_pool.proofs.Reaching.{many_wait}

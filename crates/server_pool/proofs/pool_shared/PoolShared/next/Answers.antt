@@ -1,11 +1,11 @@
 use Rattle.std.proofs.Common.{◌≡◌, ◌∙◌, ℕ, ◌+◌, Some, None, Err, IfOk, OnErr, arith, ap, sym, subst}
 use Rattle.std.specs.Prelude.{◌⊎◌}
 use Rattle.dns_core.specs.declared.net_error.NetError.TheVariants.{NoConnections}
-use Rattle.server_send.specs.Context.{Context}
-use Rattle.retry_rules.specs.AnswerFilter.{denied_by}
-use Rattle.pool_lookups.specs.Stepping.{IsStepAt}
-use Rattle.pool_lookups.specs.Orders.{given_by}
-use Rattle.pool_lookups.specs.declared.open_lookup.OpenLookup.{OpenLookup}
+use Rattle.server_core.specs.Context.{Context}
+use Rattle.pool_rules.specs.AnswerFilter.{denied_by}
+use Rattle.server_pool.specs.LookupSteps.{IsStepAt}
+use Rattle.server_pool.specs.LookupOrders.{given_by}
+use Rattle.server_pool.specs.declared.open_lookups.open_lookup.OpenLookup.{OpenLookup}
 use Rattle.server_pool.specs.Promises.{IfDone}
 use Rattle.server_pool.specs.Shared.{Shared, lookup_at, denied_in}
 use Rattle.server_pool.specs.Stepping.{told_by, with_rest, HasStepped, HasHalted}

@@ -1,6 +1,6 @@
 use Rattle.std.proofs.Common.{◌≡◌, true, Some, None, subst}
-use Rattle.pool_lookups.specs.Lookups.{is_for, open_for, under}
-use Rattle.pool_lookups.specs.declared.open_lookup.OpenLookup.{OpenLookup}
+use Rattle.server_pool.specs.OpenLookups.{is_for, open_for, under}
+use Rattle.server_pool.specs.declared.open_lookups.open_lookup.OpenLookup.{OpenLookup}
 use Rattle.server_pool.specs.Shared.{Shared}
 use Rattle.server_pool.proofs.Sendings.{sent_joined, sent_begun}
 use Rattle.server_pool.proofs.pool_shared.PoolShared.send.Goals as goal

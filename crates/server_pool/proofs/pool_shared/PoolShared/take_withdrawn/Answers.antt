@@ -1,5 +1,5 @@
 use Rattle.std.proofs.Common.{◌≡◌, ℕ, List, sym, subst, Some}
-use Rattle.retry_rules.specs.AnswerFilter.{denied_by}
+use Rattle.pool_rules.specs.AnswerFilter.{denied_by}
 use Rattle.server_pool.specs.Holds.{SharedHolds}
 use Rattle.server_pool.specs.Orders.{first_withdrawn}
 use Rattle.server_pool.specs.Shared.{Shared}

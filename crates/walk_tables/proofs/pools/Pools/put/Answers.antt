@@ -1,7 +1,7 @@
 use Rattle.walk_tables.proofs.Names.{◌≡◌, ◌∙◌, ℕ, max, inr, sym, refl, ap, subst, Some, None, Ok, Result, arith, rules, Err, option_copied, NoMemory, After, open_at, IsOutcomeOf, closing_of, seen_with, View, seen_at, CacheHolds, remembered, Took, TablesHold, telling_at, later-put, err-last, err-is, was-put, cache-later}
-use Rattle.server_orders.specs.declared.order.After.TheVariants.{Late}
+use Rattle.server_core.specs.declared.orders.order.After.TheVariants.{Late}
 use Rattle.walk_tables.proofs.Orders.{late-other}
-use Rattle.lookup_facts.proofs.Late.{open-late}
+use Rattle.walk_lookup.proofs.Late.{open-late}
 use Rattle.walk_tables.proofs.Later.{tables-later}
 use Rattle.walk_tables.proofs.Pooling.{pools-came}
 use Rattle.walk_tables.proofs.Taking.{took-came, comes-has, telling-noted, told-kept}

@@ -1,4 +1,0 @@
-pub mod LineLaws
-pub mod OptionLaws
-pub mod RecordLaws
-pub mod TableLaws

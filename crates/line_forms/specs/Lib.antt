@@ -1,4 +1,0 @@
-pub mod Lines
-pub mod OptionForm
-pub mod RecordLines
-pub mod Spelling

@@ -1,8 +1,0 @@
-pub mod View
-pub mod Asked
-pub mod Order
-pub mod Tried
-pub mod Found
-pub mod Sought
-pub mod Remembered
-pub mod Coming

@@ -1,0 +1,13 @@
+//! Which types of this crate may go to another thread, and be shared among threads.
+
+use crate::in_flight::runner::{Runner, Running};
+use dns_core::{ConnectionProvider, CrossesThreads};
+
+impl<P: ConnectionProvider + Send + Sync> CrossesThreads for Runner<P>
+where
+    P::Conn: Send + Sync,
+    P::FutureConn: Send + Sync,
+    P::Exchange: Send + Sync,
+{}
+
+impl CrossesThreads for Running {}

@@ -1,2 +1,0 @@
-pub mod SectionTests
-pub mod LeastLeft

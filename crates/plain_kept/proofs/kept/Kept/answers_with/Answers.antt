@@ -1,6 +1,0 @@
-use Rattle.plain_kept.specs.Plain.{among}
-use Rattle.plain_kept.proofs.SectionTests.{all_denied-tests}
-use Rattle.plain_kept.proofs.kept.Kept.answers_with.Goals as goal
-
-pub returns : goal.returns
-returns c = let a = all_denied-tests (among c.args.self.now.denied.now) c.args.self.now.message.now in cc

@@ -1,5 +1,0 @@
-use Rattle.plain_kept.proofs.LeastLeft.{least_left}
-use Rattle.plain_kept.proofs.kept.Kept.least_ttl.Goals as goal
-
-pub returns : goal.returns
-returns c = let e = least_left c.args.self.now in cc

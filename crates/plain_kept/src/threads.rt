@@ -1,9 +1,0 @@
-//! Which types of this crate may go to another thread, and be shared among threads.
-
-use crate::entries::Answered;
-use crate::kept::Kept;
-use dns_core::CrossesThreads;
-
-impl CrossesThreads for Answered<'_> {}
-
-impl CrossesThreads for Kept<'_, '_, '_> {}

@@ -1,2 +1,0 @@
-pub mod PlainServed
-pub mod PlainBased

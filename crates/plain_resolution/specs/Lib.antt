@@ -1,2 +1,0 @@
-pub mod PlainServing
-pub mod PlainBase

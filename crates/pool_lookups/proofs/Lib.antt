@@ -1,2 +1,0 @@
-pub mod UnderNumbers
-pub mod Changed

@@ -1,7 +1,0 @@
-use Rattle.std.proofs.Common.{rules, false}
-use Rattle.std.proofs.lemmas.Fn.{filter_same}
-use Rattle.pool_lookups.specs.Candidates.{is_reached}
-use Rattle.pool_lookups.proofs.reached.keep_reached.Goals as goal
-
-pub returns : goal.returns
-returns c = filter_same _ (is_reached (record { disable_udp = false }) c.args.table.now) _ (λ x b g h. search rules) _ _ c.retain.ensures.filtered

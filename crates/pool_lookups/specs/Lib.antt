@@ -1,4 +1,0 @@
-pub mod Candidates
-pub mod Lookups
-pub mod Orders
-pub mod Stepping

@@ -1,0 +1,27 @@
+-- What the machine keeps, as derived from a log.
+use Rattle.std.specs.Prelude.{Option, Some, None, ◌<◌, length, All}
+use Rattle.std.specs.Global.{Box}
+use Rattle.dns_core.specs.Log.{Log}
+use Rattle.walk_lookup.specs.View.{View, seen_at}
+use Rattle.walk_tables.specs.Pools.{PoolsHold}
+use Rattle.walk_lookup.specs.Remembered.{CacheHolds}
+use Rattle.recursor_question.specs.Resolved.{ResolutionHolds}
+use Rattle.recursor_question.specs.declared.resolving.Resolution.{Resolution}
+use Rattle.recursor_core.specs.declared.machine.resolutions.RecursorCore.{RecursorCore}
+
+-- so it is with the one that is kept at a place, if there is one
+abbrev pub KeptHolds : View → Option (Box Resolution) → Type 0
+KeptHolds seen None = Unit {0}
+KeptHolds seen (Some r) = ResolutionHolds seen r.value
+
+-- what the machine sees of a log
+abbrev pub seen_by : RecursorCore → Log → View
+seen_by core log = seen_at core.setting core.greatest core.moment log
+
+-- All that the machine keeps is derived from the log.
+pub record Derived (core : RecursorCore) (log : Log) : Type 0 where
+  pub bound : core.greatest < log.next
+  pub some : 0 < length core.setting.roots
+  pub cache : CacheHolds (seen_by core log) core.cache
+  pub pools : PoolsHold (seen_by core log) core.pools
+  pub resolutions : All (KeptHolds (seen_by core log)) core.resolutions.items

@@ -1,0 +1,9 @@
+//! Which types of this crate may go to another thread, and be shared among threads.
+
+use crate::machine::plays::Played;
+use crate::machine::resolutions::RecursorCore;
+use dns_core::CrossesThreads;
+
+impl CrossesThreads for RecursorCore {}
+
+impl CrossesThreads for Played {}

@@ -1,3 +1,0 @@
-pub mod Derived
-pub mod Machine
-pub mod Plays

@@ -1,0 +1,4 @@
+pub mod Words
+pub mod Resolved
+pub mod Stepping
+pub mod Later

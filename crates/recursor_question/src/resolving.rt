@@ -1,0 +1,354 @@
+//! One question under way, answered, or ended.
+ghost use Rattle.std.specs.Prelude.{◌≡◌, ◌≤◌, ◌<◌, ◌↔◌, ℕ, true, IfOk, IfSome, IsSome, IsErr, OnOk, OnErr, option_copied};
+ghost use Rattle.walk_lookup.specs.View.{View};
+ghost use Rattle.walk_lookup.specs.Remembered.{CacheHolds};
+ghost use Rattle.walk_tables.specs.Taking.{Leaves, IfAwaits};
+ghost use Rattle.walk_tables.specs.Pools.{PoolsHold, StepGoes, IsStepAt, given_so_far, GivesNext};
+ghost use Rattle.recursor_walk.specs.Counted.{ReadsAt, recalled, answerable};
+ghost use Rattle.recursor_question.specs.Resolving.{want_of, state_steps, steps, open_of, asking_of, IsWalking, IsUnder, IsWalked, IsSettled, IsDone, IsOpen, StaysOpen, AsksOn, SameBegun, AsksFor, StepsOn, IsAnswered, IsHeeded, IsHeard};
+ghost use Rattle.recursor_question.specs.Resolved.{StandsSo, StateHolds, StateComes, AnswerComes, ResolutionHolds};
+ghost use Rattle.recursor_walk.specs.Walk.{begin_steps};
+ghost use Rattle.recursor_walk.specs.Way.{HasRoots, FiltersBy};
+ghost use Rattle.walk_tables.specs.declared.lookup.Want.TheVariants as want;
+
+use crate::short_way::kept_answer;
+use dns_core::{DnsRequest, Ips, Name, NoMemory, Question, TryClone, in_box};
+use recursor_types::Reply;
+use recursor_walk::{Asking, Course, Walk, answer_with, answerable, recalled};
+use resolver_cache::ResponseCache;
+use resolver_settings::AccessControlSet;
+use server_core::Tick;
+use std::alloc::Global;
+use std::mem;
+use walk_response::walked_name;
+use walk_tables::{Pools, Stepped, Want};
+
+/// Not begun, on the walk to its servers, asked at these, answered, or ended.
+#[derive(Drop)]
+pub enum State {
+    New,
+    Walking(Box<Walk>),
+    Asking(Box<Asking>),
+    Done(Box<Reply>),
+    Ended,
+}
+
+/// What a resolution needs next: to set out, a step of a send, or that its reply is taken.
+#[derive(Clone, Copy)]
+pub enum Need {
+    SetOut,
+    Send(Want),
+    Reply,
+    Nothing,
+}
+
+/// A question, the moment at which it began, in microseconds, and where it stands.
+pub struct Resolution {
+    pub question: Question,
+    pub begun: u64,
+    pub state: State,
+}
+
+impl Drop for Resolution {
+    fn drop(self) {
+        let Resolution {
+            question: _,
+            begun: _,
+            state: _,
+        } = self;
+    }
+}
+
+/// Where a question stands whose walk begins at the roots. The root itself is theirs.
+fn begun_walk(alloc: Global, question: &Question, roots: &Ips) -> Result<State, NoMemory>
+    ensures falls { IfOk result (λ state. state_steps question.now.query state < begin_steps question.now.query) }
+    ensures holds { (seen : View) (t0 : ℕ) → question.now.query.name.fqdn ≡ true → HasRoots seen roots.now
+        → StandsSo seen t0 question.now result }
+    ensures under { IfOk result IsUnder }
+{
+    let name = walked_name(alloc, &question.query)?;
+    let servers = roots.try_clone(alloc)?;
+    if name.labels().is_empty() {
+        let query = question.query.try_clone(alloc)?;
+        let asking = Asking::new(alloc, Name::root(alloc), servers, query);
+        return Ok(State::Asking(in_box(alloc, asking)?));
+    }
+    let walk = Walk::new(alloc, name, servers)?;
+    Ok(State::Walking(in_box(alloc, walk)?))
+}
+
+/// Where a question stands that begins: it is answered with what the cache has for it, where this may
+/// be answered, or its walk begins.
+fn begun(
+    alloc: Global,
+    question: &Question,
+    roots: &Ips,
+    cache: &ResponseCache,
+    now: u64,
+) -> Result<State, NoMemory>
+    ensures falls { IfOk result (λ state. state_steps question.now.query state < begin_steps question.now.query) }
+    ensures holds { (seen : View) (t0 : ℕ) → question.now.query.name.fqdn ≡ true → HasRoots seen roots.now
+        → ReadsAt seen t0 now cache.now → StandsSo seen t0 question.now result }
+    ensures answers { IfOk result (IsAnswered question.now (answerable (recalled cache.now question.now.query now))) }
+{
+    if let Some(reply) = kept_answer(alloc, cache, question, now)? {
+        return Ok(State::Done(reply));
+    }
+    let counted = recalled(alloc, cache, &question.query, now)?;
+    match answerable(counted) {
+        Some(counted) => Ok(State::Done(answer_with(alloc, question, counted)?)),
+        None => begun_walk(alloc, question, roots),
+    }
+}
+
+impl State {
+    /// What is asked now, and where.
+    pub(crate) fn asking(&self) -> Option<&Asking>
+        ensures { option_copied result ≡ asking_of self.now }
+    {
+        match self {
+            State::Walking(walk) => Some(&walk.asking),
+            State::Asking(asking) => Some(&**asking),
+            _ => None,
+        }
+    }
+}
+
+impl Resolution {
+    /// A question that begins. Its name is fully qualified.
+    pub fn begin(question: Question, now: u64) -> Resolution
+        requires { question.query.name.fqdn ≡ true }
+        ensures holds { (seen : View) → now ≤ seen.moment → ResolutionHolds seen result }
+        ensures begun { (result.question ≡ question) × (result.begun ≡ now) }
+        ensures new { result.state ≡ State.New }
+    {
+        Resolution {
+            question,
+            begun: now,
+            state: State::New,
+        }
+    }
+
+    pub fn need(&self) -> Need
+        ensures { result ≡ want_of self.now }
+    {
+        match &self.state {
+            State::New => Need::SetOut,
+            State::Walking(walk) => Need::Send(walk.asking.lookup.want()),
+            State::Asking(asking) => Need::Send(asking.lookup.want()),
+            State::Done(_) => Need::Reply,
+            State::Ended => Need::Nothing,
+        }
+    }
+
+    /// The number of the order that it waits for.
+    pub fn open_order(&self, pools: &Pools) -> Option<u64>
+        ensures { result ≡ open_of pools.now self.now }
+    {
+        match self.state.asking() {
+            Some(asking) => asking.lookup.open_order(pools),
+            None => None,
+        }
+    }
+
+    /// Is answered with what the cache has for the question, where this may be answered; else its walk
+    /// begins at the roots. On want of memory it has ended.
+    pub fn set_out(
+        &mut self,
+        alloc: Global,
+        roots: &Ips,
+        cache: &ResponseCache,
+        now: u64,
+    ) -> Result<(), NoMemory>
+        requires { want_of self.old ≡ Need.SetOut }
+        ensures falls { steps self.new < steps self.old }
+        ensures begun { SameBegun self.old self.new }
+        ensures holds { (seen : View) → now ≡ seen.moment → HasRoots seen roots.now → CacheHolds seen cache.now
+            → ResolutionHolds seen self.old → ResolutionHolds seen self.new }
+        ensures answers { IfOk result (λ x. IsAnswered self.old.question (answerable (recalled cache.now self.old.question.query now)) self.new.state) }
+        ensures err { OnErr result (self.new.state ≡ State.Ended) }
+    {
+        self.state = State::Ended;
+        let state = begun(alloc, &self.question, roots, cache, now)?;
+        self.state = state;
+        Ok(())
+    }
+
+    /// The walk has come to the servers of the name: the question itself is to be asked there.
+    fn arrive(&mut self, alloc: Global) -> Result<(), NoMemory>
+        requires { IsWalking self.old.state }
+        ensures falls { state_steps self.old.question.query self.new.state ≤ 6 }
+        ensures ended { StaysOpen result self.new.state }
+        ensures begun { SameBegun self.old self.new }
+        ensures holds { (seen : View) (t0 : ℕ) → StateComes seen t0 self.old.question self.old.state Course.Arrived
+            → StateHolds seen t0 self.old.question self.new.state }
+    {
+        let State::Walking(walk) = mem::replace(&mut self.state, State::Ended) else {
+            unreachable!()
+        };
+        let query = self.question.query.try_clone(alloc)?;
+        let asking = Box::into_inner(walk).into_asking(alloc, query);
+        self.state = State::Asking(in_box(alloc, asking)?);
+        Ok(())
+    }
+
+    /// Goes where its walk has gone; on want of memory it has ended.
+    fn follow(&mut self, alloc: Global, came: Result<Course, NoMemory>) -> Result<(), NoMemory>
+        requires { IsWalking self.old.state }
+        ensures steps { IsWalked self.old.question.query came self.old.state self.new.state }
+        ensures ended { StaysOpen result self.new.state }
+        ensures begun { SameBegun self.old self.new }
+        ensures holds { (seen : View) (t0 : ℕ) → IfOk came (StateComes seen t0 self.old.question self.old.state)
+            → StateHolds seen t0 self.old.question self.new.state }
+    {
+        match came {
+            Ok(Course::Further) => Ok(()),
+            Ok(Course::Arrived) => self.arrive(alloc),
+            Ok(Course::Reply(reply)) => {
+                self.state = State::Done(reply);
+                Ok(())
+            }
+            Err(_) => {
+                self.state = State::Ended;
+                Err(NoMemory)
+            }
+        }
+    }
+
+    /// Goes on, or has this reply; on want of memory it has ended.
+    fn settle(&mut self, came: Result<Option<Box<Reply>>, NoMemory>) -> Result<(), NoMemory>
+        ensures state { IsSettled came self.old.state self.new.state }
+        ensures result { IsErr result ↔ IsErr came }
+        ensures ended { IsOpen self.old.state → StaysOpen result self.new.state }
+        ensures done { IfOk came IsSome → IfOk result (λ x. IsDone self.new.state) }
+        ensures begun { SameBegun self.old self.new }
+        ensures holds { (seen : View) (t0 : ℕ) → IfOk came (AnswerComes seen t0 self.old.question self.old.state)
+            → StateHolds seen t0 self.old.question self.new.state }
+    {
+        match came {
+            Ok(None) => Ok(()),
+            Ok(Some(reply)) => {
+                self.state = State::Done(reply);
+                Ok(())
+            }
+            Err(_) => {
+                self.state = State::Ended;
+                Err(NoMemory)
+            }
+        }
+    }
+
+    /// Goes by what the cache has for the present lookup. On want of memory it has ended.
+    pub fn recall(
+        &mut self,
+        alloc: Global,
+        filter: &AccessControlSet,
+        cache: &ResponseCache,
+        now: u64,
+    ) -> Result<(), NoMemory>
+        requires { want_of self.old ≡ Need.Send want.Recall }
+        ensures falls { steps self.new < steps self.old }
+        ensures ended { StaysOpen result self.new.state }
+        ensures begun { SameBegun self.old self.new }
+        ensures holds { (seen : View) → now ≡ seen.moment → FiltersBy seen filter.now → CacheHolds seen cache.now
+            → ResolutionHolds seen self.old → ResolutionHolds seen self.new }
+        ensures heeds { IfOk result (λ x. IsHeeded cache.now now self.old.question self.old.state self.new.state) }
+    {
+        match &mut self.state {
+            State::Walking(walk) => {
+                let came = walk.recall(alloc, filter, cache, now);
+                self.follow(alloc, came)
+            }
+            State::Asking(asking) => {
+                let came = asking.recall(alloc, &self.question, cache, now);
+                self.settle(came)
+            }
+            _ => Ok(()),
+        }
+    }
+
+    /// Hears what came of its order. On want of memory it has ended.
+    pub fn hear(&mut self, alloc: Global, filter: &AccessControlSet) -> Result<(), NoMemory>
+        requires { want_of self.old ≡ Need.Send want.Hear }
+        ensures falls { steps self.new < steps self.old }
+        ensures ended { StaysOpen result self.new.state }
+        ensures begun { SameBegun self.old self.new }
+        ensures holds { (seen : View) → FiltersBy seen filter.now
+            → ResolutionHolds seen self.old → ResolutionHolds seen self.new }
+        ensures hears { IfOk result (λ x. IsHeard self.old.state self.new.state) }
+    {
+        match &mut self.state {
+            State::Walking(walk) => {
+                let came = walk.hear(alloc, filter);
+                self.follow(alloc, came)
+            }
+            State::Asking(asking) => {
+                let came = asking.hear(alloc, &self.question);
+                self.settle(came)
+            }
+            _ => Ok(()),
+        }
+    }
+
+    /// The present lookup begins at the servers of its zone, with a request of its question.
+    pub fn send(
+        &mut self,
+        alloc: Global,
+        pools: &mut Pools,
+        request: DnsRequest,
+        tick: Tick,
+    ) -> Result<(), NoMemory>
+        requires want { want_of self.old ≡ Need.Send want.Begin }
+        requires asks { AsksFor request self.old.state }
+        ensures falls { OnOk result (steps self.new < steps self.old) }
+        ensures same { AsksOn result self.old self.new }
+        ensures given { given_so_far pools.new ≡ given_so_far pools.old }
+        ensures begun { SameBegun self.old self.new }
+        ensures holds { (seen : View) → tick.now ≡ seen.moment → PoolsHold seen pools.old
+            → ResolutionHolds seen self.old → ResolutionHolds seen self.new × PoolsHold seen pools.new }
+    {
+        match &mut self.state {
+            State::Walking(walk) => walk.asking.send(alloc, pools, request, tick),
+            State::Asking(asking) => asking.send(alloc, pools, request, tick),
+            _ => unreachable!(),
+        }
+    }
+
+    /// What the present lookup has next: an order with its number, one that it waits for, or its answer.
+    pub fn step(
+        &mut self,
+        alloc: Global,
+        pools: &mut Pools,
+        since: u64,
+        tick: Tick,
+    ) -> Result<Stepped, NoMemory>
+        requires { want_of self.old ≡ Need.Send want.Step }
+        ensures falls { IfOk result (StepsOn self.old self.new) }
+        ensures given { GivesNext (given_so_far pools.old) (given_so_far pools.new) result }
+        ensures begun { SameBegun self.old self.new }
+        ensures holds { (seen : View) → IsStepAt seen since tick → PoolsHold seen pools.old
+            → ResolutionHolds seen self.old → ResolutionHolds seen self.new × PoolsHold seen pools.new }
+        ensures goes { (seen : View) → IsStepAt seen since tick → PoolsHold seen pools.old → IfOk result (StepGoes seen) }
+        ensures waits { IfOk result (IfAwaits (open_of pools.new self.new)) }
+    {
+        let begun = self.begun;
+        match &mut self.state {
+            State::Walking(walk) => walk.asking.step(alloc, pools, begun, since, tick),
+            State::Asking(asking) => asking.step(alloc, pools, begun, since, tick),
+            _ => unreachable!(),
+        }
+    }
+
+    /// Ends without a reply: its lookup is left.
+    pub fn leave(mut self, pools: &mut Pools)
+        ensures left { IfSome (asking_of self.state) (λ asking. Leaves asking.lookup.ask pools.old pools.new) }
+        ensures given { given_so_far pools.new ≡ given_so_far pools.old }
+        ensures holds { (seen : View) → PoolsHold seen pools.old → PoolsHold seen pools.new }
+    {
+        match &mut self.state {
+            State::Walking(walk) => walk.asking.lookup.leave(pools),
+            State::Asking(asking) => asking.lookup.leave(pools),
+            _ => {}
+        }
+    }
+}

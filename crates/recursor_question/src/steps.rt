@@ -1,0 +1,202 @@
+//! What a question has next, for whoever steps it: an order, one that it waits for, or its reply.
+ghost use Rattle.std.specs.Prelude.{◌≡◌, ◌≤◌, Ok, IfOk, IfSome};
+ghost use Rattle.walk_lookup.specs.View.{View};
+ghost use Rattle.walk_tables.specs.Pools.{PoolsHold, IsStepAt, given_so_far};
+ghost use Rattle.recursor_question.specs.Resolving.{want_of, SameBegun, IsUnder, IsDoneWith};
+ghost use Rattle.recursor_question.specs.Resolved.{ResolutionHolds};
+ghost use Rattle.recursor_walk.specs.Counted.{recalled, answerable};
+ghost use Rattle.recursor_walk.specs.Replies.{reply_with};
+ghost use Rattle.recursor_question.specs.Steps.{IsRequestOf, StepIs, GoesOn, Gives, SteppedBy, GoesWell, StepsWell, SetsOut, HandsOut, GivesReply};
+ghost use Rattle.recursor_types.specs.declared.reply.Reply.{Reply};
+ghost use Rattle.walk_tables.specs.declared.pools.Pools.{Pools};
+ghost use Rattle.walk_tables.specs.declared.lookup.Want.TheVariants as want;
+
+use crate::resolving::{Need, Resolution, State};
+use dns_core::{DnsRequest, NoMemory, TryClone, in_box};
+use recursor_types::Reply;
+use resolver_cache::ResponseCache;
+use server_core::{Order, Tick};
+use std::alloc::Global;
+use std::mem;
+use walk_lookup::{Setting, request_options};
+use walk_tables::{Pools, Stepped, Want};
+
+/// What a resolution has for whoever steps it.
+#[derive(Drop)]
+pub enum Step {
+    Order { number: u64, order: Box<Order> },
+    Waiting { number: u64 },
+    Done(Box<Reply>),
+    Ended,
+}
+
+/// A step inside the resolution, after which another is due, or one for whoever steps it.
+#[derive(Drop)]
+pub enum Progress {
+    Again,
+    Step(Step),
+}
+
+impl Resolution {
+    /// The request of what it asks now.
+    fn request(&self, alloc: Global, setting: &Setting) -> Result<DnsRequest, NoMemory>
+        requires { IsUnder self.now.state }
+        ensures { IfOk result (λ request. IsRequestOf request setting.now self.now.state) }
+    {
+        match self.state.asking() {
+            Some(asking) => Ok(DnsRequest {
+                query: asking.lookup.query.try_clone(alloc)?,
+                options: request_options(setting.context.options()),
+            }),
+            None => unreachable!(),
+        }
+    }
+
+    /// The present lookup begins at the servers of its zone.
+    fn begin_asking(
+        &mut self,
+        alloc: Global,
+        setting: &Setting,
+        pools: &mut Pools,
+        tick: Tick,
+    ) -> Result<Progress, NoMemory>
+        requires { want_of self.old ≡ Need.Send want.Begin }
+        ensures goes { GoesOn pools.old pools.new self.old self.new result }
+        ensures begun { SameBegun self.old self.new }
+        ensures holds { (seen : View) → tick.now ≡ seen.moment → PoolsHold seen pools.old
+            → ResolutionHolds seen self.old → GoesWell seen self.old self.new pools.new result }
+    {
+        let request = self.request(alloc, setting)?;
+        self.send(alloc, pools, request, tick)?;
+        Ok(Progress::Again)
+    }
+
+    /// Gives the next order of the present lookup, or the one that it waits for; or goes on where it has
+    /// its answer.
+    fn give_order(
+        &mut self,
+        alloc: Global,
+        pools: &mut Pools,
+        since: u64,
+        tick: Tick,
+    ) -> Result<Progress, NoMemory>
+        requires { want_of self.old ≡ Need.Send want.Step }
+        ensures goes { GoesOn pools.old pools.new self.old self.new result }
+        ensures begun { SameBegun self.old self.new }
+        ensures holds { (seen : View) → IsStepAt seen since tick → PoolsHold seen pools.old
+            → ResolutionHolds seen self.old → GoesWell seen self.old self.new pools.new result }
+    {
+        match self.step(alloc, pools, since, tick)? {
+            Stepped::Order { number, order } => {
+                let order = in_box(alloc, order)?;
+                Ok(Progress::Step(Step::Order { number, order }))
+            }
+            Stepped::Waiting { number } => Ok(Progress::Step(Step::Waiting { number })),
+            Stepped::Done => Ok(Progress::Again),
+        }
+    }
+
+    /// Its reply, after which it has ended.
+    fn take_reply(&mut self) -> Progress
+        requires { want_of self.old ≡ Need.Reply }
+        ensures goes { (pools : Pools) → GoesOn pools pools self.old self.new (Ok result) }
+        ensures begun { SameBegun self.old self.new }
+        ensures holds { (seen : View) → ResolutionHolds seen self.old
+            → ResolutionHolds seen self.new × Gives seen self.old result }
+        ensures replies { (reply : Reply) → IsDoneWith reply self.old.state → GivesReply reply result }
+    {
+        match mem::replace(&mut self.state, State::Ended) {
+            State::Done(reply) => Progress::Step(Step::Done(reply)),
+            _ => unreachable!(),
+        }
+    }
+
+    /// One step of what it asks.
+    fn send_on(
+        &mut self,
+        alloc: Global,
+        setting: &Setting,
+        cache: &ResponseCache,
+        pools: &mut Pools,
+        want: Want,
+        since: u64,
+        tick: Tick,
+    ) -> Result<Progress, NoMemory>
+        requires { want_of self.old ≡ Need.Send want }
+        ensures goes { GoesOn pools.old pools.new self.old self.new result }
+        ensures begun { SameBegun self.old self.new }
+        ensures holds { (seen : View) → SteppedBy seen setting.now cache.now since tick → PoolsHold seen pools.old
+            → ResolutionHolds seen self.old → GoesWell seen self.old self.new pools.new result }
+    {
+        match want {
+            Want::Recall => {
+                self.recall(alloc, &setting.server_filter, cache, tick.now)?;
+                Ok(Progress::Again)
+            }
+            Want::Begin => self.begin_asking(alloc, setting, pools, tick),
+            Want::Step => self.give_order(alloc, pools, since, tick),
+            Want::Hear => {
+                self.hear(alloc, &setting.server_filter)?;
+                Ok(Progress::Again)
+            }
+        }
+    }
+
+    fn step_on(
+        &mut self,
+        alloc: Global,
+        setting: &Setting,
+        cache: &ResponseCache,
+        pools: &mut Pools,
+        since: u64,
+        tick: Tick,
+    ) -> Result<Progress, NoMemory>
+        ensures goes { GoesOn pools.old pools.new self.old self.new result }
+        ensures begun { SameBegun self.old self.new }
+        ensures holds { (seen : View) → SteppedBy seen setting.now cache.now since tick → PoolsHold seen pools.old
+            → ResolutionHolds seen self.old → GoesWell seen self.old self.new pools.new result }
+        ensures sets_out { want_of self.old ≡ Need.SetOut
+            → IfOk result (SetsOut self.old.question (answerable (recalled cache.now self.old.question.query tick.now)) self.new.state) }
+        ensures replies { (reply : Reply) → IsDoneWith reply self.old.state → IfOk result (GivesReply reply) }
+    {
+        match self.need() {
+            Need::SetOut => {
+                self.set_out(alloc, &setting.roots, cache, tick.now)?;
+                Ok(Progress::Again)
+            }
+            Need::Send(want) => self.send_on(alloc, setting, cache, pools, want, since, tick),
+            Need::Reply => Ok(self.take_reply()),
+            Need::Nothing => Ok(Progress::Step(Step::Ended)),
+        }
+    }
+
+    /// What it has next, at the moment of the tick, after the greatest entry so far: an order, one that it
+    /// waits for, its reply once, or nothing more. It is lent what the recursor is set to, the cache, and
+    /// the pools. One that sets out is answered with what the cache has for it, where that may be answered;
+    /// the reply of one that has it is handed out as it is.
+    pub fn next(
+        &mut self,
+        alloc: Global,
+        setting: &Setting,
+        cache: &ResponseCache,
+        pools: &mut Pools,
+        since: u64,
+        tick: Tick,
+    ) -> Result<Step, NoMemory>
+        ensures steps { IfOk result (StepIs pools.old pools.new self.old self.new) }
+        ensures given { given_so_far pools.old ≤ given_so_far pools.new }
+        ensures begun { SameBegun self.old self.new }
+        ensures holds { (seen : View) → SteppedBy seen setting.now cache.now since tick → PoolsHold seen pools.old
+            → ResolutionHolds seen self.old → StepsWell seen self.old self.new pools.new result }
+        ensures recalls { want_of self.old ≡ Need.SetOut → IfSome (answerable (recalled cache.now self.old.question.query tick.now))
+            (λ counted. IfOk result (HandsOut (reply_with self.old.question counted))) }
+        ensures replies { (reply : Reply) → IsDoneWith reply self.old.state → IfOk result (HandsOut reply) }
+    {
+        'steps: loop {
+            match self.step_on(alloc, setting, cache, pools, since, tick)? {
+                Progress::Again => {}
+                Progress::Step(step) => return Ok(step),
+            }
+        }
+    }
+}

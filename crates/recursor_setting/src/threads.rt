@@ -1,9 +1,0 @@
-//! Which types of this crate may go to another thread, and be shared among threads.
-
-use crate::delays::FirstDelay;
-use crate::setting::Setting;
-use dns_core::CrossesThreads;
-
-impl CrossesThreads for Setting {}
-
-impl CrossesThreads for FirstDelay {}

@@ -1,0 +1,72 @@
+-- What counts for a question, whether it was told just now or is read from the cache (RFC 2308 section 5).
+use Rattle.std.specs.Prelude.{◌≡◌, ℕ, ◌≤◌, Bool, true, IsTrue, if◌then◌else◌, Option, Some, None, option_and_then}
+use Rattle.std.specs.Option.{option_map}
+use Rattle.dns_core.specs.Name.{DomainName}
+use Rattle.dns_core.specs.declared.message.Query.{Query}
+use Rattle.resolver_cache.specs.Cached.{Cached}
+use Rattle.resolver_cache.specs.Cache.{found_for}
+use Rattle.kept_responses.specs.declared.entry.CachedResponse.{CachedResponse}
+use Rattle.resolution.specs.Answering.{Base, IsOwn}
+use Rattle.resolution.specs.declared.verdict.Verdict.{Verdict}
+use Rattle.resolution.specs.declared.verdict.Verdict.TheVariants.{Pos, Neg, Made}
+use Rattle.resolution.specs.Walking.{Walked}
+use Rattle.walk_response.specs.Kept.{verdict_kept}
+use Rattle.walk_lookup.specs.Remembered.{CacheHolds}
+use Rattle.walk_lookup.specs.View.{View, given_of}
+use Rattle.recursor_walk.specs.SameTold.{SameVerdict, ShowsAsked}
+use Rattle.recursor_walk.specs.declared.zone_query.counted.Counted.{Counted}
+
+-- ---- in the cache
+
+abbrev pub counted_for : CachedResponse → Option Counted
+counted_for f = option_map (λ v. let c : Counted = record { entry = f.source; verdict = v } in c) (verdict_kept f.response)
+
+-- what the cache has for the question that is current
+abbrev pub recalled : Cached → Query → ℕ → Option Counted
+recalled cache q now = option_and_then counted_for (found_for cache q now)
+
+-- ---- for a question
+
+-- What is read later answers where it is authoritative, or a negative (RFC 1034 section 5.3.3, step 1).
+abbrev pub may_answer : Verdict → Bool
+may_answer (Pos k) = k.authoritative
+may_answer (Neg n) = true
+may_answer (Made cause) = true
+
+-- what counts, where it may be answered
+abbrev pub answerable : Option Counted → Option Counted
+answerable None = None
+answerable (Some c) = if may_answer c.verdict then Some c else None
+
+-- Entry i, no later than the greatest, tells for the question what counts so, but for TTLs, and is fresh at t0; its server is one of
+-- a zone to which the walk went down.
+pub record Stands (seen : View) (t0 : ℕ) (q : Query) (entry : ℕ) (v : Verdict) : Type 0 where
+  pub zone : DomainName
+  pub whole : Verdict
+  pub early : entry ≤ seen.greatest
+  pub base : Base (given_of seen.setting) seen.log t0 q entry zone whole
+  pub walked : Walked (given_of seen.setting) seen.log q zone
+  pub same : SameVerdict q v whole
+  pub asked : ShowsAsked seen.log entry q v whole
+
+-- an answer is authoritative, or was told at or after t0, and for NS records by the name's own servers
+abbrev pub IsOwnVerdict : View → ℕ → Query → DomainName → ℕ → Verdict → Type 0
+IsOwnVerdict seen t0 q zone moment (Pos k) = IsOwn (given_of seen.setting) seen.log t0 q zone moment k
+IsOwnVerdict seen t0 q zone moment (Neg n) = Unit {0}
+IsOwnVerdict seen t0 q zone moment (Made cause) = Unit {0}
+
+-- So it is, and it may be answered.
+pub record Answers (seen : View) (t0 : ℕ) (q : Query) (entry : ℕ) (v : Verdict) : Type 0 where
+  pub stands : Stands seen t0 q entry v
+  pub own : IsOwnVerdict seen t0 q stands.zone stands.base.moment stands.whole
+
+-- What is read from the cache is so; it may be answered where it is a negative, or authoritative.
+pub record IsRecalled (seen : View) (t0 : ℕ) (q : Query) (c : Counted) : Type 0 where
+  pub stands : Stands seen t0 q c.entry c.verdict
+  pub own : IsTrue (may_answer c.verdict) → IsOwnVerdict seen t0 q stands.zone stands.base.moment stands.whole
+
+-- A cache that holds is read at this moment, for a question that began no later.
+pub record ReadsAt (seen : View) (t0 now : ℕ) (cache : Cached) : Type 0 where
+  pub at : now ≡ seen.moment
+  pub since : t0 ≤ now
+  pub holds : CacheHolds seen cache

@@ -1,8 +1,0 @@
-use Rattle.std.proofs.Common.{◌≡◌, ap, ◌∙◌, subst}
-use Rattle.script_index.specs.Giving.{Gives}
-use Rattle.script_lines.specs.declared.script.Script.{Script}
-use Rattle.recursor_world.proofs.provider.ScriptUpstreamConnectionProvider.new_connection.Goals as goal
-
-pub returns-in-Ok-clause-vouches : goal.returns-in-Ok-clause-vouches
-returns-in-Ok-clause-vouches c = λ es g.
-    subst (λ (s : Script). Gives s es) (ap (λ u. u.script) c.count_fault.ensures.same ∙ c.in-Ok.ensures.ok.script) g

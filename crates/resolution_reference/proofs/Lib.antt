@@ -1,0 +1,4 @@
+pub mod PlainServed
+pub mod PlainBased
+pub mod SectionTests
+pub mod LeastLeft

@@ -1,0 +1,3 @@
+pub mod PlainServing
+pub mod PlainBase
+pub mod Plain

@@ -1,0 +1,99 @@
+//! What an entry of a small log answers, by a plain program: slow, and no part of a resolver.
+ghost use Rattle.std.specs.Prelude.{◌≡◌, ◌↔◌, ◌==◌, IsTrue, drop, if◌then◌else◌};
+ghost use Rattle.resolution.specs.Names.{is_above, walk};
+ghost use Rattle.resolution_reference.specs.Plain.{apex, asks};
+ghost use Rattle.resolution_reference.specs.PlainServing.{given_of, log_in};
+ghost use Rattle.resolution_reference.specs.PlainBase.{IsBase, IsFreshFor, life_of};
+
+use crate::kept::entries::told_answer;
+use crate::kept::kept::{Kept, base_of, is_suffix};
+use crate::setting::Setting;
+use dns_core::{Label, Name, Query};
+
+/// The labels of the name to which a question is walked: for DS those of the base name.
+fn walked(labels: &[Label], record_type: u16) -> &[Label]
+    ensures { result.now ≡ (if record_type == 43 then drop 1 labels.now else labels.now) }
+{
+    if record_type == 43 {
+        base_of(labels)
+    } else {
+        labels
+    }
+}
+
+/// Whether a question is walked to a name at or below the zone.
+fn is_walked_below(zone: &[Label], labels: &[Label], record_type: u16, class: u16) -> bool
+    ensures { result ≡ is_above (apex zone.now) (walk (asks labels.now record_type class)) }
+{
+    let _class = class;
+    is_suffix(zone, walked(labels, record_type))
+}
+
+/// Whether what was told at a moment is fresh at another: no earlier, or within its life.
+fn is_fresh(t0: u64, moment: u64, life: u32) -> bool
+    ensures { IsTrue result ↔ IsFreshFor t0 moment life }
+{
+    t0 <= moment || t0 - moment <= 1_000_000 * u64::from(life)
+}
+
+impl Setting<'_> {
+    /// The seconds for which an answer counts.
+    fn life(&self, kept: &Kept) -> u32
+        ensures { result ≡ life_of self.now kept.now }
+    {
+        self.least_life.max(self.most_life.min(kept.least_ttl()))
+    }
+
+    /// Whether the entry tells an answer to the question for a fully qualified name, by a server of
+    /// the zone with these labels, that is fresh.
+    fn base_at(
+        &self,
+        t0: u64,
+        labels: &[Label],
+        record_type: u16,
+        class: u16,
+        entry: usize,
+        zone: &[Label],
+    ) -> bool
+        ensures { IsTrue result ↔ IsBase (given_of self.now) (log_in self.now) t0 (asks labels.now record_type class) entry (apex zone.now) }
+    {
+        let Some(told) = told_answer(self.log, entry, labels, record_type, class) else {
+            return false;
+        };
+        if !is_walked_below(zone, labels, record_type, class) {
+            return false;
+        }
+        let kept = Kept {
+            denied: self.answer_denied,
+            zone,
+            message: told.message,
+        };
+        if !kept.counts() {
+            return false;
+        }
+        if !is_fresh(t0, told.moment, self.life(&kept)) {
+            return false;
+        }
+        self.serves_apex(told.ask, told.teller, zone)
+    }
+}
+
+/// Whether the entry tells an answer to the question, by a server of the zone, that is fresh at `t0`.
+pub fn base(setting: &Setting, t0: u64, query: &Query, entry: usize, zone: &Name) -> bool
+    ensures { IsTrue result ↔ IsBase (given_of setting.now) (log_in setting.now) t0 query.now entry zone.now }
+{
+    if !query.name.is_fqdn() {
+        return false;
+    }
+    if !zone.is_fqdn() {
+        return false;
+    }
+    setting.base_at(
+        t0,
+        query.name.labels(),
+        query.query_type.code,
+        query.query_class.code,
+        entry,
+        zone.labels(),
+    )
+}

@@ -1,5 +1,0 @@
-use Rattle.retry_lookup.proofs.Waits.{waits_for}
-use Rattle.retry_lookup.proofs.lookup_laws.a_lookup_waits_for_an_order.Goals as goal
-
-pub returns : goal.returns
-returns c = λ now l h. waits_for now l h

@@ -1,5 +1,0 @@
-use Rattle.std.proofs.Common.{rules}
-use Rattle.retry_rules.proofs.key.same_key.Goals as goal
-
-pub returns-then-same_query : goal.returns-then-same_query
-returns-then-same_query c = search rules

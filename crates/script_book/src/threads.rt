@@ -1,6 +1,0 @@
-//! Which types of this crate may go to another thread, and be shared among threads.
-
-use crate::book::Book;
-use dns_core::CrossesThreads;
-
-impl CrossesThreads for Book {}

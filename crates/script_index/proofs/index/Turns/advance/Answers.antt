@@ -1,5 +1,0 @@
-use Rattle.std.proofs.Common.{rules}
-use Rattle.script_index.proofs.index.Turns.advance.Goals as goal
-
-pub returns-then-self-saturating_sub : goal.returns-then-self-saturating_sub
-returns-then-self-saturating_sub c = search rules

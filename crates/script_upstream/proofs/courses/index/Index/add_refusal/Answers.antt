@@ -1,0 +1,15 @@
+use Rattle.std.proofs.Common.{Option, ap, ◌∙◌, refl}
+use Rattle.std.specs.Prelude.{option_and_then}
+use Rattle.std.specs.HashMap.{get}
+use Rattle.script_upstream.specs.Keys.{same_endpoint}
+use Rattle.script_upstream.specs.declared.courses.index.Route.{Route}
+use Rattle.script_upstream.proofs.Putting.{same_route, put_same}
+use Rattle.script_upstream.proofs.courses.index.Index.add_refusal.Goals as goal
+
+pub returns-clause-place : goal.returns-clause-place
+returns-clause-place c = λ p.
+    let place = λ (o : Option Route). option_and_then (λ r. r.place) o in
+    let old = c.args.self.now.routes in
+    put_same place _ (get same_endpoint old p) (get same_endpoint old p) (same_endpoint c.args.endpoint p) _ (c.in_ok-insert.ensures.updates.0 p)
+    (λ same. c.route.ensures.place ∙ ap place (same_route old c.args.endpoint p same))
+    (λ apart. refl)

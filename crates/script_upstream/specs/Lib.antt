@@ -1,0 +1,9 @@
+pub mod Upstream
+pub mod Late
+pub mod Script
+pub mod Course
+pub mod Giving
+pub mod Index
+pub mod Keys
+pub mod Stage
+pub mod Book

@@ -1,0 +1,7 @@
+use Rattle.std.proofs.Common.{◌∙◌, sym}
+use Rattle.server_core.proofs.Putting.{told_nothing}
+use Rattle.server_core.proofs.sends.server_send.ServerSend.hear.Goals as goal
+
+pub returns-in-None-clause-table : goal.returns-in-None-clause-table
+returns-in-None-clause-table c =
+    told_nothing _ c.args.now c.args.class c.args.self.now.server c.args.table.now (sym c.asked.ensures ∙ c.in-None.is)

@@ -1,5 +1,0 @@
-use Rattle.std.proofs.Common.{rules}
-use Rattle.server_orders.proofs.order.Tick.is_last_poll.Goals as goal
-
-pub returns : goal.returns
-returns c = search rules

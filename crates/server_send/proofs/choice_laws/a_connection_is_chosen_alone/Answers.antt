@@ -1,6 +1,0 @@
-use Rattle.server_send.specs.Policy.{allows_connection, is_before}
-use Rattle.server_send.proofs.FirstLeast.{one_choice}
-use Rattle.server_send.proofs.choice_laws.a_connection_is_chosen_alone.Goals as goal
-
-pub returns : goal.returns
-returns c = λ policy now cs. one_choice (allows_connection policy) (is_before now) cs

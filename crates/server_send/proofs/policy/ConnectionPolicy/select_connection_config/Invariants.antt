@@ -1,7 +1,0 @@
-use Rattle.std.proofs.Common.{take}
-use Rattle.server_send.specs.Choice.{Picks}
-use Rattle.server_send.specs.Policy.{allows_config, is_config_before}
-use Rattle.server_send.proofs.policy.ConnectionPolicy.select_connection_config.Given as goal
-
-abbrev pub invariant-loop-place : goal.invariant-loop-place
-invariant-loop-place l = Picks (allows_config l.self) is_config_before (take l.place l.configs) l.best

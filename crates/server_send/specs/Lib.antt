@@ -1,5 +1,0 @@
-pub mod Context
-pub mod Choice
-pub mod Policy
-pub mod ChoiceLaws
-pub mod Sending

@@ -1,0 +1,16 @@
+pub mod AddressLaws
+pub mod Binds
+pub mod CodeLaws
+pub mod Cuts
+pub mod FieldLaws
+pub mod HexLaws
+pub mod NameLaws
+pub mod NetLaws
+pub mod NumberLaws
+pub mod NumberListLaws
+pub mod PlainLaws
+pub mod WordLaws
+pub mod LineLaws
+pub mod OptionLaws
+pub mod RecordLaws
+pub mod TableLaws

@@ -1,0 +1,15 @@
+pub mod Addresses
+pub mod Codes
+pub mod Fields
+pub mod Hex
+pub mod Names
+pub mod Networks
+pub mod NumberLists
+pub mod Numbers
+pub mod Pieces
+pub mod Spelling
+pub mod Texts
+pub mod Lines
+pub mod OptionForm
+pub mod RecordLines
+pub mod LineSpelling

@@ -1,5 +1,0 @@
-use Rattle.std.proofs.Common.{rules}
-use Rattle.walk_base.proofs.answer.outcome_of.Goals as goal
-
-pub returns-in-Pos : goal.returns-in-Pos
-returns-in-Pos c = search rules

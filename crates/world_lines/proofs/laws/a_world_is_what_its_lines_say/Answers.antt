@@ -1,8 +1,0 @@
-use Rattle.world_lines.proofs.RunLaws.{found, run_again}
-use Rattle.world_lines.proofs.laws.a_world_is_what_its_lines_say.Goals as goal
-
-pub returns-clause-found : goal.returns-clause-found
-returns-clause-found c = found
-
-pub returns-clause-only : goal.returns-clause-only
-returns-clause-only c = run_again

@@ -1,5 +1,0 @@
-use Rattle.world_lines.proofs.Keys.{name_added}
-use Rattle.world_lines.proofs.listed.add_apex.Goals as goal
-
-pub returns-clause-ok : goal.returns-clause-ok
-returns-clause-ok c = λ n. name_added c.args.apex n _ _ (c.in_ok-_new.ensures.updates.0 n)

@@ -1,5 +1,0 @@
-pub mod SameTold
-pub mod Causes
-pub mod Replies
-pub mod Counted
-pub mod Asking
