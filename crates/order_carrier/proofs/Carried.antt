@@ -140,11 +140,11 @@ module _ {P : Type 0} (key : OrderKey) (order : Order) (now : ℕ) (old new : St
 
     -- The log has grown as the order may make it grow.
     pub run-moves : (patience : ℕ) (result : Option (Option Outcome)) (c : Carried key order now old new result) → polls < max 1 patience
-        → RunnerMoves patience now (λ given. old.stands key ≡ Unseen → GoesRight old.log order given) old.log new.log
+        → RunnerMoves patience now (λ policy. old.stands key ≡ Unseen → GoesRight old.log order policy) old.log new.log
     run-moves patience result c fewer = record {
       grown = carried-grown key order now old new result c;
       patient = run-patient (max 1 patience) result c fewer;
-      asks = λ given right. carried-asks given key order now old new result c right;
+      asks = λ policy right. carried-asks policy key order now old new result c right;
     }
 
     -- what is under way was under way, or was just sent

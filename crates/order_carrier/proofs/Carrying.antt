@@ -33,7 +33,7 @@ module _ {P C F E : Type 0} (p : Ghosts P C F E) (tick : Tick) (number : ℕ) (r
   module _ (may : IsRunning (stand_at old.slots) (p.log old.provider) number running) where
     -- the log has grown as the order may make it grow
     pub carry-moves : running.polls < max 1 tick.patience
-        → RunnerMoves tick.patience tick.now (λ given. stand_at old.slots (key_in number running) ≡ Unseen → GoesRight (p.log old.provider) running.order.value given) (p.log old.provider) (p.log new.provider)
+        → RunnerMoves tick.patience tick.now (λ policy. stand_at old.slots (key_in number running) ≡ Unseen → GoesRight (p.log old.provider) running.order.value policy) (p.log old.provider) (p.log new.provider)
     carry-moves fewer = run-moves (key_in number running) running.order.value tick.now (state old) (state new) holds.holds running.polls may.polled tick.patience result c.did fewer
 
     -- the order runs on, polled once more

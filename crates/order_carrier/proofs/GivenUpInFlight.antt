@@ -5,7 +5,7 @@ use Rattle.std.specs.Prelude.{is_some, IsSome}
 use Rattle.dns_core.specs.declared.log.LogEntry.{LogEntry}
 use Rattle.dns_core.specs.declared.provider.ConnectionProvider.{Ghosts}
 use Rattle.resolution.specs.Ending.{waits}
-use Rattle.resolution.specs.Given.{Given}
+use Rattle.recursor_types.specs.declared.policy.Policy.{Policy}
 use Rattle.server_core.specs.declared.orders.order.Sent.{Sent}
 use Rattle.order_carrier.specs.Carrying.{CarrierHolds, state}
 use Rattle.order_carrier.specs.Did.{Stand, order_in, sent_in}
@@ -84,7 +84,7 @@ module _ {P C F E : Type 0} (p : Ghosts P C F E) (number now : ℕ) (old new : C
     up-moves patience = record {
       grown = given_up-grown key now (state old) (state new) g.given_up;
       patient = patient-none (max 1 patience) (p.log old.provider) (p.log new.provider) (given_up-waits key now (state old) (state new) g.given_up);
-      asks = λ given right. given_up-asks given key now (state old) (state new) g.given_up;
+      asks = λ policy right. given_up-asks policy key now (state old) (state new) g.given_up;
     }
 
     up-same : (k : OrderKey) → k ≢ key → stand_at new.slots k ≡ stand_at old.slots k
@@ -133,8 +133,8 @@ module _ {P C F E : Type 0} (p : Ghosts P C F E) (number now : ℕ) (old new : C
       by (Some s) at = absurd (order-sent (stand_at old.slots (key_in number running)) s none at)
 
 -- a log that stays as it is has moved nowhere
-pub runner-still : (patience now : ℕ) (goes : Given → Type 0) (told : Option (List LogEntry)) → RunnerMoves patience now goes told told
-runner-still patience now goes told = record { grown = Grown-refl now told; patient = patient-none (max 1 patience) told told (WaitsFor-refl told); asks = λ given right asks. asks }
+pub runner-still : (patience now : ℕ) (goes : Policy → Type 0) (told : Option (List LogEntry)) → RunnerMoves patience now goes told told
+runner-still patience now goes told = record { grown = Grown-refl now told; patient = patient-none (max 1 patience) told told (WaitsFor-refl told); asks = λ policy right asks. asks }
 
 module _ {P C F E : Type 0} (p : Ghosts P C F E) (number now : ℕ) (r : Runner P C F E p) (new : Carrier P C F E p)
     (ups : (key : OrderKey) → open_key (stand_at r.carrier.slots) number ≡ Some key → GivesUp key now r.carrier new) (none : open_key (stand_at r.carrier.slots) number ≡ None → new ≡ r.carrier) where

@@ -6,7 +6,7 @@ use Rattle.std.specs.Option.{option_map}
 use Rattle.std.specs.Ordering.{nat_cmp}
 use Rattle.std.specs.Prelude.{is_some}
 use Rattle.dns_core.specs.declared.provider.ConnectionProvider.{Ghosts}
-use Rattle.resolution.specs.Given.{Given}
+use Rattle.recursor_types.specs.declared.policy.Policy.{Policy}
 use Rattle.server_core.specs.declared.orders.order.Outcome.{Outcome}
 use Rattle.server_core.specs.declared.orders.order.Tick.{Tick}
 use Rattle.order_carrier.specs.Carrying.{CarrierHolds, Carries}
@@ -57,7 +57,7 @@ module _ {P C F E : Type 0} (p : Ghosts P C F E) (tick : Tick) (number : ℕ) (r
     pub after-moves : RunnerMoves tick.patience tick.now (StartsRight number r) (p.log r.carrier.provider) (p.log new.provider)
     after-moves =
         let m = carry-moves p tick number running r.carrier new result can.holds.carrier c (can.holds.held number running at) run-fewer in
-        record { grown = m.grown; patient = m.patient; asks = λ given right. m.asks given (λ unseen. right running at unseen) }
+        record { grown = m.grown; patient = m.patient; asks = λ policy right. m.asks policy (λ unseen. right running at unseen) }
 
   pub after-told : CarrierHolds p new → (o : Outcome) → Carries p (key_in number running) running.order.value tick.now r.carrier new (Some (Some o))
       → TellsThat (p.log new.provider) (HasTold tick.now (sent_by after number) o)
@@ -77,6 +77,6 @@ counted-keeps patience number old new c =
 
 -- an order that was started before starts nowhere
 pub seen-starts : {P C F E : Type 0} {p : Ghosts P C F E} (number : ℕ) (r : Runner P C F E p) (running : Running) → held_at r number ≡ Some running
-    → (stand_at r.carrier.slots (key_in number running) ≡ Unseen → ⊥) → (given : Given) → StartsRight number r given
-seen-starts number r running at seen given h is unseen =
+    → (stand_at r.carrier.slots (key_in number running) ≡ Unseen → ⊥) → (policy : Policy) → StartsRight number r policy
+seen-starts number r running at seen policy h is unseen =
     absurd (seen (subst (λ (h : Running). stand_at r.carrier.slots (key_in number h) ≡ Unseen) (same_Some _ _ (sym is ∙ at)) unseen))

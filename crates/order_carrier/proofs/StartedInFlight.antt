@@ -52,8 +52,8 @@ module _ {P C F E : Type 0} (p : Ghosts P C F E) (number : ℕ) (r : Runner P C 
     start-moves tick new m = record {
       grown = m.grown;
       patient = m.patient;
-      asks = λ given right. m.asks given (λ running is unseen.
-          subst (λ (h : Running). GoesRight (p.log r.carrier.provider) h.order.value given) (same_Some _ _ (sym updates.1 ∙ is)) right);
+      asks = λ policy right. m.asks policy (λ running is unseen.
+          subst (λ (h : Running). GoesRight (p.log r.carrier.provider) h.order.value policy) (same_Some _ _ (sym updates.1 ∙ is)) right);
     }
 
     module _ (patience : ℕ) (new : Runner P C F E p) (c : IsCounted patience number with_first new) where

@@ -6,7 +6,7 @@ use Rattle.dns_core.specs.declared.net_error.NetError.{NetError}
 use Rattle.dns_core.specs.declared.log.LogEntry.{LogEntry}
 use Rattle.dns_core.specs.declared.log.LogEntry.TheVariants as line
 use Rattle.dns_core.specs.declared.log.ToldOutcome.TheVariants as said
-use Rattle.resolution.specs.Given.{Given}
+use Rattle.recursor_types.specs.declared.policy.Policy.{Policy}
 use Rattle.resolution.specs.Telling.{Logged}
 use Rattle.resolution.specs.Asking.{IsServer, IsServerFor}
 use Rattle.server_core.specs.Order.{entry_of}
@@ -91,7 +91,7 @@ pub record IsOutcome (log : Log) (now : ℕ) (order : Order) (outcome : Outcome)
   pub of_order : IsOf log now order outcome
 
 -- An order goes to a server by what was told below n; a question to one of a zone at or above its name.
-abbrev pub GoesToServer : Given → Log → ℕ → Order → Type 0
-GoesToServer given log n (Open ip config) = IsServer given log n ip
-GoesToServer given log n (Ask conn ip protocol request) = IsServerFor given log n ip request.query
-GoesToServer given log n (Sleep until) = Unit {0}
+abbrev pub GoesToServer : Policy → Log → ℕ → Order → Type 0
+GoesToServer policy log n (Open ip config) = IsServer policy log n ip
+GoesToServer policy log n (Ask conn ip protocol request) = IsServerFor policy log n ip request.query
+GoesToServer policy log n (Sleep until) = Unit {0}

@@ -9,7 +9,7 @@ use Rattle.dns_core.specs.declared.log.LogEntry.{LogEntry}
 use Rattle.dns_core.specs.declared.provider.ConnectionProvider.{Ghosts}
 use Rattle.resolution.specs.Asking.{AsksServers}
 use Rattle.resolution.specs.Ending.{waits}
-use Rattle.resolution.specs.Given.{Given}
+use Rattle.recursor_types.specs.declared.policy.Policy.{Policy}
 use Rattle.server_core.specs.declared.orders.order.Order.{Order}
 use Rattle.server_core.specs.declared.orders.order.Outcome.{Outcome}
 use Rattle.server_core.specs.declared.orders.order.Outcome.TheVariants.{Pending, Connected, Told, Failed, Slept}
@@ -115,23 +115,23 @@ pub record IsForgotten {P C F E : Type 0} {p : Ghosts P C F E} (number : ℕ) (o
 -- ---- what the log says
 
 -- The log has grown by entries of the moment, none of which waits for an entry beyond patience, and where orders go right only servers were asked.
-pub record RunnerMoves (patience now : ℕ) (goes : Given → Type 0) (old new : Option (List LogEntry)) : Type 0 where
+pub record RunnerMoves (patience now : ℕ) (goes : Policy → Type 0) (old new : Option (List LogEntry)) : Type 0 where
   pub grown : Grown now old new
   pub patient : IsPatient (max 1 patience) old new
-  pub asks : (given : Given) → goes given → TellsThat old (AsksServers given) → TellsThat new (AsksServers given)
+  pub asks : (policy : Policy) → goes policy → TellsThat old (AsksServers policy) → TellsThat new (AsksServers policy)
 
 -- an order goes to a server, by the log where it is told
-abbrev pub GoesRight : Option (List LogEntry) → Order → Given → Type 0
-GoesRight told order given = TellsThat told (λ log. GoesToServer given log log.next order)
+abbrev pub GoesRight : Option (List LogEntry) → Order → Policy → Type 0
+GoesRight told order policy = TellsThat told (λ log. GoesToServer policy log log.next order)
 
 -- the order of the number does, where it was not started before
-abbrev pub StartsRight : {P C F E : Type 0} {p : Ghosts P C F E} → ℕ → Runner P C F E p → Given → Type 0
-StartsRight {p = p} number r given =
-    (running : Running) → held_at r number ≡ Some running → stand_at r.carrier.slots (key_in number running) ≡ Unseen → GoesRight (p.log r.carrier.provider) running.order.value given
+abbrev pub StartsRight : {P C F E : Type 0} {p : Ghosts P C F E} → ℕ → Runner P C F E p → Policy → Type 0
+StartsRight {p = p} number r policy =
+    (running : Running) → held_at r number ≡ Some running → stand_at r.carrier.slots (key_in number running) ≡ Unseen → GoesRight (p.log r.carrier.provider) running.order.value policy
 
 -- nothing goes anywhere
-abbrev pub GoesNowhere : Given → Type 0
-GoesNowhere given = Unit {0}
+abbrev pub GoesNowhere : Policy → Type 0
+GoesNowhere policy = Unit {0}
 
 -- what was sent for the order of a number, if it is under way still
 abbrev pub sent_for : (OrderKey → Stand) → ℕ → Option Running → Option Sent

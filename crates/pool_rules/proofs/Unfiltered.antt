@@ -5,7 +5,7 @@ use Rattle.std.specs.declared.net.ip_addr.IpAddr.{IpAddr}
 use Rattle.dns_core.specs.declared.record.Record.{Record}
 use Rattle.dns_core.specs.declared.message.Message.{Message}
 use Rattle.dns_core.specs.declared.message.Query.{Query}
-use Rattle.resolution.specs.Given.{allows_all}
+use Rattle.resolution.specs.Verdict.{allows_all}
 use Rattle.resolution.specs.Class.{is_foreign}
 use Rattle.resolution.specs.Records.{address, records}
 use Rattle.resolution.specs.Lookups.{Answered}

@@ -8,7 +8,7 @@ use Rattle.dns_core.specs.declared.net_error.NetError.{NetError}
 use Rattle.dns_core.specs.declared.net_error.NetError.TheVariants as net
 use Rattle.dns_core.specs.declared.net_error.DnsError.TheVariants as dns
 use Rattle.resolver_settings.specs.Access.{Access, denies}
-use Rattle.resolution.specs.Given.{allows_all}
+use Rattle.resolution.specs.Verdict.{allows_all}
 use Rattle.resolution.specs.Records.{records}
 use Rattle.resolution.specs.Class.{is_foreign}
 use Rattle.resolution.specs.Verdict.{without_denied, is_all_denied}

@@ -19,7 +19,7 @@ use Rattle.resolution.specs.Class.{class_of_message, class_of_error, has_no_data
 use Rattle.resolution.specs.Records.{records}
 use Rattle.resolution.specs.declared.class.Class.{Class}
 use Rattle.resolution.specs.declared.class.Class.TheVariants.{Error, Code, Truncated, Negative, Foreign, Positive}
-use Rattle.resolution.specs.Given.{Given}
+use Rattle.recursor_types.specs.declared.policy.Policy.{Policy}
 use Rattle.resolution.specs.Telling.{Logged}
 use Rattle.resolution.specs.Lookups.{Answered, End, Rules, PoolRun, class_of_answer, answer_of, class_of_end, least_bad, what_is_left, the_turn, but_turn, turns, negative_of, is_timed_out}
 use Rattle.resolution.specs.Lookups.PoolRun.{decided, spent, late}
@@ -32,7 +32,6 @@ use Rattle.recursor_types.specs.declared.error.RecursorError.{RecursorError}
 use Rattle.recursor_types.specs.declared.reply.Reply.{Reply}
 use Rattle.recursor_walk.specs.Causes.{ErrorHolds, HasFailed}
 use Rattle.walk_lookup.specs.Found.{is_lookup_error}
-use Rattle.walk_lookup.specs.declared.settings.setting.Setting.{Setting}
 use Rattle.recursor_walk.specs.Replies.{OutcomeHolds}
 use Rattle.recursor_core.specs.Standing.{RepliesHold}
 use Rattle.text_lines.specs.Texts.{has_error_word}
@@ -57,7 +56,7 @@ HasWord (Err e) = has_error_word e ≡ true
 abbrev EndWord : End IpAddr → Type 0
 EndWord e = HasWord e.outcome
 
-end_word : {given : Given} {log : Log} {q : Query} {n moment : ℕ} {e : End IpAddr} → IsWorded log → EndsSend given log q n e moment → EndWord e
+end_word : {given : Policy} {log : Log} {q : Query} {n moment : ℕ} {e : End IpAddr} → IsWorded log → EndsSend given log q n e moment → EndWord e
 end_word w (open_refused a) = w _ _ a
 end_word w (ask_refused a same) = w _ _ a
 end_word w (open_failed a b) = w _ _ a
@@ -65,7 +64,7 @@ end_word w (ask_failed a b same) = w _ _ a
 end_word w (answered a b same) = tt
 end_word w (given_up a b begun waited) = refl
 
-end_words : {given : Given} {log : Log} {q : Query} {ips : List IpAddr} {g moments : List ℕ} {ends : List (End IpAddr)} → IsWorded log → EndSends given log q ips g ends moments → AllByRecursion EndWord ends
+end_words : {given : Policy} {log : Log} {q : Query} {ips : List IpAddr} {g moments : List ℕ} {ends : List (End IpAddr)} → IsWorded log → EndSends given log q ips g ends moments → AllByRecursion EndWord ends
 end_words w no_send = tt
 end_words w (and_send a inside rest) = (end_word w a, end_words w rest)
 
@@ -206,7 +205,7 @@ run_word rules q servers ends e start now h (decided d) =
 run_word rules q servers ends e start now h (spent s) = error_is Worded (what_is_left rules (class_of_answer q) ends) e _ _ refl refl (sym s.answers) (left_word rules (class_of_answer q) ends)
 run_word rules q servers ends e start now h (late l) = error_is Worded net.Timeout e _ _ refl refl (sym l.answers) (λ l. refl)
 
-failed_word : (given : Given) (known : Known) (log : Log) (t0 : ℕ) (q : Query) (g : List ℕ) (e : NetError) → IsWorded log → HasFailed given known log t0 q g e → Worded e
+failed_word : (given : Policy) (known : Known) (log : Log) (t0 : ℕ) (q : Query) (g : List ℕ) (e : NetError) → IsWorded log → HasFailed given known log t0 q g e → Worded e
 failed_word given known log t0 q g e w f =
     run_word (by_address given.timeout) q f.ended.ips f.ended.ends e f.ended.start f.ended.now (end_words w f.ended.logged) f.ended.run
 
@@ -215,7 +214,7 @@ failed_word given known log t0 q g e w f =
 kind_word : (kind : MessageKind) → kind ≡ NotQualified → is_not_qualified kind ≡ true
 kind_word kind e = ap is_not_qualified e
 
-error_word : (given : Given) (known : Known) (log : Log) (t0 : ℕ) (q : Query) (g : List ℕ) (e : RecursorError) → IsWorded log → ErrorHolds given known log t0 q g e → has_words e ≡ true
+error_word : (given : Policy) (known : Known) (log : Log) (t0 : ℕ) (q : Query) (g : List ℕ) (e : RecursorError) → IsWorded log → ErrorHolds given known log t0 q g e → has_words e ≡ true
 error_word given known log t0 q g (error.Message kind) w h = kind_word kind h.0
 error_word given known log t0 q g (error.Negative d) w h = refl
 error_word given known log t0 q g (error.ForwardNS servers) w h = refl
@@ -229,7 +228,7 @@ error_word given known log t0 q g error.Timeout w h = absurd h
 error_word given known log t0 q g (error.RecursionLimitExceeded count) w h = refl
 error_word given known log t0 q g error.QueryBudgetExceeded w h = refl
 
-outcome_word : (given : Given) (known : Known) (log : Log) (t0 : ℕ) (question : Question) (g : List ℕ) (o : Result Response RecursorError) → IsWorded log → OutcomeHolds given known log t0 question g o
+outcome_word : (given : Policy) (known : Known) (log : Log) (t0 : ℕ) (question : Question) (g : List ℕ) (o : Result Response RecursorError) → IsWorded log → OutcomeHolds given known log t0 question g o
     → has_result_words o ≡ true
 outcome_word given known log t0 question g (Ok m) w h = refl
 outcome_word given known log t0 question g (Err e) w h = error_word given known log t0 question.query g e w h
@@ -245,7 +244,7 @@ question_at [] i b = absurd (not_below i b)
 question_at (x ∷ xs) zero b = (x, refl)
 question_at (x ∷ xs) (suc i) b = question_at xs i (omega (arith, b))
 
-pub replies_worded : (terms : Setting) (es : List LogEntry) (start : ℕ) (turns : List Turn) (questions : List Question) (replies : List Reply)
+pub replies_worded : (terms : Policy) (es : List LogEntry) (start : ℕ) (turns : List Turn) (questions : List Question) (replies : List Reply)
     → ((n : ℕ) (e : LogEntry) → numbered es n ≡ Some e → has_entry_words e ≡ true) → length replies ≡ length questions → RepliesHold terms (log_of es) start turns questions replies
     → list_all has_reply_words replies ≡ true
 replies_worded terms es start turns questions replies w same h = all_at_places has_reply_words replies (λ q reply at.

@@ -1,37 +1,32 @@
 -- What a run says, once its log is taken from its upstream.
 use Rattle.std.proofs.Common.{◌≡◌, ◌≤◌, ℕ, zero, suc, min, max, List, [], Option, Some, None, refl, sym, subst, arith}
-use Rattle.std.specs.declared.net.ip_addr.IpAddr.{IpAddr}
 use Rattle.dns_core.specs.Log.{log_of}
 use Rattle.dns_core.specs.declared.log.LogEntry.{LogEntry}
 use Rattle.dns_core.specs.declared.request.Question.{Question}
 use Rattle.dns_core.specs.declared.request.Turn.{Turn}
-use Rattle.resolver_settings.specs.Access.{Access}
-use Rattle.resolver_settings.specs.Ttl.{TtlTable}
 use Rattle.resolution.specs.Asking.{AsksServers}
 use Rattle.resolution.specs.Telling.{Logged}
 use Rattle.resolution.specs.Ending.{waits}
 use Rattle.order_carrier.specs.Growing.{LongerOver}
 use Rattle.order_carrier.specs.Patience.{PatientSince}
-use Rattle.server_core.specs.Context.{Context}
-use Rattle.walk_lookup.specs.declared.settings.setting.Setting.{Setting}
-use Rattle.walk_lookup.specs.View.{given_of}
+use Rattle.recursor_types.specs.Policy.{with_patience}
+use Rattle.recursor_types.specs.declared.policy.Policy.{Policy}
 use Rattle.recursor_core.specs.Standing.{Standing, run_terms, run_moments, RepliesHold}
 use Rattle.recursor_types.specs.declared.reply.Reply.{Reply}
 use Rattle.recursor_command.specs.Command.{HappensAt, IsUntold}
 
 -- a first run is set to what its recursor is
-pub terms-are : {P : Type 0} (patience least : ℕ) (r : Standing P) (roots : List IpAddr) (servers answers : Access) (lives : TtlTable) (context : Context) → r.roots ≡ roots
-    → r.server_filter ≡ servers → r.answer_filter ≡ answers → r.lives ≡ lives → r.context ≡ context → min r.patience patience ≡ least
-    → run_terms patience r ≡ record { roots = roots; server_filter = servers; answer_filter = answers; lives = lives; context = context; patience = least }
-terms-are patience least r roots servers answers lives context a b f l k p = λ i. record { roots = a i; server_filter = b i; answer_filter = f i; lives = l i; context = k i; patience = p i }
+pub terms-are : {P : Type 0} (patience least : ℕ) (r : Standing P) (policy : Policy) → r.policy ≡ policy → min r.policy.patience patience ≡ least
+    → run_terms patience r ≡ with_patience least policy
+terms-are patience least r policy is least_is = λ i. with_patience (least_is i) (is i)
 
-pub asks-of : (terms given : Setting) (log : List LogEntry) → given ≡ terms → AsksServers (given_of given) (log_of log) → AsksServers (given_of terms) (log_of log)
-asks-of terms given log r h = subst (λ (x : Setting). AsksServers (given_of x) (log_of log)) r h
+pub asks-of : (terms given : Policy) (log : List LogEntry) → given ≡ terms → AsksServers given (log_of log) → AsksServers terms (log_of log)
+asks-of terms given log r h = subst (λ (x : Policy). AsksServers x (log_of log)) r h
 
-pub replies-of : (terms given : Setting) (log : List LogEntry) (start : ℕ) (turns : List Turn) (questions : List Question) (replies : List Reply)
+pub replies-of : (terms given : Policy) (log : List LogEntry) (start : ℕ) (turns : List Turn) (questions : List Question) (replies : List Reply)
     → given ≡ terms → start ≡ 0 → RepliesHold given (log_of log) start turns questions replies → RepliesHold terms (log_of log) 0 turns questions replies
 replies-of terms given log start turns questions replies r s h =
-    subst (λ (x : Setting). RepliesHold x (log_of log) 0 turns questions replies) r (subst (λ (x : ℕ). RepliesHold given (log_of log) x turns questions replies) s h)
+    subst (λ (x : Policy). RepliesHold x (log_of log) 0 turns questions replies) r (subst (λ (x : ℕ). RepliesHold given (log_of log) x turns questions replies) s h)
 
 -- entries are numbered from 1
 logged-after : (es : List LogEntry) (i : ℕ) (e : LogEntry) → Logged (log_of es) i e → 1 ≤ i

@@ -11,11 +11,10 @@ use Rattle.dns_core.specs.declared.log.LogEntry.{LogEntry}
 use Rattle.resolution.specs.Telling.{Logged, moment_of, MomentsRise}
 use Rattle.resolution.specs.Ending.{waits}
 use Rattle.resolution.specs.Asking.{AsksServers}
-use Rattle.walk_lookup.specs.Setting.{setting_of, context_of}
-use Rattle.walk_lookup.specs.declared.settings.setting.Setting.{Setting}
-use Rattle.walk_lookup.specs.View.{given_of}
+use Rattle.recursor_types.specs.Policy.{policy_of, with_patience}
+use Rattle.recursor_types.specs.declared.policy.Policy.{Policy}
 use Rattle.resolver_settings.specs.Ttl.{has_reversed}
-use Rattle.recursor_types.specs.Options.{has_bad_first_delays, server_filter_of, answer_filter_of}
+use Rattle.recursor_types.specs.Options.{has_bad_first_delays}
 use Rattle.recursor_core.specs.Standing.{Standing, RepliesHold, run_moments}
 use Rattle.recursor_types.specs.declared.options.RecursorOptions.{RecursorOptions}
 use Rattle.std.specs.declared.net.ip_addr.IpAddr.{IpAddr}
@@ -66,14 +65,13 @@ IsUntold told = (es : List LogEntry) → told ≡ Some es → es ≡ []
 
 -- a new recursor over a provider, with these options
 abbrev pub IsNewOver : {P : Type 0} → List IpAddr → RecursorOptions → P → Standing P → Type 0
-IsNewOver roots options provider r = (r.provider ≡ provider) × (r.roots ≡ roots) × (r.server_filter ≡ server_filter_of options) × (r.moment ≡ 0) × (r.lives ≡ options.cache_policy) × (r.patience ≡ 4294967295)
-    × (r.answer_filter ≡ answer_filter_of options) × (r.context ≡ context_of options)
+IsNewOver roots options provider r = (r.provider ≡ provider) × (r.policy ≡ policy_of roots options) × (r.moment ≡ 0)
 
 -- what a run is set to by these roots, by what these options say and by this patience
-abbrev pub terms_by : List IpAddr → RecursorOptions → ℕ → Setting
-terms_by roots options patience = record (setting_of roots options) { patience = patience }
+abbrev pub terms_by : List IpAddr → RecursorOptions → ℕ → Policy
+terms_by roots options patience = with_patience patience (policy_of roots options)
 
-abbrev pub terms_of : Scenario → Setting
+abbrev pub terms_of : Scenario → Policy
 terms_of s = terms_by s.roots s.options s.patience
 
 -- each entry is at one of these moments
@@ -84,9 +82,9 @@ HappensAt moments log = (i moment : ℕ) (e : LogEntry) → Logged log i e → m
 -- that is not denied; at moments of its turns, which do not fall; and none was waited for more often than patience allows. A reply with a message is
 -- what counts of a response that a server of a zone at or above the name told since the question began, or within its life before that; the walk went
 -- down to this zone. Each error has its cause.
-pub record Resolves (terms : Setting) (questions : List Question) (turns : List Turn) (log : List LogEntry) (answers : List Reply) : Type 0 where
+pub record Resolves (terms : Policy) (questions : List Question) (turns : List Turn) (log : List LogEntry) (answers : List Reply) : Type 0 where
   pub answered : length answers ≡ length questions
-  pub asks : AsksServers (given_of terms) (log_of log)
+  pub asks : AsksServers terms (log_of log)
   pub replies : RepliesHold terms (log_of log) 0 turns questions answers
   pub moments : HappensAt (run_moments 0 turns) (log_of log)
   pub rises : MomentsRise (log_of log)

@@ -71,7 +71,7 @@ one-more-refl core = record { count = omega arith; one = omega arith; before = �
 pub same-at : (core new : RecursorCore) (i : ℕ) (b : Box Resolution) (g : Resolution) → slice_get core.resolutions.items i ≡ Some (Some b) → SameBegun b.value g
     → new ≡ record core { pools = new.pools; resolutions = new.resolutions } → new.resolutions.items ≡ set core.resolutions.items i (Some (record b { value = g })) → SameCore i core new
 same-at core new i b g at same is items = record {
-  setting = ap (λ (c : RecursorCore). c.setting) is;
+  policy = ap (λ (c : RecursorCore). c.policy) is;
   cache = ap (λ (c : RecursorCore). c.cache) is;
   greatest = ap (λ (c : RecursorCore). c.greatest) is;
   moment = ap (λ (c : RecursorCore). c.moment) is;
@@ -83,7 +83,7 @@ same-at core new i b g at same is items = record {
 pub ended-at : (core new : RecursorCore) (i : ℕ) → i < length core.resolutions.items
     → new ≡ record core { pools = new.pools; resolutions = new.resolutions } → new.resolutions.items ≡ set core.resolutions.items i None → SameCore i core new
 ended-at core new i within is items = record {
-  setting = ap (λ (c : RecursorCore). c.setting) is;
+  policy = ap (λ (c : RecursorCore). c.policy) is;
   cache = ap (λ (c : RecursorCore). c.cache) is;
   greatest = ap (λ (c : RecursorCore). c.greatest) is;
   moment = ap (λ (c : RecursorCore). c.moment) is;
@@ -102,7 +102,7 @@ derived-at core new log i x y at is items d step =
     let stepped = step (held-at (KeptHolds seen) core.resolutions.items i x at d.resolutions) in
     record {
       bound = subst (λ (v : View). v.greatest < log.next) (sym same) d.bound;
-      some = subst (λ (v : View). 0 < length v.setting.roots) (sym same) d.some;
+      some = subst (λ (v : View). 0 < length v.policy.roots) (sym same) d.some;
       cache = subst (λ (v : View). CacheHolds v new.cache) (sym same) (subst (CacheHolds seen) (sym (ap (λ (c : RecursorCore). c.cache) is)) d.cache);
       pools = subst (λ (v : View). PoolsHold v new.pools) (sym same) stepped.1;
       resolutions = subst (λ (v : View). All (KeptHolds v) new.resolutions.items) (sym same)
@@ -118,7 +118,7 @@ begun-trans k r a b c x (inr y) = inr y
 -- two steps
 pub same-trans : (r : ℕ) (a b c : RecursorCore) → SameCore r a b → SameCore r b c → SameCore r a c
 same-trans r a b c x y = record {
-  setting = y.setting ∙ x.setting;
+  policy = y.policy ∙ x.policy;
   cache = y.cache ∙ x.cache;
   greatest = y.greatest ∙ x.greatest;
   moment = y.moment ∙ x.moment;
@@ -128,7 +128,7 @@ same-trans r a b c x y = record {
 
 -- no step
 pub same-refl : (r : ℕ) (core : RecursorCore) → SameCore r core core
-same-refl r core = record { setting = refl; cache = refl; greatest = refl; moment = refl; count = refl; begun = λ k. inl refl }
+same-refl r core = record { policy = refl; cache = refl; greatest = refl; moment = refl; count = refl; begun = λ k. inl refl }
 
 -- what a step of one resolution comes to
 step-at : (old new : Pools) (was g : Resolution) (s : Step) → one.StepIs old new was g s → StepFor (given_so_far old) (given_so_far new) (want_of was) (want_of g) (open_of new g) s

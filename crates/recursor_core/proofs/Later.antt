@@ -1,5 +1,5 @@
 -- What the machine keeps goes on being derived as it comes further.
-use Rattle.recursor_core.proofs.MachineWords.{◌≡◌, ◌<◌, List, All, Option, Some, None, length, refl, sym, subst, arith, Box, All-weaker, Log, Extends, Setting, View, Later, cache-later, later-by, pools-later, resolution-later, KeptHolds, seen_by, Derived, Resolution, RecursorCore}
+use Rattle.recursor_core.proofs.MachineWords.{◌≡◌, ◌<◌, List, All, Option, Some, None, length, refl, sym, subst, arith, Box, All-weaker, Log, Extends, Policy, View, Later, cache-later, later-by, pools-later, resolution-later, KeptHolds, seen_by, Derived, Resolution, RecursorCore}
 
 module _ (old new : View) (later : Later old new) where
   -- the one that is kept at a place
@@ -19,7 +19,7 @@ derived-later old core log longer d later bound cache pools resolutions =
     let after = seen_by core longer in
     record {
       bound = bound;
-      some = subst (λ (s : Setting). 0 < length s.roots) (sym later.setting) d.some;
+      some = subst (λ (s : Policy). 0 < length s.roots) (sym later.policy) d.some;
       cache = rw cache (cache-later before after later old.cache d.cache);
       pools = rw pools (pools-later before after later old.pools d.pools);
       resolutions = rw resolutions (resolutions-later before after later old.resolutions.items d.resolutions);
@@ -30,4 +30,4 @@ pub Derived-extends : (core : RecursorCore) (log longer : Log) → Extends log l
 Derived-extends core log longer x d =
     let b = d.bound in
     let l = x.later in
-    derived-later core core log longer d (later-by core.setting core.greatest core.greatest core.moment core.moment log longer (omega arith) (omega arith) x) (omega arith) refl refl refl
+    derived-later core core log longer d (later-by core.policy core.greatest core.greatest core.moment core.moment log longer (omega arith) (omega arith) x) (omega arith) refl refl refl

@@ -50,7 +50,7 @@ module _ {P C F E : Type 0} (p : Ghosts P C F E) where
   leads_refl moments most core r here holds = record {
     vouches = λ es h. h;
     runs = holds;
-    setting = refl;
+    policy = refl;
     patience = refl;
     patient = IsPatient-refl (max 1 most) (p.log r.carrier.provider);
     later = omega arith;
@@ -66,7 +66,7 @@ module _ {P C F E : Type 0} (p : Ghosts P C F E) where
       record {
         vouches = goes.vouches;
         runs = goes.ready.holds;
-        setting = goes.moves.setting;
+        policy = goes.moves.policy;
         patience = refl;
         patient = goes.moves.patient;
         later = omega (arith, at, le);
@@ -75,16 +75,16 @@ module _ {P C F E : Type 0} (p : Ghosts P C F E) where
       }
 
   -- a question begins
-  pub leads_begun : (now most : ℕ) (core new : RecursorCore) (r : Runner P C F E p) → core.moment ≤ now → new.setting ≡ core.setting
+  pub leads_begun : (now most : ℕ) (core new : RecursorCore) (r : Runner P C F E p) → core.moment ≤ now → new.policy ≡ core.policy
       → (new.moment ≡ core.moment) ⊎ (new.moment ≡ now) → ((log : Log) → Derived core log → Derived new log) → Holds p most core r
       → Leading p (core.moment ∷ now ∷ []) most most core new r r
-  leads_begun now most core new r le setting moment derived holds =
+  leads_begun now most core new r le policy moment derived holds =
       let moments = core.moment ∷ now ∷ [] in
       let later : core.moment ≤ new.moment = moment_later core.moment new.moment now le moment in
       record {
         vouches = λ es h. h;
-        runs = holds_derived p most core new r setting later derived holds;
-        setting = setting;
+        runs = holds_derived p most core new r policy later derived holds;
+        policy = policy;
         patience = refl;
         patient = IsPatient-refl (max 1 most) (p.log r.carrier.provider);
         later = later;
@@ -99,7 +99,7 @@ module _ {P C F E : Type 0} (p : Ghosts P C F E) where
   leads_wider moments wide most new_most core new r later wider l = record {
     vouches = l.vouches;
     runs = l.runs;
-    setting = l.setting;
+    policy = l.policy;
     patience = l.patience;
     patient = l.patient;
     later = l.later;
@@ -113,7 +113,7 @@ module _ {P C F E : Type 0} (p : Ghosts P C F E) where
   leads_trans moments i j k a b c x y z m n = record {
     vouches = λ es h. m.vouches es (n.vouches es h);
     runs = n.runs;
-    setting = n.setting ∙ m.setting;
+    policy = n.policy ∙ m.policy;
     patience = n.patience ∙ m.patience;
     patient = IsPatient-trans (max 1 i) (p.log x.carrier.provider) (p.log y.carrier.provider) (p.log z.carrier.provider) m.patient
         (subst (λ (most : ℕ). IsPatient (max 1 most) (p.log y.carrier.provider) (p.log z.carrier.provider)) m.patience n.patient);

@@ -14,7 +14,7 @@ pub use Rattle.dns_core.specs.declared.request.Question.{Question}
 pub use Rattle.dns_core.specs.declared.errors.NoMemory.{NoMemory}
 pub use Rattle.walk_lookup.specs.View.{View, seen_at, Later}
 pub use Rattle.recursor_question.specs.Resolving.{SameBegun, open_of}
-pub use Rattle.walk_lookup.specs.declared.settings.setting.Setting.{Setting}
+pub use Rattle.recursor_types.specs.declared.policy.Policy.{Policy}
 pub use Rattle.recursor_question.specs.declared.resolving.Resolution.{Resolution}
 pub use Rattle.walk_tables.specs.Pools.{PoolsHold, IsStepAt}
 pub use Rattle.walk_lookup.specs.Remembered.{CacheHolds}
@@ -23,7 +23,7 @@ pub use Rattle.walk_tables.proofs.Later.{pools-later}
 pub use Rattle.recursor_question.proofs.Later.{resolution-later}
 pub use Rattle.order_carrier.proofs.Growing.{Extends-refl}
 pub use Rattle.resolver_cache.specs.Cached.{Cached}
-pub use Rattle.walk_lookup.specs.Setting.{with_patience}
+pub use Rattle.recursor_types.specs.Policy.{with_patience}
 pub use Rattle.walk_lookup.specs.Order.{IsNext, IsPut, last_entry, seen_with}
 pub use Rattle.server_core.specs.declared.orders.order.After.{After}
 pub use Rattle.recursor_core.specs.Derived.{seen_by, Derived, KeptHolds}

@@ -17,10 +17,10 @@ pub use Rattle.dns_core.specs.Log.{Log, log_of}
 pub use Rattle.dns_core.specs.declared.request.Question.{Question}
 pub use Rattle.dns_core.specs.declared.errors.NoMemory.{NoMemory}
 pub use Rattle.order_carrier.specs.Fits.{GoesToServer}
-pub use Rattle.walk_lookup.specs.View.{seen_at, given_of}
+pub use Rattle.walk_lookup.specs.View.{seen_at}
 pub use Rattle.recursor_walk.specs.Replies.{ReplyHolds}
 pub use Rattle.walk_tables.specs.Taking.{TablesHold}
-pub use Rattle.walk_lookup.specs.declared.settings.setting.Setting.{Setting}
+pub use Rattle.recursor_types.specs.declared.policy.Policy.{Policy}
 pub use Rattle.recursor_question.specs.declared.resolving.Resolution.{Resolution}
 pub use Rattle.walk_lookup.specs.Remembered.{EntryHolds}
 pub use Rattle.walk_lookup.proofs.Later.{later-by}
@@ -36,9 +36,8 @@ pub use Rattle.walk_lookup.specs.Tried.{Timer, machine_timer, IsTimed}
 pub use Rattle.order_carrier.specs.declared.carrier.Carrier.{Carrier}
 pub use Rattle.recursor_walk.proofs.Earlier.{reply-earlier, outcome-earlier}
 pub use Rattle.order_carrier.proofs.Growing.{Grown-refl, Extends-refl, Grown-trans, Longer-from_added, Extends-added, Logged-newest, unlogged, below_or_from}
-pub use Rattle.resolution.specs.Given.{Given}
 pub use Rattle.resolver_cache.specs.Cached.{Cached}
-pub use Rattle.walk_lookup.specs.Setting.{with_patience}
+pub use Rattle.recursor_types.specs.Policy.{with_patience}
 pub use Rattle.walk_lookup.specs.Order.{is_given_up, IsGivenUpIn, LogGoesOnIf}
 pub use Rattle.order_carrier.specs.Runner.{RunnerHolds, RunnerMoves, GoesNowhere, sent_by, still_awaited, IsLast, HasTold, polls_left}
 pub use Rattle.server_core.specs.declared.orders.order.Order.{Order}

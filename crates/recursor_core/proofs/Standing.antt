@@ -1,5 +1,5 @@
 -- What holds of the machine and its provider goes on holding at each step of the two.
-use Rattle.recursor_core.proofs.Names.{◌≡◌, ◌≤◌, ◌<◌, ◌+◌, ◌∙◌, ◌⊎◌, ◌++◌, ⊎_elim, inl, inr, ℕ, Bool, true, false, List, [], ◌∷◌, length, All, Option, Some, None, Result, refl, sym, ap, subst, arith, min, max, if◌then◌else◌, Box, Log, log_of, IpAddr, LogEntry, Question, Ghosts, Given, GoesToServer, given_of, seen_at, ReplyHolds, machine_timer, TellsThat, Grown, IsPast, with_entries, seen_by, Derived, Cached, EntryHolds, TablesHold, Begun, begun_at, SameCore, ReplyGiven, StepGives, IsNewCore, TellsTo, Holds, Rests, Moves, Ready, Goes, ReplyTold, TurnedTold, KeepsTo, is_given_up, IsGivenUpIn, LogGoesOnIf, RunnerHolds, RunnerMoves, GoesNowhere, sent_by, still_awaited, IsLast, HasTold, Runner, Setting, Carrier, RecursorCore, Step, NoMemory, Order, After, Reply, Extends-refl, Grown-refl, Grown-trans, Longer-from_added, Extends-added, Logged-newest, unlogged, IsPast-later, IsPast-grown, IsPatient-refl, IsPatient-trans, later-by, reply-later}
+use Rattle.recursor_core.proofs.Names.{◌≡◌, ◌≤◌, ◌<◌, ◌+◌, ◌∙◌, ◌⊎◌, ◌++◌, ⊎_elim, inl, inr, ℕ, Bool, true, false, List, [], ◌∷◌, length, All, Option, Some, None, Result, refl, sym, ap, subst, arith, min, max, if◌then◌else◌, Box, Log, log_of, IpAddr, LogEntry, Question, Ghosts, Policy, GoesToServer, seen_at, ReplyHolds, machine_timer, TellsThat, Grown, IsPast, with_entries, seen_by, Derived, Cached, EntryHolds, TablesHold, Begun, begun_at, SameCore, ReplyGiven, StepGives, IsNewCore, TellsTo, Holds, Rests, Moves, Ready, Goes, ReplyTold, TurnedTold, KeepsTo, is_given_up, IsGivenUpIn, LogGoesOnIf, RunnerHolds, RunnerMoves, GoesNowhere, sent_by, still_awaited, IsLast, HasTold, Runner, Policy, Carrier, RecursorCore, Step, NoMemory, Order, After, Reply, Extends-refl, Grown-refl, Grown-trans, Longer-from_added, Extends-added, Logged-newest, unlogged, IsPast-later, IsPast-grown, IsPatient-refl, IsPatient-trans, later-by, reply-later}
 use Rattle.dns_core.specs.declared.log.LogEntry.TheVariants.{Opened, Asked, GaveUp}
 use Rattle.resolution.specs.Telling.{Logged, MomentsRise}
 use Rattle.resolution.specs.Asking.{AsksServers}
@@ -13,7 +13,7 @@ use Rattle.server_core.specs.declared.orders.order.Tick.{Tick}
 use Rattle.order_carrier.proofs.Asking.{AsksServers-patience, GoesToServer-later}
 use Rattle.order_carrier.proofs.Carried.{waits-still}
 use Rattle.recursor_core.proofs.Later.{Derived-extends}
-use Rattle.walk_lookup.specs.Setting.{with_patience as setting_with}
+use Rattle.recursor_types.specs.Policy.{with_patience as setting_with}
 use Rattle.recursor_question.specs.declared.steps.Step.TheVariants as step
 use Rattle.recursor_core.specs.declared.turns.Turned.TheVariants as turned
 
@@ -25,12 +25,12 @@ Derived-grown : (now : ℕ) (core : RecursorCore) (old new : Option (List LogEnt
 Derived-grown now core old new grown d es t = let l = grown es t in Derived-extends core (log_of l.before) (log_of es) l.extends (d l.before l.was)
 
 -- a reply holds by a longer log
-pub ReplyHolds-grown : (now at : ℕ) (setting : Setting) (moment : ℕ) (question : Question) (reply : Reply) (old new : Option (List LogEntry)) → Grown now old new
-    → TellsThat old (λ log. ReplyHolds setting (machine_timer at) log moment question reply)
-    → TellsThat new (λ log. ReplyHolds setting (machine_timer at) log moment question reply)
-ReplyHolds-grown now at setting moment question reply old new grown h es t =
+pub ReplyHolds-grown : (now at : ℕ) (policy : Policy) (moment : ℕ) (question : Question) (reply : Reply) (old new : Option (List LogEntry)) → Grown now old new
+    → TellsThat old (λ log. ReplyHolds policy (machine_timer at) log moment question reply)
+    → TellsThat new (λ log. ReplyHolds policy (machine_timer at) log moment question reply)
+ReplyHolds-grown now at policy moment question reply old new grown h es t =
     let l = grown es t in
-    reply-later (seen_at setting 0 at (log_of l.before)) (seen_at setting 0 at (log_of es)) (later-by setting 0 0 at at (log_of l.before) (log_of es) (omega arith) (omega arith) l.extends) moment question reply
+    reply-later (seen_at policy 0 at (log_of l.before)) (seen_at policy 0 at (log_of es)) (later-by policy 0 0 at at (log_of l.before) (log_of es) (omega arith) (omega arith) l.extends) moment question reply
     (h l.before l.was)
 
 -- ---- moments: each step leaves it as it was, or at this one
@@ -43,33 +43,33 @@ moment_later a b now le = ⊎_elim (λ same. omega (arith, same)) (λ at. omega 
 
 module _ (core new : RecursorCore) (told : Option (List LogEntry)) where
   -- an order that the machine gives goes to a server by all that is told
-  pub step_goes : (r number : ℕ) (next : Step) (order : Box Order) → next ≡ step.Order number order → new.setting ≡ core.setting → TellsThat told (Derived core)
+  pub step_goes : (r number : ℕ) (next : Step) (order : Box Order) → next ≡ step.Order number order → new.policy ≡ core.policy → TellsThat told (Derived core)
       → ((log : Log) → Derived core log → Derived new log × StepGives core log r next)
-      → TellsThat told (λ log. GoesToServer (given_of new.setting) log log.next order.value)
-  step_goes r number next order is setting d gives es t =
+      → TellsThat told (λ log. GoesToServer new.policy log log.next order.value)
+  step_goes r number next order is policy d gives es t =
       let given = subst (λ (s : Step). StepGives core (log_of es) r s) is (gives (log_of es) (d es t)).1 in
       let b : core.greatest < length es + 1 = (d es t).bound in
-      subst (λ (held : Setting). GoesToServer (given_of held) (log_of es) (length es + 1) order.value) (sym setting)
-      (GoesToServer-later (given_of core.setting) (log_of es) (core.greatest + 1) (length es + 1) order.value (omega arith) given)
+      subst (λ (held : Policy). GoesToServer held (log_of es) (length es + 1) order.value) (sym policy)
+      (GoesToServer-later core.policy (log_of es) (core.greatest + 1) (length es + 1) order.value (omega arith) given)
 
   -- a reply that is given to a question that has begun is told
   reply_told : (b : Option Begun) (reply : Reply) → TellsThat told (λ log. ReplyGiven (seen_by core log) b reply)
-      → ReplyTold core.setting core.moment told b reply
+      → ReplyTold core.policy core.moment told b reply
   reply_told None reply h = h
   reply_told (Some b) reply h = h
 
   -- a reply that it gives is told
   pub step_replies : (r : ℕ) (next : Step) (reply : Box Reply) → next ≡ step.Done reply → TellsThat told (Derived core)
       → ((log : Log) → Derived core log → Derived new log × StepGives core log r next)
-      → ReplyTold core.setting core.moment told (begun_at core r) reply.value
+      → ReplyTold core.policy core.moment told (begun_at core r) reply.value
   step_replies r next reply is d gives =
       reply_told (begun_at core r) reply.value (λ es t. subst (λ (s : Step). StepGives core (log_of es) r s) is (gives (log_of es) (d es t)).1)
 
 -- a reply to a question that is under way is one to the same question before
-ReplyTold-before : (setting : Setting) (now : ℕ) (told : Option (List LogEntry)) (old new : Option Begun) (reply : Reply) → ((b : Begun) → new ≡ Some b → old ≡ Some b)
-    → ReplyTold setting now told new reply → ReplyTold setting now told old reply
-ReplyTold-before setting now told old None reply same h = λ es t. absurd (h es t)
-ReplyTold-before setting now told old (Some b) reply same h = subst (λ (x : Option Begun). ReplyTold setting now told x reply) (sym (same b refl)) h
+ReplyTold-before : (policy : Policy) (now : ℕ) (told : Option (List LogEntry)) (old new : Option Begun) (reply : Reply) → ((b : Begun) → new ≡ Some b → old ≡ Some b)
+    → ReplyTold policy now told new reply → ReplyTold policy now told old reply
+ReplyTold-before policy now told old None reply same h = λ es t. absurd (h es t)
+ReplyTold-before policy now told old (Some b) reply same h = subst (λ (x : Option Begun). ReplyTold policy now told x reply) (sym (same b refl)) h
 
 -- ---- questions under way
 
@@ -144,19 +144,19 @@ goes-still true now (Some s) Slept told longer h = h
 
 module _ {P C F E : Type 0} (p : Ghosts P C F E) where
   -- a step of the machine alone
-  pub holds_derived : (patience : ℕ) (core new : RecursorCore) (r : Runner P C F E p) → new.setting ≡ core.setting → core.moment ≤ new.moment
+  pub holds_derived : (patience : ℕ) (core new : RecursorCore) (r : Runner P C F E p) → new.policy ≡ core.policy → core.moment ≤ new.moment
       → ((log : Log) → Derived core log → Derived new log) → Holds p patience core r → Holds p patience new r
-  holds_derived patience core new r setting later derived h = record {
+  holds_derived patience core new r policy later derived h = record {
     runner = h.runner;
-    patient = subst (λ (held : Setting). held.patience ≤ patience) (sym setting) h.patient;
+    patient = subst (λ (held : Policy). held.patience ≤ patience) (sym policy) h.patient;
     derived = λ es t. derived (log_of es) (h.derived es t);
-    asks = subst (λ (held : Setting). TellsThat (p.log r.carrier.provider) (AsksServers (given_of held))) (sym setting) h.asks;
+    asks = subst (λ (held : Policy). TellsThat (p.log r.carrier.provider) (AsksServers held)) (sym policy) h.asks;
     past = IsPast-later core.moment new.moment (p.log r.carrier.provider) later h.past;
   }
 
   -- a step of the provider alone, at the moment of the machine
-  pub holds_grown : (patience : ℕ) (core : RecursorCore) (r new : Runner P C F E p) (now : ℕ) (goes : Given → Type 0) → core.moment ≡ now → RunnerHolds p new
-      → RunnerMoves patience now goes (p.log r.carrier.provider) (p.log new.carrier.provider) → goes (given_of core.setting) → Holds p patience core r → Holds p patience core new
+  pub holds_grown : (patience : ℕ) (core : RecursorCore) (r new : Runner P C F E p) (now : ℕ) (goes : Policy → Type 0) → core.moment ≡ now → RunnerHolds p new
+      → RunnerMoves patience now goes (p.log r.carrier.provider) (p.log new.carrier.provider) → goes core.policy → Holds p patience core r → Holds p patience core new
   holds_grown patience core r new now goes at runner moves right h =
       let old_log = p.log r.carrier.provider in
       let new_log = p.log new.carrier.provider in
@@ -164,19 +164,19 @@ module _ {P C F E : Type 0} (p : Ghosts P C F E) where
         runner = runner;
         patient = h.patient;
         derived = Derived-grown now core old_log new_log moves.grown h.derived;
-        asks = moves.asks (given_of core.setting) right h.asks;
+        asks = moves.asks core.policy right h.asks;
         past = subst (λ m. TellsThat new_log (IsPast m)) (sym at) (IsPast-grown now old_log new_log moves.grown (subst (λ m. TellsThat old_log (IsPast m)) at h.past));
       }
 
   -- The machine is fed what the provider told, and its order is given up, or is not.
-  holds_settled : (number : ℕ) (tick : Tick) (core new : RecursorCore) (r later : Runner P C F E p) (o : Outcome) (result : Result After NoMemory) → new.setting ≡ core.setting → new.moment ≡ tick.now
+  holds_settled : (number : ℕ) (tick : Tick) (core new : RecursorCore) (r later : Runner P C F E p) (o : Outcome) (result : Result After NoMemory) → new.policy ≡ core.policy → new.moment ≡ tick.now
       → core.moment ≡ tick.now
       → ((log longer : Log) → Derived core log → TellsTo core log tick (still_awaited o (sent_by r number)) o result longer → Derived new longer)
       → p.log later.carrier.provider ≡ settled_log (is_given_up result) tick.now (sent_by r number) (p.log r.carrier.provider)
       → TellsThat (p.log r.carrier.provider) (HasTold tick.now (sent_by r number) o) → Holds p tick.patience core r → Holds p tick.patience core later → Holds p tick.patience new later
-  holds_settled number tick core new r later o result setting moment at derived log told h k = record {
+  holds_settled number tick core new r later o result policy moment at derived log told h k = record {
     runner = k.runner;
-    patient = subst (λ (held : Setting). held.patience ≤ tick.patience) (sym setting) k.patient;
+    patient = subst (λ (held : Policy). held.patience ≤ tick.patience) (sym policy) k.patient;
     derived = λ es t.
         let by = settled_by (is_given_up result) tick.now (sent_by r number) o (p.log r.carrier.provider) (p.log later.carrier.provider) log told es t in
         let heard = told by.before by.was in
@@ -188,7 +188,7 @@ module _ {P C F E : Type 0} (p : Ghosts P C F E) where
             goes_on = goes-still (is_given_up result) tick.now (sent_by r number) o (log_of by.before) (log_of es) by.on;
           };
         });
-    asks = subst (λ (held : Setting). TellsThat (p.log later.carrier.provider) (AsksServers (given_of held))) (sym setting) k.asks;
+    asks = subst (λ (held : Policy). TellsThat (p.log later.carrier.provider) (AsksServers held)) (sym policy) k.asks;
     past = IsPast-later core.moment new.moment (p.log later.carrier.provider) (omega arith) k.past;
   }
 
@@ -196,26 +196,26 @@ module _ {P C F E : Type 0} (p : Ghosts P C F E) where
   pub moves_trans : (patience now : ℕ) (a b c : RecursorCore) (x y z : Carrier P C F E p) → Moves p patience now a b x y → Moves p patience now b c y z
       → Moves p patience now a c x z
   moves_trans patience now a b c x y z m n = record {
-    setting = n.setting ∙ m.setting;
+    policy = n.policy ∙ m.policy;
     begun = keeps-trans a b c m.begun n.begun;
     grown = Grown-trans now (p.log x.provider) (p.log y.provider) (p.log z.provider) m.grown n.grown;
     patient = IsPatient-trans (max 1 patience) (p.log x.provider) (p.log y.provider) (p.log z.provider) m.patient n.patient;
   }
 
   -- a step of the machine alone that keeps the questions
-  pub moves_core : (patience now : ℕ) (core new : RecursorCore) (c : Carrier P C F E p) → new.setting ≡ core.setting
+  pub moves_core : (patience now : ℕ) (core new : RecursorCore) (c : Carrier P C F E p) → new.policy ≡ core.policy
       → KeepsTo core new → Moves p patience now core new c c
-  moves_core patience now core new c setting begun = record {
-    setting = setting;
+  moves_core patience now core new c policy begun = record {
+    policy = policy;
     begun = begun;
     grown = Grown-refl now (p.log c.provider);
     patient = IsPatient-refl (max 1 patience) (p.log c.provider);
   }
 
   -- a step of the provider alone
-  pub moves_grown : (patience now : ℕ) (goes : Given → Type 0) (core : RecursorCore) (c new : Carrier P C F E p) → RunnerMoves patience now goes (p.log c.provider) (p.log new.provider)
+  pub moves_grown : (patience now : ℕ) (goes : Policy → Type 0) (core : RecursorCore) (c new : Carrier P C F E p) → RunnerMoves patience now goes (p.log c.provider) (p.log new.provider)
       → Moves p patience now core core c new
-  moves_grown patience now goes core c new moves = record { setting = refl; begun = keeps-refl core; grown = moves.grown; patient = moves.patient }
+  moves_grown patience now goes core c new moves = record { policy = refl; begun = keeps-refl core; grown = moves.grown; patient = moves.patient }
 
   module _ (tick : Tick) where
     -- two steps that go right are one
@@ -232,22 +232,22 @@ module _ {P C F E : Type 0} (p : Ghosts P C F E) where
         let at = same.moment in
         record {
           vouches = λ es h. h;
-          ready = record { holds = holds_derived tick.patience core new r same.setting (omega (arith, at)) derived ready.holds; moment = at ∙ ready.moment };
-          moves = moves_core tick.patience tick.now core new r.carrier same.setting (keeps-at k core new same);
+          ready = record { holds = holds_derived tick.patience core new r same.policy (omega (arith, at)) derived ready.holds; moment = at ∙ ready.moment };
+          moves = moves_core tick.patience tick.now core new r.carrier same.policy (keeps-at k core new same);
         }
 
     -- the moment of the step has come
-    pub goes_reached : (core new : RecursorCore) (r : Runner P C F E p) → new.setting ≡ core.setting → new.resolutions ≡ core.resolutions → core.moment ≤ tick.now
+    pub goes_reached : (core new : RecursorCore) (r : Runner P C F E p) → new.policy ≡ core.policy → new.resolutions ≡ core.resolutions → core.moment ≤ tick.now
         → new.moment ≡ max core.moment tick.now → ((log : Log) → Derived core log → Derived new log) → Holds p tick.patience core r → Goes p tick core new r r
-    goes_reached core new r setting same early at derived holds = record {
+    goes_reached core new r policy same early at derived holds = record {
       vouches = λ es h. h;
-      ready = record { holds = holds_derived tick.patience core new r setting (omega (arith, at)) derived holds; moment = omega (arith, at) };
-      moves = moves_core tick.patience tick.now core new r.carrier setting (keeps-same core new same);
+      ready = record { holds = holds_derived tick.patience core new r policy (omega (arith, at)) derived holds; moment = omega (arith, at) };
+      moves = moves_core tick.patience tick.now core new r.carrier policy (keeps-same core new same);
     }
 
     -- a step of what carries out the orders alone
-    pub goes_run : (core : RecursorCore) (r new : Runner P C F E p) (goes : Given → Type 0) → ((es : List LogEntry) → p.vouches new.carrier.provider es → p.vouches r.carrier.provider es)
-        → RunnerHolds p new → RunnerMoves tick.patience tick.now goes (p.log r.carrier.provider) (p.log new.carrier.provider) → goes (given_of core.setting) → Ready p tick core r
+    pub goes_run : (core : RecursorCore) (r new : Runner P C F E p) (goes : Policy → Type 0) → ((es : List LogEntry) → p.vouches new.carrier.provider es → p.vouches r.carrier.provider es)
+        → RunnerHolds p new → RunnerMoves tick.patience tick.now goes (p.log r.carrier.provider) (p.log new.carrier.provider) → goes core.policy → Ready p tick core r
         → Goes p tick core core r new
     goes_run core r new goes vouches holds moves right ready = record {
       vouches = vouches;
@@ -272,43 +272,43 @@ module _ {P C F E : Type 0} (p : Ghosts P C F E) where
 
     -- what a turn comes to after a step is what it comes to with it
     pub told_before : (a b : RecursorCore) (x y : Runner P C F E p) (told : Option (List LogEntry)) (r : ℕ) (t : Turned) → Goes p tick a b x y
-        → TurnedTold b.setting tick.now told (begun_at b r) t → TurnedTold a.setting tick.now told (begun_at a r) t
+        → TurnedTold b.policy tick.now told (begun_at b r) t → TurnedTold a.policy tick.now told (begun_at a r) t
     told_before a b x y told r turned.Pending goes h = tt
     told_before a b x y told r (turned.Done reply) goes h =
-        subst (λ (held : Setting). ReplyTold held tick.now told (begun_at a r) reply.value) goes.moves.setting
-        (ReplyTold-before b.setting tick.now told (begun_at a r) (begun_at b r) reply.value (goes.moves.begun.each r) h)
+        subst (λ (held : Policy). ReplyTold held tick.now told (begun_at a r) reply.value) goes.moves.policy
+        (ReplyTold-before b.policy tick.now told (begun_at a r) (begun_at b r) reply.value (goes.moves.begun.each r) h)
     told_before a b x y told r turned.Ended goes h = tt
 
     -- what the order of the number came to is put, where what carries out the orders has gone on so
-    pub goes_settled : (number : ℕ) (core new : RecursorCore) (r later : Runner P C F E p) (o : Outcome) (result : Result After NoMemory) → new.setting ≡ core.setting
+    pub goes_settled : (number : ℕ) (core new : RecursorCore) (r later : Runner P C F E p) (o : Outcome) (result : Result After NoMemory) → new.policy ≡ core.policy
         → (core.moment ≡ tick.now → new.moment ≡ tick.now) → new.resolutions ≡ core.resolutions
         → ((log longer : Log) → Derived core log → TellsTo core log tick (still_awaited o (sent_by r number)) o result longer → Derived new longer)
         → p.log later.carrier.provider ≡ settled_log (is_given_up result) tick.now (sent_by r number) (p.log r.carrier.provider)
         → TellsThat (p.log r.carrier.provider) (HasTold tick.now (sent_by r number) o) → Ready p tick core r → Goes p tick core core r later → Goes p tick core new r later
-    goes_settled number core new r later o result setting moment begun derived log told ready run =
+    goes_settled number core new r later o result policy moment begun derived log told ready run =
         let at = moment ready.moment in
         record {
           vouches = run.vouches;
-          ready = record { holds = holds_settled number tick core new r later o result setting at ready.moment derived log told ready.holds run.ready.holds; moment = at };
-          moves = moves_trans tick.patience tick.now core core new r.carrier later.carrier later.carrier run.moves (moves_core tick.patience tick.now core new later.carrier setting (keeps-same core new begun));
+          ready = record { holds = holds_settled number tick core new r later o result policy at ready.moment derived log told ready.holds run.ready.holds; moment = at };
+          moves = moves_trans tick.patience tick.now core core new r.carrier later.carrier later.carrier run.moves (moves_core tick.patience tick.now core new later.carrier policy (keeps-same core new begun));
         }
 
   -- a machine at rest begins a run: its questions are left, and its patience may be less
-  pub rests_holds : (patience : ℕ) (core new : RecursorCore) (r : Runner P C F E p) → new.setting ≡ setting_with core.setting patience
+  pub rests_holds : (patience : ℕ) (core new : RecursorCore) (r : Runner P C F E p) → new.policy ≡ setting_with core.policy patience
       → new.moment ≡ core.moment
-      → ((log : Log) → core.greatest < log.next → 0 < length core.setting.roots → TablesHold (seen_by core log) core.cache core.pools → Derived new log)
+      → ((log : Log) → core.greatest < log.next → 0 < length core.policy.roots → TablesHold (seen_by core log) core.cache core.pools → Derived new log)
       → Rests p core r → Holds p patience new r
-  rests_holds patience core new r setting moment derived h = record {
+  rests_holds patience core new r policy moment derived h = record {
     runner = h.runner;
-    patient = subst (λ (held : Setting). held.patience ≤ patience) (sym setting) (omega arith);
+    patient = subst (λ (held : Policy). held.patience ≤ patience) (sym policy) (omega arith);
     derived = λ es t. derived (log_of es) (h.bound es t) h.some (record { cache = h.cache es t; pools = h.pools es t });
-    asks = subst (λ (held : Setting). TellsThat (p.log r.carrier.provider) (AsksServers (given_of held))) (sym setting)
-        (λ es t. AsksServers-patience (given_of core.setting) (min core.setting.patience patience) (log_of es) (h.asks es t));
+    asks = subst (λ (held : Policy). TellsThat (p.log r.carrier.provider) (AsksServers held)) (sym policy)
+        (λ es t. AsksServers-patience core.policy (min core.policy.patience patience) (log_of es) (h.asks es t));
     past = subst (λ m. TellsThat (p.log r.carrier.provider) (IsPast m)) (sym moment) h.past;
   }
 
   -- and after it the machine is at rest again
-  pub holds_rests : (patience : ℕ) (core : RecursorCore) (r : Runner P C F E p) → 0 < length core.setting.roots → TellsThat (p.log r.carrier.provider) MomentsRise
+  pub holds_rests : (patience : ℕ) (core : RecursorCore) (r : Runner P C F E p) → 0 < length core.policy.roots → TellsThat (p.log r.carrier.provider) MomentsRise
       → Holds p patience core r → Rests p core r
   holds_rests patience core r some rises h = record {
     some = some;
@@ -325,15 +325,15 @@ module _ {P C F E : Type 0} (p : Ghosts P C F E) where
   pub new_rests : (roots : List IpAddr) (options : RecursorOptions) (core : RecursorCore) (r : Runner P C F E p) → IsNewCore roots options core
       → 0 < length roots → RunnerHolds p r → ((es : List LogEntry) → p.log r.carrier.provider ≡ Some es → es ≡ []) → Rests p core r
   new_rests roots options core r new some holds empty = record {
-    some = subst (λ (held : Setting). 0 < length held.roots) (sym new.setting) some;
+    some = subst (λ (held : Policy). 0 < length held.roots) (sym new.policy) some;
     runner = holds;
     bound = λ es t. let zero = new.greatest in omega arith;
     cache = λ es t. record {
-      lives = ap (λ (kept : Cached). kept.config) new.cache ∙ sym (ap (λ (held : Setting). held.lives) new.setting);
+      lives = ap (λ (kept : Cached). kept.config) new.cache ∙ sym (ap (λ (held : Policy). held.ttl_bounds) new.policy);
       entries = subst (λ (kept : Cached). All (EntryHolds (seen_by core (log_of es))) kept.entries) (sym new.cache)
           (λ k d low. absurd (omega (arith, low)));
     };
-    pools = λ es t. new.pools (seen_by core (log_of es)) (ap (λ (held : Setting). held.answer_filter) new.setting);
+    pools = λ es t. new.pools (seen_by core (log_of es)) new.policy;
     asks = λ es t. record {
       opened = λ n ip protocol moment refused at. absurd (unlogged n (Opened ip protocol moment refused)
           (subst (λ (xs : List LogEntry). Logged (log_of xs) n (Opened ip protocol moment refused)) (empty es t) at));

@@ -1,5 +1,5 @@
 -- What the machine knows of the moments of a lookup is known of a run, when it was heard at a moment of the run.
-use Rattle.recursor_core.proofs.Names.{◌≡◌, ◌≤◌, ◌<◌, ◌⊎◌, ⊎_elim, inl, ℕ, zero, suc, max, false, List, [], ◌∷◌, map, All, Contains, refl, sym, subst, arith, IpAddr, Log, Question, Turn, Given, given_of, ReplyHolds, IsTimed, machine_timer, below_or_from, last_moment, run_moments, run_timer, Reply, outcome-earlier, Setting}
+use Rattle.recursor_core.proofs.Names.{◌≡◌, ◌≤◌, ◌<◌, ◌⊎◌, ⊎_elim, inl, ℕ, zero, suc, max, false, List, [], ◌∷◌, map, All, Contains, refl, sym, subst, arith, IpAddr, Log, Question, Turn, Policy, ReplyHolds, IsTimed, machine_timer, below_or_from, last_moment, run_moments, run_timer, Reply, outcome-earlier, Policy}
 use Rattle.dns_core.specs.declared.message.Query.{Query}
 use Rattle.resolution.specs.Lookups.{End}
 use Rattle.resolution.specs.Ending.{EndSends}
@@ -7,7 +7,7 @@ use Rattle.resolution.specs.Ending.EndSends.{no_send, and_send}
 use Rattle.resolution.specs.Timing.{DriveTimed}
 
 -- a lookup of the machine is one of a run, where it was heard at a moment of the run
-timed_in_run : (given : Given) (t0 at : ℕ) (run : List ℕ) (log : Log) → Contains run at
+timed_in_run : (given : Policy) (t0 at : ℕ) (run : List ℕ) (log : Log) → Contains run at
     → (q : Query) (ips : List IpAddr) (g moments : List ℕ) (ends : List (End IpAddr)) (start now : ℕ)
     → EndSends given log q ips g ends moments → t0 ≤ now → IsTimed at log t0 q g ends start now
     → (later : ℕ) × (now ≤ later) × DriveTimed run false log t0 q ips g ends moments start later
@@ -29,12 +29,12 @@ timed_in_run given t0 at run log here q ips _ _ _ start now (and_send e c r) ask
     )
 
 -- a reply of the machine is one of the run
-pub reply-timed : (setting : Setting) (at : ℕ) (log : Log) (start : ℕ) (turns : List Turn) (t0 : ℕ) (question : Question) (reply : Reply)
+pub reply-timed : (policy : Policy) (at : ℕ) (log : Log) (start : ℕ) (turns : List Turn) (t0 : ℕ) (question : Question) (reply : Reply)
     → Contains (run_moments start turns) at
-    → ReplyHolds setting (machine_timer at) log t0 question reply → ReplyHolds setting (run_timer start turns) log t0 question reply
-reply-timed setting at log start turns t0 question reply here h =
-    outcome-earlier (given_of setting) log t0 t0 (omega arith) (machine_timer at log t0) (run_timer start turns log t0)
-    (timed_in_run (given_of setting) t0 at (run_moments start turns) log here) question reply.grounds reply.outcome h
+    → ReplyHolds policy (machine_timer at) log t0 question reply → ReplyHolds policy (run_timer start turns) log t0 question reply
+reply-timed policy at log start turns t0 question reply here h =
+    outcome-earlier policy log t0 t0 (omega arith) (machine_timer at log t0) (run_timer start turns log t0)
+    (timed_in_run policy t0 at (run_moments start turns) log here) question reply.grounds reply.outcome h
 
 -- the first of a list is in it
 pub contains_first : {X : Type 0} (x : X) (xs : List X) → Contains (x ∷ xs) x

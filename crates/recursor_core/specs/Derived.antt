@@ -16,12 +16,12 @@ KeptHolds seen (Some r) = ResolutionHolds seen r.value
 
 -- what the machine sees of a log
 abbrev pub seen_by : RecursorCore → Log → View
-seen_by core log = seen_at core.setting core.greatest core.moment log
+seen_by core log = seen_at core.policy core.greatest core.moment log
 
 -- All that the machine keeps is derived from the log.
 pub record Derived (core : RecursorCore) (log : Log) : Type 0 where
   pub bound : core.greatest < log.next
-  pub some : 0 < length core.setting.roots
+  pub some : 0 < length core.policy.roots
   pub cache : CacheHolds (seen_by core log) core.cache
   pub pools : PoolsHold (seen_by core log) core.pools
   pub resolutions : All (KeptHolds (seen_by core log)) core.resolutions.items

@@ -11,15 +11,15 @@ use Rattle.server_core.specs.declared.orders.order.Outcome.{Outcome}
 use Rattle.server_core.specs.declared.orders.order.Sent.{Sent}
 use Rattle.server_core.specs.declared.orders.order.Tick.{Tick}
 use Rattle.walk_lookup.specs.Order.{TellsOn}
-use Rattle.walk_lookup.specs.View.{View, given_of}
+use Rattle.walk_lookup.specs.View.{View}
 use Rattle.recursor_walk.specs.Replies.{Replied}
 use Rattle.walk_tables.specs.Pools.{PoolsHold, given_so_far}
 use Rattle.walk_tables.specs.declared.pools.Pools.{Pools}
 use Rattle.recursor_core.specs.Derived.{seen_by}
 use Rattle.recursor_types.specs.declared.reply.Reply.{Reply}
 use Rattle.dns_core.specs.declared.errors.NoMemory.{NoMemory}
-use Rattle.recursor_types.specs.Options.{answer_filter_of}
-use Rattle.walk_lookup.specs.Setting.{setting_of}
+use Rattle.walk_lookup.specs.Asking.{context_of}
+use Rattle.recursor_types.specs.Policy.{policy_of}
 use Rattle.recursor_types.specs.declared.options.RecursorOptions.{RecursorOptions}
 use Rattle.recursor_types.specs.declared.error.RecursorError.{RecursorError}
 use Rattle.recursor_question.specs.declared.resolving.Need.{Need}
@@ -67,7 +67,7 @@ IsBegunAt core r question now = begun_at core r ≡ Some (record { question = qu
 
 -- What it is set to, the cache, the greatest entry and moment and the questions are as before, but that the one at the place may have ended.
 pub record SameCore (r : ℕ) (old new : RecursorCore) : Type 0 where
-  pub setting : new.setting ≡ old.setting
+  pub policy : new.policy ≡ old.policy
   pub cache : new.cache ≡ old.cache
   pub greatest : new.greatest ≡ old.greatest
   pub moment : new.moment ≡ old.moment
@@ -113,7 +113,7 @@ Steps old new r result = MatchResult result (StepIs old new r) (λ e. given_by o
 
 -- A log goes on to tell an outcome to the machine, whose patience is no greater.
 pub record TellsTo (core : RecursorCore) (log : Log) (tick : Tick) (waits : Option Sent) (o : Outcome) (result : Result After NoMemory) (longer : Log) : Type 0 where
-  pub patient : core.setting.patience ≤ tick.patience
+  pub patient : core.policy.patience ≤ tick.patience
   pub on : TellsOn core.moment log tick waits o result longer
 
 abbrev pub ReplyGiven : View → Option Begun → Reply → Type 0
@@ -122,7 +122,7 @@ ReplyGiven seen (Some b) reply = Replied seen b.moment b.question reply
 
 -- what a step gives is derived: an order goes to a server by what was put before, and a reply holds
 abbrev pub StepGives : RecursorCore → Log → ℕ → Step → Type 0
-StepGives core log r (step.Order number order) = GoesToServer (given_of core.setting) log (core.greatest + 1) order.value
+StepGives core log r (step.Order number order) = GoesToServer core.policy log (core.greatest + 1) order.value
 StepGives core log r (step.Waiting number) = Unit {0}
 StepGives core log r (step.Done reply) = ReplyGiven (seen_by core log) (begun_at core r) reply.value
 StepGives core log r step.Ended = Unit {0}
@@ -130,13 +130,13 @@ StepGives core log r step.Ended = Unit {0}
 -- A new machine is set as the roots and the options say, and so are its pools; its cache is empty, nothing has happened, and its pools hold by
 -- any log.
 pub record IsNewCore (roots : List IpAddr) (options : RecursorOptions) (core : RecursorCore) : Type 0 where
-  pub setting : core.setting ≡ setting_of roots options
+  pub policy : core.policy ≡ policy_of roots options
   pub cache : core.cache ≡ record { size = options.response_cache_size; config = options.cache_policy; entries = [] }
   pub moment : core.moment ≡ 0
   pub greatest : core.greatest ≡ 0
   pub resolutions : core.resolutions.items ≡ []
-  pub context : core.pools.shared.context ≡ core.setting.context
-  pub pools : (seen : View) → seen.setting.answer_filter ≡ answer_filter_of options → PoolsHold seen core.pools
+  pub context : core.pools.shared.context ≡ context_of core.policy
+  pub pools : (seen : View) → seen.policy ≡ policy_of roots options → PoolsHold seen core.pools
 
 -- what a question is refused for as it begins
 abbrev pub IsBeginError : RecursorError → Type 0

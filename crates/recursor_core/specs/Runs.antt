@@ -26,7 +26,7 @@ Runs p run = Holds p run.patience run.core run.runner
 pub record Leading {P C F E : Type 0} (p : Ghosts P C F E) (moments : List ℕ) (most new_most : ℕ) (core new_core : RecursorCore) (r new : Runner P C F E p) : Type 0 where
   pub vouches : (es : List LogEntry) → p.vouches new.carrier.provider es → p.vouches r.carrier.provider es
   pub runs : Holds p new_most new_core new
-  pub setting : new_core.setting ≡ core.setting
+  pub policy : new_core.policy ≡ core.policy
   pub patience : new_most ≡ most
   pub patient : IsPatient (max 1 most) (p.log r.carrier.provider) (p.log new.carrier.provider)
   pub later : core.moment ≤ new_core.moment

@@ -6,18 +6,13 @@ use Rattle.dns_core.specs.declared.log.LogEntry.{LogEntry}
 use Rattle.dns_core.specs.declared.request.Question.{Question}
 use Rattle.dns_core.specs.declared.request.Turn.{Turn}
 use Rattle.dns_core.specs.declared.provider.ConnectionProvider.{Ghosts}
-use Rattle.resolver_settings.specs.Access.{Access}
-use Rattle.resolver_settings.specs.Ttl.{TtlTable}
-use Rattle.server_core.specs.Context.{Context}
 use Rattle.server_core.specs.declared.orders.order.Tick.{Tick}
 use Rattle.resolution.specs.Telling.{MomentsRise}
 use Rattle.resolution.specs.Asking.{AsksServers}
 use Rattle.resolution.specs.Timing.{known_to_drive}
-use Rattle.recursor_types.specs.Options.{server_filter_of, answer_filter_of}
+use Rattle.recursor_types.specs.Policy.{policy_of, with_patience}
 use Rattle.recursor_types.specs.declared.options.RecursorOptions.{RecursorOptions}
-use Rattle.walk_lookup.specs.Setting.{context_of}
-use Rattle.walk_lookup.specs.declared.settings.setting.Setting.{Setting}
-use Rattle.walk_lookup.specs.View.{given_of}
+use Rattle.recursor_types.specs.declared.policy.Policy.{Policy}
 use Rattle.walk_lookup.specs.Tried.{Timer, machine_timer}
 use Rattle.recursor_walk.specs.Replies.{ReplyHolds}
 use Rattle.order_carrier.specs.Growing.{TellsThat, Grown, IsPast}
@@ -36,52 +31,37 @@ use Rattle.recursor_core.specs.declared.machine.plays.Played.{Played}
 use Rattle.recursor_core.specs.declared.turns.Turned.TheVariants as turned
 use Rattle.recursor_core.specs.declared.machine.plays.Played.TheVariants as played
 
--- a recursor: its provider, its roots, the filters of other servers and of the addresses of answers, the bounds of lives, what its pools are set to,
--- the least patience of its runs, and the greatest moment handed in so far
+-- a recursor: its provider, its policy with the least patience of its runs, and the greatest moment handed in so far
 pub record Standing (P : Type 0) : Type 0 where
   pub provider : P
-  pub roots : List IpAddr
-  pub server_filter : Access
-  pub answer_filter : Access
-  pub lives : TtlTable
-  pub context : Context
-  pub patience : ℕ
+  pub policy : Policy
   pub moment : ℕ
 
 -- one that has had no run
 abbrev pub first_standing : {P : Type 0} → P → List IpAddr → RecursorOptions → Standing P
-first_standing provider roots options = record {
-  provider = provider;
-  roots = roots;
-  server_filter = server_filter_of options;
-  answer_filter = answer_filter_of options;
-  lives = options.cache_policy;
-  context = context_of options;
-  patience = 4294967295;
-  moment = 0;
-}
+first_standing provider roots options = record { provider = provider; policy = policy_of roots options; moment = 0 }
 
--- what a run is set to with this patience, or with the least one of the runs before
-abbrev pub run_terms : {P : Type 0} → ℕ → Standing P → Setting
-run_terms patience recursor = record { roots = recursor.roots; server_filter = recursor.server_filter; answer_filter = recursor.answer_filter; lives = recursor.lives; context = recursor.context; patience = min recursor.patience patience }
+-- the policy of a run with this patience, or with the least one of the runs before
+abbrev pub run_terms : {P : Type 0} → ℕ → Standing P → Policy
+run_terms patience recursor = with_patience (min recursor.policy.patience patience) recursor.policy
 
 -- What the machine keeps is derived from the provider's log, and only servers were asked, none later than its moment. Its least
 -- patience is no greater than this one.
 pub record Holds {P C F E : Type 0} (p : Ghosts P C F E) (patience : ℕ) (core : RecursorCore) (r : Runner P C F E p) : Type 0 where
   pub runner : RunnerHolds p r
-  pub patient : core.setting.patience ≤ patience
+  pub patient : core.policy.patience ≤ patience
   pub derived : TellsThat (p.log r.carrier.provider) (Derived core)
-  pub asks : TellsThat (p.log r.carrier.provider) (AsksServers (given_of core.setting))
+  pub asks : TellsThat (p.log r.carrier.provider) (AsksServers core.policy)
   pub past : TellsThat (p.log r.carrier.provider) (IsPast core.moment)
 
 -- So it is between two runs, once the questions of the last one are left.
 pub record Rests {P C F E : Type 0} (p : Ghosts P C F E) (core : RecursorCore) (r : Runner P C F E p) : Type 0 where
-  pub some : 0 < length core.setting.roots
+  pub some : 0 < length core.policy.roots
   pub runner : RunnerHolds p r
   pub bound : TellsThat (p.log r.carrier.provider) (λ log. core.greatest < log.next)
   pub cache : TellsThat (p.log r.carrier.provider) (λ log. CacheHolds (seen_by core log) core.cache)
   pub pools : TellsThat (p.log r.carrier.provider) (λ log. PoolsHold (seen_by core log) core.pools)
-  pub asks : TellsThat (p.log r.carrier.provider) (AsksServers (given_of core.setting))
+  pub asks : TellsThat (p.log r.carrier.provider) (AsksServers core.policy)
   pub past : TellsThat (p.log r.carrier.provider) (IsPast core.moment)
   pub rises : TellsThat (p.log r.carrier.provider) MomentsRise
 
@@ -92,7 +72,7 @@ pub record KeepsTo (old new : RecursorCore) : Type 0 where
 
 -- What it is set to is as before, no question has begun, and the log has only grown, by entries of the moment, none of which waits for an entry beyond patience.
 pub record Moves {P C F E : Type 0} (p : Ghosts P C F E) (patience now : ℕ) (core new_core : RecursorCore) (c new : Carrier P C F E p) : Type 0 where
-  pub setting : new_core.setting ≡ core.setting
+  pub policy : new_core.policy ≡ core.policy
   pub begun : KeepsTo core new_core
   pub grown : Grown now (p.log c.provider) (p.log new.provider)
   pub patient : IsPatient (max 1 patience) (p.log c.provider) (p.log new.provider)
@@ -108,18 +88,18 @@ pub record Goes {P C F E : Type 0} (p : Ghosts P C F E) (tick : Tick) (core new_
   pub ready : Ready p tick new_core new
   pub moves : Moves p tick.patience tick.now core new_core r.carrier new.carrier
 
-abbrev pub ReplyFor : Setting → ℕ → Option Begun → Reply → Log → Type 0
-ReplyFor setting now None reply log = ⊥
-ReplyFor setting now (Some b) reply log = ReplyHolds setting (machine_timer now) log b.moment b.question reply
+abbrev pub ReplyFor : Policy → ℕ → Option Begun → Reply → Log → Type 0
+ReplyFor policy now None reply log = ⊥
+ReplyFor policy now (Some b) reply log = ReplyHolds policy (machine_timer now) log b.moment b.question reply
 
 -- a reply holds by the log, where it is told, for the question that has begun
-abbrev pub ReplyTold : Setting → ℕ → Option (List LogEntry) → Option Begun → Reply → Type 0
-ReplyTold setting now told b reply = TellsThat told (ReplyFor setting now b reply)
+abbrev pub ReplyTold : Policy → ℕ → Option (List LogEntry) → Option Begun → Reply → Type 0
+ReplyTold policy now told b reply = TellsThat told (ReplyFor policy now b reply)
 
-abbrev pub TurnedTold : Setting → ℕ → Option (List LogEntry) → Option Begun → Turned → Type 0
-TurnedTold setting now told b turned.Pending = Unit {0}
-TurnedTold setting now told b (turned.Done reply) = ReplyTold setting now told b reply.value
-TurnedTold setting now told b turned.Ended = Unit {0}
+abbrev pub TurnedTold : Policy → ℕ → Option (List LogEntry) → Option Begun → Turned → Type 0
+TurnedTold policy now told b turned.Pending = Unit {0}
+TurnedTold policy now told b (turned.Done reply) = ReplyTold policy now told b reply.value
+TurnedTold policy now told b turned.Ended = Unit {0}
 
 -- the moment of the first turn of the question at a place
 abbrev pub first_moment : List Turn → ℕ → Option ℕ
@@ -149,10 +129,10 @@ pub record IsBegunFrom (core : RecursorCore) (r : ℕ) (q : Question) (moment : 
   pub is : (b : Begun) → begun_at core r ≡ Some b → (b.question ≡ q) × (moment ≤ b.moment)
 
 -- The reply was given at a moment of the run, and holds.
-pub record AnsweredAt (setting : Setting) (told : Option (List LogEntry)) (moments : List ℕ) (t0 : ℕ) (question : Question) (reply : Reply) : Type 0 where
+pub record AnsweredAt (policy : Policy) (told : Option (List LogEntry)) (moments : List ℕ) (t0 : ℕ) (question : Question) (reply : Reply) : Type 0 where
   pub now : ℕ
   pub in_run : Contains moments now
-  pub holds : TellsThat told (λ log. ReplyHolds setting (machine_timer now) log t0 question reply)
+  pub holds : TellsThat told (λ log. ReplyHolds policy (machine_timer now) log t0 question reply)
 
 -- A question that waits is named by no turn so far; one under way has begun at or after its moment; the reply of one that is answered holds, and
 -- for one that is not answered memory was wanting.
@@ -160,7 +140,7 @@ abbrev pub PlayHolds : RecursorCore → Option (List LogEntry) → ℕ → List 
 PlayHolds core told start turns rest q question played.Waiting = first_moment turns q ≡ first_moment rest q
 PlayHolds core told start turns rest q question (played.Begun r) = IsBegunFrom core r question (begin_moment start turns q)
 PlayHolds core told start turns rest q question (played.Answered reply) =
-    AnsweredAt core.setting told (run_moments start turns) (begin_moment start turns q) question reply.value
+    AnsweredAt core.policy told (run_moments start turns) (begin_moment start turns q) question reply.value
 PlayHolds core told start turns rest q question played.Unanswered = Unit {0}
 
 -- so it is with each question, where `rest` are the turns that are not played yet
@@ -169,6 +149,6 @@ PlaysHold core told start turns rest questions plays = (q : ℕ) (question : Que
     → slice_get questions q ≡ Some question → slice_get plays q ≡ Some p → PlayHolds core told start turns rest q question p
 
 -- each reply holds, for the question at its place
-abbrev pub RepliesHold : Setting → Log → ℕ → List Turn → List Question → List Reply → Type 0
-RepliesHold setting log start turns questions replies = (q : ℕ) (question : Question) (reply : Reply)
-    → slice_get questions q ≡ Some question → slice_get replies q ≡ Some reply → ReplyHolds setting (run_timer start turns) log (begin_moment start turns q) question reply
+abbrev pub RepliesHold : Policy → Log → ℕ → List Turn → List Question → List Reply → Type 0
+RepliesHold policy log start turns questions replies = (q : ℕ) (question : Question) (reply : Reply)
+    → slice_get questions q ≡ Some question → slice_get replies q ≡ Some reply → ReplyHolds policy (run_timer start turns) log (begin_moment start turns q) question reply

@@ -2,10 +2,10 @@
 ghost use Rattle.std.specs.Prelude.{◌≡◌, ◌≤◌, List, Contains, length, min, max, IfOk, vec_len};
 ghost use Rattle.dns_core.specs.declared.log.LogEntry.{LogEntry};
 ghost use Rattle.resolution.specs.Asking.{AsksServers};
-ghost use Rattle.walk_lookup.specs.View.{given_of};
 ghost use Rattle.order_carrier.specs.Growing.{TellsThat, IsPast, GrownOver};
 ghost use Rattle.order_carrier.specs.Patience.{IsPatient};
 ghost use Rattle.resolution.specs.Telling.{MomentsRise};
+ghost use Rattle.recursor_types.specs.Policy.{with_patience};
 ghost use Rattle.recursor_core.specs.Standing.{run_terms, RepliesHold, run_moments};
 
 use crate::recursor::Recursor;
@@ -31,7 +31,7 @@ pub fn drive<P: ConnectionProvider>(
     // Only servers were asked: by what was told before, each address that was opened serves a zone, and
     // each one that was asked serves a zone at or above the name of the question. Each is a root, or its
     // address is not denied.
-    ensures asks { TellsThat (P.log recursor.new.provider) (AsksServers (given_of (run_terms patience recursor.old))) }
+    ensures asks { TellsThat (P.log recursor.new.provider) (AsksServers (run_terms patience recursor.old)) }
 
     // Each message that is answered is what counts of a response that a server of a zone at or above the
     // name told: since the question began, or within its life before that, and then it was authoritative.
@@ -52,13 +52,8 @@ pub fn drive<P: ConnectionProvider>(
     ensures moment { Contains (run_moments recursor.old.moment turns.now) recursor.new.moment × (recursor.old.moment ≤ recursor.new.moment) }
     ensures past { TellsThat (P.log recursor.new.provider) (IsPast recursor.new.moment) }
 
-    // The roots, the filters, the bounds of lives and the context of pools stay, and the least patience is that of the runs so far.
-    ensures roots { recursor.new.roots ≡ recursor.old.roots }
-    ensures server_filter { recursor.new.server_filter ≡ recursor.old.server_filter }
-    ensures answer_filter { recursor.new.answer_filter ≡ recursor.old.answer_filter }
-    ensures lives { recursor.new.lives ≡ recursor.old.lives }
-    ensures context { recursor.new.context ≡ recursor.old.context }
-    ensures patience { recursor.new.patience ≡ min recursor.old.patience patience }
+    // The policy stays, but for the least patience, which is that of the runs so far.
+    ensures policy { recursor.new.policy ≡ with_patience (min recursor.old.policy.patience patience) recursor.old.policy }
 
     // What the provider vouches for of its log it vouched for before.
     ensures vouches { (es : List LogEntry) → P.vouches recursor.new.provider es → P.vouches recursor.old.provider es }

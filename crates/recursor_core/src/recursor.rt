@@ -3,9 +3,9 @@ ghost use Rattle.std.specs.Prelude.{◌≡◌, ◌≢◌, ◌↔◌, IsTrue, fal
 ghost use Rattle.dns_core.specs.declared.log.LogEntry.{LogEntry};
 ghost use Rattle.resolver_settings.specs.Ttl.{has_reversed};
 ghost use Rattle.recursor_core.specs.Recursor.{IsSetupError, IsSetupKind};
-ghost use Rattle.recursor_types.specs.Options.{has_bad_first_delays, server_filter_of, answer_filter_of};
-ghost use Rattle.walk_lookup.specs.Setting.{context_of};
-ghost use Rattle.walk_lookup.specs.Asking.{connect_of};
+ghost use Rattle.recursor_types.specs.Options.{has_bad_first_delays};
+ghost use Rattle.recursor_types.specs.Policy.{policy_of};
+ghost use Rattle.walk_lookup.specs.Asking.{context_of, connect_of};
 ghost use Rattle.recursor_core.specs.Standing.{Standing, Rests, first_standing};
 
 use crate::machine::resolutions::RecursorCore;
@@ -18,9 +18,8 @@ use std::alloc::Global;
 use std::marker::Model;
 use std::net::IpAddr;
 
-/// A recursor over a provider. Contracts see the provider, the roots, the filters of other servers and of
-/// the addresses of answers, the bounds of the lives of responses, what its pools are set to, the least patience of its runs and the greatest moment handed in so
-/// far. What it keeps, its cache of responses too, is derived from the provider's log.
+/// A recursor over a provider. Contracts see the provider, the policy, with the least patience of its runs, and
+/// the greatest moment handed in so far. What it keeps, its cache of responses too, is derived from the provider's log.
 pub struct Recursor<P: ConnectionProvider> {
     pub(crate) run: Run<P>,
 }
@@ -34,7 +33,7 @@ impl<P: ConnectionProvider> Drop for Recursor<P> {
 impl<P: ConnectionProvider> Model for Recursor<P> {
     ghost Value = { Standing P };
 
-    ghost view = { λ a. record { provider = a.run.runner.carrier.provider; roots = a.run.core.setting.roots; server_filter = a.run.core.setting.server_filter; answer_filter = a.run.core.setting.answer_filter; lives = a.run.core.setting.lives; context = a.run.core.setting.context; patience = a.run.core.setting.patience; moment = a.run.core.moment } };
+    ghost view = { λ a. record { provider = a.run.runner.carrier.provider; policy = a.run.core.policy; moment = a.run.core.moment } };
 
     ghost invariant = { λ a. Rests P.ConnectionProvider a.run.core a.run.runner };
 }
@@ -69,7 +68,7 @@ impl<P: ConnectionProvider> Recursor<P> {
         provider: P,
     ) -> Result<Recursor<P>, RecursorError>
         requires { (es : List LogEntry) → P.log provider ≡ Some es → es ≡ [] }
-        ensures ok { IfOk result (λ recursor. recursor ≡ record { provider = provider; roots = roots.now; server_filter = server_filter_of options; answer_filter = answer_filter_of options; lives = options.cache_policy; context = context_of options; patience = 4294967295; moment = 0 }) }
+        ensures ok { IfOk result (λ recursor. recursor ≡ record { provider = provider; policy = policy_of roots.now options; moment = 0 }) }
         ensures no_roots { (result ≡ Err (RecursorError.Message MessageKind.NoRoots)) ↔ (roots.now ≡ []) }
         ensures reversed { (result ≡ Err (RecursorError.Message MessageKind.ReversedTtl)) ↔ ((roots.now ≢ []) × IsTrue (has_reversed options.cache_policy)) }
         ensures first_delays { (result ≡ Err (RecursorError.Message MessageKind.FirstDelays)) ↔ ((roots.now ≢ []) × (has_reversed options.cache_policy ≡ false) × IsTrue (has_bad_first_delays options.first_delays)) }
@@ -115,17 +114,18 @@ impl<P: ConnectionProvider> Recursor<P> {
     }
 
     /// What its pools of servers are set to: how servers are asked, one at a time and without the wish
-    /// that they recurse, and which addresses answers may have.
-    pub fn pool_context(&self) -> &PoolContext
-        ensures { result.now ≡ self.now.context }
+    /// that they recurse, and which addresses answers may have. It fails
+    /// where memory runs out alone.
+    pub fn pool_context(&self, alloc: Global) -> Result<PoolContext, NoMemory>
+        ensures { IfOk result (λ context. context ≡ context_of self.now.policy) }
     {
-        self.run.core.pool_context()
+        self.run.core.pool_context(alloc)
     }
 
     /// What each connection is opened with, as the options of its pools say. It fails for want of memory
     /// alone.
     pub fn connect_options(&self, alloc: Global) -> Result<ConnectOptions, NoMemory>
-        ensures { IfOk result (λ connect. connect ≡ connect_of self.now.context.options) }
+        ensures { IfOk result (λ connect. connect ≡ connect_of self.now.policy.resolver) }
     {
         self.run.core.connect_options(alloc)
     }

@@ -209,7 +209,7 @@ impl<P: ConnectionProvider> Run<P> {
         ensures leads { Leads P.ConnectionProvider (run_moments self.old.core.moment turns.now) self.old self.new }
         ensures answered { IfOk result (λ replies. vec_len replies ≡ length questions.now) }
         ensures replies { IfOk result (λ given. TellsThat (told_by P.ConnectionProvider self.new) (λ log.
-            RepliesHold self.old.core.setting log self.old.core.moment turns.now questions.now given.items)) }
+            RepliesHold self.old.core.policy log self.old.core.moment turns.now questions.now given.items)) }
     {
         self.plays = waiting(alloc, questions)?;
         self.play_all(alloc, questions, turns);

@@ -2,7 +2,6 @@
 ghost use Rattle.std.specs.Prelude.{◌≡◌, ◌≤◌, ◌<◌, ◌+◌, ℕ, max, true, false, Some, None, IfOk, IfSome, IfNone, IsSome, OnOk, MatchBool};
 ghost use Rattle.std.specs.BTreeSet.{contains};
 ghost use Rattle.std.specs.Ordering.{nat_cmp};
-ghost use Rattle.walk_lookup.specs.View.{given_of};
 ghost use Rattle.order_carrier.specs.Growing.{TellsThat};
 ghost use Rattle.order_carrier.specs.Runner.{GoesRight, held_at, sent_by, HasTold};
 ghost use Rattle.recursor_core.specs.Machine.{begun_at, need_at, open_at, given_by};
@@ -74,7 +73,7 @@ fn start_order<P: ConnectionProvider>(
     tick: Tick,
 ) -> Result<(), NoMemory>
     requires ready { Ready P.ConnectionProvider tick core.old runner.old }
-    requires goes { GoesRight (P.log runner.old.carrier.provider) order.value (given_of core.old.setting) }
+    requires goes { GoesRight (P.log runner.old.carrier.provider) order.value core.old.policy }
     ensures goes { Goes P.ConnectionProvider tick core.old core.new runner.old runner.new }
     ensures few { due tick.patience core.new runner.new ≤ due tick.patience core.old runner.old + (max 1 tick.patience + 1) }
 {
@@ -94,7 +93,7 @@ fn begin_order<P: ConnectionProvider>(
     tick: Tick,
 ) -> Result<(), NoMemory>
     requires ready { Ready P.ConnectionProvider tick core.old runner.old }
-    requires goes { GoesRight (P.log runner.old.carrier.provider) order.value (given_of core.old.setting) }
+    requires goes { GoesRight (P.log runner.old.carrier.provider) order.value core.old.policy }
     ensures goes { Goes P.ConnectionProvider tick core.old core.new runner.old runner.new }
     ensures falls { (before : RecursorCore) → number ≡ given_by before + 1 → given_by core.old ≡ given_by before + 1
         → due tick.patience core.new runner.new < due tick.patience before runner.old }
@@ -141,7 +140,7 @@ fn ask<P: ConnectionProvider>(
 ) -> Result<Turned, NoMemory>
     requires ready { Ready P.ConnectionProvider tick core.old runner.old }
     ensures goes { Goes P.ConnectionProvider tick core.old core.new runner.old runner.new }
-    ensures told { IfOk result (TurnedTold core.old.setting tick.now (P.log runner.new.carrier.provider) (begun_at core.old r)) }
+    ensures told { IfOk result (TurnedTold core.old.policy tick.now (P.log runner.new.carrier.provider) (begun_at core.old r)) }
     ensures falls { IfOk result (AskFalls (due tick.patience core.new runner.new) (due tick.patience core.old runner.old) (open_at core.new r) polled.new polled.old) }
     ensures keeps { due tick.patience core.new runner.new ≤ due tick.patience core.old runner.old }
 {
@@ -194,7 +193,7 @@ fn turn<P: ConnectionProvider>(
 ) -> Result<Turned, NoMemory>
     requires ready { Ready P.ConnectionProvider tick core.old runner.old }
     ensures goes { Goes P.ConnectionProvider tick core.old core.new runner.old runner.new }
-    ensures told { IfOk result (TurnedTold core.old.setting tick.now (P.log runner.new.carrier.provider) (begun_at core.old r)) }
+    ensures told { IfOk result (TurnedTold core.old.policy tick.now (P.log runner.new.carrier.provider) (begun_at core.old r)) }
     ensures falls { IfOk result (TurnFalls (due tick.patience core.new runner.new) (due tick.patience core.old runner.old)) }
     ensures keeps { due tick.patience core.new runner.new ≤ due tick.patience core.old runner.old }
 {
@@ -241,7 +240,7 @@ pub fn answer_of<P: ConnectionProvider>(
     requires holds { Holds P.ConnectionProvider tick.patience core.old runner.old }
     requires moment { core.old.moment ≤ tick.now }
     ensures goes { Goes P.ConnectionProvider tick core.old core.new runner.old runner.new }
-    ensures told { IfOk result (λ reply. IfSome reply (λ given. ReplyTold core.old.setting tick.now (P.log runner.new.carrier.provider) (begun_at core.old r) given.value)) }
+    ensures told { IfOk result (λ reply. IfSome reply (λ given. ReplyTold core.old.policy tick.now (P.log runner.new.carrier.provider) (begun_at core.old r) given.value)) }
     ensures falls { IfOk result (λ reply. IfNone reply (due tick.patience core.new runner.new < due tick.patience core.old runner.old)) }
     ensures keeps { due tick.patience core.new runner.new ≤ due tick.patience core.old runner.old }
 {

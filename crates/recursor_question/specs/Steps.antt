@@ -5,7 +5,7 @@ use Rattle.dns_core.specs.declared.request.DnsRequest.{DnsRequest}
 use Rattle.dns_core.specs.declared.request.Question.{Question}
 use Rattle.server_core.specs.declared.orders.order.Tick.{Tick}
 use Rattle.walk_lookup.specs.Asking.{request_options_of}
-use Rattle.walk_lookup.specs.declared.settings.setting.Setting.{Setting}
+use Rattle.recursor_types.specs.declared.policy.Policy.{Policy}
 use Rattle.resolver_cache.specs.Cached.{Cached}
 use Rattle.walk_lookup.specs.View.{View}
 use Rattle.walk_lookup.specs.Remembered.{CacheHolds}
@@ -26,9 +26,9 @@ use Rattle.recursor_question.specs.declared.steps.Progress.TheVariants as progre
 use Rattle.walk_tables.specs.declared.pools.Stepped.TheVariants as stepped
 
 -- It is the request of what is asked now, with the options that all requests have.
-pub record IsRequestOf (request : DnsRequest) (setting : Setting) (s : State) : Type 0 where
+pub record IsRequestOf (request : DnsRequest) (policy : Policy) (s : State) : Type 0 where
   pub asks : AsksFor request s
-  pub options : request.options ≡ request_options_of setting.context.options
+  pub options : request.options ≡ request_options_of policy.resolver
 
 -- An order has the next number; no other step gives one. It waits for the order that is given, or for the one that it is said to wait for; with its
 -- reply it has ended, and nothing more comes where it had ended before.
@@ -56,9 +56,9 @@ Gives seen was progress.Again = Unit {0}
 Gives seen was (progress.Step s) = StepGives seen was s
 
 -- It is stepped at the moment that is seen, after the greatest entry, with what the machine is set to, which has a root, and with a cache that holds.
-pub record SteppedBy (seen : View) (setting : Setting) (cache : Cached) (since : ℕ) (tick : Tick) : Type 0 where
-  pub are : seen.setting ≡ setting
-  pub some : 0 < length setting.roots
+pub record SteppedBy (seen : View) (policy : Policy) (cache : Cached) (since : ℕ) (tick : Tick) : Type 0 where
+  pub are : seen.policy ≡ policy
+  pub some : 0 < length policy.roots
   pub at : IsStepAt seen since tick
   pub keeps : CacheHolds seen cache
 

@@ -13,12 +13,12 @@ ghost use Rattle.walk_tables.specs.declared.lookup.Want.TheVariants as want;
 
 use crate::resolving::{Need, Resolution, State};
 use dns_core::{DnsRequest, NoMemory, TryClone, in_box};
-use recursor_types::Reply;
+use recursor_types::{Policy, Reply};
 use resolver_cache::ResponseCache;
 use server_core::{Order, Tick};
 use std::alloc::Global;
 use std::mem;
-use walk_lookup::{Setting, request_options};
+use walk_lookup::request_options;
 use walk_tables::{Pools, Stepped, Want};
 
 /// What a resolution has for whoever steps it.
@@ -39,14 +39,14 @@ pub enum Progress {
 
 impl Resolution {
     /// The request of what it asks now.
-    fn request(&self, alloc: Global, setting: &Setting) -> Result<DnsRequest, NoMemory>
+    fn request(&self, alloc: Global, policy: &Policy) -> Result<DnsRequest, NoMemory>
         requires { IsUnder self.now.state }
-        ensures { IfOk result (λ request. IsRequestOf request setting.now self.now.state) }
+        ensures { IfOk result (λ request. IsRequestOf request policy.now self.now.state) }
     {
         match self.state.asking() {
             Some(asking) => Ok(DnsRequest {
                 query: asking.lookup.query.try_clone(alloc)?,
-                options: request_options(setting.context.options()),
+                options: request_options(&policy.resolver),
             }),
             None => unreachable!(),
         }
@@ -56,7 +56,7 @@ impl Resolution {
     fn begin_asking(
         &mut self,
         alloc: Global,
-        setting: &Setting,
+        policy: &Policy,
         pools: &mut Pools,
         tick: Tick,
     ) -> Result<Progress, NoMemory>
@@ -66,7 +66,7 @@ impl Resolution {
         ensures holds { (seen : View) → tick.now ≡ seen.moment → PoolsHold seen pools.old
             → ResolutionHolds seen self.old → GoesWell seen self.old self.new pools.new result }
     {
-        let request = self.request(alloc, setting)?;
+        let request = self.request(alloc, policy)?;
         self.send(alloc, pools, request, tick)?;
         Ok(Progress::Again)
     }
@@ -115,7 +115,7 @@ impl Resolution {
     fn send_on(
         &mut self,
         alloc: Global,
-        setting: &Setting,
+        policy: &Policy,
         cache: &ResponseCache,
         pools: &mut Pools,
         want: Want,
@@ -125,18 +125,18 @@ impl Resolution {
         requires { want_of self.old ≡ Need.Send want }
         ensures goes { GoesOn pools.old pools.new self.old self.new result }
         ensures begun { SameBegun self.old self.new }
-        ensures holds { (seen : View) → SteppedBy seen setting.now cache.now since tick → PoolsHold seen pools.old
+        ensures holds { (seen : View) → SteppedBy seen policy.now cache.now since tick → PoolsHold seen pools.old
             → ResolutionHolds seen self.old → GoesWell seen self.old self.new pools.new result }
     {
         match want {
             Want::Recall => {
-                self.recall(alloc, &setting.server_filter, cache, tick.now)?;
+                self.recall(alloc, &policy.server_filter, cache, tick.now)?;
                 Ok(Progress::Again)
             }
-            Want::Begin => self.begin_asking(alloc, setting, pools, tick),
+            Want::Begin => self.begin_asking(alloc, policy, pools, tick),
             Want::Step => self.give_order(alloc, pools, since, tick),
             Want::Hear => {
-                self.hear(alloc, &setting.server_filter)?;
+                self.hear(alloc, &policy.server_filter)?;
                 Ok(Progress::Again)
             }
         }
@@ -145,7 +145,7 @@ impl Resolution {
     fn step_on(
         &mut self,
         alloc: Global,
-        setting: &Setting,
+        policy: &Policy,
         cache: &ResponseCache,
         pools: &mut Pools,
         since: u64,
@@ -153,7 +153,7 @@ impl Resolution {
     ) -> Result<Progress, NoMemory>
         ensures goes { GoesOn pools.old pools.new self.old self.new result }
         ensures begun { SameBegun self.old self.new }
-        ensures holds { (seen : View) → SteppedBy seen setting.now cache.now since tick → PoolsHold seen pools.old
+        ensures holds { (seen : View) → SteppedBy seen policy.now cache.now since tick → PoolsHold seen pools.old
             → ResolutionHolds seen self.old → GoesWell seen self.old self.new pools.new result }
         ensures sets_out { want_of self.old ≡ Need.SetOut
             → IfOk result (SetsOut self.old.question (answerable (recalled cache.now self.old.question.query tick.now)) self.new.state) }
@@ -161,10 +161,10 @@ impl Resolution {
     {
         match self.need() {
             Need::SetOut => {
-                self.set_out(alloc, &setting.roots, cache, tick.now)?;
+                self.set_out(alloc, &policy.roots, cache, tick.now)?;
                 Ok(Progress::Again)
             }
-            Need::Send(want) => self.send_on(alloc, setting, cache, pools, want, since, tick),
+            Need::Send(want) => self.send_on(alloc, policy, cache, pools, want, since, tick),
             Need::Reply => Ok(self.take_reply()),
             Need::Nothing => Ok(Progress::Step(Step::Ended)),
         }
@@ -177,7 +177,7 @@ impl Resolution {
     pub fn next(
         &mut self,
         alloc: Global,
-        setting: &Setting,
+        policy: &Policy,
         cache: &ResponseCache,
         pools: &mut Pools,
         since: u64,
@@ -186,14 +186,14 @@ impl Resolution {
         ensures steps { IfOk result (StepIs pools.old pools.new self.old self.new) }
         ensures given { given_so_far pools.old ≤ given_so_far pools.new }
         ensures begun { SameBegun self.old self.new }
-        ensures holds { (seen : View) → SteppedBy seen setting.now cache.now since tick → PoolsHold seen pools.old
+        ensures holds { (seen : View) → SteppedBy seen policy.now cache.now since tick → PoolsHold seen pools.old
             → ResolutionHolds seen self.old → StepsWell seen self.old self.new pools.new result }
         ensures recalls { want_of self.old ≡ Need.SetOut → IfSome (answerable (recalled cache.now self.old.question.query tick.now))
             (λ counted. IfOk result (HandsOut (reply_with self.old.question counted))) }
         ensures replies { (reply : Reply) → IsDoneWith reply self.old.state → IfOk result (HandsOut reply) }
     {
         'steps: loop {
-            match self.step_on(alloc, setting, cache, pools, since, tick)? {
+            match self.step_on(alloc, policy, cache, pools, since, tick)? {
                 Progress::Again => {}
                 Progress::Step(step) => return Ok(step),
             }

@@ -2,10 +2,13 @@
 
 use crate::error::{AuthorityData, MessageKind, RecursorError, WalkCause};
 use crate::options::RecursorOptions;
+use crate::policy::Policy;
 use crate::reply::Reply;
 use dns_core::CrossesThreads;
 
 impl CrossesThreads for RecursorOptions {}
+
+impl CrossesThreads for Policy {}
 
 impl CrossesThreads for MessageKind {}
 

@@ -1,5 +1,5 @@
 -- What holds of a question at the servers of its name, and of a reply, goes on holding as a machine comes further.
-use Rattle.recursor_walk.proofs.AskingWords.{ℕ, Bool, List, subst, Result, Ok, Err, DomainName, Query, Message, Question, ForwardNsData, NetError, Base, Known, Verdict, View, given_of, Later, ReachesName, machine_timer, RecursorError, Reply, Given, with_patience, given-is, walked-on, for-on, concluded-later, asked-kept, AuthorityData, WalkCause, IsToldAnswer, OutcomeHolds, Replied, IsDenied, HasFailed, IsReferred, HasNoServer, ErrorHolds, told_on_the_way, made_on_the_way, referred}
+use Rattle.recursor_walk.proofs.AskingWords.{ℕ, Bool, List, subst, Result, Ok, Err, DomainName, Query, Message, Question, ForwardNsData, NetError, Base, Known, Verdict, View, Later, ReachesName, machine_timer, RecursorError, Reply, Policy, with_patience, given-is, walked-on, for-on, concluded-later, asked-kept, AuthorityData, WalkCause, IsToldAnswer, OutcomeHolds, Replied, IsDenied, HasFailed, IsReferred, HasNoServer, ErrorHolds, told_on_the_way, made_on_the_way, referred}
 use Rattle.recursor_walk.specs.Asking.{LastHolds}
 use Rattle.resolution.proofs.Keeping.{Base-extend}
 use Rattle.resolution.proofs.AnswersKept.{ReachesName-extend, IsOwn-extend, Answer-extend}
@@ -13,24 +13,24 @@ use Rattle.recursor_types.specs.declared.error.WalkCause.TheVariants as why
 use Rattle.recursor_types.specs.declared.error.RecursorError.TheVariants as error
 
 module _ (old new : View) (later : Later old new) where
-  abbrev before : Given
-  before = given_of old.setting
+  abbrev before : Policy
+  before = old.policy
 
-  abbrev after : Given
-  after = given_of new.setting
+  abbrev after : Policy
+  after = new.policy
 
   abbrev less : ℕ
-  less = new.setting.patience
+  less = new.policy.patience
 
   -- what is derived by what was given, with less patience, is derived by what is given now
-  as-given : (P : Given → Type 0) → P (with_patience less before) → P after
+  as-given : (P : Policy → Type 0) → P (with_patience less before) → P after
   as-given P h = subst P (given-is old new later) h
 
   -- the question itself at the servers of its name
   pub last-later : (t0 : ℕ) (q : Query) (a : Asking) → LastHolds old t0 q a → LastHolds new t0 q a
   last-later t0 q a h = record {
     asks = h.asks;
-    own = as-given (λ (given : Given). ReachesName given new.log a.lookup.query a.zone)
+    own = as-given (λ (given : Policy). ReachesName given new.log a.lookup.query a.zone)
         (ReachesName-extend before less later.patience old.log new.log later.extends a.lookup.query a.zone h.own);
     holds = record {
       site = for-on old new later a.lookup.query a.zone a.servers h.holds.site;
@@ -40,12 +40,12 @@ module _ (old new : View) (later : Later old new) where
 
   -- what counts of one entry
   based : {t0 : ℕ} {q : Query} {i : ℕ} {z : DomainName} {v : Verdict} → Base before old.log t0 q i z v → Base after new.log t0 q i z v
-  based {t0} {q} {i} {z} {v} b = as-given (λ (g : Given). Base g new.log t0 q i z v) (Base-extend before less old.log new.log later.extends b)
+  based {t0} {q} {i} {z} {v} b = as-given (λ (g : Policy). Base g new.log t0 q i z v) (Base-extend before less old.log new.log later.extends b)
 
   -- an answer that was told
   told-later : (t0 : ℕ) (q : Query) (dnssec : Bool) (g : List ℕ) (r : Message) → IsToldAnswer before old.log t0 q dnssec g r → IsToldAnswer after new.log t0 q dnssec g r
   told-later t0 q dnssec g r a =
-      as-given (λ (given : Given). IsToldAnswer given new.log t0 q dnssec g r) (record {
+      as-given (λ (given : Policy). IsToldAnswer given new.log t0 q dnssec g r) (record {
         entry = a.entry;
         zone = a.zone;
         kept = a.kept;
@@ -86,7 +86,7 @@ module _ (old new : View) (later : Later old new) where
     candidate = h.candidate;
     told = h.told;
     on_the_way = h.on_the_way;
-    glueless = as-given (λ (g : Given). Glueless g new.log t0 h.candidate h.told) (Glueless-extend before less later.patience old.log new.log later.extends h.glueless);
+    glueless = as-given (λ (g : Policy). Glueless g new.log t0 h.candidate h.told) (Glueless-extend before less later.patience old.log new.log later.extends h.glueless);
   }
   server-later t0 q why.Timeout h = record { candidate = h.candidate; on_the_way = h.on_the_way; g = h.g; failed = failed-later t0 _ h.g _ h.failed }
   server-later t0 q _ h = h

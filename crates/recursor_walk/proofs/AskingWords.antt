@@ -24,7 +24,7 @@ pub use Rattle.resolution.specs.declared.verdict.Verdict.{Verdict}
 pub use Rattle.resolution.specs.declared.verdict.Cause.TheVariants.{Filter, Zone}
 pub use Rattle.resolution.proofs.SameDelegations.{Same-is_delegation, Same-glue, Same-strip}
 pub use Rattle.resolution.specs.Same.{Same, SameRecord, SameRecords}
-pub use Rattle.walk_lookup.specs.View.{View, given_of, Later}
+pub use Rattle.walk_lookup.specs.View.{View, Later}
 pub use Rattle.walk_lookup.specs.Tried.{Concluded, machine_timer}
 pub use Rattle.resolution.specs.Walking.{Walked, ReachesName, is_cut}
 pub use Rattle.resolution.proofs.Sameness.{Same-refl, SameRecords-refl}
@@ -36,7 +36,8 @@ pub use Rattle.recursor_types.specs.declared.error.RecursorError.TheVariants.{Ne
 pub use Rattle.recursor_types.specs.declared.reply.Reply.{Reply}
 pub use Rattle.walk_lookup.proofs.Sends.{same_query-refl}
 pub use Rattle.walk_response.proofs.Runs.{answer_whole, run_later}
-pub use Rattle.resolution.specs.Given.{Given, with_patience}
+pub use Rattle.recursor_types.specs.declared.policy.Policy.{Policy}
+pub use Rattle.recursor_types.specs.Policy.{with_patience}
 pub use Rattle.resolution.specs.Life.{Fresh, life_in_seconds}
 pub use Rattle.walk_lookup.proofs.Later.{below-greater, given-is, walked-on, for-on, concluded-later, asked-kept}
 pub use Rattle.recursor_types.specs.declared.error.AuthorityData.{AuthorityData}

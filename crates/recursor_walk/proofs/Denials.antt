@@ -1,5 +1,5 @@
 -- What a reply rests on.
-use Rattle.recursor_walk.proofs.AskingWords.{◌≡◌, ℕ, Bool, true, false, cond, List, [], ◌∷◌, ◌++◌, Option, Some, None, Contains, refl, sym, ap, subst, ◌∙◌, ◌≤◌, arith, inl, inr, Result, Ok, Err, IfOk, ◌&&◌, ◌==◌, not, find, filter, if◌then◌else◌, is_none, same_Some, none-some, filter-append, second_so, IpAddr, DomainName, Log, Query, Message, Record, Question, NoRecords, ForwardNsData, NetError, candidates, walk, question, is_delegation, glue, allowed, Base, direct, Finished, Pos, Neg, Made, Verdict, Filter, Zone, Same-is_delegation, Same-glue, Same-strip, Same, View, given_of, IsToldAnswer, OutcomeCame, CameTo, HasCause, RepliesSo, Concluded, machine_timer, IsDenied, HasFailed, HasNoAddress, Walked, Same-refl, told_on_the_way, made_on_the_way, referred, Stands, Answers, IsOwnVerdict, ReachesName, AskedAs, SameIfAny, SameReferrals, SameNegative, SameVerdict, ShowsAsked, IsMadeFor, IsShown, nothing_left_for, left_of_class, told_data, made_data, told_negative, made_negative, ends_walk, outcome_of, RecursorError, Negative, ForwardNS, Reply, same_query-refl, answer_whole}
+use Rattle.recursor_walk.proofs.AskingWords.{◌≡◌, ℕ, Bool, true, false, cond, List, [], ◌∷◌, ◌++◌, Option, Some, None, Contains, refl, sym, ap, subst, ◌∙◌, ◌≤◌, arith, inl, inr, Result, Ok, Err, IfOk, ◌&&◌, ◌==◌, not, find, filter, if◌then◌else◌, is_none, same_Some, none-some, filter-append, second_so, IpAddr, DomainName, Log, Query, Message, Record, Question, NoRecords, ForwardNsData, NetError, candidates, walk, question, is_delegation, glue, allowed, Base, direct, Finished, Pos, Neg, Made, Verdict, Filter, Zone, Same-is_delegation, Same-glue, Same-strip, Same, View, IsToldAnswer, OutcomeCame, CameTo, HasCause, RepliesSo, Concluded, machine_timer, IsDenied, HasFailed, HasNoAddress, Walked, Same-refl, told_on_the_way, made_on_the_way, referred, Stands, Answers, IsOwnVerdict, ReachesName, AskedAs, SameIfAny, SameReferrals, SameNegative, SameVerdict, ShowsAsked, IsMadeFor, IsShown, nothing_left_for, left_of_class, told_data, made_data, told_negative, made_negative, ends_walk, outcome_of, RecursorError, Negative, ForwardNS, Reply, same_query-refl, answer_whole}
 use Rattle.dns_core.specs.declared.errors.NoMemory.{NoMemory}
 use Rattle.std.specs.Global.{Box}
 use Rattle.std.proofs.lemmas.Result.{IfOk-weaker}
@@ -25,13 +25,13 @@ use Rattle.resolution.specs.Failing as failing
 
 -- it was told of the question, since it began
 abbrev base-of : (seen : View) (t0 : ℕ) (zone : DomainName) (q : Query) (entry at : ℕ) (v : Verdict)
-    → (h : Counts seen t0 zone q entry at v) → Base (given_of seen.setting) seen.log t0 q entry zone h.whole
+    → (h : Counts seen t0 zone q entry at v) → Base seen.policy seen.log t0 q entry zone h.whole
 base-of seen t0 zone q entry at v h =
     record { told = h.outcome; moment = at; heard = h.heard; counts = h.counts; fresh = inl h.late }
 
 -- what counts was told at or after t0, and for NS records by the name's own servers
 own-of : (seen : View) (t0 : ℕ) (q : Query) (zone : DomainName) (moment : ℕ) (v : Verdict) → t0 ≤ moment
-    → ReachesName (given_of seen.setting) seen.log q zone → IsOwnVerdict seen t0 q zone moment v
+    → ReachesName seen.policy seen.log q zone → IsOwnVerdict seen t0 q zone moment v
 own-of seen t0 q zone moment (Pos kept) late reaches = inr (late, reaches)
 own-of seen t0 q zone moment (Neg n) late reaches = tt
 own-of seen t0 q zone moment (Made cause) late reaches = tt
@@ -53,7 +53,7 @@ shown-asked log i q _ _ asked h = tt
 
 -- what counts, of a server of the zone to which a walk went down, stands
 abbrev stands-of : (seen : View) (t0 : ℕ) (zone : DomainName) (q : Query) (entry at : ℕ) (v : Verdict)
-    → Counts seen t0 zone q entry at v → Walked (given_of seen.setting) seen.log q zone → Stands seen t0 q entry v
+    → Counts seen t0 zone q entry at v → Walked seen.policy seen.log q zone → Stands seen t0 q entry v
 stands-of seen t0 zone q entry at v h walked = record {
   zone = zone;
   whole = h.whole;
@@ -66,7 +66,7 @@ stands-of seen t0 zone q entry at v h walked = record {
 
 -- and it may be answered
 answers-of : (seen : View) (t0 : ℕ) (zone : DomainName) (q : Query) (entry at : ℕ) (v : Verdict)
-    → Counts seen t0 zone q entry at v → Walked (given_of seen.setting) seen.log q zone → ReachesName (given_of seen.setting) seen.log q zone
+    → Counts seen t0 zone q entry at v → Walked seen.policy seen.log q zone → ReachesName seen.policy seen.log q zone
     → Answers seen t0 q entry v
 answers-of seen t0 zone q entry at v h walked reaches =
     record { stands = stands-of seen t0 zone q entry at v h walked; own = own-of seen t0 q zone at h.whole h.late reaches }
@@ -117,16 +117,16 @@ left-no-error denied outcome q (Foreign r) class e is left fails = cc
 
 -- so has what was told to a lookup
 pub told-no-error : (seen : View) (t0 : ℕ) (zone : DomainName) (q : Query) (entry : ℕ) (e : NetError) → IsToldAs seen t0 zone q entry (Err e) → ⊥
-told-no-error seen t0 zone q entry e h = left-no-error (access_denies seen.setting.answer_filter) h.told.outcome q h.told.response h.class e h.told.is h.told.left h.counts
+told-no-error seen t0 zone q entry e h = left-no-error (access_denies seen.policy.answer_filter) h.told.outcome q h.told.response h.class e h.told.is h.told.left h.counts
 
 -- what was told to a lookup of the zone to which a walk went down stands
 pub told-stands : (seen : View) (t0 : ℕ) (zone : DomainName) (q : Query) (entry : ℕ) (v : Verdict)
-    → IsToldAs seen t0 zone q entry (Ok v) → Walked (given_of seen.setting) seen.log q zone → Stands seen t0 q entry v
+    → IsToldAs seen t0 zone q entry (Ok v) → Walked seen.policy seen.log q zone → Stands seen t0 q entry v
 told-stands seen t0 zone q entry v h walked = stands-of seen t0 zone q entry h.at v (counts-of seen t0 zone q entry h.at h.class v h.told h.counts) walked
 
 -- and may be answered
 pub told-answers : (seen : View) (t0 : ℕ) (zone : DomainName) (q : Query) (entry : ℕ) (v : Verdict)
-    → IsToldAs seen t0 zone q entry (Ok v) → Walked (given_of seen.setting) seen.log q zone → ReachesName (given_of seen.setting) seen.log q zone
+    → IsToldAs seen t0 zone q entry (Ok v) → Walked seen.policy seen.log q zone → ReachesName seen.policy seen.log q zone
     → Answers seen t0 q entry v
 told-answers seen t0 zone q entry v h walked reaches =
     answers-of seen t0 zone q entry h.at v (counts-of seen t0 zone q entry h.at h.class v h.told h.counts) walked reaches
@@ -135,8 +135,8 @@ told-answers seen t0 zone q entry v h walked reaches =
 
 -- a response that stands is the answer, less what was not asked for
 told-by : (seen : View) (t0 : ℕ) (q : Query) (entry : ℕ) (zone : DomainName) (kept : Message) (dnssec : Bool) (whole : Verdict)
-    → (base : Base (given_of seen.setting) seen.log t0 q entry zone whole) → IsOwnVerdict seen t0 q zone base.moment whole → Walked (given_of seen.setting) seen.log q zone
-    → SameVerdict q (Pos kept) whole → IsToldAnswer (given_of seen.setting) seen.log t0 q dnssec (entry ∷ []) (strip_of kept dnssec)
+    → (base : Base seen.policy seen.log t0 q entry zone whole) → IsOwnVerdict seen t0 q zone base.moment whole → Walked seen.policy seen.log q zone
+    → SameVerdict q (Pos kept) whole → IsToldAnswer seen.policy seen.log t0 q dnssec (entry ∷ []) (strip_of kept dnssec)
 told-by seen t0 q entry zone kept dnssec (Pos before) base own walked same =
     let stripped = Same-strip kept before dnssec same in
     record {
@@ -153,7 +153,7 @@ told-by seen t0 q entry zone kept dnssec (Pos before) base own walked same =
 told-by seen t0 q entry zone kept dnssec _ base own walked same = absurd same
 
 pub told-answer : (seen : View) (t0 : ℕ) (q : Query) (entry : ℕ) (kept : Message) (dnssec : Bool)
-    → Answers seen t0 q entry (Pos kept) → IsToldAnswer (given_of seen.setting) seen.log t0 q dnssec (entry ∷ []) (strip_of kept dnssec)
+    → Answers seen t0 q entry (Pos kept) → IsToldAnswer seen.policy seen.log t0 q dnssec (entry ∷ []) (strip_of kept dnssec)
 told-answer seen t0 q entry kept dnssec h =
     told-by seen t0 q entry h.stands.zone kept dnssec h.stands.whole h.stands.base h.own h.stands.walked h.stands.same
 
@@ -165,11 +165,11 @@ replies seen t0 asked r outcome g is came =
 
 -- a lookup for a question at the servers of the zone to which its walk went down failed
 pub has-failed : (seen : View) (t0 : ℕ) (zone : DomainName) (asked q : Query) (g : List ℕ) (e : NetError)
-    → asked ≡ q → Concluded seen t0 zone asked g (Err e) → Walked (given_of seen.setting) seen.log q zone
-    → HasFailed (given_of seen.setting) (machine_timer seen.moment seen.log t0) seen.log t0 q g e
+    → asked ≡ q → Concluded seen t0 zone asked g (Err e) → Walked seen.policy seen.log q zone
+    → HasFailed seen.policy (machine_timer seen.moment seen.log t0) seen.log t0 q g e
 has-failed seen t0 zone asked q g e same ended walked = record {
   zone = zone;
-  ended = subst (λ (p : Query). Finished (given_of seen.setting) (machine_timer seen.moment seen.log t0) seen.log t0 p zone g (Err e)) same ended;
+  ended = subst (λ (p : Query). Finished seen.policy (machine_timer seen.moment seen.log t0) seen.log t0 p zone g (Err e)) same ended;
   walked = walked;
 }
 
@@ -181,7 +181,7 @@ first-asked log i n first is a = subst (AskedAs log i) (ap (λ (m : NoRecords). 
 
 -- a negative that is answered at last: itself, or a referral
 negative-by : (seen : View) (t0 : ℕ) (q : Query) (entry : ℕ) (zone : DomainName) (n : NoRecords) (whole : Verdict)
-    → Base (given_of seen.setting) seen.log t0 q entry zone whole → Walked (given_of seen.setting) seen.log q zone → SameVerdict q (Neg n) whole → ShowsAsked seen.log entry q (Neg n) whole
+    → Base seen.policy seen.log t0 q entry zone whole → Walked seen.policy seen.log q zone → SameVerdict q (Neg n) whole → ShowsAsked seen.log entry q (Neg n) whole
     → HasCause seen t0 q (entry ∷ []) (told_negative n)
 negative-by seen t0 q entry zone n (Made Filter) base walked same asked =
     subst (λ (m : NoRecords). HasCause seen t0 q (entry ∷ []) (told_negative m)) (sym same.is)
@@ -207,8 +207,8 @@ made-for Zone q = refl
 
 -- a negative that the recursor makes, where one that it made before is a denial
 made-by : (seen : View) (t0 : ℕ) (q p : Query) (entry : ℕ) (zone : DomainName) (cause : Cause) (whole : Verdict)
-    → ((before : Cause) → Base (given_of seen.setting) seen.log t0 p entry zone (Made before) → IsMadeFor before p p → IsDenied (given_of seen.setting) seen.log t0 q (entry ∷ []) (made_data p before))
-    → Base (given_of seen.setting) seen.log t0 p entry zone whole → SameVerdict p (Made cause) whole → HasCause seen t0 q (entry ∷ []) (made_negative p cause)
+    → ((before : Cause) → Base seen.policy seen.log t0 p entry zone (Made before) → IsMadeFor before p p → IsDenied seen.policy seen.log t0 q (entry ∷ []) (made_data p before))
+    → Base seen.policy seen.log t0 p entry zone whole → SameVerdict p (Made cause) whole → HasCause seen t0 q (entry ∷ []) (made_negative p cause)
 made-by seen t0 q p entry zone cause (Made before) denies base same =
     subst (λ (x : Cause). HasCause seen t0 q (entry ∷ []) (made_negative p x)) (sym same) (denies before base (made-for before p), tt)
 made-by seen t0 q p entry zone cause _ denies base same = absurd same
@@ -248,8 +248,8 @@ ends-verdict n before same e =
 
 -- a negative that ends a walk at a candidate
 way-negative-by : (seen : View) (t0 : ℕ) (q : Query) (entry : ℕ) (zone c : DomainName) (n : NoRecords) (whole : Verdict)
-    → Contains (candidates (walk q)) c → Base (given_of seen.setting) seen.log t0 (question c 2) entry zone whole
-    → Walked (given_of seen.setting) seen.log (question c 2) zone → SameVerdict (question c 2) (Neg n) whole → ShowsAsked seen.log entry (question c 2) (Neg n) whole → ends_walk n ≡ true
+    → Contains (candidates (walk q)) c → Base seen.policy seen.log t0 (question c 2) entry zone whole
+    → Walked seen.policy seen.log (question c 2) zone → SameVerdict (question c 2) (Neg n) whole → ShowsAsked seen.log entry (question c 2) (Neg n) whole → ends_walk n ≡ true
     → HasCause seen t0 q (entry ∷ []) (told_negative n)
 way-negative-by seen t0 q entry zone c n (Made Filter) has base walked same asked ends =
     subst (λ (m : NoRecords). HasCause seen t0 q (entry ∷ []) (told_negative m)) (sym same.is)
@@ -280,8 +280,8 @@ none-in (x ∷ xs) h = absurd (h x (0, omega arith, refl))
 
 -- a delegation that stands and gives no address that may be asked
 glueless-by : (seen : View) (t0 : ℕ) (q : Query) (zone c : DomainName) (entry : ℕ) (kept : Message) (whole : Verdict)
-    → Contains (candidates (walk q)) c → Base (given_of seen.setting) seen.log t0 (question c 2) entry zone whole → SameVerdict (question c 2) (Pos kept) whole
-    → is_delegation kept c ≡ true → allowed (access_denies seen.setting.server_filter) (glue kept c) ≡ [] → HasNoAddress (given_of seen.setting) seen.log t0 q
+    → Contains (candidates (walk q)) c → Base seen.policy seen.log t0 (question c 2) entry zone whole → SameVerdict (question c 2) (Pos kept) whole
+    → is_delegation kept c ≡ true → allowed (access_denies seen.policy.server_filter) (glue kept c) ≡ [] → HasNoAddress seen.policy seen.log t0 q
 glueless-by seen t0 q zone c entry kept (Pos before) has base same delegates none = record {
   candidate = c;
   told = before;
@@ -291,16 +291,16 @@ glueless-by seen t0 q zone c entry kept (Pos before) has base same delegates non
     z = zone;
     base = base;
     delegates = sym (Same-is_delegation kept before c same) ∙ delegates;
-    none = subst (λ (ips : List IpAddr). allowed (access_denies seen.setting.server_filter) ips ≡ []) (Same-glue kept before c same) none;
+    none = subst (λ (ips : List IpAddr). allowed (access_denies seen.policy.server_filter) ips ≡ []) (Same-glue kept before c same) none;
   };
 }
 glueless-by seen t0 q zone c entry kept _ has base same delegates none = absurd same
 
 pub glueless-of : (seen : View) (t0 : ℕ) (q : Query) (c : DomainName) (asked : Query) (entry : ℕ) (kept : Message)
     → Contains (candidates (walk q)) c → Stands seen t0 asked entry (Pos kept) → asked ≡ question c 2 → is_delegation kept c ≡ true
-    → ((ip : IpAddr) → Contains (allowed (access_denies seen.setting.server_filter) (glue kept c)) ip → ⊥)
-    → HasNoAddress (given_of seen.setting) seen.log t0 q
+    → ((ip : IpAddr) → Contains (allowed (access_denies seen.policy.server_filter) (glue kept c)) ip → ⊥)
+    → HasNoAddress seen.policy seen.log t0 q
 glueless-of seen t0 q c asked entry kept has h is delegates none =
     let now = subst (λ (p : Query). Stands seen t0 p entry (Pos kept)) is h in
     glueless-by seen t0 q now.zone c entry kept now.whole has now.base now.same delegates
-    (none-in (allowed (access_denies seen.setting.server_filter) (glue kept c)) none)
+    (none-in (allowed (access_denies seen.policy.server_filter) (glue kept c)) none)

@@ -1,5 +1,5 @@
 -- A reply to a question that began later is one to a question that began earlier, where as much is known of moments.
-use Rattle.recursor_walk.proofs.AskingWords.{◌≤◌, ◌+◌, ◌*◌, ℕ, Bool, List, Option, Some, None, arith, inl, inr, ⊎_elim, IsSomeAnd, Result, Ok, Err, last_or, IpAddr, DomainName, Log, Query, Message, Question, ForwardNsData, NetError, Given, Fresh, life_in_seconds, Base, IsCurrent, IsOwn, Answer, direct, by_alias, below-greater, run_later, Known, EndSends, Finished, Verdict, IsDenied, IsReferred, HasFailed, HasNoServer, ErrorHolds, told_on_the_way, made_on_the_way, referred, AuthorityData, WalkCause, RecursorError, View, given_of, IsToldAnswer, OutcomeHolds, Replied, machine_timer, Reply}
+use Rattle.recursor_walk.proofs.AskingWords.{◌≤◌, ◌+◌, ◌*◌, ℕ, Bool, List, Option, Some, None, arith, inl, inr, ⊎_elim, IsSomeAnd, Result, Ok, Err, last_or, IpAddr, DomainName, Log, Query, Message, Question, ForwardNsData, NetError, Policy, Fresh, life_in_seconds, Base, IsCurrent, IsOwn, Answer, direct, by_alias, below-greater, run_later, Known, EndSends, Finished, Verdict, IsDenied, IsReferred, HasFailed, HasNoServer, ErrorHolds, told_on_the_way, made_on_the_way, referred, AuthorityData, WalkCause, RecursorError, View, IsToldAnswer, OutcomeHolds, Replied, machine_timer, Reply}
 use Rattle.resolution.specs.Answering.{Answers}
 use Rattle.resolution.specs.Lookups.{End, Answered}
 use Rattle.recursor_walk.specs.Causes.IsDenied.{told as denial_told, made as denial_made}
@@ -12,7 +12,7 @@ some-weaker P Q f None h = h
 some-weaker P Q f (Some x) h = f x h
 
 -- what is fresh late is fresh early
-Fresh-earlier : (given : Given) (early late moment : ℕ) (q : Query) (v : Verdict) → early ≤ late → Fresh given late moment q v → Fresh given early moment q v
+Fresh-earlier : (given : Policy) (early late moment : ℕ) (q : Query) (v : Verdict) → early ≤ late → Fresh given late moment q v → Fresh given early moment q v
 Fresh-earlier given early late moment q v le = ⊎_elim (λ h. inl (omega arith))
     (λ h. inr (some-weaker (λ life. late ≤ moment + 1000000 * life) (λ life. early ≤ moment + 1000000 * life) (λ life l. omega arith) (life_in_seconds given q.query_type v) h))
 
@@ -21,12 +21,12 @@ IsCurrent-earlier : (early late moment : ℕ) (k : Message) → early ≤ late �
 IsCurrent-earlier early late moment k le = ⊎_elim (λ h. inl h) (λ h. inr (omega arith))
 
 -- and where it comes of the name's own servers
-IsOwn-earlier : (given : Given) (log : Log) (early late : ℕ) (q : Query) (z : DomainName) (moment : ℕ) (k : Message) → early ≤ late
+IsOwn-earlier : (given : Policy) (log : Log) (early late : ℕ) (q : Query) (z : DomainName) (moment : ℕ) (k : Message) → early ≤ late
     → IsOwn given log late q z moment k → IsOwn given log early q z moment k
 IsOwn-earlier given log early late q z moment k le = ⊎_elim (λ h. inl h) (λ h. inr (let late_enough = h.0 in omega (arith, late_enough), h.1))
 
 -- The late moment may be the early one: then a reply holds by what else is known of moments.
-module _ (given : Given) (log : Log) (early late : ℕ) (le : early ≤ late) (known wider : Known)
+module _ (given : Policy) (log : Log) (early late : ℕ) (le : early ≤ late) (known wider : Known)
     (timed : (q : Query) (ips : List IpAddr) (g moments : List ℕ) (ends : List (End IpAddr)) (start now : ℕ)
     → EndSends given log q ips g ends moments → late ≤ now → known.Timed q ips g ends moments start now
     → (later : ℕ) × (now ≤ later) × wider.Timed q ips g ends moments start later) where
@@ -132,6 +132,6 @@ module _ (given : Given) (log : Log) (early late : ℕ) (le : early ≤ late) (k
 -- a reply at the late moment is one at the early one
 pub reply-earlier : (seen : View) (early late : ℕ) (question : Question) (reply : Reply) → early ≤ late → Replied seen late question reply → Replied seen early question reply
 reply-earlier seen early late question reply le h =
-    outcome-earlier (given_of seen.setting) seen.log early late le (machine_timer seen.moment seen.log late) (machine_timer seen.moment seen.log early)
+    outcome-earlier seen.policy seen.log early late le (machine_timer seen.moment seen.log late) (machine_timer seen.moment seen.log early)
     (λ q ips g moments ends start at sends asked t. (at, omega arith, record { some = t.some; began = t.began; since = let s = t.since in omega arith; answered = t.answered }))
     question reply.grounds reply.outcome h

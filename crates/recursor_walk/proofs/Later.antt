@@ -1,6 +1,6 @@
 -- What holds of a walk goes on holding as a machine comes further.
-use Rattle.recursor_walk.proofs.Names.{ℕ, subst, DomainName, Query, last_name, View, given_of, Later, NoCut, Passed, WayHolds, WalkHolds, Walk}
-use Rattle.resolution.specs.Given.{Given}
+use Rattle.recursor_walk.proofs.Names.{ℕ, subst, DomainName, Query, last_name, View, Later, NoCut, Passed, WayHolds, WalkHolds, Walk}
+use Rattle.recursor_types.specs.declared.policy.Policy.{Policy}
 use Rattle.walk_lookup.proofs.Later.{given-is, pool-on}
 use Rattle.resolution.proofs.FailuresKept.{NoCut-extend}
 use Rattle.walk_tables.proofs.Later.{lookup-later}
@@ -9,8 +9,8 @@ module _ (old new : View) (later : Later old new) where
   -- the candidates that were passed
   passed-later : (zone name : DomainName) (n : ℕ) → Passed old zone name n → Passed new zone name n
   passed-later zone name n p k below above =
-      subst (λ (g : Given). NoCut g new.log (last_name k name)) (given-is old new later)
-      (NoCut-extend (given_of old.setting) new.setting.patience later.patience old.log new.log later.extends (p k below above))
+      subst (λ (g : Policy). NoCut g new.log (last_name k name)) (given-is old new later)
+      (NoCut-extend old.policy new.policy.patience later.patience old.log new.log later.extends (p k below above))
 
   -- the way of a walk
   way-later : (q : Query) (w : Walk) → WayHolds old q w → WayHolds new q w

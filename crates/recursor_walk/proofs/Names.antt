@@ -10,7 +10,7 @@ pub use Rattle.resolution.specs.Names.{candidates, walk, question, last_name, ro
 pub use Rattle.resolution.specs.Ending.{Finished, is_timeout}
 pub use Rattle.resolution.specs.declared.verdict.Verdict.TheVariants.{Pos, Neg, Made}
 pub use Rattle.resolution.specs.declared.verdict.Verdict.{Verdict}
-pub use Rattle.walk_lookup.specs.View.{View, given_of, Later}
+pub use Rattle.walk_lookup.specs.View.{View, Later}
 pub use Rattle.resolution.specs.Walking.{Walked, NoCut, ReachesName, at_any_time, is_cut}
 pub use Rattle.walk_response.specs.Answer.{made_negative, ends_walk}
 pub use Rattle.recursor_types.specs.declared.error.RecursorError.TheVariants.{NoNameServer}

@@ -1,5 +1,5 @@
 -- What is read from the cache stands for the question that reads it.
-use Rattle.recursor_walk.proofs.AskingWords.{◌≡◌, ℕ, ◌+◌, ◌*◌, ◌≤◌, Bool, true, false, cond, ◌&&◌, Option, Some, None, Result, Ok, IsTrue, IfSome, refl, sym, ap, subst, inl, inr, arith, ◌==◌, IsSomeAnd, option_and_then, option_map, first_so, second_so, same_Some, All-contains, same_names, DomainName, Log, Query, Message, NetError, lowered, lowered_message, lowered_denial, same_query, Fresh, life_in_seconds, Base, Verdict, Pos, Neg, Made, Filter, NoRecords, counted_for, recalled, may_answer, answerable, IsOwnVerdict, Stands, Answers, IsRecalled, View, given_of, AskedAs, IsShown, SameVerdict, ShowsAsked, same_query-refl}
+use Rattle.recursor_walk.proofs.AskingWords.{◌≡◌, ℕ, ◌+◌, ◌*◌, ◌≤◌, Bool, true, false, cond, ◌&&◌, Option, Some, None, Result, Ok, IsTrue, IfSome, refl, sym, ap, subst, inl, inr, arith, ◌==◌, IsSomeAnd, option_and_then, option_map, first_so, second_so, same_Some, All-contains, same_names, DomainName, Log, Query, Message, NetError, lowered, lowered_message, lowered_denial, same_query, Fresh, life_in_seconds, Base, Verdict, Pos, Neg, Made, Filter, NoRecords, counted_for, recalled, may_answer, answerable, IsOwnVerdict, Stands, Answers, IsRecalled, View, AskedAs, IsShown, SameVerdict, ShowsAsked, same_query-refl}
 use Rattle.recursor_walk.specs.declared.zone_query.counted.Counted.{Counted}
 use Rattle.resolver_cache.specs.Life.{seconds_between}
 use Rattle.kept_responses.specs.Entry.{is_same_question, current_for}
@@ -58,11 +58,11 @@ respelled a b _ _ same h = h
 module _ (seen : View) (t0 : ℕ) (cache : Cached) (q : Query) (begun : t0 ≤ seen.moment) (holds : CacheHolds seen cache) where
   -- an entry that is current was told within its life
   fresh-of : (e : Entry) (moment : ℕ) (whole : Verdict) → seen.moment ≤ e.expiry
-      → IsSomeAnd (life_in_seconds (given_of seen.setting) e.query.query_type whole) (λ life. e.expiry ≤ moment + 1000000 * life)
-      → Fresh (given_of seen.setting) t0 moment e.query whole
+      → IsSomeAnd (life_in_seconds seen.policy e.query.query_type whole) (λ life. e.expiry ≤ moment + 1000000 * life)
+      → Fresh seen.policy t0 moment e.query whole
   fresh-of e moment whole current expires =
       inr (some-weaker (λ life. e.expiry ≤ moment + 1000000 * life) (λ life. t0 ≤ moment + 1000000 * life) (λ life h. omega (arith, begun, current, h))
-      (life_in_seconds (given_of seen.setting) e.query.query_type whole) expires)
+      (life_in_seconds seen.policy e.query.query_type whole) expires)
 
   -- what an entry for the question tells
   by-entry : (f : CachedResponse) (v : Verdict) → IsFoundIn cache q seen.moment f → verdict_kept f.response ≡ Some v
@@ -71,7 +71,7 @@ module _ (seen : View) (t0 : ℕ) (cache : Cached) (q : Query) (begun : t0 ≤ s
       let e = found.entry in
       let held : EntryHolds seen e = All-contains (EntryHolds seen) cache.entries e holds.entries found.kept in
       let same : same_query e.query q ≡ true = same_question e.query q found.question in
-      let base : Base (given_of seen.setting) seen.log t0 e.query e.source held.zone held.whole = record {
+      let base : Base seen.policy seen.log t0 e.query e.source held.zone held.whole = record {
         told = held.told;
         moment = held.moment;
         heard = held.heard;
@@ -85,7 +85,7 @@ module _ (seen : View) (t0 : ℕ) (cache : Cached) (q : Query) (begun : t0 ≤ s
         whole = held.whole;
         early = held.early;
         base = Base-same e.query q same base;
-        walked = Walked-same (given_of seen.setting) seen.log e.query q held.zone same held.walked;
+        walked = Walked-same seen.policy seen.log e.query q held.zone same held.walked;
         same = respelled e.query q v held.whole same reads.same;
         asked = reads.asked seen.log e.source q held.asked;
       } in

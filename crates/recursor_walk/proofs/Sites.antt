@@ -1,5 +1,5 @@
 -- The candidates on the way down to a name, and the servers of a zone: the roots, and those beside a delegation.
-use Rattle.recursor_walk.proofs.AskingWords.{◌≡◌, ℕ, Bool, true, false, cond, List, Contains, refl, sym, subst, ◌∙◌, ◌≤◌, arith, ◌&&◌, ◌==◌, not, ◌+◌, ◌<◌, ◌↔◌, ◌-◌, length, All-weaker, All-contains_itself, recursion_from_All, IpAddr, DomainName, Query, Message, candidates, walk, question, last_name, root, base, is_above, is_root, is_delegation, glue, allowed, Serves, Delegates, Base, Pos, Verdict, Same-is_delegation, Same-glue, View, given_of, is_cut, Stands, SameVerdict}
+use Rattle.recursor_walk.proofs.AskingWords.{◌≡◌, ℕ, Bool, true, false, cond, List, Contains, refl, sym, subst, ◌∙◌, ◌≤◌, arith, ◌&&◌, ◌==◌, not, ◌+◌, ◌<◌, ◌↔◌, ◌-◌, length, All-weaker, All-contains_itself, recursion_from_All, IpAddr, DomainName, Query, Message, candidates, walk, question, last_name, root, base, is_above, is_root, is_delegation, glue, allowed, Serves, Delegates, Base, Pos, Verdict, Same-is_delegation, Same-glue, View, is_cut, Stands, SameVerdict}
 use Rattle.std.proofs.lemmas.Bool.Decides.{nat_tests}
 use Rattle.std.proofs.lemmas.List.FromFn.{get_or-map-range_with_len, length-map-range_with_len}
 use Rattle.std.proofs.lemmas.Bool.{not-true}
@@ -38,10 +38,10 @@ walk-qualified q f = by (q.query_type.code == 43)
     by false = f
 
 -- the roots are the servers of the root
-pub roots-pool : (seen : View) → 0 < length seen.setting.roots → ArePool seen root seen.setting.roots
+pub roots-pool : (seen : View) → 0 < length seen.policy.roots → ArePool seen root seen.policy.roots
 roots-pool seen some = record {
-  serve = All-weaker (Contains seen.setting.roots) (λ (ip : IpAddr). Serves (given_of seen.setting) seen.log (seen.greatest + 1) ip root) (λ ip has. of_root has)
-      seen.setting.roots (All-contains_itself seen.setting.roots);
+  serve = All-weaker (Contains seen.policy.roots) (λ (ip : IpAddr). Serves seen.policy seen.log (seen.greatest + 1) ip root) (λ ip has. of_root has)
+      seen.policy.roots (All-contains_itself seen.policy.roots);
   listed = of_roots;
   some = some;
 }
@@ -51,12 +51,12 @@ pub root-above-for : (q : Query) → q.name.fqdn ≡ true → is_above root (wal
 root-above-for q f = root-above (walk q) (walk-qualified q f)
 
 -- the servers of the root are for a question that is walked to the root
-pub at-root : (seen : View) (q : Query) (zone : DomainName) (servers : List IpAddr) → 0 < length seen.setting.roots → q.name.fqdn ≡ true
-    → length (walk q).labels ≡ 0 → zone ≡ root → servers ≡ seen.setting.roots → AreFor seen q zone servers
+pub at-root : (seen : View) (q : Query) (zone : DomainName) (servers : List IpAddr) → 0 < length seen.policy.roots → q.name.fqdn ≡ true
+    → length (walk q).labels ≡ 0 → zone ≡ root → servers ≡ seen.policy.roots → AreFor seen q zone servers
 at-root seen q zone servers some f none z s =
     subst (λ (d : DomainName). AreFor seen q d servers) (sym z) (subst (AreFor seen q root) (sym s) (record {
       above = root-above-for q f;
-      walked = walked-from-passed (given_of seen.setting) seen.log q root (walk q) refl (root-above-for q f) (λ k longer few. absurd (omega (arith, longer, few, none)));
+      walked = walked-from-passed seen.policy seen.log q root (walk q) refl (root-above-for q f) (λ k longer few. absurd (omega (arith, longer, few, none)));
       pool = roots-pool seen some;
     }))
 
@@ -73,11 +73,11 @@ not-root c h = by (c.fqdn) (length c.labels) h
 -- A delegation was told that has the same addresses beside it.
 pub record Cut (seen : View) (c : DomainName) (kept : Message) : Type 0 where
   pub told : Message
-  pub delegates : Delegates (given_of seen.setting) seen.log (seen.greatest + 1) c told
+  pub delegates : Delegates seen.policy seen.log (seen.greatest + 1) c told
   pub beside : glue kept c ≡ glue told c
 
 cut-by : (seen : View) (t0 : ℕ) (zone c : DomainName) (entry : ℕ) (kept : Message) (whole : Verdict)
-    → entry ≤ seen.greatest → Base (given_of seen.setting) seen.log t0 (question c 2) entry zone whole → SameVerdict (question c 2) (Pos kept) whole
+    → entry ≤ seen.greatest → Base seen.policy seen.log t0 (question c 2) entry zone whole → SameVerdict (question c 2) (Pos kept) whole
     → is_delegation kept c ≡ true → 1 ≤ length c.labels → Cut seen c kept
 cut-by seen t0 zone c entry kept (Pos before) early base same d long = record {
   told = before;
@@ -103,17 +103,17 @@ may-ask denied ips ip h =
 
 -- the addresses beside a delegation that may be asked are the servers of the delegated zone
 pub cut-pool : (seen : View) (c : DomainName) (kept : Message) (ips : List IpAddr)
-    → Delegates (given_of seen.setting) seen.log (seen.greatest + 1) c kept → 0 < length ips → ((ip : IpAddr) → Contains ips ip ↔ Contains (allowed (denies seen.setting.server_filter) (glue kept c)) ip)
+    → Delegates seen.policy seen.log (seen.greatest + 1) c kept → 0 < length ips → ((ip : IpAddr) → Contains ips ip ↔ Contains (allowed (denies seen.policy.server_filter) (glue kept c)) ip)
     → ArePool seen c ips
 cut-pool seen c kept ips told some glued =
-    let serve = All-weaker (Contains ips) (λ (ip : IpAddr). Serves (given_of seen.setting) seen.log (seen.greatest + 1) ip c) (λ ip has. let may = may-ask (denies seen.setting.server_filter) (glue kept c) ip ((glued ip).0 has) in
+    let serve = All-weaker (Contains ips) (λ (ip : IpAddr). Serves seen.policy seen.log (seen.greatest + 1) ip c) (λ ip has. let may = may-ask (denies seen.policy.server_filter) (glue kept c) ip ((glued ip).0 has) in
     of_glue told may.0 may.1) ips (All-contains_itself ips) in
-    let asked = allowed (denies seen.setting.server_filter) (glue kept c) in
+    let asked = allowed (denies seen.policy.server_filter) (glue kept c) in
     record {
       serve = serve;
       listed = of_told (record {
         below = seen.greatest + 1;
-        serve = recursion_from_All (λ (ip : IpAddr). Serves (given_of seen.setting) seen.log (seen.greatest + 1) ip c) ips serve;
+        serve = recursion_from_All (λ (ip : IpAddr). Serves seen.policy seen.log (seen.greatest + 1) ip c) ips serve;
         some = some;
         k = kept;
         told = told;

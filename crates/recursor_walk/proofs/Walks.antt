@@ -1,5 +1,5 @@
 -- How a walk goes on.
-use Rattle.recursor_walk.proofs.Names.{◌≡◌, ◌≤◌, ◌<◌, ◌+◌, ◌-◌, ◌↔◌, ℕ, Bool, true, false, List, length, Contains, refl, sym, ◌∙◌, ap, subst, arith, Result, Ok, Err, nat_lt, ◌&&◌, IsTrue, nat_tests, DomainName, Query, NetError, root, candidates, is_above, last_name, walk, question, Finished, is_timeout, NoCut, Walked, at_any_time, is_cut, Pos, Verdict, View, given_of, Stands, LookupHolds, AskingHolds, SameSite, Passed, LeavesBehind, IsAtServers, ReachesName, WayHolds, WalkHolds, Walk, steps_after, Goes, Passes, Course, NoMemory, IfOk, Question, Reply, CameTo, IsCourseOf, WalkComes}
+use Rattle.recursor_walk.proofs.Names.{◌≡◌, ◌≤◌, ◌<◌, ◌+◌, ◌-◌, ◌↔◌, ℕ, Bool, true, false, List, length, Contains, refl, sym, ◌∙◌, ap, subst, arith, Result, Ok, Err, nat_lt, ◌&&◌, IsTrue, nat_tests, DomainName, Query, NetError, root, candidates, is_above, last_name, walk, question, Finished, is_timeout, NoCut, Walked, at_any_time, is_cut, Pos, Verdict, View, Stands, LookupHolds, AskingHolds, SameSite, Passed, LeavesBehind, IsAtServers, ReachesName, WayHolds, WalkHolds, Walk, steps_after, Goes, Passes, Course, NoMemory, IfOk, Question, Reply, CameTo, IsCourseOf, WalkComes}
 use Rattle.std.specs.Prelude.{drop}
 use Rattle.std.specs.Cmp.{second_so, first_so}
 use Rattle.std.specs.declared.net.ip_addr.IpAddr.{IpAddr}
@@ -62,20 +62,20 @@ module _ (seen : View) (q : Query) (w : Walk) (way : WayHolds seen q w) where
       (subst (λ (d : DomainName). Contains (candidates d) (last_name w.labels w.name)) way.name (among w.name w.labels way.low way.high))
 
   -- the walk went down to its zone for the candidate
-  pub candidate-walked : Walked (given_of seen.setting) seen.log w.asking.lookup.query w.asking.zone
-  candidate-walked = subst (λ (p : Query). Walked (given_of seen.setting) seen.log p w.asking.zone) (sym way.asks)
-      (walked-at-candidate (given_of seen.setting) seen.log w.asking.zone w.name w.labels way.above way.beyond way.high way.passed)
+  pub candidate-walked : Walked seen.policy seen.log w.asking.lookup.query w.asking.zone
+  candidate-walked = subst (λ (p : Query). Walked seen.policy seen.log p w.asking.zone) (sym way.asks)
+      (walked-at-candidate seen.policy seen.log w.asking.zone w.name w.labels way.above way.beyond way.high way.passed)
 
   -- where no cut is shown at the candidate, none is shown up to it
   passed-by : LeavesBehind seen w → Passed seen w.asking.zone w.name (w.labels + 1)
   passed-by leaves k low short = pick (nat_lt k w.labels) refl
     where
-      pick : (b : Bool) → nat_lt k w.labels ≡ b → NoCut (given_of seen.setting) seen.log (last_name k w.name)
+      pick : (b : Bool) → nat_lt k w.labels ≡ b → NoCut seen.policy seen.log (last_name k w.name)
       pick true e = way.passed k low (grind (arith, nat_tests))
       pick false e =
           let more : w.labels ≤ k = grind (arith, nat_tests) in
           let same : w.labels ≡ k = omega (arith, more, short) in
-          subst (NoCut (given_of seen.setting) seen.log) (named ∙ ap (λ (j : ℕ). last_name j w.name) same) (leaves (omega (arith, same, low)))
+          subst (NoCut seen.policy seen.log) (named ∙ ap (λ (j : ℕ). last_name j w.name) same) (leaves (omega (arith, same, low)))
 
   -- no cut is shown at the candidate by a verdict that is none
   pub leaves-told : (t0 entry : ℕ) (v : Verdict) → Stands seen t0 w.asking.lookup.query entry v → is_cut v w.asking.lookup.query.name ≡ false
@@ -83,27 +83,27 @@ module _ (seen : View) (q : Query) (w : Walk) (way : WayHolds seen q w) where
   leaves-told t0 entry v stands none far =
       let now = subst (λ (p : Query). Stands seen t0 p entry v) candidate-asked stands in
       told_otherwise now.base.heard now.base.counts (sym (cut-same (question w.asking.lookup.query.name 2) v now.whole w.asking.lookup.query.name now.same) ∙ none)
-      (passed-at-candidate (given_of seen.setting) seen.log now.zone w.asking.lookup.query.name now.walked)
+      (passed-at-candidate seen.policy seen.log now.zone w.asking.lookup.query.name now.walked)
 
   -- no cut is shown at the candidate by a lookup that failed otherwise than by a timeout
   pub leaves-failed : (t0 : ℕ) (e : NetError) → Concluded seen t0 w.asking.zone w.asking.lookup.query w.asking.lookup.ends (Err e) → is_timeout e ≡ false
       → LeavesBehind seen w
   leaves-failed t0 e ended otherwise far =
-      let f = subst (λ (p : Query). Finished (given_of seen.setting) (machine_timer seen.moment seen.log t0) seen.log t0 p w.asking.zone w.asking.lookup.ends (Err e)) candidate-asked ended in
-      not_told (Finished-earlier (given_of seen.setting) seen.log 0 t0 (omega arith) (machine_timer seen.moment seen.log t0) at_any_time
+      let f = subst (λ (p : Query). Finished seen.policy (machine_timer seen.moment seen.log t0) seen.log t0 p w.asking.zone w.asking.lookup.ends (Err e)) candidate-asked ended in
+      not_told (Finished-earlier seen.policy seen.log 0 t0 (omega arith) (machine_timer seen.moment seen.log t0) at_any_time
       (λ p ips g moments ends start now sends asked t. (now, omega arith, tt)) f) otherwise
-      (passed-at-candidate (given_of seen.setting) seen.log w.asking.zone w.asking.lookup.query.name
-      (subst (λ (p : Query). Walked (given_of seen.setting) seen.log p w.asking.zone) candidate-asked candidate-walked))
+      (passed-at-candidate seen.policy seen.log w.asking.zone w.asking.lookup.query.name
+      (subst (λ (p : Query). Walked seen.policy seen.log p w.asking.zone) candidate-asked candidate-walked))
 
   -- the servers stayed silent for the candidate
   pub timed-out : (t0 : ℕ) → Concluded seen t0 w.asking.zone w.asking.lookup.query w.asking.lookup.ends (Err net.Timeout)
-      → HasNoServer (given_of seen.setting) (machine_timer seen.moment seen.log t0) seen.log t0 q why.Timeout
+      → HasNoServer seen.policy (machine_timer seen.moment seen.log t0) seen.log t0 q why.Timeout
   timed-out t0 ended = record {
     candidate = w.asking.lookup.query.name;
     on_the_way = candidate-on-the-way;
     g = w.asking.lookup.ends;
     failed = has-failed seen t0 w.asking.zone w.asking.lookup.query (question w.asking.lookup.query.name 2) w.asking.lookup.ends net.Timeout
-        candidate-asked ended (subst (λ (p : Query). Walked (given_of seen.setting) seen.log p w.asking.zone) candidate-asked candidate-walked);
+        candidate-asked ended (subst (λ (p : Query). Walked seen.policy seen.log p w.asking.zone) candidate-asked candidate-walked);
   }
 
 -- ---- further
@@ -134,7 +134,7 @@ goes-further seen t0 q w labels asked l way leaves more next ask query made =
 
 -- a walk that has passed all candidates: for NS records it has come to the name's own servers, since the last candidate is the name
 reaches-name : (seen : View) (q : Query) (w : Walk) → WayHolds seen q w → LeavesBehind seen w → length w.name.labels ≤ w.labels
-    → ReachesName (given_of seen.setting) seen.log q w.asking.zone
+    → ReachesName seen.policy seen.log q w.asking.zone
 reaches-name seen q w way leaves all ns far =
     let no_ds : walk q ≡ q.name = rw ns refl in
     let its_name : w.name ≡ q.name = way.name ∙ no_ds in
@@ -142,10 +142,10 @@ reaches-name seen q w way leaves all ns far =
     let count : n ≡ length q.name.labels = ap (λ (d : DomainName). length d.labels) its_name in
     let none_left : n - n ≡ 0 = omega arith in
     let whole : last_name n w.name ≡ w.name = ap (λ (k : ℕ). record w.name { labels = drop k w.name.labels }) none_left in
-    subst (NoCut (given_of seen.setting) seen.log) (whole ∙ its_name) (passed-by seen q w way leaves n (omega (arith, far, count)) (omega (arith, all)))
+    subst (NoCut seen.policy seen.log) (whole ∙ its_name) (passed-by seen q w way leaves n (omega (arith, far, count)) (omega (arith, all)))
 
 -- where there is no candidate nothing is above the name
-pub reaches-root : (seen : View) (q : Query) (zone : DomainName) → length (walk q).labels ≡ 0 → ReachesName (given_of seen.setting) seen.log q zone
+pub reaches-root : (seen : View) (q : Query) (zone : DomainName) → length (walk q).labels ≡ 0 → ReachesName seen.policy seen.log q zone
 reaches-root seen q zone none ns far =
     let no_ds : walk q ≡ q.name = rw ns refl in
     let count : length (walk q).labels ≡ length q.name.labels = ap (λ (d : DomainName). length d.labels) no_ds in
@@ -159,7 +159,7 @@ comes-there seen q w way leaves all =
     record {
       site = record {
         above = subst (λ (d : DomainName). is_above w.asking.zone d ≡ true) way.name way.above;
-        walked = walked-from-passed (given_of seen.setting) seen.log q w.asking.zone w.name way.name way.above (λ k low high. passed k low (omega (arith, high, all)));
+        walked = walked-from-passed seen.policy seen.log q w.asking.zone w.name way.name way.above (λ k low high. passed k low (omega (arith, high, all)));
         pool = way.pool;
       };
       own = reaches-name seen q w way leaves all;
@@ -169,8 +169,8 @@ comes-there seen q w way leaves all =
 
 -- a walk that begins at the roots
 pub at-start : (seen : View) (t0 : ℕ) (q : Query) (name : DomainName) (a : Asking) (asked : Query)
-    → 0 < length seen.setting.roots → q.name.fqdn ≡ true → name ≡ walk q → 1 ≤ length name.labels
-    → a.zone ≡ root → a.servers ≡ seen.setting.roots → a.lookup.query ≡ asked → asked ≡ candidate_query name 1
+    → 0 < length seen.policy.roots → q.name.fqdn ≡ true → name ≡ walk q → 1 ≤ length name.labels
+    → a.zone ≡ root → a.servers ≡ seen.policy.roots → a.lookup.query ≡ asked → asked ≡ candidate_query name 1
     → (AreFor seen asked a.zone a.servers → AskingHolds seen t0 a)
     → WalkHolds seen t0 q (record { name = name; labels = 1; asking = a })
 at-start seen t0 q name a asked some f n low z s query ask made =
@@ -183,8 +183,8 @@ at-start seen t0 q name a asked some f n low z s query ask made =
     let near : is_above a.zone (last_name 1 name) ≡ true = above-last a.zone name 1 above (omega (arith, short)) low in
     let site : AreFor seen asked a.zone a.servers = record {
       above = subst (λ (p : Query). is_above a.zone (walk p) ≡ true) (sym ask) near;
-      walked = subst (λ (p : Query). Walked (given_of seen.setting) seen.log p a.zone) (sym ask)
-          (walked-at-candidate (given_of seen.setting) seen.log a.zone name 1 above (omega (arith, short)) low passed);
+      walked = subst (λ (p : Query). Walked seen.policy seen.log p a.zone) (sym ask)
+          (walked-at-candidate seen.policy seen.log a.zone name 1 above (omega (arith, short)) low passed);
       pool = pool;
     } in
     record {
@@ -211,7 +211,7 @@ zone-length seen q w zone way z = ap (λ (x : DomainName). length x.labels) (z �
 pub cut-way : (seen : View) (t0 : ℕ) (q : Query) (w : Walk) (kept : Message) (entry : ℕ) (zone : DomainName) (ips : List IpAddr)
     → WayHolds seen q w → Stands seen t0 w.asking.lookup.query entry (Pos kept)
     → is_delegation kept w.asking.lookup.query.name ≡ true → zone ≡ w.asking.lookup.query.name → 0 < length ips
-    → ((ip : IpAddr) → Contains ips ip ↔ Contains (allowed (denies seen.setting.server_filter) (glue kept w.asking.lookup.query.name)) ip)
+    → ((ip : IpAddr) → Contains ips ip ↔ Contains (allowed (denies seen.policy.server_filter) (glue kept w.asking.lookup.query.name)) ip)
     → WayHolds seen q (record w { asking = record w.asking { zone = zone; servers = ips } })
 cut-way seen t0 q w kept entry zone ips way stands d z some glued =
     let there : zone ≡ last_name w.labels w.name = z ∙ named seen q w way in
@@ -225,7 +225,7 @@ cut-way seen t0 q w kept entry zone ips way stands d z some glued =
       above = subst (λ (x : DomainName). is_above x w.name ≡ true) (sym there) (last-above w.name w.labels qualified way.high);
       pool = subst (λ (x : DomainName). ArePool seen x ips) (sym z)
           (cut-pool seen w.asking.lookup.query.name cut.told ips cut.delegates some
-          (λ ip. subst (λ (xs : List IpAddr). Contains ips ip ↔ Contains (allowed (denies seen.setting.server_filter) xs) ip) cut.beside (glued ip)));
+          (λ ip. subst (λ (xs : List IpAddr). Contains ips ip ↔ Contains (allowed (denies seen.policy.server_filter) xs) ip) cut.beside (glued ip)));
       low = way.low;
       high = way.high;
       beyond = omega (arith, count);

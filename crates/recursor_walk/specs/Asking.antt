@@ -7,7 +7,7 @@ use Rattle.resolution.specs.Walking.{Walked, ReachesName}
 use Rattle.walk_tables.specs.Lookup.{LookupHolds}
 use Rattle.walk_lookup.specs.Found.{FoundHolds}
 use Rattle.walk_lookup.specs.Sought.{AreFor}
-use Rattle.walk_lookup.specs.View.{View, given_of}
+use Rattle.walk_lookup.specs.View.{View}
 use Rattle.walk_lookup.specs.declared.found.Found.{Found}
 use Rattle.recursor_walk.specs.Replies.{CameTo}
 use Rattle.recursor_walk.specs.declared.zone_query.asking.Asking.{Asking}
@@ -34,7 +34,7 @@ pub record AskingHolds (seen : View) (t0 : ℕ) (a : Asking) : Type 0 where
 -- The question itself is asked, and for NS records the walk went down to the name's own servers.
 pub record LastHolds (seen : View) (t0 : ℕ) (q : Query) (a : Asking) : Type 0 where
   pub asks : a.lookup.query ≡ q
-  pub own : ReachesName (given_of seen.setting) seen.log a.lookup.query a.zone
+  pub own : ReachesName seen.policy seen.log a.lookup.query a.zone
   pub holds : AskingHolds seen t0 a
 
 -- it goes on, or has its reply
@@ -45,6 +45,6 @@ LastComes seen t0 question a (Some reply) = CameTo seen t0 question reply.value
 -- The question itself was asked at servers of a zone to which the walk went down, and its lookup came to this.
 pub record HasFound (seen : View) (t0 : ℕ) (q : Query) (a : Asking) (found : Found) : Type 0 where
   pub asks : a.lookup.query ≡ q
-  pub walked : Walked (given_of seen.setting) seen.log a.lookup.query a.zone
-  pub own : ReachesName (given_of seen.setting) seen.log a.lookup.query a.zone
+  pub walked : Walked seen.policy seen.log a.lookup.query a.zone
+  pub own : ReachesName seen.policy seen.log a.lookup.query a.zone
   pub came : FoundHolds seen t0 a.zone a.lookup.query a.lookup.ends found

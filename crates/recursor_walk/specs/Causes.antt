@@ -7,7 +7,7 @@ use Rattle.dns_core.specs.declared.net_error.NoRecords.{NoRecords}
 use Rattle.dns_core.specs.declared.net_error.ForwardNsData.{ForwardNsData}
 use Rattle.dns_core.specs.declared.net_error.NetError.{NetError}
 use Rattle.resolution.specs.Names.{walk, candidates, question}
-use Rattle.resolution.specs.Given.{Given}
+use Rattle.recursor_types.specs.declared.policy.Policy.{Policy}
 use Rattle.resolution.specs.Answering.{Base}
 use Rattle.resolution.specs.Ending.{Known, Ended}
 use Rattle.resolution.specs.Walking.{Walked}
@@ -29,7 +29,7 @@ use Rattle.recursor_types.specs.declared.error.RecursorError.TheVariants as erro
 
 -- A denial rests on one entry: of the question; or of a candidate on the way, where a name that is denied ends a walk (RFC 8020). What was told
 -- may read with lower TTLs. One that the recursor made shows the question for which its entry was told, as that was asked.
-pub data IsDenied (given : Given) (log : Log) (t0 : ℕ) (q : Query) : List ℕ → AuthorityData → Type 0 where
+pub data IsDenied (given : Policy) (log : Log) (t0 : ℕ) (q : Query) : List ℕ → AuthorityData → Type 0 where
   told : {i : ℕ} {z : DomainName} {n : NoRecords} {d : AuthorityData}
       → Base given log t0 q i z (Neg n) → Walked given log q z → n.ns ≡ None → SameDenial d (told_data n) → IsDenied given log t0 q (i ∷ []) d
   made : {i : ℕ} {z : DomainName} {cause : Cause} {p : Query}
@@ -44,32 +44,32 @@ pub data IsDenied (given : Given) (log : Log) (t0 : ℕ) (q : Query) : List ℕ 
       → IsDenied given log t0 q (i ∷ []) (made_data p cause)
 
 -- A referral rests on one entry, a negative of the question that names servers; it may read with lower TTLs.
-pub data IsReferred (given : Given) (log : Log) (t0 : ℕ) (q : Query) : List ℕ → List ForwardNsData → Type 0 where
+pub data IsReferred (given : Policy) (log : Log) (t0 : ℕ) (q : Query) : List ℕ → List ForwardNsData → Type 0 where
   referred : {i : ℕ} {z : DomainName} {n : NoRecords} {servers told : List ForwardNsData}
       → Base given log t0 q i z (Neg n) → Walked given log q z → n.ns ≡ Some told → SameReferrals servers told → IsReferred given log t0 q (i ∷ []) servers
 
 -- Of the servers of a zone to which the walk went down, none had more for the question than the error; it ended by these entries.
-pub record HasFailed (given : Given) (known : Known) (log : Log) (t0 : ℕ) (q : Query) (g : List ℕ) (e : NetError) : Type 0 where
+pub record HasFailed (given : Policy) (known : Known) (log : Log) (t0 : ℕ) (q : Query) (g : List ℕ) (e : NetError) : Type 0 where
   pub zone : DomainName
   pub ended : Ended given known log t0 q zone g e
   pub walked : Walked given log q zone
 
 -- A candidate on the way is delegated without an address that may be asked.
-pub record HasNoAddress (given : Given) (log : Log) (t0 : ℕ) (q : Query) : Type 0 where
+pub record HasNoAddress (given : Policy) (log : Log) (t0 : ℕ) (q : Query) : Type 0 where
   pub candidate : DomainName
   pub told : Response
   pub on_the_way : Contains (candidates (walk q)) candidate
   pub glueless : Glueless given log t0 candidate told
 
 -- The servers that were asked for a candidate on the way stayed silent.
-pub record HasTimedOut (given : Given) (known : Known) (log : Log) (t0 : ℕ) (q : Query) : Type 0 where
+pub record HasTimedOut (given : Policy) (known : Known) (log : Log) (t0 : ℕ) (q : Query) : Type 0 where
   pub candidate : DomainName
   pub on_the_way : Contains (candidates (walk q)) candidate
   pub g : List ℕ
   pub failed : HasFailed given known log t0 (question candidate 2) g net.Timeout
 
 -- why no server was found
-abbrev pub HasNoServer : Given → Known → Log → ℕ → Query → WalkCause → Type 0
+abbrev pub HasNoServer : Policy → Known → Log → ℕ → Query → WalkCause → Type 0
 HasNoServer given known log t0 q why.NoAddress = HasNoAddress given log t0 q
 HasNoServer given known log t0 q why.Timeout = HasTimedOut given known log t0 q
 HasNoServer given known log t0 q why.DepthLimit = ⊥
@@ -78,7 +78,7 @@ HasNoServer given known log t0 q why.ZoneEntries = ⊥
 HasNoServer given known log t0 q why.Collision = ⊥
 
 -- Each error has its cause, and want of memory is free.
-abbrev pub ErrorHolds : Given → Known → Log → ℕ → Query → List ℕ → RecursorError → Type 0
+abbrev pub ErrorHolds : Policy → Known → Log → ℕ → Query → List ℕ → RecursorError → Type 0
 ErrorHolds given known log t0 q g (error.Message kind) = (kind ≡ NotQualified) × (q.name.fqdn ≡ false) × (g ≡ [])
 ErrorHolds given known log t0 q g (error.Negative d) = IsDenied given log t0 q g d
 ErrorHolds given known log t0 q g (error.ForwardNS servers) = IsReferred given log t0 q g servers

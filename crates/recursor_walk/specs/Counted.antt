@@ -12,7 +12,7 @@ use Rattle.resolution.specs.declared.verdict.Verdict.TheVariants.{Pos, Neg, Made
 use Rattle.resolution.specs.Walking.{Walked}
 use Rattle.walk_response.specs.Kept.{verdict_kept}
 use Rattle.walk_lookup.specs.Remembered.{CacheHolds}
-use Rattle.walk_lookup.specs.View.{View, given_of}
+use Rattle.walk_lookup.specs.View.{View}
 use Rattle.recursor_walk.specs.SameTold.{SameVerdict, ShowsAsked}
 use Rattle.recursor_walk.specs.declared.zone_query.counted.Counted.{Counted}
 
@@ -44,14 +44,14 @@ pub record Stands (seen : View) (t0 : ℕ) (q : Query) (entry : ℕ) (v : Verdic
   pub zone : DomainName
   pub whole : Verdict
   pub early : entry ≤ seen.greatest
-  pub base : Base (given_of seen.setting) seen.log t0 q entry zone whole
-  pub walked : Walked (given_of seen.setting) seen.log q zone
+  pub base : Base seen.policy seen.log t0 q entry zone whole
+  pub walked : Walked seen.policy seen.log q zone
   pub same : SameVerdict q v whole
   pub asked : ShowsAsked seen.log entry q v whole
 
 -- an answer is authoritative, or was told at or after t0, and for NS records by the name's own servers
 abbrev pub IsOwnVerdict : View → ℕ → Query → DomainName → ℕ → Verdict → Type 0
-IsOwnVerdict seen t0 q zone moment (Pos k) = IsOwn (given_of seen.setting) seen.log t0 q zone moment k
+IsOwnVerdict seen t0 q zone moment (Pos k) = IsOwn seen.policy seen.log t0 q zone moment k
 IsOwnVerdict seen t0 q zone moment (Neg n) = Unit {0}
 IsOwnVerdict seen t0 q zone moment (Made cause) = Unit {0}
 

@@ -9,7 +9,7 @@ use Rattle.dns_core.specs.declared.message.Message.{Message}
 use Rattle.dns_core.specs.declared.request.Question.{Question}
 use Rattle.dns_core.specs.declared.errors.NoMemory.{NoMemory}
 use Rattle.resolution.specs.Same.{Same}
-use Rattle.resolution.specs.Given.{Given}
+use Rattle.recursor_types.specs.declared.policy.Policy.{Policy}
 use Rattle.resolution.specs.Following.{follow}
 use Rattle.resolution.specs.Answering.{Base, IsOwn, Answer}
 use Rattle.resolution.specs.Ending.{Known}
@@ -18,8 +18,7 @@ use Rattle.resolution.specs.declared.following.Follow.TheVariants.{Done}
 use Rattle.recursor_types.specs.declared.error.RecursorError.{RecursorError}
 use Rattle.recursor_types.specs.declared.reply.Reply.{Reply}
 use Rattle.resolution.specs.Walking.{Walked}
-use Rattle.walk_lookup.specs.declared.settings.setting.Setting.{Setting}
-use Rattle.walk_lookup.specs.View.{View, given_of}
+use Rattle.walk_lookup.specs.View.{View}
 use Rattle.walk_lookup.specs.Tried.{Timer, machine_timer}
 use Rattle.resolver_cache.specs.Cached.{Cached}
 use Rattle.walk_response.specs.Answer.{outcome_of}
@@ -31,7 +30,7 @@ use Rattle.recursor_types.specs.declared.error.RecursorError.TheVariants as erro
 -- The message is what counts of one entry, less the DNSSEC records that were not asked for, and the walk went down to the zone of its server,
 -- for NS records to the name's own servers unless what it tells is authoritative.
 -- Where its aliases lead no further, it is the answer.
-pub record IsToldAnswer (given : Given) (log : Log) (t0 : ℕ) (q : Query) (dnssec : Bool) (g : List ℕ) (r : Message) : Type 0 where
+pub record IsToldAnswer (given : Policy) (log : Log) (t0 : ℕ) (q : Query) (dnssec : Bool) (g : List ℕ) (r : Message) : Type 0 where
   pub entry : ℕ
   pub zone : DomainName
   pub kept : Message
@@ -43,16 +42,16 @@ pub record IsToldAnswer (given : Given) (log : Log) (t0 : ℕ) (q : Query) (dnss
   pub answer : follow kept q ≡ Done → Answer given log t0 q dnssec g r
 
 -- A message that is answered has it so, and an error has its cause.
-abbrev pub OutcomeHolds : Given → Known → Log → ℕ → Question → List ℕ → Result Message RecursorError → Type 0
+abbrev pub OutcomeHolds : Policy → Known → Log → ℕ → Question → List ℕ → Result Message RecursorError → Type 0
 OutcomeHolds given known log t0 question g (Ok m) = IsToldAnswer given log t0 question.query question.dnssec_ok g m
 OutcomeHolds given known log t0 question g (Err e) = ErrorHolds given known log t0 question.query g e
 
-abbrev pub ReplyHolds : Setting → Timer → Log → ℕ → Question → Reply → Type 0
-ReplyHolds setting timer log t0 question reply = OutcomeHolds (given_of setting) (timer log t0) log t0 question reply.grounds reply.outcome
+abbrev pub ReplyHolds : Policy → Timer → Log → ℕ → Question → Reply → Type 0
+ReplyHolds policy timer log t0 question reply = OutcomeHolds policy (timer log t0) log t0 question reply.grounds reply.outcome
 
 -- so it does by what a machine sees that gives it
 abbrev pub Replied : View → ℕ → Question → Reply → Type 0
-Replied seen t0 question reply = ReplyHolds seen.setting (machine_timer seen.moment) seen.log t0 question reply
+Replied seen t0 question reply = ReplyHolds seen.policy (machine_timer seen.moment) seen.log t0 question reply
 
 -- Memory was not wanting.
 abbrev pub HadMemory : Result Message RecursorError → Type 0
@@ -61,7 +60,7 @@ HadMemory _ = Unit {0}
 
 -- What is answered holds by what a machine sees, and memory was not wanting for it.
 abbrev pub OutcomeCame : View → ℕ → Question → List ℕ → Result Message RecursorError → Type 0
-OutcomeCame seen t0 question g o = OutcomeHolds (given_of seen.setting) (machine_timer seen.moment seen.log t0) seen.log t0 question g o × HadMemory o
+OutcomeCame seen t0 question g o = OutcomeHolds seen.policy (machine_timer seen.moment seen.log t0) seen.log t0 question g o × HadMemory o
 
 -- A question has come to this reply.
 abbrev pub CameTo : View → ℕ → Question → Reply → Type 0
@@ -78,7 +77,7 @@ RepliesSo seen t0 question result = IfOk result (λ reply. CameTo seen t0 questi
 
 -- an error to which a question has come has its cause
 abbrev pub HasCause : View → ℕ → Query → List ℕ → RecursorError → Type 0
-HasCause seen t0 q g e = ErrorHolds (given_of seen.setting) (machine_timer seen.moment seen.log t0) seen.log t0 q g e × HadMemory (Err e)
+HasCause seen t0 q g e = ErrorHolds seen.policy (machine_timer seen.moment seen.log t0) seen.log t0 q g e × HadMemory (Err e)
 
 -- the reply to a question with what counts for it, by the entry that told it
 abbrev pub reply_with : Question → Counted → Reply

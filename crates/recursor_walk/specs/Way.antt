@@ -14,7 +14,7 @@ use Rattle.walk_response.specs.Candidate.{candidate_query}
 use Rattle.walk_tables.specs.Lookup.{LookupHolds}
 use Rattle.walk_lookup.specs.Found.{FoundHolds, HasFailedBy}
 use Rattle.walk_lookup.specs.Sought.{ArePool, AreFor}
-use Rattle.walk_lookup.specs.View.{View, given_of}
+use Rattle.walk_lookup.specs.View.{View}
 use Rattle.walk_lookup.specs.declared.found.Found.{Found}
 use Rattle.recursor_walk.specs.Counted.{Stands}
 use Rattle.recursor_walk.specs.Replies.{CameTo}
@@ -24,7 +24,7 @@ use Rattle.recursor_walk.specs.declared.walk.Course.TheVariants as course
 
 -- The log shows no cut below the zone at a candidate of fewer labels than n.
 abbrev pub Passed : View → DomainName → DomainName → ℕ → Type 0
-Passed seen zone name n = (k : ℕ) → length zone.labels < k → k < n → NoCut (given_of seen.setting) seen.log (last_name k name)
+Passed seen zone name n = (k : ℕ) → length zone.labels < k → k < n → NoCut seen.policy seen.log (last_name k name)
 
 -- A walk is to the name of the question, and has come to a zone at or above it with its servers. The NS records of a candidate are looked for,
 -- which is no shorter than the zone and no longer than the name; at those before it the log shows no cut below the zone.
@@ -40,7 +40,7 @@ pub record WayHolds (seen : View) (q : Query) (w : Walk) : Type 0 where
 
 -- The log shows no cut at the present candidate, or it is the zone.
 abbrev pub LeavesBehind : View → Walk → Type 0
-LeavesBehind seen w = length w.asking.zone.labels < w.labels → NoCut (given_of seen.setting) seen.log w.asking.lookup.query.name
+LeavesBehind seen w = length w.asking.zone.labels < w.labels → NoCut seen.policy seen.log w.asking.lookup.query.name
 
 pub record WalkHolds (seen : View) (t0 : ℕ) (q : Query) (w : Walk) : Type 0 where
   pub way : WayHolds seen q w
@@ -49,7 +49,7 @@ pub record WalkHolds (seen : View) (t0 : ℕ) (q : Query) (w : Walk) : Type 0 wh
 -- It has come to the servers of the name, and for its NS records to its own.
 pub record IsAtServers (seen : View) (q : Query) (w : Walk) : Type 0 where
   pub site : AreFor seen q w.asking.zone w.asking.servers
-  pub own : ReachesName (given_of seen.setting) seen.log q w.asking.zone
+  pub own : ReachesName seen.policy seen.log q w.asking.zone
 
 -- It goes further, has come to the servers for the question, or this has its reply.
 abbrev pub WalkComes : View → ℕ → Question → Walk → Course → Type 0
@@ -78,9 +78,9 @@ pub record HasHeard (seen : View) (t0 : ℕ) (q : Query) (w : Walk) (entry : ℕ
 
 -- The machine is set to these roots, at least one.
 pub record HasRoots (seen : View) (roots : List IpAddr) : Type 0 where
-  pub are : seen.setting.roots ≡ roots
+  pub are : seen.policy.roots ≡ roots
   pub some : 0 < length roots
 
 -- it is set to this filter of servers
 abbrev pub FiltersBy : View → Access → Type 0
-FiltersBy seen filter = seen.setting.server_filter ≡ filter
+FiltersBy seen filter = seen.policy.server_filter ≡ filter

@@ -19,10 +19,11 @@ use Rattle.dns_core.specs.declared.net_error.DnsError.{DnsError}
 use Rattle.dns_core.specs.declared.net_error.DnsError.TheVariants as dns
 use Rattle.dns_core.specs.declared.log.ToldOutcome.{ToldOutcome}
 use Rattle.dns_core.specs.declared.log.ToldOutcome.TheVariants as outcome
+use Rattle.resolver_settings.specs.Access.{denies}
 use Rattle.resolution.specs.Names.{is_above, base, walk, same_query}
 use Rattle.resolution.specs.Records.{records}
 use Rattle.resolution.specs.Class.{class_of_message, class_of_classified, class_of}
-use Rattle.resolution.specs.Given.{Given}
+use Rattle.recursor_types.specs.declared.policy.Policy.{Policy}
 use Rattle.resolution.specs.Verdict.{verdict, verdict_of_told}
 use Rattle.resolution.specs.Life.{life_in_seconds}
 use Rattle.resolution.specs.Telling.{Tells}
@@ -107,8 +108,8 @@ module _ (q p : Query) (e : same_query q p ≡ true) where
       chosen true = is_above-same z (base q.name) (base p.name) (base-same q.name p.name names_same)
       chosen false = is_above-same z q.name p.name names_same
 
-  pub verdict-same : (given : Given) (o : ToldOutcome) (z : DomainName) → verdict given o q z ≡ verdict given o p z
-  verdict-same given o z = ap (λ (c : Option Class). verdict_of_told given.answer_denied c z) (class_of-same o)
+  pub verdict-same : (policy : Policy) (o : ToldOutcome) (z : DomainName) → verdict policy o q z ≡ verdict policy o p z
+  verdict-same policy o z = ap (λ (c : Option Class). verdict_of_told (denies policy.answer_filter) c z) (class_of-same o)
 
   pub same_through : (a : Query) → same_query a q ≡ true → same_query a p ≡ true
   same_through a h =
@@ -124,14 +125,14 @@ module _ (q p : Query) (e : same_query q p ≡ true) where
   pub Tells-same : {log : Log} {i : ℕ} {o : ToldOutcome} {ask : ℕ} {teller : IpAddr} {moment : ℕ} → Tells log i q o ask teller moment → Tells log i p o ask teller moment
   Tells-same t = record { protocol = t.protocol; asked = t.asked; asked_at = t.asked_at; told = t.told; question = t.question; before = t.before; same = same_through t.asked t.same }
 
-  pub Heard-same : {given : Given} {log : Log} {i : ℕ} {o : ToldOutcome} {moment : ℕ} {z : DomainName} → Heard given log i q o moment z → Heard given log i p o moment z
+  pub Heard-same : {policy : Policy} {log : Log} {i : ℕ} {o : ToldOutcome} {moment : ℕ} {z : DomainName} → Heard policy log i q o moment z → Heard policy log i p o moment z
   Heard-same {z = z} (heard t s a) = heard (Tells-same t) s (sym (walk-same z) ∙ a)
 
-  pub Base-same : {given : Given} {log : Log} {t0 i : ℕ} {z : DomainName} {v : Verdict} → Base given log t0 q i z v → Base given log t0 p i z v
-  Base-same {given = given} {t0 = t0} {z = z} {v = v} b = record {
+  pub Base-same : {policy : Policy} {log : Log} {t0 i : ℕ} {z : DomainName} {v : Verdict} → Base policy log t0 q i z v → Base policy log t0 p i z v
+  Base-same {policy = policy} {t0 = t0} {z = z} {v = v} b = record {
     told = b.told;
     moment = b.moment;
     heard = Heard-same b.heard;
-    counts = sym (verdict-same given b.told z) ∙ b.counts;
-    fresh = subst (λ (t : RecordType). (t0 ≤ b.moment) ⊎ IsSomeAnd (life_in_seconds given t v) (λ life. t0 ≤ b.moment + 1000000 * life)) types_same b.fresh;
+    counts = sym (verdict-same policy b.told z) ∙ b.counts;
+    fresh = subst (λ (t : RecordType). (t0 ≤ b.moment) ⊎ IsSomeAnd (life_in_seconds policy t v) (λ life. t0 ≤ b.moment + 1000000 * life)) types_same b.fresh;
   }

@@ -9,7 +9,7 @@ use Rattle.dns_core.specs.declared.message.Query.{Query}
 use Rattle.dns_core.specs.declared.log.LogEntry.{LogEntry}
 use Rattle.dns_core.specs.declared.log.LogEntry.TheVariants.{Opened, Asked}
 use Rattle.resolution.specs.Names.{same_query}
-use Rattle.resolution.specs.Given.{Given}
+use Rattle.recursor_types.specs.declared.policy.Policy.{Policy}
 use Rattle.resolution.specs.Lookups.{Answered, class_of_answer, End, PoolRun, IsBounded}
 use Rattle.resolution.specs.Ending.{Known, by_address, same_ip, is_begun, EndsSend, EndSends, Finished}
 use Rattle.resolution.specs.Ending.EndsSend.{open_refused, ask_refused, open_failed, ask_failed, answered, given_up}
@@ -35,7 +35,7 @@ module _ (q p : Query) (same : same_query q p ≡ true) where
   is_begun-same ip (Asked at protocol a m None) h = second (same_ip at ip) (same_query a q) (same_query a p) (same_through q p same a) h
   is_begun-same ip _ h = cc
 
-  EndsSend-same : {given : Given} {log : Log} {n moment : ℕ} {e : End IpAddr} → EndsSend given log q n e moment → EndsSend given log p n e moment
+  EndsSend-same : {policy : Policy} {log : Log} {n moment : ℕ} {e : End IpAddr} → EndsSend policy log q n e moment → EndsSend policy log p n e moment
   EndsSend-same (open_refused a) = open_refused a
   EndsSend-same (ask_refused {asked = x} a s) = ask_refused a (same_through q p same x s)
   EndsSend-same (open_failed a b) = open_failed a b
@@ -43,14 +43,14 @@ module _ (q p : Query) (same : same_query q p ≡ true) where
   EndsSend-same (answered {asked = x} a b s) = answered a b (same_through q p same x s)
   EndsSend-same (given_up {ip = ip} {e = x} a b s w) = given_up a b (is_begun-same ip x s) w
 
-  EndSends-same : {given : Given} {log : Log} {ips : List IpAddr} {g moments : List ℕ} {ends : List (End IpAddr)} → EndSends given log q ips g ends moments → EndSends given log p ips g ends moments
+  EndSends-same : {policy : Policy} {log : Log} {ips : List IpAddr} {g moments : List ℕ} {ends : List (End IpAddr)} → EndSends policy log q ips g ends moments → EndSends policy log p ips g ends moments
   EndSends-same no_send = no_send
   EndSends-same (and_send s c r) = and_send (EndsSend-same s) c (EndSends-same r)
 
   module _ (known other : Known)
       (timed : (ips : List IpAddr) (g moments : List ℕ) (ends : List (End IpAddr)) (start now : ℕ) → known.Timed q ips g ends moments start now → other.Timed p ips g ends moments start now) where
-    pub Finished-same : {given : Given} {log : Log} {t0 : ℕ} {z : DomainName} {g : List ℕ} {result : Answered} → Finished given known log t0 q z g result → Finished given other log t0 p z g result
-    Finished-same {given = given} {z = z} {result = result} f = record {
+    pub Finished-same : {policy : Policy} {log : Log} {t0 : ℕ} {z : DomainName} {g : List ℕ} {result : Answered} → Finished policy known log t0 q z g result → Finished policy other log t0 p z g result
+    Finished-same {policy = policy} {z = z} {result = result} f = record {
       ips = f.ips;
       ends = f.ends;
       moments = f.moments;
@@ -60,8 +60,8 @@ module _ (q p : Query) (same : same_query q p ≡ true) where
       listed = f.listed;
       rises = f.rises;
       logged = EndSends-same f.logged;
-      run = subst (λ (c : Answered → Class). PoolRun (by_address given.timeout) c f.ips f.ends result f.start f.now) (class-same q p same) f.run;
-      bounded = subst (λ (c : Answered → Class). IsBounded (by_address given.timeout) c f.ips f.ends) (class-same q p same) f.bounded;
+      run = subst (λ (c : Answered → Class). PoolRun (by_address policy.timeout) c f.ips f.ends result f.start f.now) (class-same q p same) f.run;
+      bounded = subst (λ (c : Answered → Class). IsBounded (by_address policy.timeout) c f.ips f.ends) (class-same q p same) f.bounded;
       since = f.since;
       till = f.till;
       asked = f.asked;

@@ -8,7 +8,8 @@ use Rattle.dns_core.specs.Log.{Log, Extends}
 use Rattle.dns_core.specs.declared.message.Query.{Query}
 use Rattle.dns_core.specs.declared.message.Message.{Message}
 use Rattle.dns_core.specs.declared.log.LogEntry.{LogEntry}
-use Rattle.resolution.specs.Given.{Given, with_patience}
+use Rattle.recursor_types.specs.declared.policy.Policy.{Policy}
+use Rattle.recursor_types.specs.Policy.{with_patience}
 use Rattle.resolution.specs.Serving.{Serves}
 use Rattle.resolution.specs.Lookups.{End, Answered}
 use Rattle.resolution.specs.Ending.{Known, waits, is_wait_for, EndsSend, EndSends, Listed, Finished}
@@ -43,52 +44,52 @@ waits-extend old new extends of (suc n) h =
 below_next : (n next : ℕ) → n < next → n ≤ next
 below_next n next h = omega arith
 
-module _ (given : Given) (less : ℕ) (fewer : less ≤ given.patience) (log new : Log) (extends : Extends log new) where
-  pub EndsSend-extend : {q : Query} {n moment : ℕ} {e : End IpAddr} → EndsSend given log q n e moment → EndsSend (with_patience less given) new q n e moment
+module _ (policy : Policy) (less : ℕ) (fewer : less ≤ policy.patience) (log new : Log) (extends : Extends log new) where
+  pub EndsSend-extend : {q : Query} {n moment : ℕ} {e : End IpAddr} → EndsSend policy log q n e moment → EndsSend (with_patience less policy) new q n e moment
   EndsSend-extend (open_refused a) = open_refused (Logged-extend log new extends _ _ a)
   EndsSend-extend (ask_refused a s) = ask_refused (Logged-extend log new extends _ _ a) s
   EndsSend-extend (open_failed a b) = open_failed (Logged-extend log new extends _ _ a) (Logged-extend log new extends _ _ b)
   EndsSend-extend (ask_failed a b s) = ask_failed (Logged-extend log new extends _ _ a) (Logged-extend log new extends _ _ b) s
   EndsSend-extend (answered a b s) = answered (Logged-extend log new extends _ _ a) (Logged-extend log new extends _ _ b) s
-  EndsSend-extend {n = n} (given_up {k = k} a b s w) = given_up (Logged-extend log new extends _ _ a) (Logged-extend log new extends _ _ b) s (le_trans less _ _ fewer (subst (λ (x : ℕ). given.patience ≤ x) (sym (waits-extend log new extends k n (below_next n _ a.below))) w))
+  EndsSend-extend {n = n} (given_up {k = k} a b s w) = given_up (Logged-extend log new extends _ _ a) (Logged-extend log new extends _ _ b) s (le_trans less _ _ fewer (subst (λ (x : ℕ). policy.patience ≤ x) (sym (waits-extend log new extends k n (below_next n _ a.below))) w))
 
-  pub EndSends-extend : {q : Query} {ips : List IpAddr} {g moments : List ℕ} {ends : List (End IpAddr)} → EndSends given log q ips g ends moments → EndSends (with_patience less given) new q ips g ends moments
+  pub EndSends-extend : {q : Query} {ips : List IpAddr} {g moments : List ℕ} {ends : List (End IpAddr)} → EndSends policy log q ips g ends moments → EndSends (with_patience less policy) new q ips g ends moments
   EndSends-extend no_send = no_send
   EndSends-extend (and_send e c r) = and_send (EndsSend-extend e) c (EndSends-extend r)
 
-  each_serves : (n : ℕ) (z : DomainName) (ips : List IpAddr) → AllByRecursion (λ ip. Serves given log n ip z) ips → AllByRecursion (λ ip. Serves (with_patience less given) new n ip z) ips
+  each_serves : (n : ℕ) (z : DomainName) (ips : List IpAddr) → AllByRecursion (λ ip. Serves policy log n ip z) ips → AllByRecursion (λ ip. Serves (with_patience less policy) new n ip z) ips
   each_serves n z [] s = s
-  each_serves n z (ip ∷ ips) (s, rest) = (Serves-extend given less log new extends s, each_serves n z ips rest)
+  each_serves n z (ip ∷ ips) (s, rest) = (Serves-extend policy less log new extends s, each_serves n z ips rest)
 
-  pub Listed-extend : {z : DomainName} {ips : List IpAddr} → Listed given log z ips → Listed (with_patience less given) new z ips
+  pub Listed-extend : {z : DomainName} {ips : List IpAddr} → Listed policy log z ips → Listed (with_patience less policy) new z ips
   Listed-extend of_roots = of_roots
-  Listed-extend {z = z} {ips = ips} (of_told l) = of_told (record { below = l.below; serve = each_serves l.below z ips l.serve; some = l.some; k = l.k; told = Delegates-extend given less log new extends l.told; whole = l.whole })
+  Listed-extend {z = z} {ips = ips} (of_told l) = of_told (record { below = l.below; serve = each_serves l.below z ips l.serve; some = l.some; k = l.k; told = Delegates-extend policy less log new extends l.told; whole = l.whole })
 
-  pub Glueless-extend : {t0 : ℕ} {c : DomainName} {k : Message} → Glueless given log t0 c k → Glueless (with_patience less given) new t0 c k
-  Glueless-extend g = record { i = g.i; z = g.z; base = Base-extend given less log new extends g.base; delegates = g.delegates; none = g.none }
+  pub Glueless-extend : {t0 : ℕ} {c : DomainName} {k : Message} → Glueless policy log t0 c k → Glueless (with_patience less policy) new t0 c k
+  Glueless-extend g = record { i = g.i; z = g.z; base = Base-extend policy less log new extends g.base; delegates = g.delegates; none = g.none }
 
-  pub Chain-extend : {t0 : ℕ} {q p : Query} {g : List ℕ} {qs : List Query} → Chain given log t0 q g p qs → Chain (with_patience less given) new t0 q g p qs
+  pub Chain-extend : {t0 : ℕ} {q p : Query} {g : List ℕ} {qs : List Query} → Chain policy log t0 q g p qs → Chain (with_patience less policy) new t0 q g p qs
   Chain-extend last = last
-  Chain-extend (then_alias b c f r) = then_alias (Base-extend given less log new extends b) c f (Chain-extend r)
+  Chain-extend (then_alias b c f r) = then_alias (Base-extend policy less log new extends b) c f (Chain-extend r)
 
   mutual
-    pub Tour-extend : {t0 m : ℕ} {n : DomainName} {stack : List DomainName} → Tour given log t0 n stack m → Tour (with_patience less given) new t0 n stack m
+    pub Tour-extend : {t0 m : ℕ} {n : DomainName} {stack : List DomainName} → Tour policy log t0 n stack m → Tour (with_patience less policy) new t0 n stack m
     Tour-extend (tour d h) = tour (Detours-extend d) h
 
-    pub Detours-extend : {t0 m : ℕ} {cs stack : List DomainName} → Detours given log t0 cs stack m → Detours (with_patience less given) new t0 cs stack m
+    pub Detours-extend : {t0 m : ℕ} {cs stack : List DomainName} → Detours policy log t0 cs stack m → Detours (with_patience less policy) new t0 cs stack m
     Detours-extend no_candidate = no_candidate
     Detours-extend (no_chase d) = no_chase (Detours-extend d)
     Detours-extend (chase s g t d) = chase s (Glueless-extend g) (Tours-extend t) (Detours-extend d)
 
-    pub Tours-extend : {t0 m : ℕ} {ts stack : List DomainName} → Tours given log t0 ts stack m → Tours (with_patience less given) new t0 ts stack m
+    pub Tours-extend : {t0 m : ℕ} {ts stack : List DomainName} → Tours policy log t0 ts stack m → Tours (with_patience less policy) new t0 ts stack m
     Tours-extend no_name = no_name
     Tours-extend (and_to t ts) = and_to (Tour-extend t) (Tours-extend ts)
 
   -- what is known of moments and counts stays known
   module _ (known wider : Known)
-      (timed : (q : Query) (ips : List IpAddr) (g moments : List ℕ) (ends : List (End IpAddr)) (start now : ℕ) → EndSends given log q ips g ends moments → known.Timed q ips g ends moments start now → wider.Timed q ips g ends moments start now)
+      (timed : (q : Query) (ips : List IpAddr) (g moments : List ℕ) (ends : List (End IpAddr)) (start now : ℕ) → EndSends policy log q ips g ends moments → known.Timed q ips g ends moments start now → wider.Timed q ips g ends moments start now)
       (exhausted : known.exhausted ≡ true → wider.exhausted ≡ true) where
-    abbrev pub Finished-extend : {t0 : ℕ} {q : Query} {z : DomainName} {g : List ℕ} {result : Answered} → Finished given known log t0 q z g result → Finished (with_patience less given) wider new t0 q z g result
+    abbrev pub Finished-extend : {t0 : ℕ} {q : Query} {z : DomainName} {g : List ℕ} {result : Answered} → Finished policy known log t0 q z g result → Finished (with_patience less policy) wider new t0 q z g result
     Finished-extend f = record {
       ips = f.ips;
       ends = f.ends;
@@ -108,55 +109,55 @@ module _ (given : Given) (less : ℕ) (fewer : less ≤ given.patience) (log new
       fresh = f.fresh;
     }
 
-  pub NoCut-extend : {c : DomainName} → NoCut given log c → NoCut (with_patience less given) new c
-  NoCut-extend (told_otherwise h v n below) = told_otherwise (Heard-extend given less log new extends h) v n (λ k low high. NoCut-extend (below k low high))
+  pub NoCut-extend : {c : DomainName} → NoCut policy log c → NoCut (with_patience less policy) new c
+  NoCut-extend (told_otherwise h v n below) = told_otherwise (Heard-extend policy less log new extends h) v n (λ k low high. NoCut-extend (below k low high))
   NoCut-extend (not_told f n below) = not_told (Finished-extend at_any_time at_any_time (λ q ips g moments ends start now s t. t) (λ x. x) f) n (λ k low high. NoCut-extend (below k low high))
 
-  each_no_cut : (cs : List DomainName) → AllByRecursion (NoCut given log) cs → AllByRecursion (NoCut (with_patience less given) new) cs
+  each_no_cut : (cs : List DomainName) → AllByRecursion (NoCut policy log) cs → AllByRecursion (NoCut (with_patience less policy) new) cs
   each_no_cut [] w = w
   each_no_cut (c ∷ cs) (n, w) = (NoCut-extend n, each_no_cut cs w)
 
-  pub Walked-extend : (q : Query) (z : DomainName) → Walked given log q z → Walked (with_patience less given) new q z
+  pub Walked-extend : (q : Query) (z : DomainName) → Walked policy log q z → Walked (with_patience less policy) new q z
   Walked-extend q z w = each_no_cut (looked_at q z) w
 
   -- what is known of moments and counts stays known
   module _ (known wider : Known)
-      (timed : (q : Query) (ips : List IpAddr) (g moments : List ℕ) (ends : List (End IpAddr)) (start now : ℕ) → EndSends given log q ips g ends moments → known.Timed q ips g ends moments start now → wider.Timed q ips g ends moments start now)
+      (timed : (q : Query) (ips : List IpAddr) (g moments : List ℕ) (ends : List (End IpAddr)) (start now : ℕ) → EndSends policy log q ips g ends moments → known.Timed q ips g ends moments start now → wider.Timed q ips g ends moments start now)
       (exhausted : known.exhausted ≡ true → wider.exhausted ≡ true) where
-    pub NoAddress-extend : {t0 : ℕ} {q : Query} {z : DomainName} → NoAddress given known log t0 q z → NoAddress (with_patience less given) wider new t0 q z
-    NoAddress-extend (none_in_answer h t c a) = none_in_answer (Heard-extend given less log new extends h) t c a
+    pub NoAddress-extend : {t0 : ℕ} {q : Query} {z : DomainName} → NoAddress policy known log t0 q z → NoAddress (with_patience less policy) wider new t0 q z
+    NoAddress-extend (none_in_answer h t c a) = none_in_answer (Heard-extend policy less log new extends h) t c a
     NoAddress-extend (no_answer f) = no_answer (Finished-extend known wider timed exhausted f)
 
-    TriedFor-extend : {t0 : ℕ} {c : DomainName} {q : Query} → TriedFor given known log t0 c q → TriedFor (with_patience less given) wider new t0 c q
+    TriedFor-extend : {t0 : ℕ} {c : DomainName} {q : Query} → TriedFor policy known log t0 c q → TriedFor (with_patience less policy) wider new t0 c q
     TriedFor-extend {q = q} t = record { z = t.z; walked = λ h. Walked-extend q t.z (t.walked h); none = NoAddress-extend t.none }
 
-    pub Tried-extend : {t0 : ℕ} {c t : DomainName} → Tried given known log t0 c t → Tried (with_patience less given) wider new t0 c t
+    pub Tried-extend : {t0 : ℕ} {c t : DomainName} → Tried policy known log t0 c t → Tried (with_patience less policy) wider new t0 c t
     Tried-extend t = record { four = TriedFor-extend t.four; six = TriedFor-extend t.six }
 
-    Lookups-extend : {t0 n : ℕ} {used : List ℕ} → Lookups given known log t0 used n → Lookups (with_patience less given) wider new t0 used n
+    Lookups-extend : {t0 n : ℕ} {used : List ℕ} → Lookups policy known log t0 used n → Lookups (with_patience less policy) wider new t0 used n
     Lookups-extend no_lookup = no_lookup
     Lookups-extend (one_more f a l) = one_more (Finished-extend known wider timed exhausted f) a (Lookups-extend l)
 
-    pub Spent-extend : {t0 m : ℕ} → Spent given known log t0 m → Spent (with_patience less given) wider new t0 m
+    pub Spent-extend : {t0 m : ℕ} → Spent policy known log t0 m → Spent (with_patience less policy) wider new t0 m
     Spent-extend s = record { used = s.used; count = s.count; lookups = Lookups-extend s.lookups; enough = s.enough }
 
-    pub Worn-extend : {t0 : ℕ} {names : List DomainName} → Worn given known log t0 names → Worn (with_patience less given) wider new t0 names
+    pub Worn-extend : {t0 : ℕ} {names : List DomainName} → Worn policy known log t0 names → Worn (with_patience less policy) wider new t0 names
     Worn-extend (by_lookups s) = by_lookups (Spent-extend s)
     Worn-extend (by_entries t h) = by_entries (Tours-extend t) h
     Worn-extend (by_count x) = by_count (exhausted x)
 
     mutual
-      pub Barren-extend : {t0 d : ℕ} {names stack : List DomainName} {c : DomainName} → Barren given known log t0 names c stack d → Barren (with_patience less given) wider new t0 names c stack d
+      pub Barren-extend : {t0 d : ℕ} {names stack : List DomainName} {c : DomainName} → Barren policy known log t0 names c stack d → Barren (with_patience less policy) wider new t0 names c stack d
       Barren-extend (barren g l y) = barren (Glueless-extend g) l (Dry-extend y)
 
-      pub Dry-extend : {t0 d : ℕ} {names ts stack : List DomainName} {c : DomainName} → Dry given known log t0 names c ts stack d → Dry (with_patience less given) wider new t0 names c ts stack d
+      pub Dry-extend : {t0 d : ℕ} {names ts stack : List DomainName} {c : DomainName} → Dry policy known log t0 names c ts stack d → Dry (with_patience less policy) wider new t0 names c ts stack d
       Dry-extend no_target = no_target
       Dry-extend (asked t r) = asked (Tried-extend t) (Dry-extend r)
       Dry-extend (not_reached h w r) = not_reached h (WalkFail-extend w) (Dry-extend r)
 
-      pub WalkFail-extend : {t0 d : ℕ} {names stack : List DomainName} {n : DomainName} → WalkFail given known log t0 names n stack d → WalkFail (with_patience less given) wider new t0 names n stack d
+      pub WalkFail-extend : {t0 d : ℕ} {names stack : List DomainName} {n : DomainName} → WalkFail policy known log t0 names n stack d → WalkFail (with_patience less policy) wider new t0 names n stack d
       WalkFail-extend (entered c s) = entered c s
-      WalkFail-extend (denied c s b v) = denied c s (Base-extend given less log new extends b) v
+      WalkFail-extend (denied c s b v) = denied c s (Base-extend policy less log new extends b) v
       WalkFail-extend (timed_out c f) = timed_out c (Finished-extend known wider timed exhausted f)
       WalkFail-extend (no_address c b) = no_address c (Barren-extend b)
       WalkFail-extend (too_deep h) = too_deep h

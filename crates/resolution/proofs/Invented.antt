@@ -13,9 +13,10 @@ use Rattle.dns_core.specs.declared.net_error.NetError.TheVariants as net
 use Rattle.dns_core.specs.declared.net_error.DnsError.TheVariants as dns
 use Rattle.dns_core.specs.declared.log.ToldOutcome.{ToldOutcome}
 use Rattle.dns_core.specs.declared.log.ToldOutcome.TheVariants as outcome
+use Rattle.resolver_settings.specs.Access.{denies}
 use Rattle.resolution.specs.Records.{address, records, only}
 use Rattle.resolution.specs.Class.{has_no_data_for, class_of, class_of_message, class_of_error}
-use Rattle.resolution.specs.Given.{Given}
+use Rattle.recursor_types.specs.declared.policy.Policy.{Policy}
 use Rattle.resolution.specs.Verdict.{in_zone, within, without_denied, emptied, holds_denied, verdict, verdict_of_told, verdict_of_class, verdict_of_message}
 use Rattle.resolution.specs.Names.{root, question}
 use Rattle.resolution.specs.Telling.{Logged, IsTold, WasAsked}
@@ -98,24 +99,24 @@ class_of-positive (outcome.Message n) q m e = let same = class_positive n m q cc
 class_of-positive (outcome.Error f) q m e = absurd (error_not_positive f m cc)
 
 -- What counts as an answer was told as a message, and is what the filter and the zone leave of it.
-pub record CountsOf (given : Given) (o : ToldOutcome) (q : Query) (z : DomainName) (k : Message) : Type 0 where
+pub record CountsOf (policy : Policy) (o : ToldOutcome) (q : Query) (z : DomainName) (k : Message) : Type 0 where
   pub message : Message
   pub told : o ≡ outcome.Message message
   pub class : class_of o q ≡ Some (Positive message)
-  pub kept : k ≡ within z (without_denied given.answer_denied message)
+  pub kept : k ≡ within z (without_denied (denies policy.answer_filter) message)
 
 of_some : (denied : IpAddr → Bool) (c : Option Class) (z : DomainName) (k : Message) → verdict_of_told denied c z ≡ Some (Pos k) → (m : Message) × (c ≡ Some (Positive m)) × (k ≡ within z (without_denied denied m))
 of_some denied None z k e = cc
 of_some denied (Some c) z k e = let x : (m : Message) × (c ≡ Positive m) × (k ≡ within z (without_denied denied m)) = verdict_of_class-pos denied c z k e in (x.0, ap Some x.1, x.2)
 
-pub verdict-pos : (given : Given) (o : ToldOutcome) (q : Query) (z : DomainName) (k : Message) → verdict given o q z ≡ Some (Pos k) → CountsOf given o q z k
-verdict-pos given o q z k e =
-    let x : (m : Message) × (class_of o q ≡ Some (Positive m)) × (k ≡ within z (without_denied given.answer_denied m)) = of_some given.answer_denied (class_of o q) z k e in
+pub verdict-pos : (policy : Policy) (o : ToldOutcome) (q : Query) (z : DomainName) (k : Message) → verdict policy o q z ≡ Some (Pos k) → CountsOf policy o q z k
+verdict-pos policy o q z k e =
+    let x : (m : Message) × (class_of o q ≡ Some (Positive m)) × (k ≡ within z (without_denied (denies policy.answer_filter) m)) = of_some (denies policy.answer_filter) (class_of o q) z k e in
     record { message = x.0; told = class_of-positive o q x.0 x.1; class = x.1; kept = x.2 }
 
 -- a record of what counts is one of the message told
-pub Has-counted : (given : Given) (o : ToldOutcome) (q : Query) (z : DomainName) (k : Message) (r : Record) → (counts : CountsOf given o q z k) → Has (records k) r → Has (records counts.message) r
-Has-counted given o q z k r counts h = Has-only _ counts.message r (Has-only (in_zone z) (without_denied given.answer_denied counts.message) r (subst (λ (x : Message). Has (records x) r) counts.kept h))
+pub Has-counted : (policy : Policy) (o : ToldOutcome) (q : Query) (z : DomainName) (k : Message) (r : Record) → (counts : CountsOf policy o q z k) → Has (records k) r → Has (records counts.message) r
+Has-counted policy o q z k r counts h = Has-only _ counts.message r (Has-only (in_zone z) (without_denied (denies policy.answer_filter) counts.message) r (subst (λ (x : Message). Has (records x) r) counts.kept h))
 
 pub of_address : (names : List DomainName) (r : Record) (ip : IpAddr) → address_under names r ≡ Some ip → address r ≡ Some ip
 of_address names r ip e = elim (chosen (list_any (same_names r.name) names) _ _ _ e) [ inl a ↦ a.1 | inr a ↦ let x = a.1 in cc ]
@@ -134,36 +135,36 @@ told_by log i ask moment o m r ip is told h a = record {
   held = Contains-from_Has _ ip (filter_map-Has address (records m) r ip h a);
 }
 
-module _ (given : Given) (log : Log) where
-  heard_told : {i moment : ℕ} {q : Query} {o : ToldOutcome} {z : DomainName} (m : Message) (r : Record) (ip : IpAddr) → Heard given log i q o moment z → o ≡ outcome.Message m → Has (records m) r → address r ≡ Some ip → IsTold log ip
+module _ (policy : Policy) (log : Log) where
+  heard_told : {i moment : ℕ} {q : Query} {o : ToldOutcome} {z : DomainName} (m : Message) (r : Record) (ip : IpAddr) → Heard policy log i q o moment z → o ≡ outcome.Message m → Has (records m) r → address r ≡ Some ip → IsTold log ip
   heard_told m r ip (heard t s a) is h e = told_by log _ _ _ _ m r ip is t.told h e
 
-  listed_told : {i moment : ℕ} {q : Query} {o : ToldOutcome} {z : DomainName} (k : Message) (names : List DomainName) (ip : IpAddr) → Heard given log i q o moment z → verdict given o q z ≡ Some (Pos k) → Contains (addresses_under names (records k)) ip → IsTold log ip
+  listed_told : {i moment : ℕ} {q : Query} {o : ToldOutcome} {z : DomainName} (k : Message) (names : List DomainName) (ip : IpAddr) → Heard policy log i q o moment z → verdict policy o q z ≡ Some (Pos k) → Contains (addresses_under names (records k)) ip → IsTold log ip
   listed_told {q = q} {o = o} {z = z} k names ip h v c =
       let r : (x : Record) × Has (records k) x × (address_under names x ≡ Some ip) = Has-filter_map (address_under names) (records k) ip (Has-from_Contains _ ip c) in
-      let counts = verdict-pos given o q z k v in
-      heard_told counts.message r.0 ip h counts.told (Has-counted given o q z k r.0 counts r.1) (of_address names r.0 ip r.2)
+      let counts = verdict-pos policy o q z k v in
+      heard_told counts.message r.0 ip h counts.told (Has-counted policy o q z k r.0 counts r.1) (of_address names r.0 ip r.2)
 
-  answered_told : {i moment : ℕ} {q : Query} {o : ToldOutcome} {z : DomainName} (m : Message) (ip : IpAddr) → Heard given log i q o moment z → class_of o q ≡ Some (Positive m) → Contains (filter_map address m.answers) ip → IsTold log ip
+  answered_told : {i moment : ℕ} {q : Query} {o : ToldOutcome} {z : DomainName} (m : Message) (ip : IpAddr) → Heard policy log i q o moment z → class_of o q ≡ Some (Positive m) → Contains (filter_map address m.answers) ip → IsTold log ip
   answered_told {q = q} {o = o} m ip h p c =
       let r : (x : Record) × Has m.answers x × (address x ≡ Some ip) = Has-filter_map address m.answers ip (Has-from_Contains _ ip c) in
       heard_told m r.0 ip h (class_of-positive o q m p) (answers_in_records m r.0 r.1) r.2
 
   -- an address that serves is a root, or stands in a message told
-  pub no_invention : {n : ℕ} {ip : IpAddr} {c : DomainName} → Serves given log n ip c → Contains given.roots ip ⊎ IsTold log ip
+  pub no_invention : {n : ℕ} {ip : IpAddr} {c : DomainName} → Serves policy log n ip c → Contains policy.roots ip ⊎ IsTold log ip
   no_invention (of_root r) = inl r
   no_invention {ip = ip} (of_glue (delegates {k = k} i h v d r) a m) = inr (listed_told k _ ip h v m)
   no_invention {ip = ip} (of_target {answer = answer} d a t q j h v m) = inr (listed_told answer _ ip h v m)
   no_invention {ip = ip} (of_answer {m = m} d a t x j h p v c f) = inr (answered_told m ip h p c)
 
   -- a zone that is served is the root, or its NS records were asked for
-  asked_of : {i moment : ℕ} {q : Query} {o : ToldOutcome} {z : DomainName} → Heard given log i q o moment z → WasAsked log q
+  asked_of : {i moment : ℕ} {q : Query} {o : ToldOutcome} {z : DomainName} → Heard policy log i q o moment z → WasAsked log q
   asked_of (heard {ask = ask} {teller = teller} t s a) = record { n = ask; ip = teller; protocol = t.protocol; asked = t.asked; moment = t.asked_at; logged = t.question; same = t.same }
 
-  delegated : {n : ℕ} {c : DomainName} {k : Message} → Delegates given log n c k → WasAsked log (question c 2)
+  delegated : {n : ℕ} {c : DomainName} {k : Message} → Delegates policy log n c k → WasAsked log (question c 2)
   delegated (delegates i h v d r) = asked_of h
 
-  pub served_was_asked : {n : ℕ} {ip : IpAddr} {c : DomainName} → Serves given log n ip c → ((c ≡ root) × Contains given.roots ip) ⊎ WasAsked log (question c 2)
+  pub served_was_asked : {n : ℕ} {ip : IpAddr} {c : DomainName} → Serves policy log n ip c → ((c ≡ root) × Contains policy.roots ip) ⊎ WasAsked log (question c 2)
   served_was_asked (of_root r) = inl (refl, r)
   served_was_asked (of_glue d a m) = inr (delegated d)
   served_was_asked (of_target d a t q j h v m) = inr (delegated d)
@@ -180,16 +181,16 @@ Has-only_passes p m r h = elim (Has-append_cases (filter p m.answers ++ filter p
   | inr k ↦ Has-passes p m.additionals r k
 ]
 
-pub in_zone-counted : (given : Given) (o : ToldOutcome) (q : Query) (z : DomainName) (k : Message) (r : Record) → verdict given o q z ≡ Some (Pos k) → Has (records k) r → in_zone z r ≡ true
-in_zone-counted given o q z k r v h =
-    let counts = verdict-pos given o q z k v in
-    Has-only_passes (in_zone z) (without_denied given.answer_denied counts.message) r (subst (λ (x : Message). Has (records x) r) counts.kept h)
+pub in_zone-counted : (policy : Policy) (o : ToldOutcome) (q : Query) (z : DomainName) (k : Message) (r : Record) → verdict policy o q z ≡ Some (Pos k) → Has (records k) r → in_zone z r ≡ true
+in_zone-counted policy o q z k r v h =
+    let counts = verdict-pos policy o q z k v in
+    Has-only_passes (in_zone z) (without_denied (denies policy.answer_filter) counts.message) r (subst (λ (x : Message). Has (records x) r) counts.kept h)
 
 not_true : (b : Bool) → not b ≡ true → b ≡ false
 not_true true e = cc
 not_true false e = refl
 
-pub allowed-counted : (given : Given) (o : ToldOutcome) (q : Query) (z : DomainName) (k : Message) (r : Record) → verdict given o q z ≡ Some (Pos k) → Has (records k) r → holds_denied given.answer_denied r ≡ false
-allowed-counted given o q z k r v h =
-    let counts = verdict-pos given o q z k v in
-    not_true _ (Has-only_passes _ counts.message r (Has-only (in_zone z) (without_denied given.answer_denied counts.message) r (subst (λ (x : Message). Has (records x) r) counts.kept h)))
+pub allowed-counted : (policy : Policy) (o : ToldOutcome) (q : Query) (z : DomainName) (k : Message) (r : Record) → verdict policy o q z ≡ Some (Pos k) → Has (records k) r → holds_denied (denies policy.answer_filter) r ≡ false
+allowed-counted policy o q z k r v h =
+    let counts = verdict-pos policy o q z k v in
+    not_true _ (Has-only_passes _ counts.message r (Has-only (in_zone z) (without_denied (denies policy.answer_filter) counts.message) r (subst (λ (x : Message). Has (records x) r) counts.kept h)))

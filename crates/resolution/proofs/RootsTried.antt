@@ -9,7 +9,7 @@ use Rattle.dns_core.specs.declared.message.Query.{Query}
 use Rattle.dns_core.specs.declared.message.Message.{Message}
 use Rattle.dns_core.specs.declared.net_error.NetError.TheVariants as net
 use Rattle.resolution.specs.Names.{root, is_root}
-use Rattle.resolution.specs.Given.{Given}
+use Rattle.recursor_types.specs.declared.policy.Policy.{Policy}
 use Rattle.resolution.specs.Serving.{Delegates}
 use Rattle.resolution.specs.Serving.Delegates.{delegates}
 use Rattle.resolution.specs.Lookups.{class_of_answer, End, Rules, PoolRun, is_at, but_turn, turns, has_turned, answer_of, is_retryable, class_of_end}
@@ -60,19 +60,19 @@ no_decision trusted (Negative x) h k = cc
 no_decision trusted (Foreign x) h k = cc
 no_decision trusted (Positive x) h k = cc
 
-module _ (given : Given) (known : Known) (log : Log) (q : Query) where
-  not_root : {n : ℕ} {c : DomainName} {k : Message} → Delegates given log n c k → is_root c ≡ false
+module _ (policy : Policy) (known : Known) (log : Log) (q : Query) where
+  not_root : {n : ℕ} {c : DomainName} {k : Message} → Delegates policy log n c k → is_root c ≡ false
   not_root (delegates i h v d r) = r
 
-  listed_root : {z : DomainName} {ips : List IpAddr} → Listed given log z ips → is_root z ≡ true → ips ≡ given.roots
+  listed_root : {z : DomainName} {ips : List IpAddr} → Listed policy log z ips → is_root z ≡ true → ips ≡ policy.roots
   listed_root of_roots h = refl
   listed_root (of_told l) h = let x = not_root l.told in cc
 
   -- an entry ends a send to the address
   abbrev pub IsTried : List ℕ → IpAddr → Type 0
-  IsTried g ip = (n : ℕ) × (m : ℕ) × (e : End IpAddr) × Has g n × (same_ip ip e.server ≡ true) × EndsSend given log q n e m
+  IsTried g ip = (n : ℕ) × (m : ℕ) × (e : End IpAddr) × Has g n × (same_ip ip e.server ≡ true) × EndsSend policy log q n e m
 
-  entry_of : {ips : List IpAddr} {g moments : List ℕ} {ends : List (End IpAddr)} (ip : IpAddr) (e : End IpAddr) → EndSends given log q ips g ends moments → Has ends e → same_ip ip e.server ≡ true → IsTried g ip
+  entry_of : {ips : List IpAddr} {g moments : List ℕ} {ends : List (End IpAddr)} (ip : IpAddr) (e : End IpAddr) → EndSends policy log q ips g ends moments → Has ends e → same_ip ip e.server ≡ true → IsTried g ip
   entry_of ip e no_send h s = elim h [ ]
   entry_of ip e (and_send {n = n} {moment = m} {e = f} a c r) (inl h) s = (n, m, f, inl refl, subst (λ x. same_ip ip x.server ≡ true) (sym h) s, a)
   entry_of ip e (and_send a c r) (inr h) s = let t = entry_of ip e r h s in (t.0, t.1, t.2, inr t.3, t.4, t.5)
@@ -90,14 +90,14 @@ module _ (given : Given) (known : Known) (log : Log) (q : Query) where
   off true b h = h
   off false b h = h
 
-  run_tried : (ips : List IpAddr) (ends : List (End IpAddr)) (start now : ℕ) → PoolRun (by_address given.timeout) (class_of_answer q) ips ends (Err net.NoConnections) start now → (ip : IpAddr) → Has ips ip → (e : End IpAddr) × Has ends e × (same_ip ip e.server ≡ true)
-  run_tried ips ends start now (decided d) ip h = absurd (no_decision true (class_of_end (by_address given.timeout) (class_of_answer q) d.last) d.answers ((both _ _ d.final).0))
+  run_tried : (ips : List IpAddr) (ends : List (End IpAddr)) (start now : ℕ) → PoolRun (by_address policy.timeout) (class_of_answer q) ips ends (Err net.NoConnections) start now → (ip : IpAddr) → Has ips ip → (e : End IpAddr) × Has ends e × (same_ip ip e.server ≡ true)
+  run_tried ips ends start now (decided d) ip h = absurd (no_decision true (class_of_end (by_address policy.timeout) (class_of_answer q) d.last) d.answers ((both _ _ d.final).0))
   run_tried ips ends start now (late d) ip h = let x = d.answers in cc
-  run_tried ips ends start now (spent d) ip h = was_asked given.timeout ends ip (off (has_turned (by_address given.timeout) (class_of_answer q) ends) _ (each _ ips ip d.tried h))
+  run_tried ips ends start now (spent d) ip h = was_asked policy.timeout ends ip (off (has_turned (by_address policy.timeout) (class_of_answer q) ends) _ (each _ ips ip d.tried h))
 
-  pub roots_tried : {t0 : ℕ} {g : List ℕ} → Ended given known log t0 q root g net.NoConnections → (ip : IpAddr) → Contains given.roots ip → IsTried g ip
+  pub roots_tried : {t0 : ℕ} {g : List ℕ} → Ended policy known log t0 q root g net.NoConnections → (ip : IpAddr) → Contains policy.roots ip → IsTried g ip
   roots_tried f ip c =
-      let same : f.ips ≡ given.roots = listed_root f.listed refl in
-      let h : Has f.ips ip = subst (λ x. Has x ip) (sym same) (Has-from_Contains given.roots ip c) in
+      let same : f.ips ≡ policy.roots = listed_root f.listed refl in
+      let h : Has f.ips ip = subst (λ x. Has x ip) (sym same) (Has-from_Contains policy.roots ip c) in
       let r = run_tried f.ips f.ends f.start f.now f.run ip h in
       entry_of ip (r.0) f.logged (r.1) (r.2)

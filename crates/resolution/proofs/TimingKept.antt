@@ -6,7 +6,7 @@ use Rattle.std.specs.declared.net.ip_addr.IpAddr.{IpAddr}
 use Rattle.dns_core.specs.Log.{Log, Extends}
 use Rattle.dns_core.specs.declared.message.Query.{Query}
 use Rattle.dns_core.specs.declared.log.LogEntry.{LogEntry}
-use Rattle.resolution.specs.Given.{Given}
+use Rattle.recursor_types.specs.declared.policy.Policy.{Policy}
 use Rattle.resolution.specs.Telling.{Logged}
 use Rattle.resolution.specs.Lookups.{End}
 use Rattle.resolution.specs.Ending.{EndsSend, EndSends}
@@ -22,9 +22,9 @@ Logged-shrink old new extends n e low h = record { below = low; is = sym (extend
 lower : (j last next : ℕ) → j ≤ last → last < next → j < next
 lower j last next h k = omega arith
 
-module _ (given : Given) (log new : Log) (extends : Extends log new) where
+module _ (policy : Policy) (log new : Log) (extends : Extends log new) where
   -- an entry that ends a send stands in the log
-  stands : {q : Query} {n moment : ℕ} {e : End IpAddr} → EndsSend given log q n e moment → n < log.next
+  stands : {q : Query} {n moment : ℕ} {e : End IpAddr} → EndsSend policy log q n e moment → n < log.next
   stands (open_refused a) = a.below
   stands (ask_refused a s) = a.below
   stands (open_failed a b) = a.below
@@ -49,13 +49,13 @@ module _ (given : Given) (log new : Log) (extends : Extends log new) where
   -- what holds of the last entry of a lookup
   last_stands : {q : Query} {ips : List IpAddr} {g moments : List ℕ} {ends : List (End IpAddr)} {P : ℕ → Type 0} {Q : ℕ → Type 0} (before : Option ℕ)
       → ((n : ℕ) → n < log.next → P n → Q n) → ((n : ℕ) → before ≡ Some n → n < log.next)
-      → EndSends given log q ips g ends moments → IsSomeAnd (last_or before g) P → IsSomeAnd (last_or before g) Q
+      → EndSends policy log q ips g ends moments → IsSomeAnd (last_or before g) P → IsSomeAnd (last_or before g) Q
   last_stands None f b no_send h = h
   last_stands (Some n) f b no_send h = f n (b n refl) h
   last_stands before f b (and_send {n = n} e c r) h = last_stands (Some n) f (λ m s. let here : n < log.next = stands e in let same : n ≡ m = cc in subst (λ (x : ℕ). x < log.next) same here) r h
 
   pub DriveTimed-extend : (turns : List ℕ) (wanted : Bool) (t0 : ℕ) (q : Query) (ips : List IpAddr) (g moments : List ℕ) (ends : List (End IpAddr)) (start now : ℕ)
-      → EndSends given log q ips g ends moments → DriveTimed turns wanted log t0 q ips g ends moments start now → DriveTimed turns wanted new t0 q ips g ends moments start now
+      → EndSends policy log q ips g ends moments → DriveTimed turns wanted log t0 q ips g ends moments start now → DriveTimed turns wanted new t0 q ips g ends moments start now
   DriveTimed-extend turns wanted t0 q ips g moments ends start now s d = record {
     answered = d.answered;
     n = d.n;

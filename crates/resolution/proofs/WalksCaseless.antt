@@ -12,7 +12,7 @@ use Rattle.dns_core.specs.Log.{Log}
 use Rattle.dns_core.specs.declared.codes.RecordType.{RecordType}
 use Rattle.dns_core.specs.declared.message.Query.{Query}
 use Rattle.resolution.specs.Names.{is_above, base, walk, question, same_query}
-use Rattle.resolution.specs.Given.{Given}
+use Rattle.recursor_types.specs.declared.policy.Policy.{Policy}
 use Rattle.resolution.specs.Walking.{at_any_time, is_cut, NoCut, Walked}
 use Rattle.resolution.specs.Walking.NoCut.{told_otherwise, not_told}
 use Rattle.resolution.specs.declared.verdict.Verdict.{Verdict}
@@ -42,14 +42,14 @@ last_of-same n m k e =
 longer-same : (c d : DomainName) → same_names c d ≡ true → (k : ℕ) → k < length d.labels → k < length c.labels
 longer-same c d e k h = subst (λ (n : ℕ). k < n) (sym (length-same (pointwise same_letter) c.labels d.labels (labels_same c d e))) h
 
-pub NoCut-same : (given : Given) (log : Log) {c : DomainName} (d : DomainName) → NoCut given log c → same_names c d ≡ true → NoCut given log d
-NoCut-same given log d (told_otherwise {c = c} {o = o} {z = z} {v = v} h w n below) e =
+pub NoCut-same : (policy : Policy) (log : Log) {c : DomainName} (d : DomainName) → NoCut policy log c → same_names c d ≡ true → NoCut policy log d
+NoCut-same policy log d (told_otherwise {c = c} {o = o} {z = z} {v = v} h w n below) e =
     let asks = ns_question c d e in
-    told_otherwise (Heard-same (question c 2) (question d 2) asks h) (sym (verdict-same (question c 2) (question d 2) asks given o z) ∙ w) (sym (is_cut-same v c d e) ∙ n)
-    (λ k low high. NoCut-same given log (last_of d k) (below k low (longer-same c d e k high)) (last_of-same c d k e))
-NoCut-same given log d (not_told {c = c} f n below) e =
+    told_otherwise (Heard-same (question c 2) (question d 2) asks h) (sym (verdict-same (question c 2) (question d 2) asks policy o z) ∙ w) (sym (is_cut-same v c d e) ∙ n)
+    (λ k low high. NoCut-same policy log (last_of d k) (below k low (longer-same c d e k high)) (last_of-same c d k e))
+NoCut-same policy log d (not_told {c = c} f n below) e =
     not_told (Finished-same (question c 2) (question d 2) (ns_question c d e) at_any_time at_any_time (λ ips g moments ends start now t. t) f) n
-    (λ k low high. NoCut-same given log (last_of d k) (below k low (longer-same c d e k high)) (last_of-same c d k e))
+    (λ k low high. NoCut-same policy log (last_of d k) (below k low (longer-same c d e k high)) (last_of-same c d k e))
 
 -- what is said of each image that passes one test, for images and tests that agree
 each_passing : {X Y : Type 0} (P : Y → Type 0) (f g : X → Y) (s t : Y → Bool) → ((x : X) → s (f x) ≡ t (g x)) → ((x : X) → P (f x) → P (g x))
@@ -81,10 +81,10 @@ module _ (q p : Query) (e : same_query q p ≡ true) where
       ∙ ap (λ (t : RecordType). not (is_above d z) && not (t.code == 2 && same_names c q.name)) (types_same q p e)
       ∙ ap (λ (b : Bool). not (is_above d z) && not (p.query_type.code == 2 && b)) (same_names_equiv.congr c d q.name h ∙ alike same_names same_names_equiv q.name p.name d (names_same q p e))
 
-pub Walked-same : (given : Given) (log : Log) (q p : Query) (z : DomainName) → same_query q p ≡ true → Walked given log q z → Walked given log p z
-Walked-same given log q p z e w =
+pub Walked-same : (policy : Policy) (log : Log) (q p : Query) (z : DomainName) → same_query q p ≡ true → Walked policy log q z → Walked policy log p z
+Walked-same policy log q p z e w =
     let walks = walks_same q p e in
     let long = length-same (pointwise same_letter) (walk q).labels (walk p).labels (labels_same (walk q) (walk p) walks) in
     let same : (k : ℕ) → same_names (last_of (walk q) k) (last_of (walk p) k) ≡ true = λ k. last_of-same (walk q) (walk p) k walks in
-    let moved = each_passing (NoCut given log) (last_of (walk q)) (last_of (walk p)) (looks z q) (looks z p) (λ k. looks-same q p e z _ _ (same k)) (λ k n. NoCut-same given log (last_of (walk p) k) n (same k)) (range_with_len 1 (length (walk q).labels)) w in
-    subst (λ (n : ℕ). AllByRecursion (NoCut given log) (filter (looks z p) (map (last_of (walk p)) (range_with_len 1 n)))) long moved
+    let moved = each_passing (NoCut policy log) (last_of (walk q)) (last_of (walk p)) (looks z q) (looks z p) (λ k. looks-same q p e z _ _ (same k)) (λ k n. NoCut-same policy log (last_of (walk p) k) n (same k)) (range_with_len 1 (length (walk q).labels)) w in
+    subst (λ (n : ℕ). AllByRecursion (NoCut policy log) (filter (looks z p) (map (last_of (walk p)) (range_with_len 1 n)))) long moved

@@ -14,10 +14,11 @@ use Rattle.dns_core.specs.declared.message.Message.{Message}
 use Rattle.dns_core.specs.declared.record.Record.{Record}
 use Rattle.dns_core.specs.declared.net_error.NoRecords.{NoRecords}
 use Rattle.dns_core.specs.declared.log.ToldOutcome.{ToldOutcome}
+use Rattle.resolver_settings.specs.Access.{denies}
 use Rattle.resolution.specs.Names.{root, is_root, is_above, base, walk, question, same_query}
 use Rattle.resolution.specs.Records.{records, ns_target, only}
 use Rattle.resolution.specs.Class.{class_of}
-use Rattle.resolution.specs.Given.{Given}
+use Rattle.recursor_types.specs.declared.policy.Policy.{Policy}
 use Rattle.resolution.specs.Verdict.{verdict, verdict_of_told, verdict_of_class, in_zone, if_in_zone, is_all_denied, without_denied, emptied}
 use Rattle.resolution.specs.Serving.{Serves, Delegates, Heard, targets, target_below, is_delegation, addresses_under}
 use Rattle.resolution.specs.Serving.Serves.{of_root, of_glue, of_target, of_answer}
@@ -77,8 +78,8 @@ module _ (c d : DomainName) (e : same_names c d ≡ true) where
   of_told denied None = refl
   of_told denied (Some class) = of_class denied class
 
-  pub verdict-zone : (given : Given) (o : ToldOutcome) (q : Query) → verdict given o q c ≡ verdict given o q d
-  verdict-zone given o q = of_told given.answer_denied (class_of o q)
+  pub verdict-zone : (policy : Policy) (o : ToldOutcome) (q : Query) → verdict policy o q c ≡ verdict policy o q d
+  verdict-zone policy o q = of_told (denies policy.answer_filter) (class_of o q)
 
   target_below-same : target_below (base c) ≡ target_below (base d)
   target_below-same i r = ap (λ (b : Bool). if b then ns_target r else None) (above-same (base c) (base d) r.name (base-same c d e)) i
@@ -99,13 +100,13 @@ module _ (c d : DomainName) (e : same_names c d ≡ true) where
   pub ns_question : same_query (question c 2) (question d 2) ≡ true
   ns_question = both (same_names c d && true) true (both (same_names c d) true e refl) refl
 
-  pub Delegates-zone : {given : Given} {log : Log} {n : ℕ} {k : Message} → Delegates given log n c k → Delegates given log n d k
-  Delegates-zone {given = given} {k = k} (delegates {z = z} {o = o} i h v x r) = delegates i (Heard-same (question c 2) (question d 2) ns_question h)
-      (sym (verdict-same (question c 2) (question d 2) ns_question given o z) ∙ v) (sym (is_delegation-same k) ∙ x) (sym is_root-same ∙ r)
+  pub Delegates-zone : {policy : Policy} {log : Log} {n : ℕ} {k : Message} → Delegates policy log n c k → Delegates policy log n d k
+  Delegates-zone {policy = policy} {k = k} (delegates {z = z} {o = o} i h v x r) = delegates i (Heard-same (question c 2) (question d 2) ns_question h)
+      (sym (verdict-same (question c 2) (question d 2) ns_question policy o z) ∙ v) (sym (is_delegation-same k) ∙ x) (sym is_root-same ∙ r)
 
 -- the family is by the zone, so the root is one case of it
-pub Serves-zone : {given : Given} {log : Log} {n : ℕ} {ip : IpAddr} {c : DomainName} (d : DomainName) → same_names c d ≡ true → Serves given log n ip c → Serves given log n ip d
-Serves-zone {given = given} {log = log} {n = n} {ip = ip} d e (of_root r) = subst (λ (x : DomainName). Serves given log n ip x) (root_alone d e) (of_root r)
+pub Serves-zone : {policy : Policy} {log : Log} {n : ℕ} {ip : IpAddr} {c : DomainName} (d : DomainName) → same_names c d ≡ true → Serves policy log n ip c → Serves policy log n ip d
+Serves-zone {policy = policy} {log = log} {n = n} {ip = ip} d e (of_root r) = subst (λ (x : DomainName). Serves policy log n ip x) (root_alone d e) (of_root r)
 Serves-zone {ip = ip} d e (of_glue {c = c} {k = k} g a h) = of_glue (Delegates-zone c d e g) a (subst (λ (ts : List DomainName). Contains (addresses_under ts (records k)) ip) (targets-same c d e k) h)
 Serves-zone {ip = ip} d e (of_target {c = c} {t = t} {k = k} {answer = answer} g a m q j h v x) =
     of_target (Delegates-zone c d e g) a (subst (λ (ts : List DomainName). Contains ts t) (targets-same c d e k) m) q j h v
@@ -113,8 +114,8 @@ Serves-zone {ip = ip} d e (of_target {c = c} {t = t} {k = k} {answer = answer} g
 Serves-zone d e (of_answer {c = c} {t = t} {k = k} g a m q j h p v x f) =
     of_answer (Delegates-zone c d e g) a (subst (λ (ts : List DomainName). Contains ts t) (targets-same c d e k) m) q j h p v x f
 
-pub Heard-zone : {given : Given} {log : Log} {i : ℕ} {q : Query} {o : ToldOutcome} {moment : ℕ} {c : DomainName} (d : DomainName) → same_names c d ≡ true → Heard given log i q o moment c → Heard given log i q o moment d
+pub Heard-zone : {policy : Policy} {log : Log} {i : ℕ} {q : Query} {o : ToldOutcome} {moment : ℕ} {c : DomainName} (d : DomainName) → same_names c d ≡ true → Heard policy log i q o moment c → Heard policy log i q o moment d
 Heard-zone {q = q} {c = c} d e (heard t s a) = heard t (Serves-zone d e s) (sym (above-same c d (walk q) e) ∙ a)
 
-pub Base-zone : {given : Given} {log : Log} {t0 : ℕ} {q : Query} {i : ℕ} {c : DomainName} {v : Verdict} (d : DomainName) → same_names c d ≡ true → Base given log t0 q i c v → Base given log t0 q i d v
-Base-zone {given = given} {q = q} {c = c} d e b = record { told = b.told; moment = b.moment; heard = Heard-zone d e b.heard; counts = sym (verdict-zone c d e given b.told q) ∙ b.counts; fresh = b.fresh }
+pub Base-zone : {policy : Policy} {log : Log} {t0 : ℕ} {q : Query} {i : ℕ} {c : DomainName} {v : Verdict} (d : DomainName) → same_names c d ≡ true → Base policy log t0 q i c v → Base policy log t0 q i d v
+Base-zone {policy = policy} {q = q} {c = c} d e b = record { told = b.told; moment = b.moment; heard = Heard-zone d e b.heard; counts = sym (verdict-zone c d e policy b.told q) ∙ b.counts; fresh = b.fresh }

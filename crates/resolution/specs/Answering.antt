@@ -10,7 +10,7 @@ use Rattle.dns_core.specs.declared.record.Record.{Record}
 use Rattle.dns_core.specs.declared.record.RData.TheVariants.{RRSIG}
 use Rattle.dns_core.specs.declared.log.ToldOutcome.{ToldOutcome}
 use Rattle.resolution.specs.Same.{Same}
-use Rattle.resolution.specs.Given.{Given}
+use Rattle.recursor_types.specs.declared.policy.Policy.{Policy}
 use Rattle.resolution.specs.Verdict.{verdict}
 use Rattle.resolution.specs.Life.{Fresh}
 use Rattle.resolution.specs.Serving.{Heard}
@@ -21,12 +21,12 @@ use Rattle.resolution.specs.declared.verdict.Verdict.TheVariants.{Pos}
 use Rattle.resolution.specs.declared.following.Follow.TheVariants.{Done, Restart}
 
 -- Entry i tells for q, by a server of the zone z at or above its name, an outcome that counts as v and is fresh at t0.
-pub record Base (given : Given) (log : Log) (t0 : ℕ) (q : Query) (i : ℕ) (z : DomainName) (v : Verdict) : Type 0 where
+pub record Base (policy : Policy) (log : Log) (t0 : ℕ) (q : Query) (i : ℕ) (z : DomainName) (v : Verdict) : Type 0 where
   pub told : ToldOutcome
   pub moment : ℕ
-  pub heard : Heard given log i q told moment z
-  pub counts : verdict given told q z ≡ Some v
-  pub fresh : Fresh given t0 moment q v
+  pub heard : Heard policy log i q told moment z
+  pub counts : verdict policy told q z ≡ Some v
+  pub fresh : Fresh policy t0 moment q v
 
 -- authoritative, or told at or after t0
 abbrev pub IsCurrent : ℕ → ℕ → Message → Type 0
@@ -34,8 +34,8 @@ IsCurrent t0 moment k = IsTrue k.authoritative ⊎ (t0 ≤ moment)
 
 -- Authoritative; or told at or after t0, and for NS records by servers below which no cut is shown up to the name itself
 -- (RFC 1034 section 4.2.1: those above a cut have its NS records too, and not as their own).
-abbrev pub IsOwn : Given → Log → ℕ → Query → DomainName → ℕ → Message → Type 0
-IsOwn given log t0 q z moment k = IsTrue k.authoritative ⊎ ((t0 ≤ moment) × ReachesName given log q z)
+abbrev pub IsOwn : Policy → Log → ℕ → Query → DomainName → ℕ → Message → Type 0
+IsOwn policy log t0 q z moment k = IsTrue k.authoritative ⊎ ((t0 ≤ moment) × ReachesName policy log q z)
 
 -- a signature of records of the type, or of CNAME
 abbrev pub is_signature_of : RecordType → Record → Bool
@@ -53,30 +53,30 @@ abbrev pub with_name : DomainName → Query → Query
 with_name n q = record q { name = n }
 
 -- The reply to q rests on these entries, in their order.
-pub data Answers (given : Given) (log : Log) (t0 : ℕ) (dnssec : Bool) : Query → List ℕ → Message → Type 0 where
+pub data Answers (policy : Policy) (log : Log) (t0 : ℕ) (dnssec : Bool) : Query → List ℕ → Message → Type 0 where
   -- what counts of one entry is the reply, less the records that were not asked for
   direct : {q : Query} {i : ℕ} {z : DomainName} {k r : Message}
-      → (b : Base given log t0 q i z (Pos k)) → IsOwn given log t0 q z b.moment k → follow k q ≡ Done
-      → Same r (strip_of k dnssec) → Answers given log t0 dnssec q (i ∷ []) r
+      → (b : Base policy log t0 q i z (Pos k)) → IsOwn policy log t0 q z b.moment k → follow k q ≡ Done
+      → Same r (strip_of k dnssec) → Answers policy log t0 dnssec q (i ∷ []) r
   -- its aliases lead to another name, and the reply for this is appended
   by_alias : {q : Query} {i : ℕ} {z n : DomainName} {k r further : Message} {g : List ℕ}
-      → (b : Base given log t0 q i z (Pos k)) → IsCurrent t0 b.moment k → follow k q ≡ Restart n
-      → Answers given log t0 dnssec (with_name n q) g further
-      → Same r (joined (strip_of k dnssec) q further) → Answers given log t0 dnssec q (i ∷ g) r
+      → (b : Base policy log t0 q i z (Pos k)) → IsCurrent t0 b.moment k → follow k q ≡ Restart n
+      → Answers policy log t0 dnssec (with_name n q) g further
+      → Same r (joined (strip_of k dnssec) q further) → Answers policy log t0 dnssec q (i ∷ g) r
 
 -- So it does, and the entries are at most 65.
-pub record Answer (given : Given) (log : Log) (t0 : ℕ) (q : Query) (dnssec : Bool) (g : List ℕ) (r : Message) : Type 0 where
-  pub answers : Answers given log t0 dnssec q g r
+pub record Answer (policy : Policy) (log : Log) (t0 : ℕ) (q : Query) (dnssec : Bool) (g : List ℕ) (r : Message) : Type 0 where
+  pub answers : Answers policy log t0 dnssec q g r
   pub few : length g ≤ 65
 
 -- ---- alias chains
 
 -- The numbers lead by aliases from the first question to p; the questions on the way, p included.
-pub data Chain (given : Given) (log : Log) (t0 : ℕ) : Query → List ℕ → Query → List Query → Type 0 where
-  last : {p : Query} → Chain given log t0 p [] p (p ∷ [])
+pub data Chain (policy : Policy) (log : Log) (t0 : ℕ) : Query → List ℕ → Query → List Query → Type 0 where
+  last : {p : Query} → Chain policy log t0 p [] p (p ∷ [])
   then_alias : {q p : Query} {i : ℕ} {g : List ℕ} {z n : DomainName} {k : Message} {qs : List Query}
-      → (b : Base given log t0 q i z (Pos k)) → IsCurrent t0 b.moment k → follow k q ≡ Restart n
-      → Chain given log t0 (with_name n q) g p qs → Chain given log t0 q (i ∷ g) p (q ∷ qs)
+      → (b : Base policy log t0 q i z (Pos k)) → IsCurrent t0 b.moment k → follow k q ≡ Restart n
+      → Chain policy log t0 (with_name n q) g p qs → Chain policy log t0 q (i ∷ g) p (q ∷ qs)
 
 abbrev pub label_count : DomainName → ℕ
 label_count n = length n.labels

@@ -8,24 +8,24 @@ use Rattle.dns_core.specs.declared.net_error.NetError.{NetError}
 use Rattle.dns_core.specs.declared.connection.Protocol.{Protocol}
 use Rattle.dns_core.specs.declared.log.LogEntry.TheVariants.{Opened, Asked}
 use Rattle.resolution.specs.Names.{is_above, walk}
-use Rattle.resolution.specs.Given.{Given}
+use Rattle.recursor_types.specs.declared.policy.Policy.{Policy}
 use Rattle.resolution.specs.Telling.{Logged}
 use Rattle.resolution.specs.Serving.{Serves}
 
 -- By what was told below n, the address serves some zone.
-pub record IsServer (given : Given) (log : Log) (n : ℕ) (ip : IpAddr) : Type 0 where
+pub record IsServer (policy : Policy) (log : Log) (n : ℕ) (ip : IpAddr) : Type 0 where
   pub zone : DomainName
-  pub serves : Serves given log n ip zone
+  pub serves : Serves policy log n ip zone
 
 -- By what was told below n, the address serves a zone at or above the name of the question.
-pub record IsServerFor (given : Given) (log : Log) (n : ℕ) (ip : IpAddr) (q : Query) : Type 0 where
+pub record IsServerFor (policy : Policy) (log : Log) (n : ℕ) (ip : IpAddr) (q : Query) : Type 0 where
   pub zone : DomainName
   pub above : IsTrue (is_above zone (walk q))
-  pub serves : Serves given log n ip zone
+  pub serves : Serves policy log n ip zone
 
 -- Whoever was opened or asked was a server by what was told before, and for a question one of a zone at or above its name.
-pub record AsksServers (given : Given) (log : Log) : Type 0 where
+pub record AsksServers (policy : Policy) (log : Log) : Type 0 where
   pub opened : (n : ℕ) (ip : IpAddr) (protocol : Protocol) (moment : ℕ) (refused : Option NetError)
-      → Logged log n (Opened ip protocol moment refused) → IsServer given log n ip
+      → Logged log n (Opened ip protocol moment refused) → IsServer policy log n ip
   pub asked : (n : ℕ) (ip : IpAddr) (protocol : Protocol) (q : Query) (moment : ℕ) (refused : Option NetError)
-      → Logged log n (Asked ip protocol q moment refused) → IsServerFor given log n ip q
+      → Logged log n (Asked ip protocol q moment refused) → IsServerFor policy log n ip q

@@ -14,7 +14,9 @@ use Rattle.dns_core.specs.declared.log.LogEntry.{LogEntry}
 use Rattle.dns_core.specs.declared.log.LogEntry.TheVariants.{Opened, Asked, Told}
 use Rattle.dns_core.specs.declared.log.ToldOutcome.TheVariants as outcome
 use Rattle.resolution.specs.Names.{question}
-use Rattle.resolution.specs.Given.{Given, allows_all}
+use Rattle.recursor_types.specs.declared.policy.Policy.{Policy}
+use Rattle.resolver_settings.specs.Options.{standard_options}
+use Rattle.resolver_settings.specs.Ttl.{one_day}
 
 -- ---- names, addresses, records
 
@@ -91,18 +93,20 @@ abbrev pub log : Log
 log = log_of entries
 
 -- one root, no filter, and the standard bounds
-abbrev pub given : Given
-given = record {
+abbrev pub policy : Policy
+policy = record {
   roots = V4 (quad 11 0 0 1) ∷ [];
-  server_denied = allows_all;
-  answer_denied = allows_all;
-  positive_bounds = λ _. record { least = 0; most = 86400 };
-  negative_bounds = λ _. record { least = 0; most = 86400 };
+  server_filter = record { name = []; allow = []; deny = [] };
+  answer_filter = record { name = []; allow = []; deny = [] };
+  ttl_bounds = record { general = one_day; own = [] };
   timeout = 5000000;
-  strict = false;
-  ns_recursion_limit = 24;
-  recursion_limit = 24;
   patience = 3;
+  recursion_limit = 24;
+  ns_recursion_limit = 24;
+  strict = false;
+  response_cache_size = 0;
+  first_delays = 1 ∷ [];
+  resolver = standard_options;
 }
 
 -- ---- the same with a delegation whose server lies outside the teller's zone

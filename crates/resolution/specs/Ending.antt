@@ -14,8 +14,9 @@ use Rattle.dns_core.specs.declared.net_error.NetError.TheVariants as net
 use Rattle.dns_core.specs.declared.log.LogEntry.{LogEntry}
 use Rattle.dns_core.specs.declared.log.LogEntry.TheVariants.{Opened, Asked, Waited, Told, GaveUp}
 use Rattle.dns_core.specs.declared.log.ToldOutcome.TheVariants as outcome
+use Rattle.resolver_settings.specs.Access.{denies}
 use Rattle.resolution.specs.Names.{root, is_above, walk, same_query}
-use Rattle.resolution.specs.Given.{Given}
+use Rattle.recursor_types.specs.declared.policy.Policy.{Policy}
 use Rattle.resolution.specs.Telling.{Logged}
 use Rattle.resolution.specs.Serving.{Serves, Delegates, glue, allowed}
 use Rattle.resolution.specs.Lookups.{Answered, class_of_answer, End, Rules, PoolRun, IsBounded}
@@ -55,29 +56,29 @@ is_begun q ip (Asked at protocol asked moment None) = same_ip at ip && same_quer
 is_begun q ip _ = false
 
 -- Entry n ends a send for q.
-pub data EndsSend (given : Given) (log : Log) (q : Query) : ℕ → End IpAddr → ℕ → Type 0 where
+pub data EndsSend (policy : Policy) (log : Log) (q : Query) : ℕ → End IpAddr → ℕ → Type 0 where
   open_refused : {n moment : ℕ} {ip : IpAddr} {protocol : Protocol} {e : NetError}
-      → Logged log n (Opened ip protocol moment (Some e)) → EndsSend given log q n (record { server = ip; outcome = Err e }) moment
+      → Logged log n (Opened ip protocol moment (Some e)) → EndsSend policy log q n (record { server = ip; outcome = Err e }) moment
   ask_refused : {n moment : ℕ} {ip : IpAddr} {protocol : Protocol} {asked : Query} {e : NetError}
-      → Logged log n (Asked ip protocol asked moment (Some e)) → IsTrue (same_query asked q) → EndsSend given log q n (record { server = ip; outcome = Err e }) moment
+      → Logged log n (Asked ip protocol asked moment (Some e)) → IsTrue (same_query asked q) → EndsSend policy log q n (record { server = ip; outcome = Err e }) moment
   open_failed : {n k since moment : ℕ} {ip : IpAddr} {protocol : Protocol} {e : NetError}
-      → Logged log n (Told k moment (outcome.Error e)) → Logged log k (Opened ip protocol since None) → EndsSend given log q n (record { server = ip; outcome = Err e }) moment
+      → Logged log n (Told k moment (outcome.Error e)) → Logged log k (Opened ip protocol since None) → EndsSend policy log q n (record { server = ip; outcome = Err e }) moment
   ask_failed : {n k since moment : ℕ} {ip : IpAddr} {protocol : Protocol} {asked : Query} {e : NetError}
       → Logged log n (Told k moment (outcome.Error e)) → Logged log k (Asked ip protocol asked since None) → IsTrue (same_query asked q)
-      → EndsSend given log q n (record { server = ip; outcome = Err e }) moment
+      → EndsSend policy log q n (record { server = ip; outcome = Err e }) moment
   answered : {n k since moment : ℕ} {ip : IpAddr} {protocol : Protocol} {asked : Query} {m : Message}
       → Logged log n (Told k moment (outcome.Message m)) → Logged log k (Asked ip protocol asked since None) → IsTrue (same_query asked q)
-      → EndsSend given log q n (record { server = ip; outcome = Ok m }) moment
+      → EndsSend policy log q n (record { server = ip; outcome = Ok m }) moment
   given_up : {n k moment : ℕ} {ip : IpAddr} {e : LogEntry}
-      → Logged log n (GaveUp k moment) → Logged log k e → IsTrue (is_begun q ip e) → given.patience ≤ waits log k n
-      → EndsSend given log q n (record { server = ip; outcome = Err net.Timeout }) moment
+      → Logged log n (GaveUp k moment) → Logged log k e → IsTrue (is_begun q ip e) → policy.patience ≤ waits log k n
+      → EndsSend policy log q n (record { server = ip; outcome = Err net.Timeout }) moment
 
 -- These entries end sends for q to some of these addresses, each the one beside it.
-pub data EndSends (given : Given) (log : Log) (q : Query) (ips : List IpAddr) : List ℕ → List (End IpAddr) → List ℕ → Type 0 where
-  no_send : EndSends given log q ips [] [] []
+pub data EndSends (policy : Policy) (log : Log) (q : Query) (ips : List IpAddr) : List ℕ → List (End IpAddr) → List ℕ → Type 0 where
+  no_send : EndSends policy log q ips [] [] []
   and_send : {n moment : ℕ} {e : End IpAddr} {g moments : List ℕ} {ends : List (End IpAddr)}
-      → EndsSend given log q n e moment → Contains ips e.server → EndSends given log q ips g ends moments
-      → EndSends given log q ips (n ∷ g) (e ∷ ends) (moment ∷ moments)
+      → EndsSend policy log q n e moment → Contains ips e.server → EndSends policy log q ips g ends moments
+      → EndSends policy log q ips (n ∷ g) (e ∷ ends) (moment ∷ moments)
 
 -- numbers rise
 abbrev pub Rise : List ℕ → Type 0
@@ -88,43 +89,43 @@ Rise (n ∷ m ∷ ns) = (n < m) × Rise (m ∷ ns)
 -- ---- whom a lookup asked
 
 -- Some answers for the zone's NS lists only addresses among these.
-pub record IsListed (given : Given) (log : Log) (z : DomainName) (ips : List IpAddr) : Type 0 where
+pub record IsListed (policy : Policy) (log : Log) (z : DomainName) (ips : List IpAddr) : Type 0 where
   pub below : ℕ
-  pub serve : AllByRecursion (λ ip. Serves given log below ip z) ips
+  pub serve : AllByRecursion (λ ip. Serves policy log below ip z) ips
   pub some : 0 < length ips
   pub k : Message
-  pub told : Delegates given log below z k
-  pub whole : AllByRecursion (Contains ips) (allowed given.server_denied (glue k z))
+  pub told : Delegates policy log below z k
+  pub whole : AllByRecursion (Contains ips) (allowed (denies policy.server_filter) (glue k z))
 
 -- the addresses of a pool for the zone: the roots, or by a delegation
-pub data Listed (given : Given) (log : Log) : DomainName → List IpAddr → Type 0 where
-  of_roots : Listed given log root given.roots
-  of_told : {z : DomainName} {ips : List IpAddr} → IsListed given log z ips → Listed given log z ips
+pub data Listed (policy : Policy) (log : Log) : DomainName → List IpAddr → Type 0 where
+  of_roots : Listed policy log root policy.roots
+  of_told : {z : DomainName} {ips : List IpAddr} → IsListed policy log z ips → Listed policy log z ips
 
 -- A lookup for q at servers of z ended by the entries g with this result, in time for t0.
-pub record Finished (given : Given) (known : Known) (log : Log) (t0 : ℕ) (q : Query) (z : DomainName) (g : List ℕ) (result : Answered) : Type 0 where
+pub record Finished (policy : Policy) (known : Known) (log : Log) (t0 : ℕ) (q : Query) (z : DomainName) (g : List ℕ) (result : Answered) : Type 0 where
   pub ips : List IpAddr
   pub ends : List (End IpAddr)
   pub moments : List ℕ
   pub start : ℕ
   pub now : ℕ
   pub above : IsTrue (is_above z (walk q))
-  pub listed : Listed given log z ips
+  pub listed : Listed policy log z ips
   pub rises : Rise g
-  pub logged : EndSends given log q ips g ends moments
-  pub run : PoolRun (by_address given.timeout) (class_of_answer q) ips ends result start now
+  pub logged : EndSends policy log q ips g ends moments
+  pub run : PoolRun (by_address policy.timeout) (class_of_answer q) ips ends result start now
   -- at most five ends for each place of an address
-  pub bounded : IsBounded (by_address given.timeout) (class_of_answer q) ips ends
+  pub bounded : IsBounded (by_address policy.timeout) (class_of_answer q) ips ends
   pub since : IsTrue (list_all (nat_le start) moments)
   pub till : IsTrue (list_all (λ m. nat_le m now) moments)
   pub asked : t0 ≤ now
   pub timed : known.Timed q ips g ends moments start now
   -- its last entry is not before t0, or the deadline ended it
-  pub fresh : IsSomeAnd (last_or None moments) (λ m. t0 ≤ m) ⊎ ((result ≡ Err net.Timeout) × (start + given.timeout ≤ now))
+  pub fresh : IsSomeAnd (last_or None moments) (λ m. t0 ≤ m) ⊎ ((result ≡ Err net.Timeout) × (start + policy.timeout ≤ now))
 
 -- a lookup ended by this error
-abbrev pub Ended : Given → Known → Log → ℕ → Query → DomainName → List ℕ → NetError → Type 0
-Ended given known log t0 q z g e = Finished given known log t0 q z g (Err e)
+abbrev pub Ended : Policy → Known → Log → ℕ → Query → DomainName → List ℕ → NetError → Type 0
+Ended policy known log t0 q z g e = Finished policy known log t0 q z g (Err e)
 
 abbrev pub is_timeout : NetError → Bool
 is_timeout net.Timeout = true

@@ -8,10 +8,11 @@ use Rattle.dns_core.specs.declared.message.Message.{Message}
 use Rattle.dns_core.specs.declared.net_error.NetError.{NetError}
 use Rattle.dns_core.specs.declared.net_error.NetError.TheVariants as net
 use Rattle.dns_core.specs.declared.log.ToldOutcome.{ToldOutcome}
+use Rattle.resolver_settings.specs.Access.{denies}
 use Rattle.resolution.specs.Names.{is_above, candidates, question}
 use Rattle.resolution.specs.Records.{address}
 use Rattle.resolution.specs.Class.{class_of}
-use Rattle.resolution.specs.Given.{Given}
+use Rattle.recursor_types.specs.declared.policy.Policy.{Policy}
 use Rattle.resolution.specs.Serving.{Heard, targets, glue, allowed, is_delegation}
 use Rattle.resolution.specs.Answering.{Base, label_count}
 use Rattle.resolution.specs.Lookups.{Answered}
@@ -25,45 +26,45 @@ use Rattle.resolution.specs.declared.verdict.Verdict.TheVariants.{Pos, Neg, Made
 -- ---- delegations without addresses
 
 -- A delegation of c was told, and no allowed address of a target stands in it.
-pub record Glueless (given : Given) (log : Log) (t0 : ℕ) (c : DomainName) (k : Message) : Type 0 where
+pub record Glueless (policy : Policy) (log : Log) (t0 : ℕ) (c : DomainName) (k : Message) : Type 0 where
   pub i : ℕ
   pub z : DomainName
-  pub base : Base given log t0 (question c 2) i z (Pos k)
+  pub base : Base policy log t0 (question c 2) i z (Pos k)
   pub delegates : IsTrue (is_delegation k c)
-  pub none : allowed given.server_denied (glue k c) ≡ []
+  pub none : allowed (denies policy.server_filter) (glue k c) ≡ []
 
 -- the targets that are chased
 abbrev pub chased : Message → DomainName → List DomainName
 chased k c = take 5 (targets k c)
 
 -- both filters allow an address of the answers
-abbrev pub has_allowed_address : Given → Message → Bool
-has_allowed_address given m = list_any (λ ip. not (given.server_denied ip) && not (given.answer_denied ip)) (filter_map address m.answers)
+abbrev pub has_allowed_address : Policy → Message → Bool
+has_allowed_address policy m = list_any (λ ip. not (denies policy.server_filter ip) && not (denies policy.answer_filter ip)) (filter_map address m.answers)
 
 -- a negative, or no address that may be asked
-abbrev pub is_addressless : Given → Class → Bool
-is_addressless given (Negative n) = true
-is_addressless given (Positive m) = not (has_allowed_address given m)
-is_addressless given (Error e) = false
-is_addressless given (Code code) = false
-is_addressless given Truncated = false
-is_addressless given (Foreign r) = false
+abbrev pub is_addressless : Policy → Class → Bool
+is_addressless policy (Negative n) = true
+is_addressless policy (Positive m) = not (has_allowed_address policy m)
+is_addressless policy (Error e) = false
+is_addressless policy (Code code) = false
+is_addressless policy Truncated = false
+is_addressless policy (Foreign r) = false
 
 -- A question for an address of t was answered without one, or failed.
-pub data NoAddress (given : Given) (known : Known) (log : Log) (t0 : ℕ) (q : Query) (z : DomainName) : Type 0 where
+pub data NoAddress (policy : Policy) (known : Known) (log : Log) (t0 : ℕ) (q : Query) (z : DomainName) : Type 0 where
   none_in_answer : {i moment : ℕ} {o : ToldOutcome} {class : Class}
-      → Heard given log i q o moment z → t0 ≤ moment → class_of o q ≡ Some class → IsTrue (is_addressless given class) → NoAddress given known log t0 q z
-  no_answer : {g : List ℕ} {e : NetError} → Ended given known log t0 q z g e → NoAddress given known log t0 q z
+      → Heard policy log i q o moment z → t0 ≤ moment → class_of o q ≡ Some class → IsTrue (is_addressless policy class) → NoAddress policy known log t0 q z
+  no_answer : {g : List ℕ} {e : NetError} → Ended policy known log t0 q z g e → NoAddress policy known log t0 q z
 
-pub record TriedFor (given : Given) (known : Known) (log : Log) (t0 : ℕ) (c : DomainName) (q : Query) : Type 0 where
+pub record TriedFor (policy : Policy) (known : Known) (log : Log) (t0 : ℕ) (c : DomainName) (q : Query) : Type 0 where
   pub z : DomainName
-  pub walked : is_above c q.name ≡ false → Walked given log q z
-  pub none : NoAddress given known log t0 q z
+  pub walked : is_above c q.name ≡ false → Walked policy log q z
+  pub none : NoAddress policy known log t0 q z
 
 -- Both addresses of t were asked for and not given.
-pub record Tried (given : Given) (known : Known) (log : Log) (t0 : ℕ) (c t : DomainName) : Type 0 where
-  pub four : TriedFor given known log t0 c (question t 1)
-  pub six : TriedFor given known log t0 c (question t 28)
+pub record Tried (policy : Policy) (known : Known) (log : Log) (t0 : ℕ) (c t : DomainName) : Type 0 where
+  pub four : TriedFor policy known log t0 c (question t 1)
+  pub six : TriedFor policy known log t0 c (question t 28)
 
 -- ---- limits
 
@@ -72,17 +73,17 @@ abbrev pub are_apart : List ℕ → List ℕ → Bool
 are_apart xs ys = not (list_any (λ x. list_any (nat_eq x) ys) xs)
 
 -- This many lookups finished, by these entries, no two by the same.
-pub data Lookups (given : Given) (known : Known) (log : Log) (t0 : ℕ) : List ℕ → ℕ → Type 0 where
-  no_lookup : Lookups given known log t0 [] 0
+pub data Lookups (policy : Policy) (known : Known) (log : Log) (t0 : ℕ) : List ℕ → ℕ → Type 0 where
+  no_lookup : Lookups policy known log t0 [] 0
   one_more : {q : Query} {z : DomainName} {g used : List ℕ} {result : Answered} {n : ℕ}
-      → Finished given known log t0 q z g result → IsTrue (are_apart g used)
-      → Lookups given known log t0 used n → Lookups given known log t0 (g ++ used) (suc n)
+      → Finished policy known log t0 q z g result → IsTrue (are_apart g used)
+      → Lookups policy known log t0 used n → Lookups policy known log t0 (g ++ used) (suc n)
 
 -- at least a fifth of m lookups finished, since five equal targets share one
-pub record Spent (given : Given) (known : Known) (log : Log) (t0 m : ℕ) : Type 0 where
+pub record Spent (policy : Policy) (known : Known) (log : Log) (t0 m : ℕ) : Type 0 where
   pub used : List ℕ
   pub count : ℕ
-  pub lookups : Lookups given known log t0 used count
+  pub lookups : Lookups policy known log t0 used count
   pub enough : m ≤ 5 * count
 
 abbrev pub is_among : List DomainName → DomainName → Bool
@@ -90,30 +91,30 @@ is_among names n = list_any (same_names n) names
 
 mutual
   -- A walk to n and its chases enter at most m zones.
-  pub data Tour (given : Given) (log : Log) (t0 : ℕ) : DomainName → List DomainName → ℕ → Type 0 where
+  pub data Tour (policy : Policy) (log : Log) (t0 : ℕ) : DomainName → List DomainName → ℕ → Type 0 where
     tour : {n : DomainName} {stack : List DomainName} {m detours : ℕ}
-        → Detours given log t0 (candidates n) stack detours → m ≤ label_count n + detours → Tour given log t0 n stack m
+        → Detours policy log t0 (candidates n) stack detours → m ≤ label_count n + detours → Tour policy log t0 n stack m
 
   -- of the chases at these candidates
-  pub data Detours (given : Given) (log : Log) (t0 : ℕ) : List DomainName → List DomainName → ℕ → Type 0 where
-    no_candidate : {stack : List DomainName} → Detours given log t0 [] stack 0
+  pub data Detours (policy : Policy) (log : Log) (t0 : ℕ) : List DomainName → List DomainName → ℕ → Type 0 where
+    no_candidate : {stack : List DomainName} → Detours policy log t0 [] stack 0
     no_chase : {c : DomainName} {cs stack : List DomainName} {m : ℕ}
-        → Detours given log t0 cs stack m → Detours given log t0 (c ∷ cs) stack m
+        → Detours policy log t0 cs stack m → Detours policy log t0 (c ∷ cs) stack m
     chase : {c : DomainName} {k : Message} {cs stack : List DomainName} {a b : ℕ}
-        → is_among stack c ≡ false → Glueless given log t0 c k → Tours given log t0 (chased k c) (c ∷ stack) a
-        → Detours given log t0 cs stack b → Detours given log t0 (c ∷ cs) stack (a + b)
+        → is_among stack c ≡ false → Glueless policy log t0 c k → Tours policy log t0 (chased k c) (c ∷ stack) a
+        → Detours policy log t0 cs stack b → Detours policy log t0 (c ∷ cs) stack (a + b)
 
   -- of walks to these names
-  pub data Tours (given : Given) (log : Log) (t0 : ℕ) : List DomainName → List DomainName → ℕ → Type 0 where
-    no_name : {stack : List DomainName} → Tours given log t0 [] stack 0
+  pub data Tours (policy : Policy) (log : Log) (t0 : ℕ) : List DomainName → List DomainName → ℕ → Type 0 where
+    no_name : {stack : List DomainName} → Tours policy log t0 [] stack 0
     and_to : {t : DomainName} {ts stack : List DomainName} {a b : ℕ}
-        → Tour given log t0 t stack a → Tours given log t0 ts stack b → Tours given log t0 (t ∷ ts) stack (a + b)
+        → Tour policy log t0 t stack a → Tours policy log t0 ts stack b → Tours policy log t0 (t ∷ ts) stack (a + b)
 
 -- Lookups or zone entries are used up, for a question that walks to these names.
-pub data Worn (given : Given) (known : Known) (log : Log) (t0 : ℕ) (names : List DomainName) : Type 0 where
-  by_lookups : Spent given known log t0 191 → Worn given known log t0 names
-  by_entries : {m : ℕ} → Tours given log t0 names [] m → 1000 < m → Worn given known log t0 names
-  by_count : IsTrue known.exhausted → Worn given known log t0 names
+pub data Worn (policy : Policy) (known : Known) (log : Log) (t0 : ℕ) (names : List DomainName) : Type 0 where
+  by_lookups : Spent policy known log t0 191 → Worn policy known log t0 names
+  by_entries : {m : ℕ} → Tours policy log t0 names [] m → 1000 < m → Worn policy known log t0 names
+  by_count : IsTrue known.exhausted → Worn policy known log t0 names
 
 -- ---- walks that fail
 
@@ -125,36 +126,36 @@ ends_walk (Made cause) = true
 
 mutual
   -- c is delegated without addresses, and none is found for its targets; d is the depth before the walk.
-  pub data Barren (given : Given) (known : Known) (log : Log) (t0 : ℕ) (names : List DomainName) : DomainName → List DomainName → ℕ → Type 0 where
+  pub data Barren (policy : Policy) (known : Known) (log : Log) (t0 : ℕ) (names : List DomainName) : DomainName → List DomainName → ℕ → Type 0 where
     barren : {c : DomainName} {k : Message} {stack : List DomainName} {d : ℕ}
-        → Glueless given log t0 c k → length stack < 1000
-        → Dry given known log t0 names c (chased k c) (c ∷ stack) (d + label_count c)
-        → Barren given known log t0 names c stack d
+        → Glueless policy log t0 c k → length stack < 1000
+        → Dry policy known log t0 names c (chased k c) (c ∷ stack) (d + label_count c)
+        → Barren policy known log t0 names c stack d
 
   -- no address is found for these targets of c
-  pub data Dry (given : Given) (known : Known) (log : Log) (t0 : ℕ) (names : List DomainName) : DomainName → List DomainName → List DomainName → ℕ → Type 0 where
-    no_target : {c : DomainName} {stack : List DomainName} {d : ℕ} → Dry given known log t0 names c [] stack d
+  pub data Dry (policy : Policy) (known : Known) (log : Log) (t0 : ℕ) (names : List DomainName) : DomainName → List DomainName → List DomainName → ℕ → Type 0 where
+    no_target : {c : DomainName} {stack : List DomainName} {d : ℕ} → Dry policy known log t0 names c [] stack d
     asked : {c t : DomainName} {ts stack : List DomainName} {d : ℕ}
-        → Tried given known log t0 c t → Dry given known log t0 names c ts stack d
-        → Dry given known log t0 names c (t ∷ ts) stack d
+        → Tried policy known log t0 c t → Dry policy known log t0 names c ts stack d
+        → Dry policy known log t0 names c (t ∷ ts) stack d
     not_reached : {c t : DomainName} {ts stack : List DomainName} {d : ℕ}
-        → is_above c t ≡ false → WalkFail given known log t0 names t stack d → Dry given known log t0 names c ts stack d
-        → Dry given known log t0 names c (t ∷ ts) stack d
+        → is_above c t ≡ false → WalkFail policy known log t0 names t stack d → Dry policy known log t0 names c ts stack d
+        → Dry policy known log t0 names c (t ∷ ts) stack d
 
   -- A walk to n fails.
-  pub data WalkFail (given : Given) (known : Known) (log : Log) (t0 : ℕ) (names : List DomainName) : DomainName → List DomainName → ℕ → Type 0 where
+  pub data WalkFail (policy : Policy) (known : Known) (log : Log) (t0 : ℕ) (names : List DomainName) : DomainName → List DomainName → ℕ → Type 0 where
     entered : {n c : DomainName} {stack : List DomainName} {d : ℕ}
-        → Contains (candidates n) c → IsTrue (is_among stack c) → WalkFail given known log t0 names n stack d
+        → Contains (candidates n) c → IsTrue (is_among stack c) → WalkFail policy known log t0 names n stack d
     denied : {n c z : DomainName} {i : ℕ} {v : Verdict} {stack : List DomainName} {d : ℕ}
-        → Contains (candidates n) c → IsTrue given.strict → Base given log t0 (question c 2) i z v → IsTrue (ends_walk v)
-        → WalkFail given known log t0 names n stack d
+        → Contains (candidates n) c → IsTrue policy.strict → Base policy log t0 (question c 2) i z v → IsTrue (ends_walk v)
+        → WalkFail policy known log t0 names n stack d
     timed_out : {n c z : DomainName} {g : List ℕ} {stack : List DomainName} {d : ℕ}
-        → Contains (candidates n) c → Ended given known log t0 (question c 2) z g net.Timeout
-        → WalkFail given known log t0 names n stack d
+        → Contains (candidates n) c → Ended policy known log t0 (question c 2) z g net.Timeout
+        → WalkFail policy known log t0 names n stack d
     no_address : {n c : DomainName} {stack : List DomainName} {d : ℕ}
-        → Contains (candidates n) c → Barren given known log t0 names c stack d
-        → WalkFail given known log t0 names n stack d
+        → Contains (candidates n) c → Barren policy known log t0 names c stack d
+        → WalkFail policy known log t0 names n stack d
     too_deep : {n : DomainName} {stack : List DomainName} {d : ℕ}
-        → given.ns_recursion_limit ≤ d + label_count n → WalkFail given known log t0 names n stack d
+        → policy.ns_recursion_limit ≤ d + label_count n → WalkFail policy known log t0 names n stack d
     worn : {n : DomainName} {stack : List DomainName} {d : ℕ}
-        → Worn given known log t0 names → WalkFail given known log t0 names n stack d
+        → Worn policy known log t0 names → WalkFail policy known log t0 names n stack d

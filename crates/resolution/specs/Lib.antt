@@ -2,7 +2,6 @@ pub mod Names
 pub mod Records
 pub mod Same
 pub mod Class
-pub mod Given
 pub mod Verdict
 pub mod Life
 pub mod Telling

@@ -9,10 +9,11 @@ use Rattle.dns_core.specs.declared.message.Query.{Query}
 use Rattle.dns_core.specs.declared.message.Message.{Message}
 use Rattle.dns_core.specs.declared.record.Record.{Record}
 use Rattle.dns_core.specs.declared.log.ToldOutcome.{ToldOutcome}
+use Rattle.resolver_settings.specs.Access.{denies}
 use Rattle.resolution.specs.Names.{root, is_root, base, is_above, walk, question}
 use Rattle.resolution.specs.Records.{address, ns_target, records}
 use Rattle.resolution.specs.Class.{class_of}
-use Rattle.resolution.specs.Given.{Given}
+use Rattle.recursor_types.specs.declared.policy.Policy.{Policy}
 use Rattle.resolution.specs.Verdict.{verdict, is_all_denied}
 use Rattle.resolution.specs.Telling.{Tells}
 use Rattle.resolution.specs.declared.class.Class.TheVariants.{Positive}
@@ -51,32 +52,32 @@ IsAddressQuestion t q = (q ≡ question t 1) ⊎ (q ≡ question t 28)
 
 mutual
   -- By what was told below n, the address serves the zone.
-  pub data Serves (given : Given) (log : Log) : ℕ → IpAddr → DomainName → Type 0 where
+  pub data Serves (policy : Policy) (log : Log) : ℕ → IpAddr → DomainName → Type 0 where
     -- a root serves the root
-    of_root : {n : ℕ} {ip : IpAddr} → Contains given.roots ip → Serves given log n ip root
+    of_root : {n : ℕ} {ip : IpAddr} → Contains policy.roots ip → Serves policy log n ip root
     -- a delegation of the zone has the address beside it
     of_glue : {n : ℕ} {ip : IpAddr} {c : DomainName} {k : Message}
-        → Delegates given log n c k → given.server_denied ip ≡ false
-        → Contains (glue k c) ip → Serves given log n ip c
+        → Delegates policy log n c k → denies policy.server_filter ip ≡ false
+        → Contains (glue k c) ip → Serves policy log n ip c
     -- what counts of the answer to an address question for one of its servers has the address under the name of one
     of_target : {n j moment : ℕ} {ip : IpAddr} {c t z : DomainName} {k answer : Message} {q : Query} {o : ToldOutcome}
-        → Delegates given log n c k → given.server_denied ip ≡ false
-        → Contains (targets k c) t → IsAddressQuestion t q → j < n → Heard given log j q o moment z
-        → verdict given o q z ≡ Some (Pos answer) → Contains (addresses_under (targets k c) (records answer)) ip → Serves given log n ip c
+        → Delegates policy log n c k → denies policy.server_filter ip ≡ false
+        → Contains (targets k c) t → IsAddressQuestion t q → j < n → Heard policy log j q o moment z
+        → verdict policy o q z ≡ Some (Pos answer) → Contains (addresses_under (targets k c) (records answer)) ip → Serves policy log n ip c
     -- the answer to an address question for one of its servers has the address, under any name
     of_answer : {n j moment : ℕ} {ip : IpAddr} {c t z : DomainName} {k m : Message} {q : Query} {o : ToldOutcome}
-        → Delegates given log n c k → given.server_denied ip ≡ false
-        → Contains (targets k c) t → IsAddressQuestion t q → j < n → Heard given log j q o moment z
-        → class_of o q ≡ Some (Positive m) → is_all_denied given.answer_denied m ≡ false
-        → Contains (filter_map address m.answers) ip → given.answer_denied ip ≡ false → Serves given log n ip c
+        → Delegates policy log n c k → denies policy.server_filter ip ≡ false
+        → Contains (targets k c) t → IsAddressQuestion t q → j < n → Heard policy log j q o moment z
+        → class_of o q ≡ Some (Positive m) → is_all_denied (denies policy.answer_filter) m ≡ false
+        → Contains (filter_map address m.answers) ip → denies policy.answer_filter ip ≡ false → Serves policy log n ip c
 
   -- Below n a delegation of c, which is not the root, was told, and k is what counts of it.
-  pub data Delegates (given : Given) (log : Log) : ℕ → DomainName → Message → Type 0 where
+  pub data Delegates (policy : Policy) (log : Log) : ℕ → DomainName → Message → Type 0 where
     delegates : {n i moment : ℕ} {c z : DomainName} {k : Message} {o : ToldOutcome}
-        → i < n → Heard given log i (question c 2) o moment z
-        → verdict given o (question c 2) z ≡ Some (Pos k) → IsTrue (is_delegation k c) → is_root c ≡ false → Delegates given log n c k
+        → i < n → Heard policy log i (question c 2) o moment z
+        → verdict policy o (question c 2) z ≡ Some (Pos k) → IsTrue (is_delegation k c) → is_root c ≡ false → Delegates policy log n c k
 
   -- Entry i tells the outcome for the question, by an address that served the zone when it was asked, and the zone is at or above the name.
-  pub data Heard (given : Given) (log : Log) : ℕ → Query → ToldOutcome → ℕ → DomainName → Type 0 where
+  pub data Heard (policy : Policy) (log : Log) : ℕ → Query → ToldOutcome → ℕ → DomainName → Type 0 where
     heard : {i ask moment : ℕ} {q : Query} {o : ToldOutcome} {teller : IpAddr} {z : DomainName}
-        → Tells log i q o ask teller moment → Serves given log ask teller z → IsTrue (is_above z (walk q)) → Heard given log i q o moment z
+        → Tells log i q o ask teller moment → Serves policy log ask teller z → IsTrue (is_above z (walk q)) → Heard policy log i q o moment z

@@ -7,15 +7,20 @@ use Rattle.dns_core.specs.declared.message.Message.{Message}
 use Rattle.dns_core.specs.declared.record.Record.{Record}
 use Rattle.dns_core.specs.declared.net_error.NoRecords.{NoRecords}
 use Rattle.dns_core.specs.declared.log.ToldOutcome.{ToldOutcome}
+use Rattle.resolver_settings.specs.Access.{denies}
 use Rattle.resolution.specs.Names.{is_above}
 use Rattle.resolution.specs.Records.{address, only}
 use Rattle.resolution.specs.Class.{class_of}
-use Rattle.resolution.specs.Given.{Given}
+use Rattle.recursor_types.specs.declared.policy.Policy.{Policy}
 use Rattle.resolution.specs.declared.class.Class.{Class}
 use Rattle.resolution.specs.declared.class.Class.TheVariants.{Error, Code, Truncated, Negative, Foreign, Positive}
 use Rattle.resolution.specs.declared.verdict.Verdict.{Verdict}
 use Rattle.resolution.specs.declared.verdict.Verdict.TheVariants.{Pos, Neg, Made}
 use Rattle.resolution.specs.declared.verdict.Cause.TheVariants.{Filter, Zone}
+
+-- the filter that denies nothing
+abbrev pub allows_all : IpAddr → Bool
+allows_all ip = false
 
 -- the filter denies the address that the record holds
 abbrev pub holds_denied : (IpAddr → Bool) → Record → Bool
@@ -73,5 +78,5 @@ verdict_of_told denied None z = None
 verdict_of_told denied (Some class) z = verdict_of_class denied class z
 
 -- what was told for a question counts for, seen from a zone
-abbrev pub verdict : Given → ToldOutcome → Query → DomainName → Option Verdict
-verdict given o q z = verdict_of_told given.answer_denied (class_of o q) z
+abbrev pub verdict : Policy → ToldOutcome → Query → DomainName → Option Verdict
+verdict policy o q z = verdict_of_told (denies policy.answer_filter) (class_of o q) z

@@ -6,7 +6,8 @@ ghost use Rattle.dns_core.specs.Name.{DomainName};
 ghost use Rattle.dns_core.specs.Log.{Log, Extends};
 ghost use Rattle.dns_core.specs.declared.message.Query.{Query};
 ghost use Rattle.dns_core.specs.declared.message.Message.{Message};
-ghost use Rattle.resolution.specs.Given.{Given, with_patience};
+ghost use Rattle.recursor_types.specs.declared.policy.Policy.{Policy};
+ghost use Rattle.recursor_types.specs.Policy.{with_patience};
 ghost use Rattle.resolution.specs.Telling.{AgreeBelow};
 ghost use Rattle.resolution.specs.Serving.{Serves};
 ghost use Rattle.resolution.specs.Answering.{Base, Answer};
@@ -15,27 +16,27 @@ ghost use Rattle.resolution.specs.declared.verdict.Verdict.{Verdict};
 /// An address serves a zone, an entry answers a question and a reply rests on entries by a longer
 /// log too; a reply also where less patience is given, by which a name is shown to be no cut.
 pub fn a_longer_log_keeps_answers()
-    ensures serves { (given : Given) (old new : Log) (n : ℕ) (ip : IpAddr) (z : DomainName) →
-        Extends old new → Serves given old n ip z → Serves given new n ip z }
-    ensures base { (given : Given) (old new : Log) (t0 : ℕ) (q : Query) (i : ℕ) (z : DomainName) (v : Verdict) →
-        Extends old new → Base given old t0 q i z v → Base given new t0 q i z v }
-    ensures answer { (given : Given) (less : ℕ) (old new : Log) (t0 : ℕ) (q : Query) (dnssec : Bool) (g : List ℕ) (r : Message) →
-        less ≤ given.patience → Extends old new → Answer given old t0 q dnssec g r → Answer (with_patience less given) new t0 q dnssec g r }
+    ensures serves { (policy : Policy) (old new : Log) (n : ℕ) (ip : IpAddr) (z : DomainName) →
+        Extends old new → Serves policy old n ip z → Serves policy new n ip z }
+    ensures base { (policy : Policy) (old new : Log) (t0 : ℕ) (q : Query) (i : ℕ) (z : DomainName) (v : Verdict) →
+        Extends old new → Base policy old t0 q i z v → Base policy new t0 q i z v }
+    ensures answer { (policy : Policy) (less : ℕ) (old new : Log) (t0 : ℕ) (q : Query) (dnssec : Bool) (g : List ℕ) (r : Message) →
+        less ≤ policy.patience → Extends old new → Answer policy old t0 q dnssec g r → Answer (with_patience less policy) new t0 q dnssec g r }
 {}
 
 /// Neither who serves a zone nor what an entry answers reads how patient the resolver is.
 pub fn patience_is_not_read()
-    ensures serves { (given : Given) (patience : ℕ) (log : Log) (n : ℕ) (ip : IpAddr) (z : DomainName) →
-        Serves given log n ip z → Serves (with_patience patience given) log n ip z }
-    ensures base { (given : Given) (patience : ℕ) (log : Log) (t0 : ℕ) (q : Query) (i : ℕ) (z : DomainName) (v : Verdict) →
-        Base given log t0 q i z v → Base (with_patience patience given) log t0 q i z v }
+    ensures serves { (policy : Policy) (patience : ℕ) (log : Log) (n : ℕ) (ip : IpAddr) (z : DomainName) →
+        Serves policy log n ip z → Serves (with_patience patience policy) log n ip z }
+    ensures base { (policy : Policy) (patience : ℕ) (log : Log) (t0 : ℕ) (q : Query) (i : ℕ) (z : DomainName) (v : Verdict) →
+        Base policy log t0 q i z v → Base (with_patience patience policy) log t0 q i z v }
 {}
 
 /// Who serves a zone at a number is read from the entries below it alone, and at a later number it
 /// serves still.
 pub fn only_earlier_entries_are_read()
-    ensures below { (given : Given) (a b : Log) (n : ℕ) (ip : IpAddr) (z : DomainName) →
-        AgreeBelow n a b → Serves given a n ip z → Serves given b n ip z }
-    ensures later { (given : Given) (log : Log) (n m : ℕ) (ip : IpAddr) (z : DomainName) →
-        n ≤ m → Serves given log n ip z → Serves given log m ip z }
+    ensures below { (policy : Policy) (a b : Log) (n : ℕ) (ip : IpAddr) (z : DomainName) →
+        AgreeBelow n a b → Serves policy a n ip z → Serves policy b n ip z }
+    ensures later { (policy : Policy) (log : Log) (n m : ℕ) (ip : IpAddr) (z : DomainName) →
+        n ≤ m → Serves policy log n ip z → Serves policy log m ip z }
 {}

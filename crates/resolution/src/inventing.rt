@@ -6,9 +6,10 @@ ghost use Rattle.dns_core.specs.Log.{Log};
 ghost use Rattle.dns_core.specs.declared.message.Query.{Query};
 ghost use Rattle.dns_core.specs.declared.message.Message.{Message};
 ghost use Rattle.dns_core.specs.declared.log.ToldOutcome.{ToldOutcome};
+ghost use Rattle.resolver_settings.specs.Access.{denies};
 ghost use Rattle.resolution.specs.Names.{root, question};
 ghost use Rattle.resolution.specs.Records.{records};
-ghost use Rattle.resolution.specs.Given.{Given};
+ghost use Rattle.recursor_types.specs.declared.policy.Policy.{Policy};
 ghost use Rattle.resolution.specs.Verdict.{verdict, in_zone, holds_denied};
 ghost use Rattle.resolution.specs.Telling.{IsTold, WasAsked};
 ghost use Rattle.resolution.specs.Serving.{Serves};
@@ -16,20 +17,20 @@ ghost use Rattle.resolution.specs.declared.verdict.Verdict.TheVariants.{Pos};
 
 /// An address that serves a zone is a root, or a message that was told holds it.
 pub fn no_address_is_invented()
-    ensures { (given : Given) (log : Log) (n : ℕ) (ip : IpAddr) (z : DomainName) →
-        Serves given log n ip z → Contains given.roots ip ⊎ IsTold log ip }
+    ensures { (policy : Policy) (log : Log) (n : ℕ) (ip : IpAddr) (z : DomainName) →
+        Serves policy log n ip z → Contains policy.roots ip ⊎ IsTold log ip }
 {}
 
 /// A zone that is served is the root, by its roots, or its NS records were asked for.
 pub fn no_zone_is_served_unasked()
-    ensures { (given : Given) (log : Log) (n : ℕ) (ip : IpAddr) (z : DomainName) →
-        Serves given log n ip z → ((z ≡ root) × Contains given.roots ip) ⊎ WasAsked log (question z 2) }
+    ensures { (policy : Policy) (log : Log) (n : ℕ) (ip : IpAddr) (z : DomainName) →
+        Serves policy log n ip z → ((z ≡ root) × Contains policy.roots ip) ⊎ WasAsked log (question z 2) }
 {}
 
 /// What counts of an answer lies in the zone and holds no denied address.
 pub fn nothing_counts_outside_a_zone()
-    ensures inside { (given : Given) (o : ToldOutcome) (q : Query) (z : DomainName) (k : Message) →
-        verdict given o q z ≡ Some (Pos k) → All (λ r. in_zone z r ≡ true) (records k) }
-    ensures allowed { (given : Given) (o : ToldOutcome) (q : Query) (z : DomainName) (k : Message) →
-        verdict given o q z ≡ Some (Pos k) → All (λ r. holds_denied given.answer_denied r ≡ false) (records k) }
+    ensures inside { (policy : Policy) (o : ToldOutcome) (q : Query) (z : DomainName) (k : Message) →
+        verdict policy o q z ≡ Some (Pos k) → All (λ r. in_zone z r ≡ true) (records k) }
+    ensures allowed { (policy : Policy) (o : ToldOutcome) (q : Query) (z : DomainName) (k : Message) →
+        verdict policy o q z ≡ Some (Pos k) → All (λ r. holds_denied (denies policy.answer_filter) r ≡ false) (records k) }
 {}

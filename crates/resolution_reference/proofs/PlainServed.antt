@@ -12,6 +12,7 @@ use Rattle.dns_core.specs.declared.message.Message.{Message}
 use Rattle.dns_core.specs.declared.record.Record.{Record}
 use Rattle.dns_core.specs.declared.log.ToldOutcome.{ToldOutcome}
 use Rattle.dns_core.specs.declared.log.ToldOutcome.TheVariants as told
+use Rattle.resolver_settings.specs.Access.{denies}
 use Rattle.resolution.specs.Names.{is_above, base}
 use Rattle.resolution.specs.Records.{address, records}
 use Rattle.resolution.specs.Class.{class_of, class_of_message, has_no_data_for, is_foreign}
@@ -30,7 +31,7 @@ use Rattle.resolution.specs.Serving.Delegates.{delegates}
 use Rattle.resolution.specs.Serving.Heard.{heard}
 use Rattle.resolution_reference.specs.Plain.{asks, kept, passes, has_in_answers}
 use Rattle.resolution_reference.specs.declared.kept.kept.Kept.{Kept}
-use Rattle.resolution_reference.specs.PlainServing.{given_of, log_in, AnswerGives, TargetGives, Lists, ListedBy, ListedFrom, GivenFrom, ServerGives}
+use Rattle.resolution_reference.specs.PlainServing.{log_in, AnswerGives, TargetGives, Lists, ListedBy, ListedFrom, GivenFrom, ServerGives}
 use Rattle.resolution_reference.specs.PlainServing.AnswerGives.{under, anywhere}
 use Rattle.resolution_reference.specs.PlainServing.TargetGives.{gives}
 use Rattle.resolution_reference.specs.PlainServing.Lists.{beside, for_server}
@@ -186,10 +187,10 @@ cut_above ls cut h =
 -- ---- what counts
 
 module _ (s : Setting) where
-  counted : (m k : Message) (ls : List (List ℕ)) → verdict_of_message (among s.answer_denied.now) m (apex ls) ≡ Pos k → (counts_of s.answer_denied.now ls m ≡ true) × (k ≡ left_of s.answer_denied.now ls m)
-  counted m k ls e = elim (chosen (is_all_denied (among s.answer_denied.now) m) _ _ _ e) [
+  counted : (m k : Message) (ls : List (List ℕ)) → verdict_of_message (denies s.policy.now.answer_filter) m (apex ls) ≡ Pos k → (counts_of s.policy.now.answer_filter ls m ≡ true) × (k ≡ left_of s.policy.now.answer_filter ls m)
+  counted m k ls e = elim (chosen (is_all_denied (denies s.policy.now.answer_filter) m) _ _ _ e) [
     | inl a ↦ let x = a.1 in cc
-    | inr a ↦ elim (chosen (emptied (without_denied (among s.answer_denied.now) m) (left_of s.answer_denied.now ls m)) _ _ _ a.1) [
+    | inr a ↦ elim (chosen (emptied (without_denied (denies s.policy.now.answer_filter) m) (left_of s.policy.now.answer_filter ls m)) _ _ _ a.1) [
       | inl b ↦ let x = b.1 in cc
       | inr b ↦ let x = b.1 in (join _ _ (false_not _ a.0) (false_not _ b.0), cc)
     ]
@@ -201,15 +202,15 @@ module _ (s : Setting) where
   message_by false true m e f = cc
 
   -- an answer that counts in a zone counts there with what is left of it
-  pub counts-verdict : (q : Query) (m : Message) (ls : List (List ℕ)) → is_answer q m ≡ true → counts_of s.answer_denied.now ls m ≡ true → verdict (given_of s) (told.Message m) q (apex ls) ≡ Some (Pos (left_of s.answer_denied.now ls m))
+  pub counts-verdict : (q : Query) (m : Message) (ls : List (List ℕ)) → is_answer q m ≡ true → counts_of s.policy.now.answer_filter ls m ≡ true → verdict s.policy.now (told.Message m) q (apex ls) ≡ Some (Pos (left_of s.policy.now.answer_filter ls m))
   counts-verdict q m ls e c =
       let parts = split _ _ c in
-      ap (λ (x : Option Class). verdict_of_told (among s.answer_denied.now) x (apex ls)) (is_answer-class q m e)
-      ∙ ap Some (message_by _ _ (left_of s.answer_denied.now ls m) (not_false _ parts.0) (not_false _ parts.1))
+      ap (λ (x : Option Class). verdict_of_told (denies s.policy.now.answer_filter) x (apex ls)) (is_answer-class q m e)
+      ∙ ap Some (message_by _ _ (left_of s.policy.now.answer_filter ls m) (not_false _ parts.0) (not_false _ parts.1))
 
-  pub verdict-counts : (q : Query) (m k : Message) (ls : List (List ℕ)) → class_of (told.Message m) q ≡ Some (Positive m) → verdict (given_of s) (told.Message m) q (apex ls) ≡ Some (Pos k) → (counts_of s.answer_denied.now ls m ≡ true) × (k ≡ left_of s.answer_denied.now ls m)
+  pub verdict-counts : (q : Query) (m k : Message) (ls : List (List ℕ)) → class_of (told.Message m) q ≡ Some (Positive m) → verdict s.policy.now (told.Message m) q (apex ls) ≡ Some (Pos k) → (counts_of s.policy.now.answer_filter ls m ≡ true) × (k ≡ left_of s.policy.now.answer_filter ls m)
   verdict-counts q m k ls e v =
-      let w = ap (λ (x : Option Class). verdict_of_told (among s.answer_denied.now) x (apex ls)) (sym e) ∙ v in
+      let w = ap (λ (x : Option Class). verdict_of_told (denies s.policy.now.answer_filter) x (apex ls)) (sym e) ∙ v in
       counted m k ls cc
 
   -- ---- who told
@@ -220,12 +221,12 @@ module _ (s : Setting) where
     pub teller : IpAddr
     pub moment : ℕ
     pub tells : Tells (log_in s) i q (told.Message m) ask teller moment
-    pub serves : Serves (given_of s) (log_in s) ask teller z
+    pub serves : Serves s.policy.now (log_in s) ask teller z
     pub above : is_above z (walk q) ≡ true
     pub answers : is_answer q m ≡ true
     pub class : class_of (told.Message m) q ≡ Some (Positive m)
 
-  pub heard_answer : {i moment : ℕ} {q : Query} {o : ToldOutcome} {z : DomainName} (m : Message) → Heard (given_of s) (log_in s) i q o moment z → class_of o q ≡ Some (Positive m) → AnsweredBy i q m z
+  pub heard_answer : {i moment : ℕ} {q : Query} {o : ToldOutcome} {z : DomainName} (m : Message) → Heard s.policy.now (log_in s) i q o moment z → class_of o q ≡ Some (Positive m) → AnsweredBy i q m z
   heard_answer m (heard {i = i} {ask = ask} {moment = moment} {q = q} {o = o} {teller = teller} t x a) e =
       let is = class_of-positive o q m e in
       let class = ap (λ (x : ToldOutcome). class_of x q) (sym is) ∙ e in
@@ -260,40 +261,40 @@ module _ (s : Setting) where
 
   pub none_listed : (i n : ℕ) (ip : IpAddr) (zone : List (List ℕ))
       → ((ask moment : ℕ) (teller : IpAddr) (m : Message) → Tells (log_in s) i (asks zone 2 1) (told.Message m) ask teller moment → is_answer (asks zone 2 1) m ≡ true → ⊥)
-      → ListedBy (given_of s) (log_in s) i n ip (apex zone) → ⊥
+      → ListedBy s.policy.now (log_in s) i n ip (apex zone) → ⊥
   none_listed i n ip zone none (listed_by {z = z} {o = o} {k = k} h v d l) =
-      let counts = verdict-pos (given_of s) o (asks zone 2 1) z k v in
+      let counts = verdict-pos s.policy.now o (asks zone 2 1) z k v in
       let by = heard_answer counts.message h counts.class in
       none by.ask by.moment by.teller counts.message by.tells by.answers
 
   -- at the zone that lies behind a cut
   pub listed_from : (i n ask moment : ℕ) (ip teller : IpAddr) (zone : List (List ℕ)) (m : Message) → Tells (log_in s) i (asks zone 2 1) (told.Message m) ask teller moment
-      → ListedBy (given_of s) (log_in s) i n ip (apex zone) → (k : ℕ) × (k < length zone + 1) × ListedFrom (given_of s) (log_in s) ask teller s.answer_denied.now (drop k zone) m n ip (apex zone)
+      → ListedBy s.policy.now (log_in s) i n ip (apex zone) → (k : ℕ) × (k < length zone + 1) × ListedFrom s.policy.now (log_in s) ask teller s.policy.now.answer_filter (drop k zone) m n ip (apex zone)
   listed_from i n ask moment ip teller zone m t (listed_by {z = z} {o = o} {k = k} h v d l) =
       let q = asks zone 2 1 in
-      let counts = verdict-pos (given_of s) o q z k v in
+      let counts = verdict-pos s.policy.now o q z k v in
       let by = heard_answer counts.message h counts.class in
       let one = one_telling t by.tells in
       let cut : (n : ℕ) × (n < length zone + 1) × (same_names z (apex (drop n zone)) ≡ true) = cut_of z zone by.above in
-      let serves = Serves-zone (apex (drop cut.0 zone)) cut.2 (subst (λ (n : ℕ). Serves (given_of s) (log_in s) n by.teller z) one.ask by.serves) in
-      let at = subst (λ (x : ToldOutcome). verdict (given_of s) x q (apex (drop cut.0 zone)) ≡ Some (Pos k)) counts.told (sym (verdict-zone z (apex (drop cut.0 zone)) cut.2 (given_of s) o q) ∙ v) in
-      let told_so = subst (λ (x : Message). (counts_of s.answer_denied.now (drop cut.0 zone) x ≡ true) × (k ≡ left_of s.answer_denied.now (drop cut.0 zone) x)) one.message (verdict-counts q counts.message k (drop cut.0 zone) by.class at) in (
+      let serves = Serves-zone (apex (drop cut.0 zone)) cut.2 (subst (λ (n : ℕ). Serves s.policy.now (log_in s) n by.teller z) one.ask by.serves) in
+      let at = subst (λ (x : ToldOutcome). verdict s.policy.now x q (apex (drop cut.0 zone)) ≡ Some (Pos k)) counts.told (sym (verdict-zone z (apex (drop cut.0 zone)) cut.2 s.policy.now o q) ∙ v) in
+      let told_so = subst (λ (x : Message). (counts_of s.policy.now.answer_filter (drop cut.0 zone) x ≡ true) × (k ≡ left_of s.policy.now.answer_filter (drop cut.0 zone) x)) one.message (verdict-counts q counts.message k (drop cut.0 zone) by.class at) in (
         cut.0,
         cut.1,
         record {
-          serves = subst (λ (x : IpAddr). Serves (given_of s) (log_in s) ask x (apex (drop cut.0 zone))) one.teller serves;
+          serves = subst (λ (x : IpAddr). Serves s.policy.now (log_in s) ask x (apex (drop cut.0 zone))) one.teller serves;
           counts = told_so.0;
           delegates = subst (λ (x : Message). is_delegation x (apex zone) ≡ true) told_so.1 d;
-          lists = subst (λ (x : Message). Lists (given_of s) (log_in s) n ip (apex zone) x) told_so.1 l;
+          lists = subst (λ (x : Message). Lists s.policy.now (log_in s) n ip (apex zone) x) told_so.1 l;
         },
       )
 
   pub from_listed : (i n ask moment k : ℕ) (ip teller : IpAddr) (zone : List (List ℕ)) (m : Message) → Tells (log_in s) i (asks zone 2 1) (told.Message m) ask teller moment → is_answer (asks zone 2 1) m ≡ true
-      → k < length zone + 1 → ListedFrom (given_of s) (log_in s) ask teller s.answer_denied.now (drop k zone) m n ip (apex zone) → ListedBy (given_of s) (log_in s) i n ip (apex zone)
+      → k < length zone + 1 → ListedFrom s.policy.now (log_in s) ask teller s.policy.now.answer_filter (drop k zone) m n ip (apex zone) → ListedBy s.policy.now (log_in s) i n ip (apex zone)
   from_listed i n ask moment k ip teller zone m t e h f =
       listed_by (heard t f.serves (cut_above zone k h)) (counts-verdict (asks zone 2 1) m (drop k zone) e f.counts) f.delegates f.lists
 
-  pub to_serves : {i n : ℕ} {ip : IpAddr} {c : DomainName} → is_root c ≡ false → among s.server_denied.now ip ≡ false → i < n → ListedBy (given_of s) (log_in s) i n ip c → Serves (given_of s) (log_in s) n ip c
+  pub to_serves : {i n : ℕ} {ip : IpAddr} {c : DomainName} → is_root c ≡ false → denies s.policy.now.server_filter ip ≡ false → i < n → ListedBy s.policy.now (log_in s) i n ip c → Serves s.policy.now (log_in s) n ip c
   to_serves r a i (listed_by h v d (beside g)) = of_glue (delegates i h v d r) a g
   to_serves r a i (listed_by h v d (for_server t (gives q j (under x w g)))) = of_target (delegates i h v d r) a t q j x w g
   to_serves r a i (listed_by h v d (for_server t (gives q j (anywhere x p f g y)))) = of_answer (delegates i h v d r) a t q j x p f g y
@@ -301,16 +302,16 @@ module _ (s : Setting) where
   pub record IsListed (n : ℕ) (ip : IpAddr) (c : DomainName) : Type 0 where
     pub i : ℕ
     pub below : i < n
-    pub allowed : among s.server_denied.now ip ≡ false
-    pub listed : ListedBy (given_of s) (log_in s) i n ip c
+    pub allowed : denies s.policy.now.server_filter ip ≡ false
+    pub listed : ListedBy s.policy.now (log_in s) i n ip c
 
-  pub of_serves : {n : ℕ} {ip : IpAddr} {c : DomainName} → is_root c ≡ false → Serves (given_of s) (log_in s) n ip c → IsListed n ip c
+  pub of_serves : {n : ℕ} {ip : IpAddr} {c : DomainName} → is_root c ≡ false → Serves s.policy.now (log_in s) n ip c → IsListed n ip c
   of_serves e (of_root r) = cc
   of_serves e (of_glue (delegates {i = i} h v x d r) a g) = record { i = i; below = h; allowed = a; listed = listed_by v x d (beside g) }
   of_serves e (of_target (delegates {i = i} h v x d r) a t q j y w g) = record { i = i; below = h; allowed = a; listed = listed_by v x d (for_server t (gives q j (under y w g))) }
   of_serves e (of_answer (delegates {i = i} h v x d r) a t q j y p f g z) = record { i = i; below = h; allowed = a; listed = listed_by v x d (for_server t (gives q j (anywhere y p f g z))) }
 
-  pub root_serves : {n : ℕ} {ip : IpAddr} {c : DomainName} → is_root c ≡ true → Serves (given_of s) (log_in s) n ip c → Contains s.roots.now ip
+  pub root_serves : {n : ℕ} {ip : IpAddr} {c : DomainName} → is_root c ≡ true → Serves s.policy.now (log_in s) n ip c → Contains s.policy.now.roots ip
   root_serves e (of_root r) = r
   root_serves e (of_glue (delegates h v x d r) a g) = cc
   root_serves e (of_target (delegates h v x d r) a t q j y w g) = cc
@@ -320,9 +321,9 @@ module _ (s : Setting) where
 
   pub none_given : (j ty : ℕ) (ip : IpAddr) (names : List DomainName) (labels : List (List ℕ))
       → ((ask moment : ℕ) (teller : IpAddr) (m : Message) → Tells (log_in s) j (asks labels ty 1) (told.Message m) ask teller moment → is_answer (asks labels ty 1) m ≡ true → ⊥)
-      → AnswerGives (given_of s) (log_in s) j ip names (asks labels ty 1) → ⊥
+      → AnswerGives s.policy.now (log_in s) j ip names (asks labels ty 1) → ⊥
   none_given j ty ip names labels none (under {o = o} {z = z} {answer = k} h v g) =
-      let counts = verdict-pos (given_of s) o (asks labels ty 1) z k v in
+      let counts = verdict-pos s.policy.now o (asks labels ty 1) z k v in
       let by = heard_answer counts.message h counts.class in
       none by.ask by.moment by.teller counts.message by.tells by.answers
   none_given j ty ip names labels none (anywhere {m = m} h p f g y) =
@@ -346,22 +347,22 @@ module _ (s : Setting) where
   plain_walk labels ty z e = ap (λ (b : Bool). is_above z (cond b (base (apex labels)) (apex labels))) e
 
   pub given_from : (j ask moment ty : ℕ) (ip teller : IpAddr) (labels : List (List ℕ)) (m delegation : Message) (c : DomainName) → (ty == 43) ≡ false
-      → Tells (log_in s) j (asks labels ty 1) (told.Message m) ask teller moment → AnswerGives (given_of s) (log_in s) j ip (targets delegation c) (asks labels ty 1)
-      → (k : ℕ) × (k < length labels + 1) × GivenFrom (given_of s) (log_in s) ask teller s.answer_denied.now (drop k labels) m delegation c ip
+      → Tells (log_in s) j (asks labels ty 1) (told.Message m) ask teller moment → AnswerGives s.policy.now (log_in s) j ip (targets delegation c) (asks labels ty 1)
+      → (k : ℕ) × (k < length labels + 1) × GivenFrom s.policy.now (log_in s) ask teller s.policy.now.answer_filter (drop k labels) m delegation c ip
   given_from j ask moment ty ip teller labels m delegation c plain t (under {o = o} {z = z} {answer = k} h v g) =
       let q = asks labels ty 1 in
-      let counts = verdict-pos (given_of s) o q z k v in
+      let counts = verdict-pos s.policy.now o q z k v in
       let by = heard_answer counts.message h counts.class in
       let one = one_telling t by.tells in
       let cut : (n : ℕ) × (n < length labels + 1) × (same_names z (apex (drop n labels)) ≡ true) = cut_of z labels (sym (plain_walk labels ty z plain) ∙ by.above) in
-      let serves = Serves-zone (apex (drop cut.0 labels)) cut.2 (subst (λ (n : ℕ). Serves (given_of s) (log_in s) n by.teller z) one.ask by.serves) in
-      let at = subst (λ (x : ToldOutcome). verdict (given_of s) x q (apex (drop cut.0 labels)) ≡ Some (Pos k)) counts.told (sym (verdict-zone z (apex (drop cut.0 labels)) cut.2 (given_of s) o q) ∙ v) in
-      let told_so = subst (λ (x : Message). (counts_of s.answer_denied.now (drop cut.0 labels) x ≡ true) × (k ≡ left_of s.answer_denied.now (drop cut.0 labels) x)) one.message (verdict-counts q counts.message k (drop cut.0 labels) by.class at) in (
+      let serves = Serves-zone (apex (drop cut.0 labels)) cut.2 (subst (λ (n : ℕ). Serves s.policy.now (log_in s) n by.teller z) one.ask by.serves) in
+      let at = subst (λ (x : ToldOutcome). verdict s.policy.now x q (apex (drop cut.0 labels)) ≡ Some (Pos k)) counts.told (sym (verdict-zone z (apex (drop cut.0 labels)) cut.2 s.policy.now o q) ∙ v) in
+      let told_so = subst (λ (x : Message). (counts_of s.policy.now.answer_filter (drop cut.0 labels) x ≡ true) × (k ≡ left_of s.policy.now.answer_filter (drop cut.0 labels) x)) one.message (verdict-counts q counts.message k (drop cut.0 labels) by.class at) in (
         cut.0,
         cut.1,
         record {
-          serves = subst (λ (x : IpAddr). Serves (given_of s) (log_in s) ask x (apex (drop cut.0 labels))) one.teller serves;
-          gives = or_left _ _ (join _ _ told_so.0 (test-under delegation c ip (records (left_of s.answer_denied.now (drop cut.0 labels) m)) (subst (λ (x : Message). Contains (addresses_under (targets delegation c) (records x)) ip) told_so.1 g)));
+          serves = subst (λ (x : IpAddr). Serves s.policy.now (log_in s) ask x (apex (drop cut.0 labels))) one.teller serves;
+          gives = or_left _ _ (join _ _ told_so.0 (test-under delegation c ip (records (left_of s.policy.now.answer_filter (drop cut.0 labels) m)) (subst (λ (x : Message). Contains (addresses_under (targets delegation c) (records x)) ip) told_so.1 g)));
         },
       )
   given_from j ask moment ty ip teller labels m delegation c plain t (anywhere {z = z} {m = other} h p f g y) =
@@ -369,24 +370,24 @@ module _ (s : Setting) where
       let by = heard_answer other h p in
       let one = one_telling t by.tells in
       let cut : (n : ℕ) × (n < length labels + 1) × (same_names z (apex (drop n labels)) ≡ true) = cut_of z labels (sym (plain_walk labels ty z plain) ∙ by.above) in
-      let serves = Serves-zone (apex (drop cut.0 labels)) cut.2 (subst (λ (n : ℕ). Serves (given_of s) (log_in s) n by.teller z) one.ask by.serves) in
-      let has = subst (λ (x : Message). has_in_answers s.answer_denied.now x ip ≡ true) one.message (join _ _ (join _ _ (false_not _ f) (false_not _ y)) (test-answers ip other.answers g)) in (
+      let serves = Serves-zone (apex (drop cut.0 labels)) cut.2 (subst (λ (n : ℕ). Serves s.policy.now (log_in s) n by.teller z) one.ask by.serves) in
+      let has = subst (λ (x : Message). has_in_answers s.policy.now.answer_filter x ip ≡ true) one.message (join _ _ (join _ _ (false_not _ f) (false_not _ y)) (test-answers ip other.answers g)) in (
         cut.0,
         cut.1,
         record {
-          serves = subst (λ (x : IpAddr). Serves (given_of s) (log_in s) ask x (apex (drop cut.0 labels))) one.teller serves;
+          serves = subst (λ (x : IpAddr). Serves s.policy.now (log_in s) ask x (apex (drop cut.0 labels))) one.teller serves;
           gives = or_right _ _ has;
         },
       )
 
   pub from_given : (j ask moment ty k : ℕ) (ip teller : IpAddr) (labels : List (List ℕ)) (m delegation : Message) (c : DomainName) → (ty == 43) ≡ false
       → Tells (log_in s) j (asks labels ty 1) (told.Message m) ask teller moment → is_answer (asks labels ty 1) m ≡ true → k < length labels + 1
-      → GivenFrom (given_of s) (log_in s) ask teller s.answer_denied.now (drop k labels) m delegation c ip → AnswerGives (given_of s) (log_in s) j ip (targets delegation c) (asks labels ty 1)
+      → GivenFrom s.policy.now (log_in s) ask teller s.policy.now.answer_filter (drop k labels) m delegation c ip → AnswerGives s.policy.now (log_in s) j ip (targets delegation c) (asks labels ty 1)
   from_given j ask moment ty k ip teller labels m delegation c plain t e h f =
       let at = plain_walk labels ty (apex (drop k labels)) plain ∙ cut_above labels k h in
       elim (either _ _ f.gives) [
         | inl a ↦ let parts = split _ _ a in
-            under (heard t f.serves at) (counts-verdict (asks labels ty 1) m (drop k labels) e parts.0) (under-test delegation c ip (records (left_of s.answer_denied.now (drop k labels) m)) parts.1)
+            under (heard t f.serves at) (counts-verdict (asks labels ty 1) m (drop k labels) e parts.0) (under-test delegation c ip (records (left_of s.policy.now.answer_filter (drop k labels) m)) parts.1)
         | inr a ↦ let parts = split _ _ a in let left = split _ _ parts.0 in
             anywhere (heard t f.serves at) (is_answer-class (asks labels ty 1) m e) (not_false _ left.0) (answers-test ip m.answers parts.1) (not_false _ left.1)
       ]
@@ -409,7 +410,7 @@ module _ (s : Setting) where
   section_record : (k : Kept) (r : Record) → InSection k.message.now r → passes k r ≡ true → Has (records (kept k)) r
   section_record k r h e =
       let parts = split _ _ e in
-      let d : Record → Bool = λ x. not (holds_denied (among k.denied.now) x) in
+      let d : Record → Bool = λ x. not (holds_denied (denies k.denied.now) x) in
       let z : Record → Bool = in_zone (apex k.zone.now) in
       let a = filter z (filter d k.message.now.answers) in
       let u = filter z (filter d k.message.now.authorities) in
@@ -420,15 +421,15 @@ module _ (s : Setting) where
         | inr (inr g) ↦ Has-append_right (a ++ u) x r (filtered_Has z _ r (filtered_Has d _ r g parts.0) parts.1)
       ]
 
-  both_pass : (k : Kept) (xs : List Record) (r : Record) → Has (filter (in_zone (apex k.zone.now)) (filter (λ x. not (holds_denied (among k.denied.now) x)) xs)) r → Has xs r × (passes k r ≡ true)
+  both_pass : (k : Kept) (xs : List Record) (r : Record) → Has (filter (in_zone (apex k.zone.now)) (filter (λ x. not (holds_denied (denies k.denied.now) x)) xs)) r → Has xs r × (passes k r ≡ true)
   both_pass k xs r h =
-      let d : Record → Bool = λ x. not (holds_denied (among k.denied.now) x) in
+      let d : Record → Bool = λ x. not (holds_denied (denies k.denied.now) x) in
       let g = Has-filter (in_zone (apex k.zone.now)) (filter d xs) r h in
       (Has-filter d xs r g, join _ _ (Has-passes d xs r g) (Has-passes (in_zone (apex k.zone.now)) (filter d xs) r h))
 
   record_section : (k : Kept) (r : Record) → Has (records (kept k)) r → InSection k.message.now r × (passes k r ≡ true)
   record_section k r h =
-      let d : Record → Bool = λ x. not (holds_denied (among k.denied.now) x) in
+      let d : Record → Bool = λ x. not (holds_denied (denies k.denied.now) x) in
       let z : Record → Bool = in_zone (apex k.zone.now) in
       let a = filter z (filter d k.message.now.answers) in
       let u = filter z (filter d k.message.now.authorities) in
@@ -441,15 +442,15 @@ module _ (s : Setting) where
         | inr f ↦ let p = both_pass k k.message.now.additionals r f in (inr (inr p.0), p.1)
       ]
 
-  pub from_server : (n : ℕ) (ip : IpAddr) (c : DomainName) (k : Kept) (r : Record) → InSection k.message.now r → ServerGives (given_of s) (log_in s) n ip c k r → Lists (given_of s) (log_in s) n ip c (kept k)
+  pub from_server : (n : ℕ) (ip : IpAddr) (c : DomainName) (k : Kept) (r : Record) → InSection k.message.now r → ServerGives s.policy.now (log_in s) n ip c k r → Lists s.policy.now (log_in s) n ip c (kept k)
   from_server n ip c k r h g = for_server {t = g.target} (Contains-from_Has _ g.target (filter_map-Has (target_below (base c)) (records (kept k)) r g.target (section_record k r h g.left) g.names)) g.gives
 
   -- beside it, or by a record of one of its sections
   pub data ListsBy (n : ℕ) (ip : IpAddr) (c : DomainName) (k : Kept) : Type 0 where
     by_glue : list_any (holds_for (kept k) (base c) ip) (records (kept k)) ≡ true → ListsBy n ip c k
-    by_record : {r : Record} → InSection k.message.now r → ServerGives (given_of s) (log_in s) n ip c k r → ListsBy n ip c k
+    by_record : {r : Record} → InSection k.message.now r → ServerGives s.policy.now (log_in s) n ip c k r → ListsBy n ip c k
 
-  pub lists_by : (n : ℕ) (ip : IpAddr) (c : DomainName) (k : Kept) → Lists (given_of s) (log_in s) n ip c (kept k) → ListsBy n ip c k
+  pub lists_by : (n : ℕ) (ip : IpAddr) (c : DomainName) (k : Kept) → Lists s.policy.now (log_in s) n ip c (kept k) → ListsBy n ip c k
   lists_by n ip c k (beside g) = by_glue (test-under (kept k) c ip (records (kept k)) g)
   lists_by n ip c k (for_server {t = t} h g) =
       let r : (x : Record) × Has (records (kept k)) x × (target_below (base c) x ≡ Some t) = Has-filter_map (target_below (base c)) (records (kept k)) t (Has-from_Contains _ t h) in
@@ -463,15 +464,15 @@ module _ (s : Setting) where
     pub q : Query
     pub asked : IsAddressQuestion t q
     pub below : j < n
-    pub given : AnswerGives (given_of s) (log_in s) j ip names q
+    pub given : AnswerGives s.policy.now (log_in s) j ip names q
 
-  pub is_given : {n : ℕ} {ip : IpAddr} {names : List DomainName} {t : DomainName} → TargetGives (given_of s) (log_in s) n ip names t → IsGiven n ip names t
+  pub is_given : {n : ℕ} {ip : IpAddr} {names : List DomainName} {t : DomainName} → TargetGives s.policy.now (log_in s) n ip names t → IsGiven n ip names t
   is_given (gives {j = j} {q = q} a h g) = record { j = j; q = q; asked = a; below = h; given = g }
 
-  heard_above : {j moment : ℕ} {q : Query} {o : ToldOutcome} {z : DomainName} → Heard (given_of s) (log_in s) j q o moment z → (w : DomainName) × (is_above w (walk q) ≡ true)
+  heard_above : {j moment : ℕ} {q : Query} {o : ToldOutcome} {z : DomainName} → Heard s.policy.now (log_in s) j q o moment z → (w : DomainName) × (is_above w (walk q) ≡ true)
   heard_above {z = z} (heard t x a) = (z, a)
 
-  given_above : {j : ℕ} {ip : IpAddr} {names : List DomainName} {q : Query} → AnswerGives (given_of s) (log_in s) j ip names q → (w : DomainName) × (is_above w (walk q) ≡ true)
+  given_above : {j : ℕ} {ip : IpAddr} {names : List DomainName} {q : Query} → AnswerGives s.policy.now (log_in s) j ip names q → (w : DomainName) × (is_above w (walk q) ≡ true)
   given_above (under h v g) = heard_above h
   given_above (anywhere h p f g y) = heard_above h
 
@@ -479,7 +480,7 @@ module _ (s : Setting) where
   qualified_below w t e = (split _ _ ((split _ _ e).0)).1
 
   -- a server whose name is not fully qualified was not asked for
-  pub is_qualified : {n : ℕ} {ip : IpAddr} {names : List DomainName} (t : DomainName) → TargetGives (given_of s) (log_in s) n ip names t → t.fqdn ≡ true
+  pub is_qualified : {n : ℕ} {ip : IpAddr} {names : List DomainName} (t : DomainName) → TargetGives s.policy.now (log_in s) n ip names t → t.fqdn ≡ true
   is_qualified t (gives {q = q} a h g) =
       let w : (w : DomainName) × (is_above w (walk q) ≡ true) = given_above g in
       elim a [
@@ -487,7 +488,7 @@ module _ (s : Setting) where
         | inr e ↦ qualified_below w.0 t (ap (λ (x : Query). is_above w.0 (walk x)) (sym e) ∙ w.1)
       ]
 
-pub served_qualified : (s : Setting) {n : ℕ} {ip : IpAddr} (c : DomainName) → Serves (given_of s) (log_in s) n ip c → c.fqdn ≡ true
+pub served_qualified : (s : Setting) {n : ℕ} {ip : IpAddr} (c : DomainName) → Serves s.policy.now (log_in s) n ip c → c.fqdn ≡ true
 served_qualified s c (of_root r) = refl
 served_qualified s c (of_glue (delegates i (heard {z = z} t x a) v d r) b g) = qualified_below s z c a
 served_qualified s c (of_target (delegates i (heard {z = z} t x a) v d r) b m q j h w g) = qualified_below s z c a

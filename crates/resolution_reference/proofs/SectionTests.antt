@@ -7,9 +7,10 @@ use Rattle.std.proofs.lemmas.List.Folds.{list_any-append}
 use Rattle.dns_core.specs.declared.record.Record.{Record}
 use Rattle.std.specs.declared.net.ip_addr.IpAddr.{IpAddr}
 use Rattle.dns_core.specs.declared.message.Message.{Message}
+use Rattle.resolver_settings.specs.Access.{denies}
 use Rattle.resolution.specs.Records.{records, only}
 use Rattle.resolution.specs.Verdict.{holds_denied, in_zone, emptied, is_all_denied}
-use Rattle.resolution_reference.specs.Plain.{apex, among, passes, kept, is_emptied}
+use Rattle.resolution_reference.specs.Plain.{apex, passes, kept, is_emptied}
 use Rattle.resolution_reference.specs.declared.kept.kept.Kept.{Kept}
 
 pub list_any-filter : {X : Type 0} (p q : X → Bool) (xs : List X) → list_any p (filter q xs) ≡ list_any (λ x. q x && p x) xs
@@ -32,7 +33,7 @@ list_any-filters {X} p q r xs =
 -- a test of what is left of a message, section by section
 pub list_any-kept : (k : Kept) (p : Record → Bool) → list_any p (records (kept k)) ≡ ((list_any (λ r. passes k r && p r) k.message.now.answers || list_any (λ r. passes k r && p r) k.message.now.authorities) || list_any (λ r. passes k r && p r) k.message.now.additionals)
 list_any-kept k p =
-    let d : Record → Bool = λ r. not (holds_denied (among k.denied.now) r) in
+    let d : Record → Bool = λ r. not (holds_denied (denies k.denied.now) r) in
     let z : Record → Bool = in_zone (apex k.zone.now) in
     let a = k.message.now.answers in
     let u = k.message.now.authorities in

@@ -6,6 +6,7 @@ use Rattle.dns_core.specs.Name.{DomainName, same_names}
 use Rattle.dns_core.specs.declared.message.Query.{Query}
 use Rattle.dns_core.specs.declared.message.Message.{Message}
 use Rattle.dns_core.specs.declared.record.Record.{Record}
+use Rattle.resolver_settings.specs.Access.{Access, denies}
 use Rattle.resolution.specs.Records.{address, records}
 use Rattle.resolution.specs.Class.{has_no_data_for, is_foreign}
 use Rattle.resolution.specs.Verdict.{holds_denied, in_zone, without_denied, within, emptied, is_all_denied}
@@ -31,11 +32,11 @@ holds ip r = elim (address r) [ None ↦ false | Some held ↦ same_ip ip held ]
 
 -- the record is left by the filter and by the zone
 abbrev pub passes : Kept → Record → Bool
-passes k r = not (holds_denied (among k.denied.now) r) && in_zone (apex k.zone.now) r
+passes k r = not (holds_denied (denies k.denied.now) r) && in_zone (apex k.zone.now) r
 
 -- what the filter and the zone leave of a message
-abbrev pub left_of : List IpAddr → List (List ℕ) → Message → Message
-left_of denied zone m = within (apex zone) (without_denied (among denied) m)
+abbrev pub left_of : Access → List (List ℕ) → Message → Message
+left_of denied zone m = within (apex zone) (without_denied (denies denied) m)
 
 abbrev pub kept : Kept → Message
 kept k = left_of k.denied.now k.zone.now k.message.now
@@ -45,8 +46,8 @@ abbrev pub is_emptied : Bool → Bool → Bool → Bool → Bool
 is_emptied answers answers_left authorities authorities_left = (answers && not answers_left) || (not answers_left && authorities && not authorities_left)
 
 -- something is left of the answers, or of the authorities of a message without answers
-abbrev pub counts_of : List IpAddr → List (List ℕ) → Message → Bool
-counts_of denied zone m = not (is_all_denied (among denied) m) && not (emptied (without_denied (among denied) m) (left_of denied zone m))
+abbrev pub counts_of : Access → List (List ℕ) → Message → Bool
+counts_of denied zone m = not (is_all_denied (denies denied) m) && not (emptied (without_denied (denies denied) m) (left_of denied zone m))
 
 abbrev pub counts : Kept → Bool
 counts k = counts_of k.denied.now k.zone.now k.message.now
@@ -60,8 +61,8 @@ abbrev pub holds_for : Message → DomainName → IpAddr → Record → Bool
 holds_for delegation zone ip r = holds ip r && list_any (names_target zone r.name) (records delegation)
 
 -- the filter leaves something of the answer, and the answers hold the address, which it allows
-abbrev pub has_in_answers : List IpAddr → Message → IpAddr → Bool
-has_in_answers denied m ip = (not (is_all_denied (among denied) m) && not (among denied ip)) && list_any (holds ip) m.answers
+abbrev pub has_in_answers : Access → Message → IpAddr → Bool
+has_in_answers denied m ip = (not (is_all_denied (denies denied) m) && not (denies denied ip)) && list_any (holds ip) m.answers
 
 abbrev pub answers_with : Kept → IpAddr → Bool
 answers_with k ip = has_in_answers k.denied.now k.message.now ip

@@ -8,75 +8,61 @@ use Rattle.dns_core.specs.declared.message.Query.{Query}
 use Rattle.dns_core.specs.declared.message.Message.{Message}
 use Rattle.dns_core.specs.declared.record.Record.{Record}
 use Rattle.dns_core.specs.declared.log.ToldOutcome.{ToldOutcome}
+use Rattle.resolver_settings.specs.Access.{Access, denies}
 use Rattle.resolution.specs.Names.{base, question}
 use Rattle.resolution.specs.Records.{address, records}
 use Rattle.resolution.specs.Class.{class_of}
-use Rattle.resolution.specs.Given.{Given}
+use Rattle.recursor_types.specs.declared.policy.Policy.{Policy}
 use Rattle.resolution.specs.Verdict.{verdict, is_all_denied}
 use Rattle.resolution.specs.Serving.{Heard, Serves, IsAddressQuestion, is_delegation, targets, target_below, glue, addresses_under}
-use Rattle.resolution_reference.specs.Plain.{apex, among, passes, kept, left_of, counts_of, holds_for, has_in_answers}
+use Rattle.resolution_reference.specs.Plain.{apex, passes, kept, left_of, counts_of, holds_for, has_in_answers}
 use Rattle.resolution.specs.declared.class.Class.TheVariants.{Positive}
 use Rattle.resolution_reference.specs.declared.kept.kept.Kept.{Kept}
 use Rattle.resolution_reference.specs.declared.setting.Setting.{Setting}
 use Rattle.resolution.specs.declared.verdict.Verdict.TheVariants.{Pos}
 
--- what a setting gives, with limits that nothing here reads
-abbrev pub given_of : Setting → Given
-given_of s = record {
-  roots = s.roots.now;
-  server_denied = among s.server_denied.now;
-  answer_denied = among s.answer_denied.now;
-  positive_bounds = λ _. record { least = s.least_life; most = s.most_life };
-  negative_bounds = λ _. record { least = s.least_life; most = s.most_life };
-  timeout = 5000000;
-  strict = false;
-  ns_recursion_limit = 24;
-  recursion_limit = 24;
-  patience = 3;
-}
-
 abbrev pub log_in : Setting → Log
 log_in s = log_of s.log.now
 
 -- Entry j answers the question with the address, under one of the names, or in its answers.
-pub data AnswerGives (given : Given) (log : Log) : ℕ → IpAddr → List DomainName → Query → Type 0 where
+pub data AnswerGives (policy : Policy) (log : Log) : ℕ → IpAddr → List DomainName → Query → Type 0 where
   under : {j moment : ℕ} {ip : IpAddr} {names : List DomainName} {q : Query} {o : ToldOutcome} {z : DomainName} {answer : Message}
-      → Heard given log j q o moment z → verdict given o q z ≡ Some (Pos answer) → Contains (addresses_under names (records answer)) ip → AnswerGives given log j ip names q
+      → Heard policy log j q o moment z → verdict policy o q z ≡ Some (Pos answer) → Contains (addresses_under names (records answer)) ip → AnswerGives policy log j ip names q
   anywhere : {j moment : ℕ} {ip : IpAddr} {names : List DomainName} {q : Query} {o : ToldOutcome} {z : DomainName} {m : Message}
-      → Heard given log j q o moment z → class_of o q ≡ Some (Positive m) → is_all_denied given.answer_denied m ≡ false
-      → Contains (filter_map address m.answers) ip → given.answer_denied ip ≡ false → AnswerGives given log j ip names q
+      → Heard policy log j q o moment z → class_of o q ≡ Some (Positive m) → is_all_denied (denies policy.answer_filter) m ≡ false
+      → Contains (filter_map address m.answers) ip → denies policy.answer_filter ip ≡ false → AnswerGives policy log j ip names q
 
 -- An answer below n to a question for an address of t gives the address.
-pub data TargetGives (given : Given) (log : Log) : ℕ → IpAddr → List DomainName → DomainName → Type 0 where
+pub data TargetGives (policy : Policy) (log : Log) : ℕ → IpAddr → List DomainName → DomainName → Type 0 where
   gives : {n j : ℕ} {ip : IpAddr} {names : List DomainName} {t : DomainName} {q : Query}
-      → IsAddressQuestion t q → j < n → AnswerGives given log j ip names q → TargetGives given log n ip names t
+      → IsAddressQuestion t q → j < n → AnswerGives policy log j ip names q → TargetGives policy log n ip names t
 
 -- A delegation of c gives the address, by what was told below n: beside it, or for one of its servers.
-pub data Lists (given : Given) (log : Log) : ℕ → IpAddr → DomainName → Message → Type 0 where
-  beside : {n : ℕ} {ip : IpAddr} {c : DomainName} {k : Message} → Contains (glue k c) ip → Lists given log n ip c k
-  for_server : {n : ℕ} {ip : IpAddr} {c t : DomainName} {k : Message} → Contains (targets k c) t → TargetGives given log n ip (targets k c) t → Lists given log n ip c k
+pub data Lists (policy : Policy) (log : Log) : ℕ → IpAddr → DomainName → Message → Type 0 where
+  beside : {n : ℕ} {ip : IpAddr} {c : DomainName} {k : Message} → Contains (glue k c) ip → Lists policy log n ip c k
+  for_server : {n : ℕ} {ip : IpAddr} {c t : DomainName} {k : Message} → Contains (targets k c) t → TargetGives policy log n ip (targets k c) t → Lists policy log n ip c k
 
 -- Entry i tells such a delegation.
-pub data ListedBy (given : Given) (log : Log) : ℕ → ℕ → IpAddr → DomainName → Type 0 where
+pub data ListedBy (policy : Policy) (log : Log) : ℕ → ℕ → IpAddr → DomainName → Type 0 where
   listed_by : {i n moment : ℕ} {ip : IpAddr} {c z : DomainName} {o : ToldOutcome} {k : Message}
-      → Heard given log i (question c 2) o moment z → verdict given o (question c 2) z ≡ Some (Pos k) → IsTrue (is_delegation k c) → Lists given log n ip c k
-      → ListedBy given log i n ip c
+      → Heard policy log i (question c 2) o moment z → verdict policy o (question c 2) z ≡ Some (Pos k) → IsTrue (is_delegation k c) → Lists policy log n ip c k
+      → ListedBy policy log i n ip c
 
 -- The teller serves the zone, and what counts of the message there is such a delegation.
-pub record ListedFrom (given : Given) (log : Log) (ask : ℕ) (teller : IpAddr) (denied : List IpAddr) (zone : List (List ℕ)) (m : Message) (n : ℕ) (ip : IpAddr) (c : DomainName) : Type 0 where
-  pub serves : Serves given log ask teller (apex zone)
+pub record ListedFrom (policy : Policy) (log : Log) (ask : ℕ) (teller : IpAddr) (denied : Access) (zone : List (List ℕ)) (m : Message) (n : ℕ) (ip : IpAddr) (c : DomainName) : Type 0 where
+  pub serves : Serves policy log ask teller (apex zone)
   pub counts : IsTrue (counts_of denied zone m)
   pub delegates : IsTrue (is_delegation (left_of denied zone m) c)
-  pub lists : Lists given log n ip c (left_of denied zone m)
+  pub lists : Lists policy log n ip c (left_of denied zone m)
 
 -- The record is left, names a server of c, and what was told below n gives the address for it.
-pub record ServerGives (given : Given) (log : Log) (n : ℕ) (ip : IpAddr) (c : DomainName) (k : Kept) (r : Record) : Type 0 where
+pub record ServerGives (policy : Policy) (log : Log) (n : ℕ) (ip : IpAddr) (c : DomainName) (k : Kept) (r : Record) : Type 0 where
   pub left : IsTrue (passes k r)
   pub target : DomainName
   pub names : target_below (base c) r ≡ Some target
-  pub gives : TargetGives given log n ip (targets (kept k) c) target
+  pub gives : TargetGives policy log n ip (targets (kept k) c) target
 
 -- The teller serves the zone, and what counts of the answer there has the address under the name of a server, or its answers have it.
-pub record GivenFrom (given : Given) (log : Log) (ask : ℕ) (teller : IpAddr) (denied : List IpAddr) (zone : List (List ℕ)) (m delegation : Message) (c : DomainName) (ip : IpAddr) : Type 0 where
-  pub serves : Serves given log ask teller (apex zone)
+pub record GivenFrom (policy : Policy) (log : Log) (ask : ℕ) (teller : IpAddr) (denied : Access) (zone : List (List ℕ)) (m delegation : Message) (c : DomainName) (ip : IpAddr) : Type 0 where
+  pub serves : Serves policy log ask teller (apex zone)
   pub gives : IsTrue ((counts_of denied zone m && list_any (holds_for delegation (base c) ip) (records (left_of denied zone m))) || has_in_answers denied m ip)

@@ -2,13 +2,13 @@
 ghost use Rattle.std.specs.Prelude.{◌≡◌, ◌↔◌, ◌==◌, IsTrue, drop, if◌then◌else◌};
 ghost use Rattle.resolution.specs.Names.{is_above, walk};
 ghost use Rattle.resolution_reference.specs.Plain.{apex, asks};
-ghost use Rattle.resolution_reference.specs.PlainServing.{given_of, log_in};
+ghost use Rattle.resolution_reference.specs.PlainServing.{log_in};
 ghost use Rattle.resolution_reference.specs.PlainBase.{IsBase, IsFreshFor, life_of};
 
 use crate::kept::entries::told_answer;
 use crate::kept::kept::{Kept, base_of, is_suffix};
 use crate::setting::Setting;
-use dns_core::{Label, Name, Query};
+use dns_core::{Label, Name, Query, RecordType};
 
 /// The labels of the name to which a question is walked: for DS those of the base name.
 fn walked(labels: &[Label], record_type: u16) -> &[Label]
@@ -30,18 +30,23 @@ fn is_walked_below(zone: &[Label], labels: &[Label], record_type: u16, class: u1
 }
 
 /// Whether what was told at a moment is fresh at another: no earlier, or within its life.
-fn is_fresh(t0: u64, moment: u64, life: u32) -> bool
+fn is_fresh(t0: u64, moment: u64, life: u64) -> bool
     ensures { IsTrue result ↔ IsFreshFor t0 moment life }
 {
-    t0 <= moment || t0 - moment <= 1_000_000 * u64::from(life)
+    t0 <= moment || t0 - moment <= life.saturating_mul(1_000_000)
 }
 
 impl Setting<'_> {
-    /// The seconds for which an answer counts.
-    fn life(&self, kept: &Kept) -> u32
-        ensures { result ≡ life_of self.now kept.now }
+    /// The seconds for which an answer to a question of the type counts.
+    fn life(&self, record_type: u16, kept: &Kept) -> u64
+        ensures { result ≡ life_of self.now record_type kept.now }
     {
-        self.least_life.max(self.most_life.min(kept.least_ttl()))
+        let record_type = RecordType { code: record_type };
+        let (least, most) = self
+            .policy
+            .ttl_bounds
+            .positive_response_ttl_bounds(record_type);
+        least.max(most.min(u64::from(kept.least_ttl())))
     }
 
     /// Whether the entry tells an answer to the question for a fully qualified name, by a server of
@@ -55,7 +60,7 @@ impl Setting<'_> {
         entry: usize,
         zone: &[Label],
     ) -> bool
-        ensures { IsTrue result ↔ IsBase (given_of self.now) (log_in self.now) t0 (asks labels.now record_type class) entry (apex zone.now) }
+        ensures { IsTrue result ↔ IsBase self.now.policy.now (log_in self.now) t0 (asks labels.now record_type class) entry (apex zone.now) }
     {
         let Some(told) = told_answer(self.log, entry, labels, record_type, class) else {
             return false;
@@ -64,14 +69,14 @@ impl Setting<'_> {
             return false;
         }
         let kept = Kept {
-            denied: self.answer_denied,
+            denied: &self.policy.answer_filter,
             zone,
             message: told.message,
         };
         if !kept.counts() {
             return false;
         }
-        if !is_fresh(t0, told.moment, self.life(&kept)) {
+        if !is_fresh(t0, told.moment, self.life(record_type, &kept)) {
             return false;
         }
         self.serves_apex(told.ask, told.teller, zone)
@@ -80,7 +85,7 @@ impl Setting<'_> {
 
 /// Whether the entry tells an answer to the question, by a server of the zone, that is fresh at `t0`.
 pub fn base(setting: &Setting, t0: u64, query: &Query, entry: usize, zone: &Name) -> bool
-    ensures { IsTrue result ↔ IsBase (given_of setting.now) (log_in setting.now) t0 query.now entry zone.now }
+    ensures { IsTrue result ↔ IsBase setting.now.policy.now (log_in setting.now) t0 query.now entry zone.now }
 {
     if !query.name.is_fqdn() {
         return false;

@@ -4,7 +4,7 @@ ghost use Rattle.std.specs.Option.{option_copied};
 ghost use Rattle.dns_core.specs.declared.record.Record.{Record};
 ghost use Rattle.resolution.specs.Serving.{Serves, targets, target_below};
 ghost use Rattle.resolution_reference.specs.Plain.{apex, asks, kept as left, passes};
-ghost use Rattle.resolution_reference.specs.PlainServing.{given_of, log_in, AnswerGives, TargetGives, Lists, ListedBy, ListedFrom, ServerGives, GivenFrom};
+ghost use Rattle.resolution_reference.specs.PlainServing.{log_in, AnswerGives, TargetGives, Lists, ListedBy, ListedFrom, ServerGives, GivenFrom};
 
 use crate::kept::entries::told_answer;
 use crate::kept::kept::{Kept, base_of, behind, is_above, is_among};
@@ -16,12 +16,12 @@ impl Setting<'_> {
     /// Whether the address serves the zone with these labels.
     #[cycle(serving)]
     pub(crate) fn serves_apex(&self, n: usize, ip: IpAddr, zone: &[Label]) -> bool
-        ensures { IsTrue result ↔ Serves (given_of self.now) (log_in self.now) n ip (apex zone.now) }
+        ensures { IsTrue result ↔ Serves self.now.policy.now (log_in self.now) n ip (apex zone.now) }
     {
         if zone.is_empty() {
-            return is_among(self.roots, ip);
+            return is_among(self.policy.roots.items(), ip);
         }
-        if is_among(self.server_denied, ip) {
+        if self.policy.server_filter.denied(ip) {
             return false;
         }
         'entries: for i in 0..n {
@@ -36,7 +36,7 @@ impl Setting<'_> {
     #[cycle(serving)]
     fn is_listed_by(&self, i: usize, n: usize, ip: IpAddr, zone: &[Label]) -> bool
         requires { i < n }
-        ensures { IsTrue result ↔ ListedBy (given_of self.now) (log_in self.now) i n ip (apex zone.now) }
+        ensures { IsTrue result ↔ ListedBy self.now.policy.now (log_in self.now) i n ip (apex zone.now) }
     {
         let Some(told) = told_answer(self.log, i, zone, 2, 1) else {
             return false;
@@ -44,7 +44,7 @@ impl Setting<'_> {
         'cuts: for cut in 0..zone.len() + 1 {
             let rest = behind(zone, cut);
             let kept = Kept {
-                denied: self.answer_denied,
+                denied: &self.policy.answer_filter,
                 zone: rest,
                 message: told.message,
             };
@@ -68,7 +68,7 @@ impl Setting<'_> {
         ip: IpAddr,
     ) -> bool
         requires { ask < n }
-        ensures { IsTrue result ↔ ListedFrom (given_of self.now) (log_in self.now) ask teller kept.now.denied.now kept.now.zone.now kept.now.message.now n ip (apex zone.now) }
+        ensures { IsTrue result ↔ ListedFrom self.now.policy.now (log_in self.now) ask teller kept.now.denied.now kept.now.zone.now kept.now.message.now n ip (apex zone.now) }
     {
         if !kept.counts() {
             return false;
@@ -85,7 +85,7 @@ impl Setting<'_> {
     /// Whether a delegation gives the address, beside it or for one of its servers.
     #[cycle(serving)]
     fn lists(&self, kept: &Kept, zone: &[Label], n: usize, ip: IpAddr) -> bool
-        ensures { IsTrue result ↔ Lists (given_of self.now) (log_in self.now) n ip (apex zone.now) (left kept.now) }
+        ensures { IsTrue result ↔ Lists self.now.policy.now (log_in self.now) n ip (apex zone.now) (left kept.now) }
     {
         let base = base_of(zone);
         if kept.has_glue(base, ip) {
@@ -103,7 +103,7 @@ impl Setting<'_> {
     /// Whether one of these records names a server of the delegation whose address was told so.
     #[cycle(serving)]
     fn any_server(&self, kept: &Kept, rs: &[Record], zone: &[Label], n: usize, ip: IpAddr) -> bool
-        ensures { IsTrue result ↔ ((r : Record) × Contains rs.now r × ServerGives (given_of self.now) (log_in self.now) n ip (apex zone.now) kept.now r) }
+        ensures { IsTrue result ↔ ((r : Record) × Contains rs.now r × ServerGives self.now.policy.now (log_in self.now) n ip (apex zone.now) kept.now r) }
     {
         'servers: for r in rs {
             if self.server_gives(kept, r, zone, n, ip) {
@@ -115,7 +115,7 @@ impl Setting<'_> {
 
     #[cycle(serving)]
     fn server_gives(&self, kept: &Kept, r: &Record, zone: &[Label], n: usize, ip: IpAddr) -> bool
-        ensures { IsTrue result ↔ ServerGives (given_of self.now) (log_in self.now) n ip (apex zone.now) kept.now r.now }
+        ensures { IsTrue result ↔ ServerGives self.now.policy.now (log_in self.now) n ip (apex zone.now) kept.now r.now }
     {
         let Some(target) = target_of(kept, r, base_of(zone)) else {
             return false;
@@ -126,7 +126,7 @@ impl Setting<'_> {
     /// Whether an answer to a question for an address of the server gives the address.
     #[cycle(serving)]
     fn target_gives(&self, kept: &Kept, zone: &[Label], target: &Name, n: usize, ip: IpAddr) -> bool
-        ensures { IsTrue result ↔ TargetGives (given_of self.now) (log_in self.now) n ip (targets (left kept.now) (apex zone.now)) target.now }
+        ensures { IsTrue result ↔ TargetGives self.now.policy.now (log_in self.now) n ip (targets (left kept.now) (apex zone.now)) target.now }
     {
         if !target.is_fqdn() {
             return false;
@@ -153,7 +153,7 @@ impl Setting<'_> {
         ip: IpAddr,
     ) -> bool
         requires { (record_type == 43) ≡ false }
-        ensures { IsTrue result ↔ AnswerGives (given_of self.now) (log_in self.now) j ip (targets (left kept.now) (apex zone.now)) (asks labels.now record_type 1) }
+        ensures { IsTrue result ↔ AnswerGives self.now.policy.now (log_in self.now) j ip (targets (left kept.now) (apex zone.now)) (asks labels.now record_type 1) }
     {
         let Some(told) = told_answer(self.log, j, labels, record_type, 1) else {
             return false;
@@ -161,7 +161,7 @@ impl Setting<'_> {
         'cuts: for cut in 0..labels.len() + 1 {
             let rest = behind(labels, cut);
             let answer = Kept {
-                denied: self.answer_denied,
+                denied: &self.policy.answer_filter,
                 zone: rest,
                 message: told.message,
             };
@@ -183,7 +183,7 @@ impl Setting<'_> {
         zone: &[Label],
         ip: IpAddr,
     ) -> bool
-        ensures { IsTrue result ↔ GivenFrom (given_of self.now) (log_in self.now) ask teller answer.now.denied.now answer.now.zone.now answer.now.message.now (left kept.now) (apex zone.now) ip }
+        ensures { IsTrue result ↔ GivenFrom self.now.policy.now (log_in self.now) ask teller answer.now.denied.now answer.now.zone.now answer.now.message.now (left kept.now) (apex zone.now) ip }
     {
         let named = answer.counts() & answer.has_under(kept, base_of(zone), ip);
         if !(named | answer.answers_with(ip)) {
@@ -211,7 +211,7 @@ fn target_of<'a>(kept: &Kept, r: &'a Record, base: &[Label]) -> Option<&'a Name>
 
 /// Whether the address serves the zone, by the entries of the log below `n`.
 pub fn serves(setting: &Setting, n: usize, ip: IpAddr, zone: &Name) -> bool
-    ensures { IsTrue result ↔ Serves (given_of setting.now) (log_in setting.now) n ip zone.now }
+    ensures { IsTrue result ↔ Serves setting.now.policy.now (log_in setting.now) n ip zone.now }
 {
     if !zone.is_fqdn() {
         return false;

@@ -1,18 +1,11 @@
-//! A small log with what is given beside it.
+//! A small log with the policy beside it.
 
 use dns_core::LogEntry;
-use std::net::IpAddr;
+use recursor_types::Policy;
 
-/// A log whose entries are numbered from 1, the roots, the addresses that are never asked, and those
-/// that no answer may hold.
+/// A log whose entries are numbered from 1, and the policy by which it is read.
 #[derive(Drop)]
 pub struct Setting<'a> {
-    pub roots: &'a [IpAddr],
-    pub server_denied: &'a [IpAddr],
-    pub answer_denied: &'a [IpAddr],
+    pub policy: &'a Policy,
     pub log: &'a [LogEntry],
-
-    /// The bounds of lives, in seconds.
-    pub least_life: u32,
-    pub most_life: u32,
 }

@@ -1,5 +1,5 @@
 -- What a lookup that was answered came to, as the log shows it.
-use Rattle.walk_lookup.proofs.Names.{◌≡◌, ℕ, ◌≤◌, ◌<◌, Bool, true, false, not, ◌||◌, List, [], ◌∷◌, ◌++◌, map, length, Option, Some, None, IfSome, IsSomeAnd, Result, Ok, Err, ◌⊎◌, inl, inr, refl, sym, ap, subst, ◌∙◌, arith, IsTrue, nat_le, option_and_then, ◌==◌, if◌then◌else◌, list_all, last_or, and_parts, leb-true, same_Some, All-weaker, recursion_from_All, IsPermutation-sym, IpAddr, DomainName, Log, Query, Message, NetError, DnsError, denies, class_of, is_all_denied, without_denied, Heard, Answered, class_of_answer, End, is_retryable, answer_of, what_is_left, IsDecided, PoolRun, IsBounded, by_address, EndSends, no_send, and_send, Class, rules_of, class_of_sent, answer_in, left_of, HeardEnd, ends_of, entries_of, IsRun, out_of_memory, LookupState, question_of, State, Decided, closed_by, lookup_at, Shared, OpenLookup, at_address, IsTrustedBeyondUdp, run_by_address, nothing_left_for, left_of_class, is_lookup_error, last_of, class_of_failure, classified, IsTold, HasFailedBy, FoundHolds, ComesTo, HasCome, View, given_of, Began, is_response, told_of, AreHeard, Concluded, IsAt, SoughtHolds, answer_at, AskedAs, Found, Sought}
+use Rattle.walk_lookup.proofs.Names.{◌≡◌, ℕ, zero, suc, ◌≤◌, ◌<◌, Bool, true, false, not, ◌||◌, List, [], ◌∷◌, ◌++◌, map, length, Option, Some, None, IfSome, IsSomeAnd, Result, Ok, Err, ◌⊎◌, inl, inr, refl, sym, ap, subst, ◌∙◌, arith, IsTrue, nat_le, option_and_then, ◌==◌, if◌then◌else◌, list_all, last_or, and_parts, leb-true, same_Some, All-weaker, recursion_from_All, IsPermutation-sym, IpAddr, DomainName, Log, Query, Message, NetError, DnsError, denies, class_of, is_all_denied, without_denied, Heard, Answered, class_of_answer, End, is_retryable, answer_of, what_is_left, IsDecided, PoolRun, IsBounded, by_address, EndSends, no_send, and_send, Class, rules_of, class_of_sent, answer_in, left_of, HeardEnd, ends_of, entries_of, IsRun, out_of_memory, LookupState, question_of, State, Decided, closed_by, lookup_at, Shared, OpenLookup, at_address, IsTrustedBeyondUdp, run_by_address, nothing_left_for, left_of_class, is_lookup_error, last_of, class_of_failure, classified, IsTold, HasFailedBy, FoundHolds, ComesTo, HasCome, View, Began, is_response, told_of, AreHeard, Concluded, IsAt, SoughtHolds, answer_at, AskedAs, Found, Sought}
 use Rattle.dns_core.specs.declared.record.Record.{Record}
 use Rattle.resolution.specs.Lookups.PoolRun.{decided, spent, late}
 use Rattle.resolution.specs.declared.class.Class.TheVariants.{Error, Code, Truncated, Negative, Foreign, Positive}
@@ -49,10 +49,10 @@ pub record LastEnd (seen : View) (zone : DomainName) (q : Query) (g moments : Li
   pub moment : ℕ
   pub at_entry : last_or None g ≡ Some entry
   pub at_moment : last_or None moments ≡ Some moment
-  pub heard : IsTrue (is_response (class_of_answer q e.outcome)) → Heard (given_of seen.setting) seen.log entry q (told_of e.outcome) moment zone × AskedAs seen.log entry q
+  pub heard : IsTrue (is_response (class_of_answer q e.outcome)) → Heard seen.policy seen.log entry q (told_of e.outcome) moment zone × AskedAs seen.log entry q
 
 last-end : (seen : View) (zone : DomainName) (q : Query) {ips : List IpAddr} {g moments : List ℕ} {ends : List (End IpAddr)} (earlier : List (End IpAddr)) (e : End IpAddr)
-    → EndSends (given_of seen.setting) seen.log q ips g ends moments → AreHeard seen zone q g ends moments → ends ≡ earlier ++ e ∷ [] → LastEnd seen zone q g moments e
+    → EndSends seen.policy seen.log q ips g ends moments → AreHeard seen zone q g ends moments → ends ≡ earlier ++ e ∷ [] → LastEnd seen zone q g moments e
 last-end seen zone q [] e no_send heard is = cc
 last-end seen zone q (x ∷ earlier) e no_send heard is = cc
 last-end seen zone q [] e (and_send {n = n} {moment = m} {e = f} s c no_send) heard is =
@@ -62,7 +62,7 @@ last-end seen zone q [] e (and_send {n = n} {moment = m} {e = f} s c no_send) he
       moment = m;
       at_entry = refl;
       at_moment = refl;
-      heard = subst (λ (x : End IpAddr). IsTrue (is_response (class_of_answer q x.outcome)) → Heard (given_of seen.setting) seen.log n q (told_of x.outcome) m zone × AskedAs seen.log n q) same heard.0;
+      heard = subst (λ (x : End IpAddr). IsTrue (is_response (class_of_answer q x.outcome)) → Heard seen.policy seen.log n q (told_of x.outcome) m zone × AskedAs seen.log n q) same heard.0;
     }
 last-end seen zone q [] e (and_send s c (and_send t d rest)) heard is = cc
 last-end seen zone q (x ∷ earlier) e (and_send {n = n} {moment = m} {g = g} {moments = moments} {ends = ends} s c rest) heard is =
@@ -105,9 +105,10 @@ some-last [] [] e is = cc
 some-last [] (x ∷ earlier) e is = cc
 some-last (f ∷ ends) earlier e is = omega arith
 
-late-some : (ends : List (End IpAddr)) → (not (length ends == 0) || 5000000 == 0) ≡ true → 0 < length ends
-late-some [] some = cc
-late-some (e ∷ ends) some = omega arith
+late-some : (timeout : ℕ) → 0 < timeout → (ends : List (End IpAddr)) → (not (length ends == 0) || timeout == 0) ≡ true → 0 < length ends
+late-some zero lasts ends some = absurd (omega (arith, lasts))
+late-some (suc t) lasts [] some = cc
+late-some (suc t) lasts (e ∷ ends) some = omega arith
 
 not_false : (b : Bool) → not b ≡ true → b ≡ false
 not_false true h = cc
@@ -121,28 +122,28 @@ ClassHolds seen t0 zone q g at (Ok class) = IsTold seen t0 zone q (last_of g) at
 ClassHolds seen t0 zone q g at (Err error) = HasFailedBy seen t0 zone q g error
 
 -- each address has few ends, as each candidate has
-bounded-of : (seen : View) (shared : Shared) (n : ℕ) (s : Sought) (h : SoughtHolds seen shared n s) → IsBounded (by_address 5000000) (class_of_answer s.query) h.ips h.ends
+bounded-of : (seen : View) (shared : Shared) (n : ℕ) (s : Sought) (h : SoughtHolds seen shared n s) → IsBounded (by_address seen.policy.timeout) (class_of_answer s.query) h.ips h.ends
 bounded-of seen shared n s h =
     let l = h.shared_by.lookup in
     let at_time = subst (λ (t : ℕ). IsBounded (rules_of t) (class_of_sent (question_of l)) l.servers (ends_of h.heard)) h.time h.stands.keeps.each in
-    let asked = subst (λ (q : Query). IsBounded (rules_of 5000000) (class_of_sent q) l.servers (ends_of h.heard)) h.asks at_time in
+    let asked = subst (λ (q : Query). IsBounded (rules_of seen.policy.timeout) (class_of_sent q) l.servers (ends_of h.heard)) h.asks at_time in
     let from = ends_from l.servers h.heard h.stands.keeps.from_pool in
-    let by_ip = bounded_images (rules_of 5000000) (by_address 5000000) (class_of_sent s.query) (class_of_answer s.query) (at_address h.ip_of) same_self same_is l.servers from h.beside asked in
-    bounded_permuted (by_address 5000000) (class_of_answer s.query) h.ends (map (at_address h.ip_of) l.servers) h.ips (IsPermutation-sym h.ips (map (at_address h.ip_of) l.servers) h.whole) by_ip
+    let by_ip = bounded_images (rules_of seen.policy.timeout) (by_address seen.policy.timeout) (class_of_sent s.query) (class_of_answer s.query) (at_address h.ip_of) same_self same_is l.servers from h.beside asked in
+    bounded_permuted (by_address seen.policy.timeout) (class_of_answer s.query) h.ends (map (at_address h.ip_of) l.servers) h.ips (IsPermutation-sym h.ips (map (at_address h.ip_of) l.servers) h.whole) by_ip
 
 -- by addresses, in the order of the list, no later than the moment
 run-of : (seen : View) (shared : Shared) (n : ℕ) (s : Sought) (h : SoughtHolds seen shared n s) (answer : Answered) (at : ℕ) → at ≤ seen.moment
     → PoolRun (rules_of h.shared_by.lookup.timeout) (class_of_sent (question_of h.shared_by.lookup)) h.shared_by.lookup.servers (ends_of h.heard) answer h.shared_by.lookup.start at
-    → PoolRun (by_address 5000000) (class_of_answer s.query) h.ips h.ends answer s.start seen.moment
+    → PoolRun (by_address seen.policy.timeout) (class_of_answer s.query) h.ips h.ends answer s.start seen.moment
 run-of seen shared n s h answer at early ran =
     let l = h.shared_by.lookup in
     let at_time = subst (λ (t : ℕ). PoolRun (rules_of t) (class_of_sent (question_of l)) l.servers (ends_of h.heard) answer l.start at) h.time ran in
-    let asked = subst (λ (q : Query). PoolRun (rules_of 5000000) (class_of_sent q) l.servers (ends_of h.heard) answer l.start at) h.asks at_time in
-    let run = subst (λ (t : ℕ). PoolRun (rules_of 5000000) (class_of_sent s.query) l.servers (ends_of h.heard) answer t at) h.starts asked in
+    let asked = subst (λ (q : Query). PoolRun (rules_of seen.policy.timeout) (class_of_sent q) l.servers (ends_of h.heard) answer l.start at) h.asks at_time in
+    let run = subst (λ (t : ℕ). PoolRun (rules_of seen.policy.timeout) (class_of_sent s.query) l.servers (ends_of h.heard) answer t at) h.starts asked in
     let plain = recursion_from_All IsTrustedBeyondUdp l.servers
     (All-weaker (λ c. IsAt shared.table (h.ip_of c.server) c) IsTrustedBeyondUdp (λ c at. record { beyond_udp = at.beyond_udp; trusted = at.trusted }) l.servers h.known) in
     let from = ends_from l.servers h.heard h.stands.keeps.from_pool in
-    let by_ip = run_by_address 5000000 h.ip_of l.servers (class_of_sent s.query) (class_of_answer s.query) plain from h.beside run in
+    let by_ip = run_by_address seen.policy.timeout h.ip_of l.servers (class_of_sent s.query) (class_of_answer s.query) plain from h.beside run in
     run_later at seen.moment early (PoolRun-permuted (map (at_address h.ip_of) l.servers) h.ips (IsPermutation-sym h.ips (map (at_address h.ip_of) l.servers) h.whole) by_ip)
 
 module _ (seen : View) (shared : Shared) (n : ℕ) (s : Sought) (h : SoughtHolds seen shared n s) (begun : ℕ) (since : begun ≤ s.start) where
@@ -150,10 +151,10 @@ module _ (seen : View) (shared : Shared) (n : ℕ) (s : Sought) (h : SoughtHolds
   g = entries_of h.heard
 
   abbrev denied : IpAddr → Bool
-  denied = denies seen.setting.answer_filter
+  denied = denies seen.policy.answer_filter
 
   -- it came to this by its entries
-  concluded : (answer : Answered) → 0 < length h.ends → PoolRun (by_address 5000000) (class_of_answer s.query) h.ips h.ends answer s.start seen.moment
+  concluded : (answer : Answered) → 0 < length h.ends → PoolRun (by_address seen.policy.timeout) (class_of_answer s.query) h.ips h.ends answer s.start seen.moment
       → Concluded seen begun s.zone s.query g answer
   concluded answer some run =
       let t = h.tried in
@@ -201,8 +202,8 @@ module _ (seen : View) (shared : Shared) (n : ℕ) (s : Sought) (h : SoughtHolds
         outcome = told_of last.outcome;
         response = response;
         early = omega (arith, early, entry);
-        heard = subst (λ (k : ℕ). Heard (given_of seen.setting) seen.log k s.query (told_of last.outcome) s.at s.zone) (sym entry)
-            (subst (λ (m : ℕ). Heard (given_of seen.setting) seen.log end.entry s.query (told_of last.outcome) m s.zone) at heard.0);
+        heard = subst (λ (k : ℕ). Heard seen.policy seen.log k s.query (told_of last.outcome) s.at s.zone) (sym entry)
+            (subst (λ (m : ℕ). Heard seen.policy seen.log end.entry s.query (told_of last.outcome) m s.zone) at heard.0);
         asked = subst (λ (k : ℕ). AskedAs seen.log k s.query) (sym entry) heard.1;
         late = omega (arith, since, late, at);
         is = class-told s.query last.outcome ∙ ap Some is;
@@ -214,7 +215,7 @@ module _ (seen : View) (shared : Shared) (n : ℕ) (s : Sought) (h : SoughtHolds
   Stands a = ClassHolds seen begun s.zone s.query g s.at (classified (left_of s.query denied a))
 
   abbrev Run : Answered → Type 0
-  Run a = PoolRun (by_address 5000000) (class_of_answer s.query) h.ips h.ends a s.start seen.moment
+  Run a = PoolRun (by_address seen.policy.timeout) (class_of_answer s.query) h.ips h.ends a s.start seen.moment
 
   -- it was answered with an error that is no denial
   ended : (answer : Answered) (error : NetError) → answer ≡ Err error → IsTrue (is_lookup_error error) → 0 < length h.ends → Run answer → Stands answer
@@ -231,7 +232,7 @@ module _ (seen : View) (shared : Shared) (n : ℕ) (s : Sought) (h : SoughtHolds
       told earlier last (Positive m) (Ok (without_denied denied m)) whole is refl
       (ap (λ (b : Bool). Some (if b then Err (dns.NoRecordsFound (nothing_left_for s.query)) else Ok (without_denied denied m))) left)
 
-  decided-by : (answer : Answered) (d : IsDecided (by_address 5000000) (class_of_answer s.query) h.ends answer) (c : Class) → class_of_answer s.query d.last.outcome ≡ c
+  decided-by : (answer : Answered) (d : IsDecided (by_address seen.policy.timeout) (class_of_answer s.query) h.ends answer) (c : Class) → class_of_answer s.query d.last.outcome ≡ c
       → is_retryable true c ≡ false → Stands answer
   decided-by answer d (Positive m) is final =
       let whole = answer_whole (told_of d.last.outcome) s.query m (class-told s.query d.last.outcome ∙ ap Some is) in
@@ -257,9 +258,9 @@ module _ (seen : View) (shared : Shared) (n : ℕ) (s : Sought) (h : SoughtHolds
       let c = class_of_answer s.query d.last.outcome in
       decided-by answer d c refl (not_false (is_retryable true c) (and_parts (not (is_retryable true c)) _ d.final).0)
   answered answer (spent e) =
-      ended answer (what_is_left (by_address 5000000) (class_of_answer s.query) h.ends) e.answers (lookup-error (what_is_left (by_address 5000000) (class_of_answer s.query) h.ends) (left_error 5000000 s.query h.ends e.none))
-      (spent_some 5000000 s.query h.ips h.ends h.served.pool.some e.tried) (spent e)
-  answered answer (late l) = ended answer net.Timeout l.answers refl (late-some h.ends l.some) (late l)
+      ended answer (what_is_left (by_address seen.policy.timeout) (class_of_answer s.query) h.ends) e.answers (lookup-error (what_is_left (by_address seen.policy.timeout) (class_of_answer s.query) h.ends) (left_error seen.policy.timeout s.query h.ends e.none))
+      (spent_some seen.policy.timeout s.query h.ips h.ends h.served.pool.some e.tried) (spent e)
+  answered answer (late l) = ended answer net.Timeout l.answers refl (late-some seen.policy.timeout h.lasts h.ends l.some) (late l)
 
 -- ---- as it is read
 
@@ -287,9 +288,9 @@ pub class-holds : (seen : View) (shared : Shared) (n : ℕ) (s : Sought) (h : So
 class-holds seen shared n s h begun told since answers kept =
     let l = h.shared_by.lookup in
     let is : answer_in l.state ≡ Some told = sym (ap (option_and_then (λ (l : OpenLookup). answer_of_state l.lookup)) h.there) ∙ answers in
-    let a = was-answered (denies seen.setting.answer_filter) h.heard seen.moment told l is kept h.stands.at h.decided in
+    let a = was-answered (denies seen.policy.answer_filter) h.heard seen.moment told l is kept h.stands.at h.decided in
     let came = answered seen shared n s h begun since a.run.whole (run-of seen shared n s h a.run.whole a.at a.early a.run.run) in
-    let read : left_of s.query (denies seen.setting.answer_filter) a.run.whole ≡ told = ap (λ (p : Query). left_of p (denies seen.setting.answer_filter) a.run.whole) (sym h.asks) ∙ sym a.run.left in
+    let read : left_of s.query (denies seen.policy.answer_filter) a.run.whole ≡ told = ap (λ (p : Query). left_of p (denies seen.policy.answer_filter) a.run.whole) (sym h.asks) ∙ sym a.run.left in
     let by : entries_of h.heard ≡ closed_by (lookup_at shared n) = sym (ap closed_by h.there ∙ h.stands.keeps.entries) in
     subst (λ (g : List ℕ). ClassHolds seen begun s.zone s.query g s.at (classified told)) by
     (subst (λ (t : Answered). ClassHolds seen begun s.zone s.query (entries_of h.heard) s.at (classified t)) read came)

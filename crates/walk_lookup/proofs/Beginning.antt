@@ -111,11 +111,11 @@ first-of (ip ∷ ips) some = ip
 
 -- What a lookup seeks that has just begun.
 pub begun-holds : (seen : View) (zone : DomainName) (ips : List IpAddr) (numbers : List ℕ) (request : DnsRequest) (old new : Shared) (pool n : ℕ)
-    → AreFor seen request.query zone ips → old.context.options.timeout ≡ 5000000 → AllZip (IsMet old.table) ips numbers
+    → AreFor seen request.query zone ips → old.context.options.timeout ≡ seen.policy.timeout → 0 < seen.policy.timeout → AllZip (IsMet old.table) ips numbers
     → (b : HasBegun pool numbers request seen.moment old new n) → (l : OpenLookup) → lookup_at new n ≡ Some l → l.lookup ≡ b.lookup
     → configs new.table ≡ configs old.table
     → SoughtHolds seen new n (record { query = request.query; zone = zone; start = seen.moment; given = None; first = None; at = seen.moment; came = None })
-begun-holds seen zone ips numbers request old new pool n served timeout met b l there is same =
+begun-holds seen zone ips numbers request old new pool n served timeout lasts met b l there is same =
     let table = old.table in
     let options = old.context.options in
     let ordered = b.begins.ordered in
@@ -139,6 +139,7 @@ begun-holds seen zone ips numbers request old new pool n served timeout met b l 
       asks = ap (λ (x : BegunWith). x.request.query) with_all;
       starts = ap (λ (x : BegunWith). x.start) with_all;
       time = ap (λ (x : BegunWith). x.timeout) with_all ∙ timeout;
+      lasts = lasts;
       past = omega arith;
       ips = ips;
       served = served;
@@ -150,7 +151,7 @@ begun-holds seen zone ips numbers request old new pool n served timeout met b l 
           (subst (λ (xs : List IpAddr). IsPermutation xs (map (at_address ip_of) cs)) all.0
           (subst (λ (xs : List IpAddr). IsPermutation (map ip_of numbers) xs) (sym (addresses-of table other ordered)) (IsPermutation-map ip_of numbers ordered permutation)));
       heard = [];
-      stands = subst (HoldsBy (denies seen.setting.answer_filter) []) (sym state) (begun_by (denies seen.setting.answer_filter) request cs (side_by_side options) options.timeout seen.moment (omega arith));
+      stands = subst (HoldsBy (denies seen.policy.answer_filter) []) (sym state) (begun_by (denies seen.policy.answer_filter) request cs (side_by_side options) options.timeout seen.moment (omega arith));
       decided = λ answer at was. decided-now answer at (started_moment seen.moment (fresh request cs (side_by_side options) options.timeout seen.moment) answer at (sym (ap (λ (x : LookupState). x.state) state) ∙ was));
       ends = [];
       beside = no_more;

@@ -1,5 +1,5 @@
 -- What a lookup came to is told and written as what it was answered.
-use Rattle.walk_lookup.proofs.Names.{◌≡◌, ℕ, Bool, true, false, List, Option, Some, None, IfSome, Result, Ok, Err, refl, sym, ap, subst, ◌∙◌, arith, unwrap_or, if◌then◌else◌, option_and_then, false_from_ne_true, same_Some, none-some, DomainName, Query, Message, DnsError, NetError, Cached, Answered, Verdict, Walked, out_of_memory, closed_by, Shared, lookup_at, kept_of, last_of, classified, ComesTo, with_came, SoughtHolds, Telling, telling, with_response, remembered, answer_at, telling_by, ComesBy, with_found, with_sought, View, given_of, Found, Sought}
+use Rattle.walk_lookup.proofs.Names.{◌≡◌, ℕ, Bool, true, false, List, Option, Some, None, IfSome, Result, Ok, Err, refl, sym, ap, subst, ◌∙◌, arith, unwrap_or, if◌then◌else◌, option_and_then, false_from_ne_true, same_Some, none-some, DomainName, Query, Message, DnsError, NetError, Cached, Answered, Verdict, Walked, out_of_memory, closed_by, Shared, lookup_at, kept_of, last_of, classified, ComesTo, with_came, SoughtHolds, Telling, telling, with_response, remembered, answer_at, telling_by, ComesBy, with_found, with_sought, View, Found, Sought}
 use Rattle.std.specs.Option.{option_map}
 use Rattle.walk_response.proofs.NotKept.{not-kept}
 use Rattle.walk_lookup.proofs.Answering.{ClassHolds, class-holds}
@@ -14,7 +14,7 @@ at-more false c now at is = ap (λ (d : Bool). if d then now else at) is
 
 -- what a lookup was told
 class-tells : (seen : View) (t0 : ℕ) (zone : DomainName) (q : Query) (g : List ℕ) (at : ℕ) (class : Result (Result Message DnsError) NetError) (t : Telling)
-    → Walked (given_of seen.setting) seen.log q zone → telling zone q (last_of g) at class ≡ Some t → ClassHolds seen t0 zone q g at class → TellingHolds seen t
+    → Walked seen.policy seen.log q zone → telling zone q (last_of g) at class ≡ Some t → ClassHolds seen t0 zone q g at class → TellingHolds seen t
 class-tells seen t0 zone q g at (Err error) t walked is h = cc
 class-tells seen t0 zone q g at (Ok class) t walked is h =
     subst (TellingHolds seen) (same_Some _ _ is) (record { t0 = t0; told = h; walked = walked })

@@ -1,5 +1,5 @@
 -- What a response that was told to a lookup counts for.
-use Rattle.walk_lookup.proofs.Names.{◌≡◌, ℕ, Option, Some, ap, ◌∙◌, ◌≤◌, Result, Ok, Err, IfOk, IfErr, DomainName, Query, Message, DnsError, NetError, ToldOutcome, class_of_classified, allows_all, verdict, verdict_of_told, Heard, Class, Verdict, IsShown, AskedAs, IsTold, CountsAs, View, given_of}
+use Rattle.walk_lookup.proofs.Names.{◌≡◌, ℕ, Option, Some, ap, ◌∙◌, ◌≤◌, Result, Ok, Err, IfOk, IfErr, DomainName, Query, Message, DnsError, NetError, ToldOutcome, class_of_classified, allows_all, verdict, verdict_of_told, Heard, Class, Verdict, IsShown, AskedAs, IsTold, CountsAs, View}
 use Rattle.walk_response.specs.Response.{error_of}
 use Rattle.walk_response.proofs.Shown.{left_shown}
 use Rattle.resolver_settings.specs.Access.{denies as access_denies}
@@ -11,10 +11,10 @@ pub record Counts (seen : View) (t0 : ℕ) (zone : DomainName) (q : Query) (entr
   pub outcome : ToldOutcome
   pub whole : Verdict
   pub early : entry ≤ seen.greatest
-  pub heard : Heard (given_of seen.setting) seen.log entry q outcome at zone
+  pub heard : Heard seen.policy seen.log entry q outcome at zone
   pub asked : AskedAs seen.log entry q
   pub late : t0 ≤ at
-  pub counts : verdict (given_of seen.setting) outcome q zone ≡ Some whole
+  pub counts : verdict seen.policy outcome q zone ≡ Some whole
   pub shown : IsShown q v whole
 
 -- the verdict of a class is that of what was told
@@ -22,7 +22,7 @@ pub counts-of : (seen : View) (t0 : ℕ) (zone : DomainName) (q : Query) (entry 
     (v : Verdict) → IsTold seen t0 zone q entry at class
     → verdict_of_told allows_all (Some (class_of_classified q class)) zone ≡ Some v → Counts seen t0 zone q entry at v
 counts-of seen t0 zone q entry at class v h is =
-    let shown = left_shown (access_denies seen.setting.answer_filter) q h.response class zone v h.left is in
+    let shown = left_shown (access_denies seen.policy.answer_filter) q h.response class zone v h.left is in
     record {
       outcome = h.outcome;
       whole = shown.0;
@@ -30,7 +30,7 @@ counts-of seen t0 zone q entry at class v h is =
       heard = h.heard;
       asked = h.asked;
       late = h.late;
-      counts = ap (λ (c : Option Class). verdict_of_told (access_denies seen.setting.answer_filter) c zone) h.is ∙ shown.1;
+      counts = ap (λ (c : Option Class). verdict_of_told (access_denies seen.policy.answer_filter) c zone) h.is ∙ shown.1;
       shown = shown.2;
     }
 

@@ -1,5 +1,5 @@
 -- What a send of a lookup ended with, as the log shows it.
-use Rattle.walk_lookup.proofs.Names.{◌≡◌, ℕ, ◌+◌, ◌-◌, ◌^◌, ◌≤◌, min, Bool, true, false, Option, Some, None, Result, Ok, Err, refl, sym, ap, subst, ◌∙◌, arith, IsTrue, if◌then◌else◌, leb-true, same_Some, IpAddr, DomainName, Log, NoMemory, Query, Message, NetError, ToldOutcome, is_above, walk, class_of_error, Answered, class_of_answer, waits, EndsSend, answered, Serves, Heard, Serves-later, is_open, asked_of, pendings, end_of, is_last_poll, after_put, response_end, result_of, taken, come_to, After, Sent, Outcome, Pending, Connected, Told, Failed, Slept, class_of_sent, closing_entry, Closes, WaitsBy, OutcomeIs, told_class_itself, IsFor, IsGivenUpIn, is_given_up, LogGoesOnIf, LogGoesOn, last_entry, AskedAs, View, given_of, is_response, told_of, is_denial, IsSentOver, MayTake, sent_to}
+use Rattle.walk_lookup.proofs.Names.{◌≡◌, ℕ, ◌+◌, ◌-◌, ◌^◌, ◌≤◌, min, Bool, true, false, Option, Some, None, Result, Ok, Err, refl, sym, ap, subst, ◌∙◌, arith, IsTrue, if◌then◌else◌, leb-true, same_Some, IpAddr, DomainName, Log, NoMemory, Query, Message, NetError, ToldOutcome, is_above, walk, class_of_error, Answered, class_of_answer, waits, EndsSend, answered, Serves, Heard, Serves-later, is_open, asked_of, pendings, end_of, is_last_poll, after_put, response_end, result_of, taken, come_to, After, Sent, Outcome, Pending, Connected, Told, Failed, Slept, class_of_sent, closing_entry, Closes, WaitsBy, OutcomeIs, told_class_itself, IsFor, IsGivenUpIn, is_given_up, LogGoesOnIf, LogGoesOn, last_entry, AskedAs, View, is_response, told_of, is_denial, IsSentOver, MayTake, sent_to}
 use Rattle.dns_core.specs.Classifying.{classify_of}
 use Rattle.resolution.specs.Serving.Heard.{heard}
 use Rattle.server_core.specs.declared.sends.server_send.Asked.{Asked}
@@ -17,8 +17,8 @@ use Rattle.server_core.specs.declared.orders.order.After.TheVariants as after
 pub record IsEndedBy (seen : View) (now entry : ℕ) (zone : DomainName) (q : Query) (ip : IpAddr) (result : Answered) : Type 0 where
   pub outcome : Answered
   pub class : class_of_sent q result ≡ class_of_answer q outcome
-  pub ends : EndsSend (given_of seen.setting) seen.log q entry (record { server = ip; outcome = outcome }) now
-  pub heard : IsTrue (is_response (class_of_answer q outcome)) → Heard (given_of seen.setting) seen.log entry q (told_of outcome) now zone × AskedAs seen.log entry q
+  pub ends : EndsSend seen.policy seen.log q entry (record { server = ip; outcome = outcome }) now
+  pub heard : IsTrue (is_response (class_of_answer q outcome)) → Heard seen.policy seen.log entry q (told_of outcome) now zone × AskedAs seen.log entry q
 
 -- what was sent is for the question
 pub sent-for : (asks : Bool) (ip : IpAddr) (q : Query) (since : ℕ) (sent : Sent) → IsSentOver asks ip q since sent → IsFor sent.query q
@@ -40,7 +40,7 @@ error-denial _ h = cc
 abbrev pub done-so : After → Result After NoMemory
 done-so did = Ok did
 
-module _ (seen : View) (now since : ℕ) (zone : DomainName) (q : Query) (ip : IpAddr) (serves : Serves (given_of seen.setting) seen.log (since + 1) ip zone) (above : IsTrue (is_above zone (walk q))) where
+module _ (seen : View) (now since : ℕ) (zone : DomainName) (q : Query) (ip : IpAddr) (serves : Serves seen.policy seen.log (since + 1) ip zone) (above : IsTrue (is_above zone (walk q))) where
   -- what was told of a question was told of it as it was asked
   asked-as : (entry : ℕ) (sent : Sent) (outcome : ToldOutcome) → Closes seen.log sent entry (line.Told sent.of now outcome) → sent.query ≡ Some q → AskedAs seen.log entry q
   asked-as entry sent outcome closes is = record {
@@ -60,7 +60,7 @@ module _ (seen : View) (now since : ℕ) (zone : DomainName) (q : Query) (ip : I
   told-end entry sent message over fits =
       let question = asked-entry seen.log q sent fits.0.sent.protocol None over.1 fits.0.sent.logged in
       let itself : message.query ≡ q = same_Some _ _ (sym fits.1 ∙ over.1) in
-      let here = subst (λ (x : IpAddr). Serves (given_of seen.setting) seen.log (since + 1) x zone) (sym over.0) serves in
+      let here = subst (λ (x : IpAddr). Serves seen.policy seen.log (since + 1) x zone) (sym over.0) serves in
       let late = over.2 in
       subst (λ (x : IpAddr). IsEndedBy seen now entry zone q x (result_of (classify_of message))) over.0 (record {
         outcome = Ok message;
@@ -75,17 +75,17 @@ module _ (seen : View) (now since : ℕ) (zone : DomainName) (q : Query) (ip : I
             question = question;
             before = fits.0.before;
             same = same_query-refl q;
-          }) (Serves-later (given_of seen.setting) seen.log (omega (arith, late)) here) above,
+          }) (Serves-later seen.policy seen.log (omega (arith, late)) here) above,
           asked-as entry sent _ fits.0 over.1,
         );
       })
 
   -- an error
   denial-heard : (entry : ℕ) (sent : Sent) (error : NetError) → IsSentOver true ip q since sent → OutcomeIs seen.log now (Failed entry sent false error)
-      → Heard (given_of seen.setting) seen.log entry q (said.Error error) now zone × AskedAs seen.log entry q
+      → Heard seen.policy seen.log entry q (said.Error error) now zone × AskedAs seen.log entry q
   denial-heard entry sent error over fits =
       let question = asked-entry seen.log q sent fits.sent.protocol None over.1 fits.sent.logged in
-      let here = subst (λ (x : IpAddr). Serves (given_of seen.setting) seen.log (since + 1) x zone) (sym over.0) serves in
+      let here = subst (λ (x : IpAddr). Serves seen.policy seen.log (since + 1) x zone) (sym over.0) serves in
       let late = over.2 in (
         heard (record {
           protocol = fits.sent.protocol;
@@ -95,35 +95,35 @@ module _ (seen : View) (now since : ℕ) (zone : DomainName) (q : Query) (ip : I
           question = question;
           before = fits.before;
           same = same_query-refl q;
-        }) (Serves-later (given_of seen.setting) seen.log (omega (arith, late)) here) above,
+        }) (Serves-later seen.policy seen.log (omega (arith, late)) here) above,
         asked-as entry sent _ fits over.1,
       )
 
   failed-end : (asks : Bool) (entry : ℕ) (sent : Sent) (refused : Bool) (error : NetError) → (IsTrue (is_denial error) → (asks ≡ true) × (refused ≡ false))
       → IsSentOver asks ip q since sent → OutcomeIs seen.log now (Failed entry sent refused error) → IsEndedBy seen now entry zone q ip (Err error)
   failed-end asks entry sent refused error may over fits =
-      let lost = lost-failed (given_of seen.setting) seen.log now entry sent refused error fits in record {
+      let lost = lost-failed seen.policy seen.log now entry sent refused error fits in record {
         outcome = Err error;
         class = refl;
-        ends = subst (λ (x : IpAddr). EndsSend (given_of seen.setting) seen.log q entry (record { server = x; outcome = Err error }) now) (sent-to asks ip q since sent over)
+        ends = subst (λ (x : IpAddr). EndsSend seen.policy seen.log q entry (record { server = x; outcome = Err error }) now) (sent-to asks ip q since sent over)
             (lost.ends q (sent-for asks ip q since sent over));
         heard = λ response.
             let m = may (error-denial error response) in
             denial-heard entry sent error (subst (λ (b : Bool). IsSentOver b ip q since sent) m.0 over) (subst (λ (b : Bool). OutcomeIs seen.log now (Failed entry sent b error)) m.1 fits);
       }
 
-  gave_up-end : (asks : Bool) (entry : ℕ) (sent : Sent) (told : Log) → seen.setting.patience ≤ waits seen.log sent.of (entry + 1) → IsSentOver asks ip q since sent → Closes told sent entry (line.Waited sent.of)
+  gave_up-end : (asks : Bool) (entry : ℕ) (sent : Sent) (told : Log) → seen.policy.patience ≤ waits seen.log sent.of (entry + 1) → IsSentOver asks ip q since sent → Closes told sent entry (line.Waited sent.of)
       → IsGivenUpIn sent.of entry now told seen.log → IsEndedBy seen now (entry + 1) zone q ip (Err net.Timeout)
   gave_up-end asks entry sent told enough over waited up =
-      let lost = lost-gave_up (given_of seen.setting) told seen.log now entry sent enough waited up in record {
+      let lost = lost-gave_up seen.policy told seen.log now entry sent enough waited up in record {
         outcome = Err net.Timeout;
         class = refl;
-        ends = subst (λ (x : IpAddr). EndsSend (given_of seen.setting) seen.log q (entry + 1) (record { server = x; outcome = Err net.Timeout }) now) (sent-to asks ip q since sent over)
+        ends = subst (λ (x : IpAddr). EndsSend seen.policy seen.log q (entry + 1) (record { server = x; outcome = Err net.Timeout }) now) (sent-to asks ip q since sent over)
             (lost.ends q (sent-for asks ip q since sent over));
         heard = λ response. cc;
       }
 
-  module _ (patience start : ℕ) (first : Option IpAddr) (ended asks : Bool) (before : Option ℕ) (s : ServerSend) (told : Log) (did : After) (result : Answered) (patient : seen.setting.patience ≤ patience)
+  module _ (patience start : ℕ) (first : Option IpAddr) (ended asks : Bool) (before : Option ℕ) (s : ServerSend) (told : Log) (did : After) (result : Answered) (patient : seen.policy.patience ≤ patience)
       (for : IsAt_stage asks s.stage) where
     opened : is_open s.stage ≡ true
     opened = is_open_for asks s.stage for
@@ -148,7 +148,7 @@ module _ (seen : View) (now since : ℕ) (zone : DomainName) (q : Query) (ip : I
         let p = polled_end patience s result opened (taken-end (Pending entry of) end) in
         let up = up-in entry of w (gives-up entry of is p.0) goes in
         let most : patience ≤ pendings s.stage + 1 = leb-true patience (pendings s.stage + 1) p.0 in
-        let many : seen.setting.patience ≤ waits seen.log w.of (entry + 1) = subst (λ (k : ℕ). seen.setting.patience ≤ waits seen.log k (entry + 1)) (sym may.0) (omega (arith, patient, most, enough)) in
+        let many : seen.policy.patience ≤ waits seen.log w.of (entry + 1) = subst (λ (k : ℕ). seen.policy.patience ≤ waits seen.log k (entry + 1)) (sym may.0) (omega (arith, patient, most, enough)) in
         let waited : Closes told w entry (line.Waited w.of) = subst (λ (k : ℕ). Closes told w entry (line.Waited k)) (sym may.0) (by may.0) in
         let numbered = up.numbered in
         let closing : entry + 1 ≡ min (entry + 1) (2 ^ 64 - 1) = omega (arith, numbered) in (

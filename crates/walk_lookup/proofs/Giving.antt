@@ -1,5 +1,5 @@
 -- What is sought by a lookup that gave an order, and to whom the order goes.
-use Rattle.walk_lookup.proofs.Names.{◌≡◌, ℕ, ◌+◌, ⊎_elim, Bool, true, false, List, map, find, All, Contains, Option, Some, None, refl, sym, ap, subst, ◌∙◌, arith, IsPermutation, IsTrue, option_and_then, option_map, same_Some, All-weaker, All-contains, Contains-permutation, IsPermutation-sym, IpAddr, Query, DnsRequest, denies, NameServer, is_above, walk, Serves, pendings, Server, server_of, Order, GoesToServer, Candidate, LookupStep, Attempt, Asking, opens, answer_in, Answered, is_open_at, Gives, LookupState, BegunWith, started, IsGivenFor, at_address, moved_to, IsOpenOrder, Shared, under, lookup_at, lookup_of, SameBut, HasStepped, told_as, OpenLookup, PoolStep, address_from_pool, next_runs, next_rest, order_goes, found_with, View, given_of, either, server_at, IsAt, IsSentTo, GivenHolds, SoughtHolds, aim_of, noted, answer_at, Aim, Given, Sought, no_polls, Tried, entries_of}
+use Rattle.walk_lookup.proofs.Names.{◌≡◌, ℕ, ◌+◌, ⊎_elim, Bool, true, false, List, map, find, All, Contains, Option, Some, None, refl, sym, ap, subst, ◌∙◌, arith, IsPermutation, IsTrue, option_and_then, option_map, same_Some, All-weaker, All-contains, Contains-permutation, IsPermutation-sym, IpAddr, Query, DnsRequest, denies, NameServer, is_above, walk, Serves, pendings, Server, server_of, Order, GoesToServer, Candidate, LookupStep, Attempt, Asking, opens, answer_in, Answered, is_open_at, Gives, LookupState, BegunWith, started, IsGivenFor, at_address, moved_to, IsOpenOrder, Shared, under, lookup_at, lookup_of, SameBut, HasStepped, told_as, OpenLookup, PoolStep, address_from_pool, next_runs, next_rest, order_goes, found_with, View, either, server_at, IsAt, IsSentTo, GivenHolds, SoughtHolds, aim_of, noted, answer_at, Aim, Given, Sought, no_polls, Tried, entries_of}
 use Rattle.std.specs.Prelude.{IfSome}
 use Rattle.pool_lookup.specs.Asked.{answer_of}
 use Rattle.pool_lookup.proofs.Opens.{opens_started}
@@ -38,7 +38,7 @@ module _ (seen : View) (old new : Shared) (n : ℕ) (s : Sought) (told : PoolSte
   l = h.shared_by.lookup
 
   abbrev denied : IpAddr → Bool
-  denied = denies seen.setting.answer_filter
+  denied = denies seen.policy.answer_filter
 
   -- the others are as they were
   pub step-rest : SameBut n old new
@@ -67,6 +67,7 @@ module _ (seen : View) (old new : Shared) (n : ℕ) (s : Sought) (told : PoolSte
     asks = ap (λ (b : BegunWith). b.request.query) step-runs.same ∙ h.asks;
     starts = ap (λ (b : BegunWith). b.start) step-runs.same ∙ h.starts;
     time = ap (λ (b : BegunWith). b.timeout) step-runs.same ∙ h.time;
+    lasts = h.lasts;
     past = h.past;
     ips = h.ips;
     served = h.served;
@@ -148,13 +149,13 @@ module _ (seen : View) (old new : Shared) (n : ℕ) (s : Sought) (told : PoolSte
           (All-contains (λ c. IsAt new.table (h.ip_of c.server) c) l.servers to.candidate (known-still seen old new n s step-rest h l.servers refl) from-pool)
 
       -- it goes to one of the addresses of the zone, which serves it
-      serves-ip : Serves (given_of seen.setting) seen.log (seen.greatest + 1) ip s.zone
+      serves-ip : Serves seen.policy seen.log (seen.greatest + 1) ip s.zone
       serves-ip =
           let from : Contains h.ips ip =
           subst (Contains h.ips) at-ip
           (Contains-permutation (map (at_address h.ip_of) l.servers) h.ips (h.ip_of to.candidate.server) (IsPermutation-sym h.ips (map (at_address h.ip_of) l.servers) h.whole)
           (address_from_pool h.ip_of l.servers to.candidate from-pool)) in
-          All-contains (λ x. Serves (given_of seen.setting) seen.log (seen.greatest + 1) x s.zone) h.ips ip h.served.pool.serve from
+          All-contains (λ x. Serves seen.policy seen.log (seen.greatest + 1) x s.zone) h.ips ip h.served.pool.serve from
 
       sent-out : (a : Aim) → IsSentTo seen new n s.zone next.servers next (ordered-given a) asks ip
       sent-out a = record {
@@ -175,7 +176,7 @@ module _ (seen : View) (old new : Shared) (n : ℕ) (s : Sought) (told : PoolSte
     kept-as (order.Sleep until) under = (of-number, under)
 
     -- it goes to a server; a question to one of a zone at or above its name
-    goes-as : (x : Order) → IsGivenFor old.table number x next → GoesToServer (given_of seen.setting) seen.log (seen.greatest + 1) x
+    goes-as : (x : Order) → IsGivenFor old.table number x next → GoesToServer seen.policy seen.log (seen.greatest + 1) x
     goes-as (order.Open ip config) to = record { zone = s.zone; serves = serves-ip false ip to }
     goes-as (order.Ask conn ip protocol request) to =
         let query : request.query ≡ s.query = ap (λ (r : DnsRequest). r.query) (to.0 ∙ ap (λ (b : BegunWith). b.request) step-runs.same) ∙ h.asks in
@@ -191,7 +192,7 @@ module _ (seen : View) (old new : Shared) (n : ℕ) (s : Sought) (told : PoolSte
     ordered-holds = step-holds (Some (ordered-given (aim_of o))) (kept-as o goes-to)
 
     -- And where it goes.
-    pub order-goes : GoesToServer (given_of seen.setting) seen.log (seen.greatest + 1) o
+    pub order-goes : GoesToServer seen.policy seen.log (seen.greatest + 1) o
     order-goes = goes-as o goes-to
 
   -- What is sought by one that has its answer, or waits.

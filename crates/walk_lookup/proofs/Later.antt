@@ -1,17 +1,17 @@
 -- What is known of a lookup, and of what is kept of responses, goes on holding as a machine comes further.
-use Rattle.walk_lookup.proofs.Names.{◌≡◌, ◌≤◌, ◌+◌, ℕ, Bool, true, false, List, [], ◌∷◌, Option, Some, None, IfSome, Err, refl, sym, ap, subst, ◌∙◌, arith, nat_le, ◌*◌, list_all, leb-true, le-leb, and_parts, All-weaker, IpAddr, DomainName, Log, Extends, Query, ToldOutcome, Cached, Entry, Access, denies, with_patience, Answered, End, Serves, Heard, Listed, EndSends, Finished, life_in_seconds, verdict, Walked, Logged-extend, Serves-extend, Serves-later, Heard-extend, waits-extend, EndSends-extend, Listed-extend, Walked-extend, Finished-extend, both, pendings, LookupState, HoldsBy, Candidate, Setting, AskedAs, View, Later, given_of, BeganBy, Began, AreHeard, Tried, IsTimed, machine_timer, Concluded, AreServers, IsWaitedFor, IsSentTo, GivenHolds, SoughtHolds, ArePool, AreFor, EntryHolds, CacheHolds, left_of_class, FoundHolds, Found, Aim, Given, Sought, Shared}
+use Rattle.walk_lookup.proofs.Names.{◌≡◌, ◌≤◌, ◌+◌, ℕ, Bool, true, false, List, [], ◌∷◌, Option, Some, None, IfSome, Err, refl, sym, ap, subst, ◌∙◌, arith, nat_le, ◌*◌, list_all, leb-true, le-leb, and_parts, All-weaker, IpAddr, DomainName, Log, Extends, Query, ToldOutcome, Cached, Entry, Access, denies, with_patience, Answered, End, Serves, Heard, Listed, EndSends, Finished, life_in_seconds, verdict, Walked, Logged-extend, Serves-extend, Serves-later, Heard-extend, waits-extend, EndSends-extend, Listed-extend, Walked-extend, Finished-extend, both, pendings, LookupState, HoldsBy, Candidate, Policy, AskedAs, View, Later, BeganBy, Began, AreHeard, Tried, IsTimed, machine_timer, Concluded, AreServers, IsWaitedFor, IsSentTo, GivenHolds, SoughtHolds, ArePool, AreFor, EntryHolds, CacheHolds, left_of_class, FoundHolds, Found, Aim, Given, Sought, Shared}
 use Rattle.std.proofs.Common.{IsTrue}
 use Rattle.std.specs.Prelude.{IsSomeAnd}
-use Rattle.resolution.specs.Given.{Given as Resolver}
+use Rattle.recursor_types.specs.declared.policy.Policy.{Policy as Resolver}
 use Rattle.walk_lookup.specs.declared.found.Found.TheVariants as found
 use Rattle.walk_lookup.specs.declared.sought.Aim.TheVariants as aim
 
 -- ---- the relation
 
--- a longer log, with the same setting
-pub later-by : (setting : Setting) (g g' moment moment' : ℕ) (log longer : Log) → g ≤ g' → moment ≤ moment' → Extends log longer
-    → Later (record { setting = setting; greatest = g; moment = moment; log = log }) (record { setting = setting; greatest = g'; moment = moment'; log = longer })
-later-by setting g g' moment moment' log longer le later x = record { setting = refl; patience = omega arith; greatest = le; moment = later; extends = x }
+-- a longer log, with the same policy
+pub later-by : (policy : Policy) (g g' moment moment' : ℕ) (log longer : Log) → g ≤ g' → moment ≤ moment' → Extends log longer
+    → Later (record { policy = policy; greatest = g; moment = moment; log = log }) (record { policy = policy; greatest = g'; moment = moment'; log = longer })
+later-by policy g g' moment moment' log longer le later x = record { policy = refl; patience = omega arith; greatest = le; moment = later; extends = x }
 
 -- ---- lists
 
@@ -66,40 +66,40 @@ module _ (log longer : Log) (x : Extends log longer) where
 
 module _ (old new : View) (later : Later old new) where
   abbrev less : ℕ
-  less = new.setting.patience
+  less = new.policy.patience
 
-  fewer : less ≤ (given_of old.setting).patience
+  fewer : less ≤ old.policy.patience
   fewer = later.patience
 
   -- what is given stays, but for patience
-  pub given-is : with_patience less (given_of old.setting) ≡ given_of new.setting
-  given-is = sym (ap given_of later.setting)
+  pub given-is : with_patience less old.policy ≡ new.policy
+  given-is = sym later.policy
 
   -- what serves goes on serving
-  pub serves-on : (n m : ℕ) (ip : IpAddr) (zone : DomainName) → n ≤ m → Serves (given_of old.setting) old.log n ip zone → Serves (given_of new.setting) new.log m ip zone
+  pub serves-on : (n m : ℕ) (ip : IpAddr) (zone : DomainName) → n ≤ m → Serves old.policy old.log n ip zone → Serves new.policy new.log m ip zone
   serves-on n m ip zone le s =
       subst (λ (g : Resolver). Serves g new.log m ip zone) given-is
-      (Serves-later (with_patience less (given_of old.setting)) new.log le (Serves-extend (given_of old.setting) less old.log new.log later.extends s))
+      (Serves-later (with_patience less old.policy) new.log le (Serves-extend old.policy less old.log new.log later.extends s))
 
-  pub heard-on : {i : ℕ} {q : Query} {o : ToldOutcome} {moment : ℕ} {zone : DomainName} → Heard (given_of old.setting) old.log i q o moment zone
-      → Heard (given_of new.setting) new.log i q o moment zone
-  heard-on {i} {q} {o} {moment} {zone} h = subst (λ (g : Resolver). Heard g new.log i q o moment zone) given-is (Heard-extend (given_of old.setting) less old.log new.log later.extends h)
+  pub heard-on : {i : ℕ} {q : Query} {o : ToldOutcome} {moment : ℕ} {zone : DomainName} → Heard old.policy old.log i q o moment zone
+      → Heard new.policy new.log i q o moment zone
+  heard-on {i} {q} {o} {moment} {zone} h = subst (λ (g : Resolver). Heard g new.log i q o moment zone) given-is (Heard-extend old.policy less old.log new.log later.extends h)
 
-  pub walked-on : (q : Query) (zone : DomainName) → Walked (given_of old.setting) old.log q zone → Walked (given_of new.setting) new.log q zone
-  walked-on q zone w = subst (λ (g : Resolver). Walked g new.log q zone) given-is (Walked-extend (given_of old.setting) less fewer old.log new.log later.extends q zone w)
+  pub walked-on : (q : Query) (zone : DomainName) → Walked old.policy old.log q zone → Walked new.policy new.log q zone
+  walked-on q zone w = subst (λ (g : Resolver). Walked g new.log q zone) given-is (Walked-extend old.policy less fewer old.log new.log later.extends q zone w)
 
-  listed-on : (zone : DomainName) (ips : List IpAddr) → Listed (given_of old.setting) old.log zone ips → Listed (given_of new.setting) new.log zone ips
-  listed-on zone ips l = subst (λ (g : Resolver). Listed g new.log zone ips) given-is (Listed-extend (given_of old.setting) less fewer old.log new.log later.extends l)
+  listed-on : (zone : DomainName) (ips : List IpAddr) → Listed old.policy old.log zone ips → Listed new.policy new.log zone ips
+  listed-on zone ips l = subst (λ (g : Resolver). Listed g new.log zone ips) given-is (Listed-extend old.policy less fewer old.log new.log later.extends l)
 
-  ended-on : {q : Query} {ips : List IpAddr} {g moments : List ℕ} {ends : List (End IpAddr)} → EndSends (given_of old.setting) old.log q ips g ends moments
-      → EndSends (given_of new.setting) new.log q ips g ends moments
+  ended-on : {q : Query} {ips : List IpAddr} {g moments : List ℕ} {ends : List (End IpAddr)} → EndSends old.policy old.log q ips g ends moments
+      → EndSends new.policy new.log q ips g ends moments
   ended-on {q} {ips} {g} {moments} {ends} e =
-      subst (λ (r : Resolver). EndSends r new.log q ips g ends moments) given-is (EndSends-extend (given_of old.setting) less fewer old.log new.log later.extends e)
+      subst (λ (r : Resolver). EndSends r new.log q ips g ends moments) given-is (EndSends-extend old.policy less fewer old.log new.log later.extends e)
 
   -- a pool stays one
   pub servers-on : (zone : DomainName) (ips : List IpAddr) → AreServers old zone ips → AreServers new zone ips
   servers-on zone ips =
-      All-weaker (λ ip. Serves (given_of old.setting) old.log (old.greatest + 1) ip zone) (λ ip. Serves (given_of new.setting) new.log (new.greatest + 1) ip zone)
+      All-weaker (λ ip. Serves old.policy old.log (old.greatest + 1) ip zone) (λ ip. Serves new.policy new.log (new.greatest + 1) ip zone)
       (λ ip. serves-on (old.greatest + 1) (new.greatest + 1) ip zone (let le = later.greatest in omega arith)) ips
 
   pub pool-on : (zone : DomainName) (ips : List IpAddr) → ArePool old zone ips → ArePool new zone ips
@@ -169,8 +169,12 @@ module _ (old new : View) (later : Later old new) where
   given_some shared n zone pool l (Some o) h = given-on shared n zone pool l o o.aim h
 
   -- the filter of answers stays
-  pub answers-same : new.setting.answer_filter ≡ old.setting.answer_filter
-  answers-same = ap (λ (s : Setting). s.answer_filter) later.setting
+  pub answers-same : new.policy.answer_filter ≡ old.policy.answer_filter
+  answers-same = ap (λ (s : Policy). s.answer_filter) later.policy
+
+  -- the time of a lookup stays
+  pub timeout-same : new.policy.timeout ≡ old.policy.timeout
+  timeout-same = ap (λ (s : Policy). s.timeout) later.policy
 
   -- what is sought
   pub sought-later : (shared : Shared) (n : ℕ) (s : Sought) → SoughtHolds old shared n s → SoughtHolds new shared n s
@@ -179,7 +183,8 @@ module _ (old new : View) (later : Later old new) where
     there = h.there;
     asks = h.asks;
     starts = h.starts;
-    time = h.time;
+    time = h.time ∙ sym timeout-same;
+    lasts = subst (λ (t : ℕ). 0 < t) (sym timeout-same) h.lasts;
     past = let p = h.past in let le = later.moment in omega arith;
     ips = h.ips;
     served = for-on s.query s.zone h.ips h.served;
@@ -197,8 +202,8 @@ module _ (old new : View) (later : Later old new) where
   }
 
   -- what is kept of responses
-  lives-same : new.setting.lives ≡ old.setting.lives
-  lives-same = ap (λ (s : Setting). s.lives) later.setting
+  lives-same : new.policy.ttl_bounds ≡ old.policy.ttl_bounds
+  lives-same = ap (λ (s : Policy). s.ttl_bounds) later.policy
 
   entry-later : (e : Entry) → EntryHolds old e → EntryHolds new e
   entry-later e h = record {
@@ -223,7 +228,7 @@ module _ (old new : View) (later : Later old new) where
   -- ---- a lookup
 
   timed-on : (t0 : ℕ) (q : Query) (ips : List IpAddr) (g moments : List ℕ) (ends : List (End IpAddr)) (start now : ℕ)
-      → EndSends (given_of old.setting) old.log q ips g ends moments → IsTimed old.moment old.log t0 q g ends start now → IsTimed new.moment new.log t0 q g ends start now
+      → EndSends old.policy old.log q ips g ends moments → IsTimed old.moment old.log t0 q g ends start now → IsTimed new.moment new.log t0 q g ends start now
   timed-on t0 q ips g moments ends start now s t = record {
     some = t.some;
     began = began-kept old.log new.log later.extends q 0 0 None g ends start (omega arith) t.began;
@@ -235,7 +240,7 @@ module _ (old new : View) (later : Later old new) where
   pub concluded-later : (t0 : ℕ) (q : Query) (zone : DomainName) (g : List ℕ) (result : Answered) → Concluded old t0 zone q g result → Concluded new t0 zone q g result
   concluded-later t0 q zone g result f =
       subst (λ (r : Resolver). Finished r (machine_timer new.moment new.log t0) new.log t0 q zone g result) given-is
-      (Finished-extend (given_of old.setting) less fewer old.log new.log later.extends (machine_timer old.moment old.log t0) (machine_timer new.moment new.log t0) (timed-on t0) (λ e. e) f)
+      (Finished-extend old.policy less fewer old.log new.log later.extends (machine_timer old.moment old.log t0) (machine_timer new.moment new.log t0) (timed-on t0) (λ e. e) f)
 
   -- what it came to
   pub found-later : (t0 : ℕ) (zone : DomainName) (q : Query) (ends : List ℕ) (came : Found) → FoundHolds old t0 zone q ends came → FoundHolds new t0 zone q ends came

@@ -52,7 +52,8 @@ pub use Rattle.resolution.specs.declared.verdict.Verdict.{Verdict}
 pub use Rattle.resolution.specs.Walking.{Walked}
 pub use Rattle.walk_response.specs.Kept.{kept_of, response_in}
 pub use Rattle.dns_core.specs.declared.log.ToldOutcome.{ToldOutcome}
-pub use Rattle.resolution.specs.Given.{allows_all, with_patience}
+pub use Rattle.recursor_types.specs.Policy.{with_patience}
+pub use Rattle.resolution.specs.Verdict.{allows_all}
 pub use Rattle.dns_core.specs.declared.errors.NoMemory.{NoMemory}
 pub use Rattle.resolution.specs.Names.{is_above, walk, same_query}
 pub use Rattle.resolution.specs.Ending.EndsSend.{answered, open_refused, ask_refused, open_failed, ask_failed, given_up}
@@ -81,14 +82,14 @@ pub use Rattle.kept_responses.specs.declared.entry.Entry.{Entry}
 pub use Rattle.resolution.specs.Life.{life_in_seconds}
 pub use Rattle.resolution.proofs.FailuresKept.{waits-extend, EndSends-extend, Listed-extend, Walked-extend, Finished-extend}
 pub use Rattle.resolution.proofs.Caseless.{both}
-pub use Rattle.walk_lookup.specs.declared.settings.setting.Setting.{Setting}
+pub use Rattle.recursor_types.specs.declared.policy.Policy.{Policy}
 pub use Rattle.server_core.specs.Order.{entry_of}
 pub use Rattle.server_core.specs.declared.orders.order.Tick.{Tick}
 pub use Rattle.pool_lookup.proofs.Taken.{heard_none, heard_some, heard_sleep, open_has, sleep_has, open_did, keeps, kept_open, kept_has, rests_under, rests_has}
 pub use Rattle.dns_core.specs.declared.log.LogEntry.{LogEntry}
 pub use Rattle.resolution.specs.Telling.{Logged, moment_of}
 pub use Rattle.walk_lookup.specs.Found.{is_lookup_error, last_of, class_of_failure, classified, IsTold, HasFailedBy, FoundHolds, ComesTo, HasCome, CountsAs}
-pub use Rattle.walk_lookup.specs.View.{View, given_of, Later, seen_at}
+pub use Rattle.walk_lookup.specs.View.{View, Later, seen_at}
 pub use Rattle.walk_lookup.specs.Tried.{Began, is_response, told_of, AreHeard, Concluded, Tried, BeganBy, IsTimed, machine_timer}
 pub use Rattle.walk_lookup.specs.Sought.{IsAt, SoughtHolds, config_at, server_at, IsMet, AreFor, IsSentTo, GivenHolds, with_came, is_denial, IsSentOver, MayTake, sent_to, either, aim_of, noted, AreServers, IsWaitedFor, ArePool, first_delay_at, MayTakeBy, given_after, first_of, polled_by, IsNumbered, AreNumbered, IsOf, IsStill, WasWaitedFor}
 pub use Rattle.walk_lookup.specs.Coming.{answer_at, telling_by, ComesBy, with_found, with_sought, has_more_ends}

@@ -53,7 +53,7 @@ at-noted (Some x) ended now at is = ap (λ (b : Bool). unwrap_or (if b then Some
 -- ---- what is sought
 
 module _ (seen : View) (longer : Log) (old new : Shared) (n : ℕ) (its : Sought) (tick : Tick) (w : Option Sent) (o : Outcome) (g : Given) (did : After)
-    (put : IsPut seen tick w o (done-so did) longer) (hold : SoughtHolds seen old n its) (given : its.given ≡ Some g) (denied : denied_in old ≡ denies seen.setting.answer_filter)
+    (put : IsPut seen tick w o (done-so did) longer) (hold : SoughtHolds seen old n its) (given : its.given ≡ Some g) (denied : denied_in old ≡ denies seen.policy.answer_filter)
     (puts : HasPut g.number n hold.shared_by o tick old (done-so did) new) where
   abbrev next : View
   next = seen_with seen tick w o (done-so did) longer
@@ -75,7 +75,7 @@ module _ (seen : View) (longer : Log) (old new : Shared) (n : ℕ) (its : Sought
   state = hold.shared_by.lookup
 
   abbrev come : LookupState
-  come = after_outcome (denies seen.setting.answer_filter) tick g.number o state
+  come = after_outcome (denies seen.policy.answer_filter) tick g.number o state
 
   ahead : Later seen next
   ahead = later-put seen tick w o (done-so did) longer put
@@ -141,14 +141,14 @@ module _ (seen : View) (longer : Log) (old new : Shared) (n : ℕ) (its : Sought
         (subst (λ (at : ℕ). SoughtHolds next new n (with_both (sent_to w o) at)) at taken)
       where
         ended-is : (r : Option Answered) → end_by tick.patience o to.open_to.attempt ≡ r → ended ≡ is_some r
-        ended-is None is = none-ended (heard_none (denies seen.setting.answer_filter) tick g.number o hold.heard state to.candidate asks to.open_to is)
-        ended-is (Some r) is = some-ended to.candidate r (closing_entry o) (heard_some (denies seen.setting.answer_filter) tick g.number o hold.heard state to.candidate asks to.open_to r is)
+        ended-is None is = none-ended (heard_none (denies seen.policy.answer_filter) tick g.number o hold.heard state to.candidate asks to.open_to is)
+        ended-is (Some r) is = some-ended to.candidate r (closing_entry o) (heard_some (denies seen.policy.answer_filter) tick g.number o hold.heard state to.candidate asks to.open_to r is)
 
     -- a sleep
     slept-after : (under : IsBackingOffUnder g.number state) → g.aim ≡ aim.Sleep → SoughtHolds next new n after
     slept-after under asleep =
         let slept = slept-holds seen last put.on.told longer put.on.tells.extends on ahead.extends old new n its tick w o put.patient ahead.moment ahead.greatest rest hold g there asleep under did puts.did order-new in
-        let none : ended ≡ false = none-ended (heard_sleep (denies seen.setting.answer_filter) tick g.number o hold.heard state under) in
+        let none : ended ≡ false = none-ended (heard_sleep (denies seen.policy.answer_filter) tick g.number o hold.heard state under) in
         let at : its.at ≡ unwrap_or (if ended then Some tick.now else None) its.at = at-noted None ended tick.now its.at none in
         let first : first_of g.aim w o ≡ None = ap (λ (a : Aim). first_of a w o) asleep in
         subst (λ (first : Option IpAddr). SoughtHolds next new n (with_both first (unwrap_or (if ended then Some tick.now else None) its.at))) (sym first)

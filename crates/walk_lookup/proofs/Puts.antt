@@ -25,7 +25,7 @@ kept-extends moment log tick waits o result {told} {longer} tells on =
 pub later-put : (seen : View) (tick : Tick) (waits : Option Sent) (o : Outcome) (result : Result After NoMemory) (longer : Log) → IsPut seen tick waits o result longer
     → Later seen (seen_with seen tick waits o result longer)
 later-put seen tick waits o result longer put =
-    record { setting = refl; patience = omega arith; greatest = omega arith; moment = put.on.tells.later; extends = kept-extends seen.moment seen.log tick waits o result put.on.tells put.on.goes_on }
+    record { policy = refl; patience = omega arith; greatest = omega arith; moment = put.on.tells.later; extends = kept-extends seen.moment seen.log tick waits o result put.on.tells put.on.goes_on }
 
 -- the last entry that is put is in the log
 last-in : (b : Bool) (now : ℕ) (waits : Option Sent) (o : Outcome) (told longer : Log) → entry_of o < told.next → LogGoesOnIf b now waits o told longer → last_if b waits o < longer.next

@@ -32,14 +32,14 @@ began-none log q greatest first (n ∷ ns) ends start none b = cc
 -- ---- an outcome
 
 module _ (seen : View) (last : ℕ) (told longer : Log) (x : Extends seen.log told) (y : Extends told longer) (whole : Extends seen.log longer) (old new : Shared) (n : ℕ) (s : Sought) (tick : Tick) (w : Option Sent)
-    (o : Outcome) (patient : seen.setting.patience ≤ tick.patience) (later : seen.moment ≤ tick.now) (le : seen.greatest ≤ last) (rest : SameBut n old new) (h : SoughtHolds seen old n s) (g : Given)
-    (there : lookup_at new n ≡ Some (moved_to (after_outcome (denies seen.setting.answer_filter) tick g.number o h.shared_by.lookup) h.shared_by)) where
+    (o : Outcome) (patient : seen.policy.patience ≤ tick.patience) (later : seen.moment ≤ tick.now) (le : seen.greatest ≤ last) (rest : SameBut n old new) (h : SoughtHolds seen old n s) (g : Given)
+    (there : lookup_at new n ≡ Some (moved_to (after_outcome (denies seen.policy.answer_filter) tick g.number o h.shared_by.lookup) h.shared_by)) where
   -- so far the machine has come then
   abbrev next : View
-  next = seen_at seen.setting last tick.now longer
+  next = seen_at seen.policy last tick.now longer
 
   ahead : Later seen next
-  ahead = record { setting = refl; patience = omega arith; greatest = le; moment = later; extends = whole }
+  ahead = record { policy = refl; patience = omega arith; greatest = le; moment = later; extends = whole }
 
   abbrev number : ℕ
   number = g.number
@@ -48,7 +48,7 @@ module _ (seen : View) (last : ℕ) (told longer : Log) (x : Extends seen.log to
   l = h.shared_by.lookup
 
   abbrev denied : IpAddr → Bool
-  denied = denies seen.setting.answer_filter
+  denied = denies seen.policy.answer_filter
 
   -- what the lookup has come to
   abbrev come : LookupState
@@ -77,6 +77,7 @@ module _ (seen : View) (last : ℕ) (told longer : Log) (x : Extends seen.log to
         asks = ap (λ (b : BegunWith). b.request.query) come-same ∙ h.asks;
         starts = ap (λ (b : BegunWith). b.start) come-same ∙ h.starts;
         time = ap (λ (b : BegunWith). b.timeout) come-same ∙ h.time;
+        lasts = h.lasts;
         past = omega (arith, past, later);
         ips = h.ips;
         served = for-on seen next ahead s.query s.zone h.ips h.served;

@@ -1,5 +1,5 @@
 -- What is written into the cache is derived from the log, and stays so.
-use Rattle.walk_lookup.proofs.Names.{◌≡◌, ℕ, ◌+◌, ◌≤◌, ⊎_elim, Option, Some, None, Result, Err, Contains, refl, sym, ap, ◌∙◌, arith, ◌==◌, option_and_then, same_Some, All-contains, All-weaker, All-contains_itself, Query, Message, NetError, Cached, Entry, class_of_classified, allows_all, verdict_of_told, life_in_seconds, Verdict, Walked, kept_of, response_in, IsTold, IsShown, EntryHolds, CacheHolds, Telling, written, remembered, Setting, View, given_of}
+use Rattle.walk_lookup.proofs.Names.{◌≡◌, ℕ, ◌+◌, ◌≤◌, ⊎_elim, Option, Some, None, Result, Err, Contains, refl, sym, ap, ◌∙◌, arith, ◌==◌, option_and_then, same_Some, All-contains, All-weaker, All-contains_itself, Query, Message, NetError, Cached, Entry, class_of_classified, allows_all, verdict_of_told, life_in_seconds, Verdict, Walked, kept_of, response_in, IsTold, IsShown, EntryHolds, CacheHolds, Telling, written, remembered, Policy, View}
 use Rattle.std.proofs.Common.{◌*◌}
 use Rattle.resolver_cache.specs.Cache.{upserted}
 use Rattle.resolver_cache.specs.Life.{life_of}
@@ -18,18 +18,18 @@ use Rattle.dns_core.specs.declared.net_error.DnsError.TheVariants as dns
 pub record TellingHolds (seen : View) (t : Telling) : Type 0 where
   pub t0 : ℕ
   pub told : IsTold seen t0 t.zone t.query t.entry t.at t.class
-  pub walked : Walked (given_of seen.setting) seen.log t.query t.zone
+  pub walked : Walked seen.policy seen.log t.query t.zone
 
 -- the lives of a verdict and of what it is kept as are one
-same-life : (setting : Setting) (q : Query) (v whole : Verdict) (response : Result Message NetError) → IsShown q v whole → kept_of v ≡ Some response
-    → life_of setting.lives q.query_type response ≡ life_in_seconds (given_of setting) q.query_type whole
-same-life setting q (Pos k) (Pos l) response shown h = sym (ap (λ (m : Message). life_in_seconds (given_of setting) q.query_type (Pos m)) (sym shown) ∙ ap (life_of setting.lives q.query_type) (same_Some _ _ h))
-same-life setting q (Neg n) (Neg m) response shown h = sym (ap (λ (d : NoRecords). life_in_seconds (given_of setting) q.query_type (Neg d)) (sym shown) ∙ ap (life_of setting.lives q.query_type) (same_Some _ _ h))
-same-life setting q (Neg n) (Made Filter) response shown h =
-    sym (ap (life_of setting.lives q.query_type) (same_Some _ _ h))
-    ∙ ap (λ (d : NoRecords). life_of setting.lives q.query_type (Err (net.Dns (dns.NoRecordsFound d)))) shown
-same-life setting q (Made cause) whole response shown h = cc
-same-life setting q _ _ response shown h = absurd shown
+same-life : (policy : Policy) (q : Query) (v whole : Verdict) (response : Result Message NetError) → IsShown q v whole → kept_of v ≡ Some response
+    → life_of policy.ttl_bounds q.query_type response ≡ life_in_seconds policy q.query_type whole
+same-life policy q (Pos k) (Pos l) response shown h = sym (ap (λ (m : Message). life_in_seconds policy q.query_type (Pos m)) (sym shown) ∙ ap (life_of policy.ttl_bounds q.query_type) (same_Some _ _ h))
+same-life policy q (Neg n) (Neg m) response shown h = sym (ap (λ (d : NoRecords). life_in_seconds policy q.query_type (Neg d)) (sym shown) ∙ ap (life_of policy.ttl_bounds q.query_type) (same_Some _ _ h))
+same-life policy q (Neg n) (Made Filter) response shown h =
+    sym (ap (life_of policy.ttl_bounds q.query_type) (same_Some _ _ h))
+    ∙ ap (λ (d : NoRecords). life_of policy.ttl_bounds q.query_type (Err (net.Dns (dns.NoRecordsFound d)))) shown
+same-life policy q (Made cause) whole response shown h = cc
+same-life policy q _ _ response shown h = absurd shown
 
 module _ (seen : View) (cache : Cached) (t : Telling) (holds : CacheHolds seen cache)
     (told : TellingHolds seen t) where
@@ -41,8 +41,8 @@ module _ (seen : View) (cache : Cached) (t : Telling) (holds : CacheHolds seen c
       let counts = counts-of seen told.t0 t.zone t.query t.entry t.at t.class v told.told is in
       let query : e.query ≡ t.query = w.question in
       let source : e.source ≡ t.entry = w.source in
-      let lives : life_in_seconds (given_of seen.setting) t.query.query_type counts.whole ≡ Some w.life =
-      sym (same-life seen.setting t.query v counts.whole response counts.shown kept) ∙ ap (λ config. life_of config t.query.query_type response) (sym holds.lives) ∙ w.lives in
+      let lives : life_in_seconds seen.policy t.query.query_type counts.whole ≡ Some w.life =
+      sym (same-life seen.policy t.query v counts.whole response counts.shown kept) ∙ ap (λ config. life_of config t.query.query_type response) (sym holds.lives) ∙ w.lives in
       let expires : e.expiry ≤ t.at + 1000000 * w.life = omega (arith, w.no_longer) in
       rw (query, source) (record {
         zone = t.zone;

@@ -5,7 +5,7 @@ use Rattle.std.specs.Prelude.{◌&&◌}
 use Rattle.std.specs.Cmp.{nat_eq_equiv}
 use Rattle.dns_core.specs.NameLaws.{same_names_equiv}
 use Rattle.dns_core.specs.declared.connection.Protocol.{Protocol}
-use Rattle.resolution.specs.Given.{Given}
+use Rattle.recursor_types.specs.declared.policy.Policy.{Policy}
 use Rattle.resolution.specs.Timing.{is_send}
 use Rattle.resolution.proofs.Addresses.{same_ip-itself}
 use Rattle.order_carrier.proofs.Holding.{IsSent-extend}
@@ -64,7 +64,7 @@ asked-entry log q s protocol refusal e h = subst (λ (o : Option Query). Logged 
 -- ---- what came of it
 
 -- what was refused ended its send
-refused-ends : (given : Given) (log : Log) (q : Query) (s : Sent) (protocol : Protocol) (error : NetError) → IsFor s.query q
+refused-ends : (given : Policy) (log : Log) (q : Query) (s : Sent) (protocol : Protocol) (error : NetError) → IsFor s.query q
     → Logged log s.of (entry_for s protocol (Some error)) → EndsSend given log q s.of (record { server = s.ip; outcome = Err error }) s.moment
 refused-ends given log q s protocol error is h = by s.query is h
   where
@@ -74,7 +74,7 @@ refused-ends given log q s protocol error is h = by s.query is h
     by (Some asked) i k = ask_refused k (same_for asked q i)
 
 -- what was told an error ended its send
-failed-ends : (given : Given) (log : Log) (now entry : ℕ) (q : Query) (s : Sent) (protocol : Protocol) (error : NetError) → IsFor s.query q
+failed-ends : (given : Policy) (log : Log) (now entry : ℕ) (q : Query) (s : Sent) (protocol : Protocol) (error : NetError) → IsFor s.query q
     → Logged log entry (line.Told s.of now (said.Error error)) → Logged log s.of (entry_for s protocol None)
     → EndsSend given log q entry (record { server = s.ip; outcome = Err error }) now
 failed-ends given log now entry q s protocol error is told h = by s.query is h
@@ -85,7 +85,7 @@ failed-ends given log now entry q s protocol error is told h = by s.query is h
     by (Some asked) i k = ask_failed told k (same_for asked q i)
 
 -- what failed is lost, refused or not
-pub lost-failed : (given : Given) (log : Log) (now entry : ℕ) (s : Sent) (refused : Bool) (error : NetError)
+pub lost-failed : (given : Policy) (log : Log) (now entry : ℕ) (s : Sent) (refused : Bool) (error : NetError)
     → OutcomeIs log now (outcome.Failed entry s refused error) → IsLost given log now entry s error
 lost-failed given log now entry s true error h = record {
   refusal = Some error;
@@ -104,7 +104,7 @@ lost-failed given log now entry s false error h = record {
 }
 
 -- what was given up, after as many polls as patience allows, is lost to a timeout
-pub lost-gave_up : (given : Given) (told log : Log) (now entry : ℕ) (s : Sent) → given.patience ≤ waits log s.of (entry + 1) → Closes told s entry (line.Waited s.of)
+pub lost-gave_up : (given : Policy) (told log : Log) (now entry : ℕ) (s : Sent) → given.patience ≤ waits log s.of (entry + 1) → Closes told s entry (line.Waited s.of)
     → IsGivenUpIn s.of entry now told log → IsLost given log now (entry + 1) s net.Timeout
 lost-gave_up given told log now entry s enough waited up =
     let sent = IsSent-extend told log up.extends s None waited.sent in

@@ -1,20 +1,20 @@
 -- What a lookup has behind it after one more end.
-use Rattle.walk_lookup.proofs.Names.{◌≡◌, ℕ, ◌≤◌, ◌<◌, Bool, true, false, List, [], ◌∷◌, ◌++◌, Contains, Option, Some, None, IfSome, refl, sym, subst, ◌∙◌, arith, nat_le, list_all, last_or, and_parts, leb-true, le-leb, same_Some, IpAddr, DomainName, Log, Query, Answered, End, EndsSend, EndSends, Rise, no_send, and_send, both, Outcome, Pending, Connected, Told, Failed, Slept, Sent, entry_of, IsSent, WaitsBy, OutcomeIs, NetError, View, Later, given_of, BeganBy, Began, AreHeard, Tried, IsOf, MayTake, sent_to, either}
-use Rattle.resolution.specs.Given.{Given}
+use Rattle.walk_lookup.proofs.Names.{◌≡◌, ℕ, ◌≤◌, ◌<◌, Bool, true, false, List, [], ◌∷◌, ◌++◌, Contains, Option, Some, None, IfSome, refl, sym, subst, ◌∙◌, arith, nat_le, list_all, last_or, and_parts, leb-true, le-leb, same_Some, IpAddr, DomainName, Log, Query, Answered, End, EndsSend, EndSends, Rise, no_send, and_send, both, Outcome, Pending, Connected, Told, Failed, Slept, Sent, entry_of, IsSent, WaitsBy, OutcomeIs, NetError, View, Later, BeganBy, Began, AreHeard, Tried, IsOf, MayTake, sent_to, either}
+use Rattle.recursor_types.specs.declared.policy.Policy.{Policy}
 use Rattle.walk_lookup.proofs.Later.{tried-later, began_by-kept}
 use Rattle.walk_lookup.proofs.Sends.{began-sent}
 use Rattle.walk_lookup.proofs.Ends.{IsEndedBy, sent-for}
 
 -- ---- one more
 
-sends-more : {given : Given} {log : Log} {q : Query} {ips : List IpAddr} {g moments : List ℕ} {ends : List (End IpAddr)} {n moment : ℕ} {e : End IpAddr}
+sends-more : {given : Policy} {log : Log} {q : Query} {ips : List IpAddr} {g moments : List ℕ} {ends : List (End IpAddr)} {n moment : ℕ} {e : End IpAddr}
     → EndSends given log q ips g ends moments → EndsSend given log q n e moment → Contains ips e.server
     → EndSends given log q ips (g ++ n ∷ []) (ends ++ e ∷ []) (moments ++ moment ∷ [])
 sends-more no_send s c = and_send s c no_send
 sends-more (and_send t d rest) s c = and_send t d (sends-more rest s c)
 
 heard-more : (seen : View) (zone : DomainName) (q : Query) {ips : List IpAddr} {g moments : List ℕ} {ends : List (End IpAddr)} (n m : ℕ) (e : End IpAddr)
-    → EndSends (given_of seen.setting) seen.log q ips g ends moments → AreHeard seen zone q g ends moments → AreHeard seen zone q (n ∷ []) (e ∷ []) (m ∷ [])
+    → EndSends seen.policy seen.log q ips g ends moments → AreHeard seen zone q g ends moments → AreHeard seen zone q (n ∷ []) (e ∷ []) (m ∷ [])
     → AreHeard seen zone q (g ++ n ∷ []) (ends ++ e ∷ []) (moments ++ m ∷ [])
 heard-more seen zone q n m e no_send h last = last
 heard-more seen zone q n m e (and_send t d rest) h last = (h.0, heard-more seen zone q n m e rest h.1 last)
@@ -34,7 +34,7 @@ last-more : (xs : List ℕ) (o : Option ℕ) (n : ℕ) → last_or o (xs ++ n �
 last-more [] o n = refl
 last-more (x ∷ xs) o n = last-more xs (Some x) n
 
-began-more : (log : Log) (q : Query) (greatest entry : ℕ) (first other : Option IpAddr) (start n : ℕ) (e : End IpAddr) {given : Given} {ips : List IpAddr} {g moments : List ℕ} {ends : List (End IpAddr)}
+began-more : (log : Log) (q : Query) (greatest entry : ℕ) (first other : Option IpAddr) (start n : ℕ) (e : End IpAddr) {given : Policy} {ips : List IpAddr} {g moments : List ℕ} {ends : List (End IpAddr)}
     → EndSends given log q ips g ends moments → (g ≡ [] → BeganBy log q e.server n start) → Began log q greatest first g ends start
     → Began log q entry other (g ++ n ∷ []) (ends ++ e ∷ []) start
 began-more log q greatest entry first other start n e no_send here b = here refl

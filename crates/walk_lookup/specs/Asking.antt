@@ -1,32 +1,16 @@
 -- How servers are asked.
-use Rattle.std.specs.Prelude.{true, false, None}
+use Rattle.std.specs.Prelude.{false, Some, None}
 use Rattle.dns_core.specs.declared.connection.ConnectOptions.{ConnectOptions}
 use Rattle.dns_core.specs.declared.request.DnsRequestOptions.{DnsRequestOptions}
 use Rattle.resolver_settings.specs.declared.options.ResolverOpts.{ResolverOpts}
-use Rattle.resolver_settings.specs.declared.options.ServerOrderingStrategy.TheVariants.{QueryStatistics}
-use Rattle.recursor_types.specs.declared.options.RecursorOptions.{RecursorOptions}
+use Rattle.server_core.specs.Context.{Context}
+use Rattle.recursor_types.specs.declared.policy.Policy.{Policy}
 
--- one server at a time, the fastest first, within five seconds, with EDNS, and without the wish that it recurses
-abbrev pub resolver_of : RecursorOptions → ResolverOpts
-resolver_of options = record {
-  ndots = 0;
-  timeout = 5000000;
-  attempts = 2;
-  edns0 = true;
-  edns_payload_len = options.edns_payload_len;
-  num_concurrent_reqs = 1;
-  server_ordering_strategy = QueryStatistics;
-  recursion_desired = false;
-  preserve_intermediates = true;
-  try_tcp_on_error = false;
-  case_randomization = options.case_randomization;
-  max_active_requests = 32;
-  os_port_selection = false;
-  avoid_local_udp_ports = options.avoid_local_udp_ports;
-  enable_per_name_server_metrics = false;
-}
+-- what the pools are set to: how servers are asked, within the time of a lookup, no probe, and the filter of the addresses of answers
+abbrev pub context_of : Policy → Context
+context_of policy = record { options = record policy.resolver { timeout = policy.timeout }; probe_budget = 0; answer_address_filter = Some policy.answer_filter }
 
--- what such a resolver opens each connection with
+-- what a resolver opens each connection with
 abbrev pub connect_of : ResolverOpts → ConnectOptions
 connect_of resolver = record {
   timeout = resolver.timeout;

@@ -7,7 +7,7 @@ use Rattle.dns_core.specs.declared.net_error.DnsError.{DnsError}
 use Rattle.dns_core.specs.declared.log.ToldOutcome.{ToldOutcome}
 use Rattle.resolver_settings.specs.Access.{denies}
 use Rattle.resolution.specs.Class.{class_of, class_of_classified}
-use Rattle.resolution.specs.Given.{allows_all}
+use Rattle.resolution.specs.Verdict.{allows_all}
 use Rattle.resolution.specs.Verdict.{verdict_of_told}
 use Rattle.resolution.specs.Serving.{Heard}
 use Rattle.resolution.specs.declared.class.Class.{Class}
@@ -21,7 +21,7 @@ use Rattle.server_pool.specs.declared.open_lookups.open_lookup.OpenLookup.{OpenL
 use Rattle.walk_response.specs.Response.{error_of}
 use Rattle.walk_response.specs.Shown.{left_of_class}
 use Rattle.walk_lookup.specs.Asked.{AskedAs}
-use Rattle.walk_lookup.specs.View.{View, given_of}
+use Rattle.walk_lookup.specs.View.{View}
 use Rattle.walk_lookup.specs.Tried.{Concluded}
 use Rattle.walk_lookup.specs.declared.found.Found.{Found}
 use Rattle.dns_core.specs.declared.message.Message.{Message as Response}
@@ -56,11 +56,11 @@ pub record IsTold (seen : View) (t0 : ℕ) (zone : DomainName) (q : Query) (entr
   pub outcome : ToldOutcome
   pub response : Class
   pub early : entry ≤ seen.greatest
-  pub heard : Heard (given_of seen.setting) seen.log entry q outcome at zone
+  pub heard : Heard seen.policy seen.log entry q outcome at zone
   pub asked : AskedAs seen.log entry q
   pub late : t0 ≤ at
   pub is : class_of outcome q ≡ Some response
-  pub left : left_of_class (denies seen.setting.answer_filter) q response ≡ Some class
+  pub left : left_of_class (denies seen.policy.answer_filter) q response ≡ Some class
 
 -- as what a classified message counts for its question, told by a server of the zone: a verdict, or the error that it is
 abbrev pub CountsAs : DomainName → Query → Result Response DnsError → Result Verdict NetError → Type 0

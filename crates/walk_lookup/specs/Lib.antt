@@ -8,4 +8,3 @@ pub mod Remembered
 pub mod Coming
 pub mod Asking
 pub mod Delays
-pub mod Setting

@@ -4,7 +4,7 @@ use Rattle.dns_core.specs.Log.{Log, Extends}
 use Rattle.dns_core.specs.declared.errors.NoMemory.{NoMemory}
 use Rattle.dns_core.specs.declared.message.Query.{Query}
 use Rattle.dns_core.specs.declared.net_error.NetError.{NetError}
-use Rattle.resolution.specs.Given.{Given}
+use Rattle.recursor_types.specs.declared.policy.Policy.{Policy}
 use Rattle.resolution.specs.Telling.{Logged}
 use Rattle.resolution.specs.Ending.{EndsSend}
 use Rattle.server_core.specs.Order.{entry_of}
@@ -26,7 +26,7 @@ IsFor None q = Unit {0}
 IsFor (Some asked) q = asked ≡ q
 
 -- What was sent came to nothing but the error, by the entry, at the moment.
-pub record IsLost (given : Given) (log : Log) (now entry : ℕ) (s : Sent) (error : NetError) : Type 0 where
+pub record IsLost (given : Policy) (log : Log) (now entry : ℕ) (s : Sent) (error : NetError) : Type 0 where
   pub refusal : Option NetError
   pub sent : IsSent log s refusal
   pub before : s.of ≤ entry
@@ -96,14 +96,14 @@ pub record TellsOn (moment : ℕ) (log : Log) (tick : Tick) (waits : Option Sent
 
 -- So it goes on, by an entry later than all before; patience is no less than what is set.
 pub record IsPut (seen : View) (tick : Tick) (waits : Option Sent) (o : Outcome) (result : Result After NoMemory) (longer : Log) : Type 0 where
-  pub patient : seen.setting.patience ≤ tick.patience
+  pub patient : seen.policy.patience ≤ tick.patience
   pub bound : seen.greatest < seen.log.next
   pub next : IsNext seen.greatest (entry_of o)
   pub on : TellsOn seen.moment seen.log tick waits o result longer
 
 -- so far a machine has come with it
 abbrev pub seen_with : View → Tick → Option Sent → Outcome → Result After NoMemory → Log → View
-seen_with seen tick waits o result longer = record { setting = seen.setting; greatest = max seen.greatest (last_entry result waits o); moment = tick.now; log = longer }
+seen_with seen tick waits o result longer = record { policy = seen.policy; greatest = max seen.greatest (last_entry result waits o); moment = tick.now; log = longer }
 
 -- What holds by what a machine sees goes on holding, the one and then the other, by what it sees with the outcome, however the log tells that.
 abbrev pub HoldsOn : Tick → Option Sent → Outcome → Result After NoMemory → (View → Type 0) → (View → Type 0) → Type 0

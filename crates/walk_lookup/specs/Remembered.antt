@@ -17,7 +17,7 @@ use Rattle.resolution.specs.Walking.{Walked}
 use Rattle.walk_response.specs.Kept.{kept_of, response_in}
 use Rattle.walk_response.specs.Shown.{IsShown}
 use Rattle.walk_lookup.specs.Asked.{AskedAs}
-use Rattle.walk_lookup.specs.View.{View, given_of}
+use Rattle.walk_lookup.specs.View.{View}
 
 -- ---- what holds of the cache
 
@@ -29,18 +29,18 @@ pub record EntryHolds (seen : View) (e : Entry) : Type 0 where
   pub moment : ℕ
   pub whole : Verdict
   pub early : e.source ≤ seen.greatest
-  pub heard : Heard (given_of seen.setting) seen.log e.source e.query told moment zone
+  pub heard : Heard seen.policy seen.log e.source e.query told moment zone
   pub asked : AskedAs seen.log e.source e.query
-  pub counts : verdict (given_of seen.setting) told e.query zone ≡ Some whole
-  pub walked : Walked (given_of seen.setting) seen.log e.query zone
+  pub counts : verdict seen.policy told e.query zone ≡ Some whole
+  pub walked : Walked seen.policy seen.log e.query zone
   pub shown : Verdict
   pub as_shown : IsShown e.query shown whole
   pub kept : kept_of shown ≡ Some e.response
-  pub expires : IsSomeAnd (life_in_seconds (given_of seen.setting) e.query.query_type whole) (λ life. e.expiry ≤ moment + 1000000 * life)
+  pub expires : IsSomeAnd (life_in_seconds seen.policy e.query.query_type whole) (λ life. e.expiry ≤ moment + 1000000 * life)
 
 -- Each response is so, and lives by the bounds that are set.
 pub record CacheHolds (seen : View) (cache : Cached) : Type 0 where
-  pub lives : cache.config ≡ seen.setting.lives
+  pub lives : cache.config ≡ seen.policy.ttl_bounds
   pub entries : All (EntryHolds seen) cache.entries
 
 -- ---- what is written

@@ -29,7 +29,7 @@ use Rattle.server_pool.specs.declared.open_lookups.open_lookup.OpenLookup.{OpenL
 use Rattle.server_pool.specs.ByAddress.{SameEnds, at_address}
 use Rattle.server_pool.specs.Shared.{Shared, lookup_at, lookup_of}
 use Rattle.pool_rules.specs.declared.candidate.Candidate.{Candidate}
-use Rattle.walk_lookup.specs.View.{View, given_of}
+use Rattle.walk_lookup.specs.View.{View}
 use Rattle.walk_lookup.specs.Tried.{Tried}
 use Rattle.walk_lookup.specs.Found.{HasCome}
 use Rattle.walk_lookup.specs.declared.found.Found.{Found}
@@ -56,18 +56,18 @@ server_at ip = believed ip (over_udp ∷ over_tcp ∷ [])
 
 -- each of these serves the zone, by what was put
 abbrev pub AreServers : View → DomainName → List IpAddr → Type 0
-AreServers seen zone ips = All (λ ip. Serves (given_of seen.setting) seen.log (seen.greatest + 1) ip zone) ips
+AreServers seen zone ips = All (λ ip. Serves seen.policy seen.log (seen.greatest + 1) ip zone) ips
 
 -- These are the servers of a zone by the roots or by a delegation, all of them; each serves it by what was put.
 pub record ArePool (seen : View) (zone : DomainName) (ips : List IpAddr) : Type 0 where
   pub serve : AreServers seen zone ips
-  pub listed : Listed (given_of seen.setting) seen.log zone ips
+  pub listed : Listed seen.policy seen.log zone ips
   pub some : 0 < length ips
 
 -- They are the servers of a zone at or above the name of the question, to which a walk went down for it.
 pub record AreFor (seen : View) (q : Query) (zone : DomainName) (ips : List IpAddr) : Type 0 where
   pub above : IsTrue (is_above zone (walk q))
-  pub walked : Walked (given_of seen.setting) seen.log q zone
+  pub walked : Walked seen.policy seen.log q zone
   pub pool : ArePool seen zone ips
 
 -- The candidate is at the address, reached beyond UDP, and believed what it denies.
@@ -97,7 +97,7 @@ pub record IsSentTo (seen : View) (shared : Shared) (n : ℕ) (zone : DomainName
   pub at : IsAt shared.table ip candidate
   pub open_to : IsOpenTo g.number candidate asks l
   pub past : g.since ≤ seen.greatest
-  pub serves : Serves (given_of seen.setting) seen.log (g.since + 1) ip zone
+  pub serves : Serves seen.policy seen.log (g.since + 1) ip zone
   pub polled : IsWaitedFor seen g.polled (pendings open_to.attempt.send.stage)
 
 -- the order that it gave last is open
@@ -112,7 +112,8 @@ pub record SoughtHolds (seen : View) (shared : Shared) (n : ℕ) (s : Sought) : 
   pub there : lookup_at shared n ≡ Some shared_by
   pub asks : question_of shared_by.lookup ≡ s.query
   pub starts : shared_by.lookup.start ≡ s.start
-  pub time : shared_by.lookup.timeout ≡ 5000000
+  pub time : shared_by.lookup.timeout ≡ seen.policy.timeout
+  pub lasts : 0 < seen.policy.timeout
   pub past : s.start ≤ seen.moment
   pub ips : List IpAddr
   pub served : AreFor seen s.query s.zone ips
@@ -120,7 +121,7 @@ pub record SoughtHolds (seen : View) (shared : Shared) (n : ℕ) (s : Sought) : 
   pub known : All (λ c. IsAt shared.table (ip_of c.server) c) shared_by.lookup.servers
   pub whole : IsPermutation ips (map (at_address ip_of) shared_by.lookup.servers)
   pub heard : List HeardEnd
-  pub stands : HoldsBy (denies seen.setting.answer_filter) heard shared_by.lookup
+  pub stands : HoldsBy (denies seen.policy.answer_filter) heard shared_by.lookup
   -- a step no later than the moment decided it, if one did
   pub decided : (answer : Answered) (at : ℕ) → shared_by.lookup.state ≡ Decided answer at → at ≤ seen.moment
   pub ends : List (End IpAddr)

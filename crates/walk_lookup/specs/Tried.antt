@@ -15,7 +15,7 @@ use Rattle.resolution.specs.Timing.{is_send}
 use Rattle.resolution.specs.declared.class.Class.{Class}
 use Rattle.resolution.specs.declared.class.Class.TheVariants.{Error, Code, Truncated, Negative, Foreign, Positive}
 use Rattle.walk_lookup.specs.Asked.{AskedAs}
-use Rattle.walk_lookup.specs.View.{View, given_of}
+use Rattle.walk_lookup.specs.View.{View}
 use Rattle.dns_core.specs.declared.log.ToldOutcome.TheVariants as told
 
 -- A send of the question to the server began at the moment, by an entry that is no later than this one.
@@ -50,14 +50,14 @@ told_of (Err e) = told.Error e
 -- Each end that is an answer or a denial was heard for the question as it was asked, from a server of the zone.
 abbrev pub AreHeard : View → DomainName → Query → List ℕ → List (End IpAddr) → List ℕ → Type 0
 AreHeard seen zone q (n ∷ g) (e ∷ ends) (m ∷ moments) =
-    (IsTrue (is_response (class_of_answer q e.outcome)) → Heard (given_of seen.setting) seen.log n q (told_of e.outcome) m zone × AskedAs seen.log n q) × AreHeard seen zone q g ends moments
+    (IsTrue (is_response (class_of_answer q e.outcome)) → Heard seen.policy seen.log n q (told_of e.outcome) m zone × AskedAs seen.log n q) × AreHeard seen zone q g ends moments
 AreHeard seen zone q _ _ _ = Unit {0}
 
 -- These entries ended sends of the question to some of the addresses, one after the other, since the start; the last of them came at this moment.
 pub record Tried (seen : View) (zone : DomainName) (q : Query) (ips : List IpAddr) (start : ℕ) (first : Option IpAddr)
     (g : List ℕ) (ends : List (End IpAddr)) (at : ℕ) : Type 0 where
   pub moments : List ℕ
-  pub logged : EndSends (given_of seen.setting) seen.log q ips g ends moments
+  pub logged : EndSends seen.policy seen.log q ips g ends moments
   pub heard : AreHeard seen zone q g ends moments
   pub rises : Rise g
   pub early : IsTrue (list_all (λ n. nat_le n seen.greatest) g)
@@ -83,4 +83,4 @@ machine_timer moment log t0 = record { Timed = λ q ips g ends moments start now
 
 -- A lookup for the question at servers of the zone came to this by the entries, no later than the moment.
 abbrev pub Concluded : View → ℕ → DomainName → Query → List ℕ → Answered → Type 0
-Concluded seen t0 zone q g result = Finished (given_of seen.setting) (machine_timer seen.moment seen.log t0) seen.log t0 q zone g result
+Concluded seen t0 zone q g result = Finished seen.policy (machine_timer seen.moment seen.log t0) seen.log t0 q zone g result

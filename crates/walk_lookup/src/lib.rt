@@ -15,7 +15,6 @@ pub use aims::{aim_of, first_of, is_memory, polled_by};
 pub use answered::{found_by, last_of};
 pub use found::Found;
 pub use keeping::write_verdict;
-pub use settings::asking::{connect_options, request_options, resolver_options};
+pub use settings::asking::{connect_options, pool_context, request_options};
 pub use settings::delays::{FirstDelay, first_delay};
-pub use settings::setting::{Setting, pool_context};
 pub use sought::{Aim, Given, Sought};

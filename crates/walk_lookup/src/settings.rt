@@ -3,5 +3,4 @@
 
 pub mod asking;
 pub mod delays;
-pub mod setting;
 pub mod threads;

@@ -5,7 +5,7 @@ use Rattle.std.specs.declared.net.ip_addr.IpAddr.{IpAddr}
 use Rattle.dns_core.specs.declared.record.Record.{Record}
 use Rattle.dns_core.specs.declared.message.Message.{Message}
 use Rattle.dns_core.specs.Name.{DomainName}
-use Rattle.resolution.specs.Given.{allows_all}
+use Rattle.resolution.specs.Verdict.{allows_all}
 use Rattle.resolution.specs.Records.{address}
 use Rattle.resolution.specs.Verdict.{holds_denied, without_denied, within, emptied, verdict_of_message}
 use Rattle.resolution.specs.declared.verdict.Verdict.{Verdict}

@@ -16,7 +16,7 @@ use Rattle.dns_core.specs.declared.log.ToldOutcome.{ToldOutcome}
 use Rattle.dns_core.specs.Classifying.{no_records}
 use Rattle.resolution.specs.Class.{class_of, class_of_message, has_no_data_for, is_foreign}
 use Rattle.resolution.specs.Records.{records}
-use Rattle.resolution.specs.Given.{Given}
+use Rattle.recursor_types.specs.declared.policy.Policy.{Policy}
 use Rattle.resolution.specs.Lookups.{Answered, End, Rules, PoolRun}
 use Rattle.resolution.specs.Lookups.PoolRun.{decided, spent, late}
 use Rattle.resolution.specs.Ending.{EndSends}
@@ -74,7 +74,7 @@ run_later now later le (late l) = late (record { none = l.none; answers = l.answ
 -- ---- the entries of ends
 
 -- there is one for each end, at one moment
-pub sends_length : {given : Given} {log : Log} {q : Query} {ips : List IpAddr} {g moments : List ℕ} {ends : List (End IpAddr)} → EndSends given log q ips g ends moments
+pub sends_length : {policy : Policy} {log : Log} {q : Query} {ips : List IpAddr} {g moments : List ℕ} {ends : List (End IpAddr)} → EndSends policy log q ips g ends moments
     → (length g ≡ length ends) × (length moments ≡ length ends)
 sends_length no_send = (refl, refl)
 sends_length (and_send s c rest) = let more = sends_length rest in (ap suc more.0, ap suc more.1)

@@ -1,5 +1,5 @@
 -- What a question is answered with by what counts for it.
-use Rattle.std.specs.Prelude.{Bool, true, false, ◌==◌, ◌&&◌, [], Option, Some, None, Result, Ok, Err}
+use Rattle.std.specs.Prelude.{Bool, true, false, ◌==◌, ◌&&◌, [], Some, None, Result, Ok, Err}
 use Rattle.std.specs.Option.{is_none}
 use Rattle.dns_core.specs.Stripping.{strip_of}
 use Rattle.dns_core.specs.declared.message.Query.{Query}

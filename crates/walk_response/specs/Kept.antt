@@ -10,7 +10,7 @@ use Rattle.dns_core.specs.declared.net_error.DnsError.TheVariants as dns
 use Rattle.dns_core.specs.declared.net_error.NetError.{NetError}
 use Rattle.dns_core.specs.declared.net_error.NetError.TheVariants as net
 use Rattle.resolution.specs.Class.{class_of_classified}
-use Rattle.resolution.specs.Given.{allows_all}
+use Rattle.resolution.specs.Verdict.{allows_all}
 use Rattle.resolution.specs.Verdict.{verdict_of_told}
 use Rattle.resolution.specs.declared.verdict.Verdict.{Verdict}
 use Rattle.resolution.specs.declared.verdict.Verdict.TheVariants.{Pos, Neg, Made}

@@ -1,6 +1,6 @@
 //! What a response that was told comes to: what it counts for, or an error.
 ghost use Rattle.std.specs.Prelude.{◌≡◌, IfOk, IfErr, Some};
-ghost use Rattle.resolution.specs.Given.{allows_all};
+ghost use Rattle.resolution.specs.Verdict.{allows_all};
 ghost use Rattle.resolution.specs.Class.{class_of_classified};
 ghost use Rattle.resolution.specs.Verdict.{verdict_of_told};
 ghost use Rattle.walk_response.specs.Response.{error_of};

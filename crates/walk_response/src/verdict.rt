@@ -1,7 +1,7 @@
 //! What a response counts for, as told by a server of a zone: only records at or below the apex of
 //! its zone are believed (RFC 2181 section 5.4.1, RFC 5452 section 6).
 ghost use Rattle.std.specs.Prelude.{◌≡◌, ◌&&◌, ◌||◌, filter};
-ghost use Rattle.resolution.specs.Given.{allows_all};
+ghost use Rattle.resolution.specs.Verdict.{allows_all};
 ghost use Rattle.resolution.specs.Verdict.{in_zone, within, negative_within, verdict_of_message, if_in_zone};
 
 use dns_core::{Boxed, Items, Message, Name, NoRecords, Record, Records, is_subzone};

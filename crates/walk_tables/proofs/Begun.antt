@@ -7,7 +7,7 @@ pub pools-numbered : (seen : View) (old : Pools) (shared : Shared) (k : ℕ) →
 pools-numbered seen old shared k more is h =
     let count : shared.pools ≡ k = ap (λ (x : Shared). x.pools) is in
     record {
-      servers = servers-with seen.setting old (record old { shared = shared }) refl (ap (λ (x : Shared). x.context) is) (carried 0).reached h.servers;
+      servers = servers-with seen.policy old (record old { shared = shared }) refl (ap (λ (x : Shared). x.context) is) (carried 0).reached h.servers;
       numbered = numbered-same old.shared shared (ap (λ (x : Shared). x.lookups) is) (ap (λ (x : Shared). x.sent) is) (omega (arith, more, count)) h.numbered;
       lookups = λ m s at. sought-carried seen m old.shared shared s (carried m) (h.lookups m s at);
     }

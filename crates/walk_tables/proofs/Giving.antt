@@ -1,5 +1,5 @@
 -- The pools after a step of one of their lookups.
-use Rattle.walk_tables.proofs.Names.{◌≡◌, ℕ, ◌+◌, true, Option, Some, None, refl, sym, ap, subst, ◌∙◌, Result, Ok, Err, IfOk, OnErr, ◌⊎◌, inl, inr, is_some, Order, Shared, lookup_at, SameBut, HasStepped, HasHalted, OpenLookup, PoolStep, next_rest, View, given_of, AreNumbered, SoughtHolds, aim_of, noted, PoolsHold, HasNoted, sought_at, HasForgotten, answer_at, Given, Pools, Sought, same-rest, stepped-numbered, halted-rest, halted-numbered, NoMemory}
+use Rattle.walk_tables.proofs.Names.{◌≡◌, ℕ, ◌+◌, true, Option, Some, None, refl, sym, ap, subst, ◌∙◌, Result, Ok, Err, IfOk, OnErr, ◌⊎◌, inl, inr, is_some, Order, Shared, lookup_at, SameBut, HasStepped, HasHalted, OpenLookup, PoolStep, next_rest, View, AreNumbered, SoughtHolds, aim_of, noted, PoolsHold, HasNoted, sought_at, HasForgotten, answer_at, Given, Pools, Sought, same-rest, stepped-numbered, halted-rest, halted-numbered, NoMemory}
 use Rattle.order_carrier.specs.Fits.{GoesToServer}
 use Rattle.resolution.specs.Lookups.{Answered}
 use Rattle.walk_lookup.proofs.Giving.{done-answer, done-holds, order-goes, ordered-holds}
@@ -46,7 +46,7 @@ module _ (seen : View) (n : ℕ) (old new : Pools) (shared : Shared) (h : PoolsH
     pools-answer answer is note = ap (λ (x : Shared). answer_at x n) note.same.shared ∙ done-answer seen old.shared shared n found.0 told hold (stepped found.0 found.1) answer is
 
     -- The order goes to a server of what is sought.
-    pub pools-go : (number : ℕ) (o : Order) → told ≡ gives.Order number o → GoesToServer (given_of seen.setting) seen.log (seen.greatest + 1) o
+    pub pools-go : (number : ℕ) (o : Order) → told ≡ gives.Order number o → GoesToServer seen.policy seen.log (seen.greatest + 1) o
     pools-go number o is = order-goes seen old.shared shared n found.0 told hold (stepped found.0 found.1) number o is
 
   -- Where memory is wanting, or the lookup waits, it is forgotten.

@@ -1,5 +1,5 @@
 -- Servers that are met come behind those that were there.
-use Rattle.walk_tables.proofs.Names.{◌≡◌, ℕ, ◌+◌, Bool, true, false, cond, List, [], ◌∷◌, ◌++◌, length, Some, refl, sym, ap, subst, ◌∙◌, append_assoc, AllZip, IpAddr, append-nil, same_Some, Context, Server, Setting, config_at, server_at, IsMet, number_of, IsGrown, ServersHold, Pools, config-before, equal-address, equal-at, met-last}
+use Rattle.walk_tables.proofs.Names.{◌≡◌, ℕ, ◌+◌, Bool, true, false, cond, List, [], ◌∷◌, ◌++◌, length, Some, refl, sym, ap, subst, ◌∙◌, append_assoc, AllZip, IpAddr, append-nil, same_Some, Context, Server, Policy, config_at, server_at, IsMet, number_of, IsGrown, ServersHold, Pools, config-before, equal-address, equal-at, met-last}
 use Rattle.std.specs.BTreeMap as tree
 use Rattle.std.specs.contracts.net.ip_addr.IpAddrOrd.TheImpl as address
 
@@ -11,12 +11,13 @@ pub record IsAdded (ip : IpAddr) (server : Server) (n : ℕ) (old new : Pools) :
   pub config : server.config ≡ server_at ip
   pub numbers : (q : IpAddr) → number_of new q ≡ cond (tree.is_at (address.ghosts.cmp ip) q) (Some n) (number_of old q)
 
-module _ (setting : Setting) (ip : IpAddr) (server : Server) (n : ℕ) (old new : Pools) (a : IsAdded ip server n old new) where
+module _ (policy : Policy) (ip : IpAddr) (server : Server) (n : ℕ) (old new : Pools) (a : IsAdded ip server n old new) where
   -- the servers hold
-  pub servers-added : ServersHold setting old → ServersHold setting new
+  pub servers-added : ServersHold policy old → ServersHold policy new
   servers-added h = record {
     numbers = λ q k is. by q k (tree.is_at (address.ghosts.cmp ip) q) refl (sym (a.numbers q) ∙ is);
     timeout = ap (λ (c : Context). c.options.timeout) a.context ∙ h.timeout;
+    lasts = h.lasts;
     filter = ap (λ (c : Context). c.answer_address_filter) a.context ∙ h.filter;
   }
     where

@@ -13,7 +13,7 @@ pub use Rattle.server_pool.specs.OpenLookups.{closed_by, after_leave}
 pub use Rattle.server_pool.specs.declared.open_lookups.open_lookup.OpenLookup.{OpenLookup}
 pub use Rattle.server_pool.specs.Shared.{Shared, lookup_at, SameBut, denied_in, lookup_of, configs}
 pub use Rattle.server_pool.specs.declared.interest.PoolLookup.{PoolLookup}
-pub use Rattle.walk_lookup.specs.View.{View, given_of, Later, seen_at}
+pub use Rattle.walk_lookup.specs.View.{View, Later, seen_at}
 pub use Rattle.walk_lookup.specs.Sought.{AreNumbered, SoughtHolds, aim_of, noted, config_at, server_at, IsMet, given_after, first_of, polled_by, with_came}
 pub use Rattle.walk_lookup.specs.declared.sought.Sought.{Sought}
 pub use Rattle.walk_lookup.proofs.Sharing.{numbered-same, left-rest, left-numbered, stepped-numbered, halted-rest, halted-numbered, put-numbered, begun-there, begun-fresh, begun-rest, begun-numbered}
@@ -28,10 +28,10 @@ pub use Rattle.walk_lookup.specs.declared.sought.Given.{Given}
 pub use Rattle.dns_core.specs.Name.{DomainName}
 pub use Rattle.dns_core.specs.declared.message.Query.{Query}
 pub use Rattle.resolver_cache.specs.Cached.{Cached}
-pub use Rattle.walk_lookup.proofs.Later.{answers-same, cache-later, found-later, sought-later}
+pub use Rattle.walk_lookup.proofs.Later.{answers-same, timeout-same, cache-later, found-later, sought-later}
 pub use Rattle.server_core.specs.Context.{Context}
 pub use Rattle.server_core.specs.Servers.{Server}
-pub use Rattle.walk_lookup.specs.declared.settings.setting.Setting.{Setting}
+pub use Rattle.recursor_types.specs.declared.policy.Policy.{Policy}
 pub use Rattle.walk_lookup.proofs.Meeting.{equal-address, equal-at, met-last, delayed-last, more-met}
 pub use Rattle.server_pool.specs.Orders.{open_at, IsOpenOrder}
 pub use Rattle.server_core.specs.declared.orders.order.Outcome.{Outcome}

@@ -1,25 +1,26 @@
 -- What holds of the lookups after a step of one of them.
-use Rattle.walk_tables.proofs.Names.{◌≡◌, ◌≢◌, ℕ, List, Option, Some, None, IfSome, refl, sym, ap, subst, ◌∙◌, ⊎_elim, arith, option_map, same_Some, none-some, IpAddr, Context, Server, Shared, lookup_at, lookup_of, SameBut, OpenLookup, Setting, View, HasCome, config_at, server_at, SoughtHolds, AreNumbered, with_came, number_of, sought_at, ServersHold, PoolsHold, IsGrown, SamePools, HasForgotten, HasNoted, HasLeft, Found, Sought, Pools, numbered-same, left-rest, left-numbered, IsCarried, carried-beside, carried-same, config-before, config-same, same-rest, sought-carried, sought-with}
+use Rattle.walk_tables.proofs.Names.{◌≡◌, ◌≢◌, ℕ, List, Option, Some, None, IfSome, refl, sym, ap, subst, ◌∙◌, ⊎_elim, arith, option_map, same_Some, none-some, IpAddr, Context, Server, Shared, lookup_at, lookup_of, SameBut, OpenLookup, Policy, View, HasCome, config_at, server_at, SoughtHolds, AreNumbered, with_came, number_of, sought_at, ServersHold, PoolsHold, IsGrown, SamePools, HasForgotten, HasNoted, HasLeft, Found, Sought, Pools, numbered-same, left-rest, left-numbered, IsCarried, carried-beside, carried-same, config-before, config-same, same-rest, sought-carried, sought-with}
 use Rattle.std.proofs.lemmas.Bool.{cases_eq}
 use Rattle.resolver_settings.specs.NameServer.{NameServer}
 
 -- ---- the servers
 
 -- with the same numbers, where each server is reached as it was, by the same settings
-pub servers-by : (setting : Setting) (old new : Pools) → ((ip : IpAddr) → number_of new ip ≡ number_of old ip) → new.shared.context ≡ old.shared.context
-    → ((k : ℕ) (config : NameServer) → config_at old.shared.table k ≡ Some config → config_at new.shared.table k ≡ Some config) → ServersHold setting old → ServersHold setting new
-servers-by setting old new numbers context reached h = record {
+pub servers-by : (policy : Policy) (old new : Pools) → ((ip : IpAddr) → number_of new ip ≡ number_of old ip) → new.shared.context ≡ old.shared.context
+    → ((k : ℕ) (config : NameServer) → config_at old.shared.table k ≡ Some config → config_at new.shared.table k ≡ Some config) → ServersHold policy old → ServersHold policy new
+servers-by policy old new numbers context reached h = record {
   numbers = λ ip k is. reached k (server_at ip) (h.numbers ip k (sym (numbers ip) ∙ is));
   timeout = ap (λ (c : Context). c.options.timeout) context ∙ h.timeout;
+  lasts = h.lasts;
   filter = ap (λ (c : Context). c.answer_address_filter) context ∙ h.filter;
 }
 
-pub servers-with : (setting : Setting) (old new : Pools) → new.numbers ≡ old.numbers → new.shared.context ≡ old.shared.context
-    → ((k : ℕ) (config : NameServer) → config_at old.shared.table k ≡ Some config → config_at new.shared.table k ≡ Some config) → ServersHold setting old → ServersHold setting new
-servers-with setting old new numbers = servers-by setting old new (λ ip. ap (λ ns. number_of (record old { numbers = ns }) ip) numbers)
+pub servers-with : (policy : Policy) (old new : Pools) → new.numbers ≡ old.numbers → new.shared.context ≡ old.shared.context
+    → ((k : ℕ) (config : NameServer) → config_at old.shared.table k ≡ Some config → config_at new.shared.table k ≡ Some config) → ServersHold policy old → ServersHold policy new
+servers-with policy old new numbers = servers-by policy old new (λ ip. ap (λ ns. number_of (record old { numbers = ns }) ip) numbers)
 
-pub servers-same : (setting : Setting) (old new : Pools) → SamePools old new → ServersHold setting old → ServersHold setting new
-servers-same setting old new s = servers-with setting old new s.numbers (ap (λ (shared : Shared). shared.context) s.shared) (carried-same 0 old.shared new.shared s.shared).reached
+pub servers-same : (policy : Policy) (old new : Pools) → SamePools old new → ServersHold policy old → ServersHold policy new
+servers-same policy old new s = servers-with policy old new s.numbers (ap (λ (shared : Shared). shared.context) s.shared) (carried-same 0 old.shared new.shared s.shared).reached
 
 -- ---- all of them
 
@@ -40,7 +41,7 @@ pub pools-given : (seen : View) (n : ℕ) (old new : Pools) → SameBut n old.sh
     → ((m : ℕ) → m ≢ n → sought_at new m ≡ sought_at old m) → ((t : Sought) → sought_at new n ≡ Some t → SoughtHolds seen new.shared n t)
     → PoolsHold seen old → PoolsHold seen new
 pools-given seen n old new rest numbered numbers others holds h = record {
-  servers = servers-with seen.setting old new numbers rest.servers.context (λ k config at. config-same old.shared.table new.shared.table k config rest.servers.configs at) h.servers;
+  servers = servers-with seen.policy old new numbers rest.servers.context (λ k config at. config-same old.shared.table new.shared.table k config rest.servers.configs at) h.servers;
   numbered = numbered;
   lookups = λ m t there. ⊎_elim
       (λ at. subst (λ (k : ℕ). SoughtHolds seen new.shared k t) (sym at) (holds t (subst (λ (k : ℕ). sought_at new k ≡ Some t) at there)))
@@ -86,7 +87,7 @@ module _ (seen : View) where
       (λ s is. absurd (none-some s (sym none ∙ sym (left.sought n) ∙ is))) h
 
   -- servers came behind the others
-  pub pools-grown : (old new : Pools) → IsGrown old new → ServersHold seen.setting new → PoolsHold seen old → PoolsHold seen new
+  pub pools-grown : (old new : Pools) → IsGrown old new → ServersHold seen.policy new → PoolsHold seen old → PoolsHold seen new
   pools-grown old new g servers h = record {
     servers = servers;
     numbered = numbered-same old.shared new.shared g.lookups g.sent (let same = g.pools in omega (arith, same)) h.numbered;

@@ -1,5 +1,5 @@
 -- The servers that were met, and the lookups that are under way at pools of them.
-use Rattle.std.specs.Prelude.{◌≡◌, ◌≢◌, ℕ, ◌+◌, ◌≤◌, ◌++◌, nat_lt, if◌then◌else◌, Bool, true, not, ◌==◌, List, length, option_map, IsSome, option_and_then, Option, Some, None, Result, Ok, Err}
+use Rattle.std.specs.Prelude.{◌≡◌, ◌≢◌, ℕ, ◌+◌, ◌≤◌, ◌<◌, ◌++◌, nat_lt, if◌then◌else◌, Bool, true, not, ◌==◌, List, length, option_map, IsSome, option_and_then, Option, Some, None, Result, Ok, Err}
 use Rattle.std.specs.Ordering.{nat_cmp}
 use Rattle.std.specs.declared.net.ip_addr.IpAddr.{IpAddr}
 use Rattle.dns_core.specs.Name.{DomainName}
@@ -14,8 +14,8 @@ use Rattle.order_carrier.specs.Fits.{GoesToServer}
 use Rattle.server_pool.specs.OpenLookups.{is_last, after_leave, closed_by}
 use Rattle.server_pool.specs.Orders.{open_at}
 use Rattle.server_pool.specs.Shared.{lookup_at}
-use Rattle.walk_lookup.specs.declared.settings.setting.Setting.{Setting}
-use Rattle.walk_lookup.specs.View.{View, given_of}
+use Rattle.recursor_types.specs.declared.policy.Policy.{Policy}
+use Rattle.walk_lookup.specs.View.{View}
 use Rattle.walk_lookup.specs.declared.found.Found.{Found}
 use Rattle.walk_lookup.specs.declared.sought.Given.{Given}
 use Rattle.walk_lookup.specs.declared.sought.Sought.{Sought}
@@ -32,11 +32,12 @@ use Rattle.walk_tables.specs.declared.pools.Stepped.TheVariants as stepped
 abbrev pub number_of : Pools → IpAddr → Option ℕ
 number_of pools ip = tree.get address.ghosts.cmp pools.numbers ip
 
--- Each address that has a number is that of its server, and a lookup has five seconds.
-pub record ServersHold (setting : Setting) (pools : Pools) : Type 0 where
+-- Each address that has a number is that of its server, and a lookup has the time of the policy, which is some.
+pub record ServersHold (policy : Policy) (pools : Pools) : Type 0 where
   pub numbers : (ip : IpAddr) (n : ℕ) → number_of pools ip ≡ Some n → config_at pools.shared.table n ≡ Some (server_at ip)
-  pub timeout : pools.shared.context.options.timeout ≡ 5000000
-  pub filter : pools.shared.context.answer_address_filter ≡ Some setting.answer_filter
+  pub timeout : pools.shared.context.options.timeout ≡ policy.timeout
+  pub lasts : 0 < policy.timeout
+  pub filter : pools.shared.context.answer_address_filter ≡ Some policy.answer_filter
 
 -- ---- lookups
 
@@ -50,7 +51,7 @@ came_at pools n = option_and_then (λ (s : Sought). s.came) (sought_at pools n)
 
 -- The servers and the lookups hold.
 pub record PoolsHold (seen : View) (pools : Pools) : Type 0 where
-  pub servers : ServersHold seen.setting pools
+  pub servers : ServersHold seen.policy pools
   pub numbered : AreNumbered pools.shared
   pub lookups : (n : ℕ) (s : Sought) → sought_at pools n ≡ Some s → SoughtHolds seen pools.shared n s
 
@@ -109,7 +110,7 @@ pub record HasGone (n : ℕ) (old new : Pools) : Type 0 where
 
 -- an order goes to a server by what was put
 abbrev pub StepGoes : View → Stepped → Type 0
-StepGoes seen (stepped.Order number order) = GoesToServer (given_of seen.setting) seen.log (seen.greatest + 1) order
+StepGoes seen (stepped.Order number order) = GoesToServer seen.policy seen.log (seen.greatest + 1) order
 StepGoes seen (stepped.Waiting number) = Unit {0}
 StepGoes seen stepped.Done = Unit {0}
 

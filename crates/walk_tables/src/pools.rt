@@ -7,9 +7,8 @@ ghost use Rattle.dns_core.specs.declared.message.Query.{Query};
 ghost use Rattle.server_core.specs.Servers.{IsFirstDelay};
 ghost use Rattle.walk_lookup.specs.Order.{HoldsOn};
 ghost use Rattle.walk_lookup.specs.View.{View, Later};
-ghost use Rattle.recursor_types.specs.Options.{answer_filter_of};
-ghost use Rattle.walk_lookup.specs.Setting.{context_of};
-ghost use Rattle.walk_lookup.specs.declared.settings.setting.Setting.{Setting};
+ghost use Rattle.walk_lookup.specs.Asking.{context_of};
+ghost use Rattle.recursor_types.specs.declared.policy.Policy.{Policy};
 ghost use Rattle.walk_lookup.specs.Delays.{turn_at, delay_at};
 ghost use Rattle.walk_tables.specs.Pools.{number_of, sought_at, came_at, IfCame, ServersHold, PoolsHold, IsOutcomeOf, IsGrown, HasForgotten, HasNoted, HasKept, HasLeft, HasGone, StepGoes, IsGivenFor, NotesOutcome, Seeks, IsStepAt, given_so_far, GivesNext};
 ghost use Rattle.walk_lookup.specs.Sought.{first_delay_at, IsMet, with_came, aim_of, first_of, polled_by, AreFor, noted};
@@ -23,7 +22,7 @@ ghost use Rattle.walk_lookup.specs.declared.sought.Given.{Given};
 use dns_core::{
     Boxed, Delays, DnsRequest, Message, Name, NetError, NoMemory, Numbers, Query, TryClone,
 };
-use recursor_types::RecursorOptions;
+use recursor_types::Policy;
 use resolver_cache::ResponseCache;
 use resolver_settings::NameServerConfig;
 use server_core::{After, NameServer, Order, Outcome, Sent, Tick};
@@ -84,16 +83,16 @@ fn copy_of(alloc: Global, numbers: &[u64]) -> Result<Numbers, NoMemory>
 
 impl Pools {
     /// Without servers. The first of them begins with the first of the delays.
-    pub fn new(alloc: Global, options: &RecursorOptions) -> Result<Pools, NoMemory>
-        ensures holds { (seen : View) → seen.setting.answer_filter ≡ answer_filter_of options.now → IfOk result (PoolsHold seen) }
-        ensures context { IfOk result (λ pools. pools.shared.context ≡ context_of options.now) }
-        ensures delays { IfOk result (λ pools. (pools.first_delays ≡ options.now.first_delays) × (pools.turn ≡ 0)) }
+    pub fn new(alloc: Global, policy: &Policy) -> Result<Pools, NoMemory>
+        ensures holds { (seen : View) → seen.policy ≡ policy.now → 0 < policy.now.timeout → IfOk result (PoolsHold seen) }
+        ensures context { IfOk result (λ pools. pools.shared.context ≡ context_of policy.now) }
+        ensures delays { IfOk result (λ pools. (pools.first_delays ≡ policy.now.first_delays) × (pools.turn ≡ 0)) }
     {
-        let context = pool_context(alloc, options)?;
+        let context = pool_context(alloc, policy)?;
         Ok(Pools {
             shared: PoolShared::new(alloc, context),
             numbers: BTreeMap::new(alloc),
-            first_delays: options.first_delays.try_clone(alloc)?,
+            first_delays: policy.first_delays.try_clone(alloc)?,
             turn: 0,
             sought: BTreeMap::new(alloc),
         })
@@ -116,7 +115,7 @@ impl Pools {
     fn add(&mut self, alloc: Global, ip: IpAddr) -> Result<u32, NoMemory>
         requires { number_of self.old ip ≡ None }
         ensures grown { IsGrown self.old self.new }
-        ensures servers { (setting : Setting) → ServersHold setting self.old → ServersHold setting self.new }
+        ensures servers { (policy : Policy) → ServersHold policy self.old → ServersHold policy self.new }
         ensures met { IfOk result (λ number. IsMet self.new.shared.table ip number) }
         ensures delay { IfOk result (λ number. first_delay_at self.new.shared.table number ≡ Some (delay_at self.old.first_delays (turn_at (length self.old.first_delays) self.old.turn))) }
     {
@@ -132,8 +131,8 @@ impl Pools {
     /// The number of the server of an address, which is a new one where it was not met.
     fn meet(&mut self, alloc: Global, ip: IpAddr) -> Result<u32, NoMemory>
         ensures grown { IsGrown self.old self.new }
-        ensures servers { (setting : Setting) → ServersHold setting self.old → ServersHold setting self.new }
-        ensures met { (setting : Setting) → ServersHold setting self.old → IfOk result (λ number. IsMet self.new.shared.table ip number) }
+        ensures servers { (policy : Policy) → ServersHold policy self.old → ServersHold policy self.new }
+        ensures met { (policy : Policy) → ServersHold policy self.old → IfOk result (λ number. IsMet self.new.shared.table ip number) }
     {
         match self.numbers.get(&ip) {
             Some(number) => Ok(*number),
@@ -144,8 +143,8 @@ impl Pools {
     /// The numbers of the servers of these addresses, in their order.
     fn meet_all(&mut self, alloc: Global, ips: &[IpAddr]) -> Result<Vec<u32>, NoMemory>
         ensures grown { IsGrown self.old self.new }
-        ensures servers { (setting : Setting) → ServersHold setting self.old → ServersHold setting self.new }
-        ensures met { (setting : Setting) → ServersHold setting self.old → IfOk result (λ numbers. AllZip (IsMet self.new.shared.table) ips.now numbers.items) }
+        ensures servers { (policy : Policy) → ServersHold policy self.old → ServersHold policy self.new }
+        ensures met { (policy : Policy) → ServersHold policy self.old → IfOk result (λ numbers. AllZip (IsMet self.new.shared.table) ips.now numbers.items) }
     {
         let mut servers = Vec::with_capacity(alloc, ips.len())?;
         for ip in ips {

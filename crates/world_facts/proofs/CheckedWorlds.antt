@@ -7,7 +7,7 @@ use Rattle.std.proofs.lemmas.Bool.Decides.{nat_tests}
 use Rattle.dns_core.specs.declared.record.Record.{Record}
 use Rattle.resolver_settings.specs.Access.{denies}
 use Rattle.resolution.specs.Records.{address}
-use Rattle.resolution.specs.Given.{Given}
+use Rattle.recursor_types.specs.declared.policy.Policy.{Policy}
 use Rattle.resolution.proofs.Members.{Has, Has-from_Contains}
 use Rattle.zone_rules.specs.declared.world.Zone.{Zone}
 use Rattle.zone_rules.specs.declared.world.World.{World}
@@ -40,9 +40,9 @@ allowed_by filters r ip h e =
     (undenied (denies filters.server ip) each.0, undenied (denies filters.answer ip) each.1)
 
 -- the verdict yes gives each clause
-pub well_served : (given : Given) (w : World) (roots : List IpAddr) (filters : WorldFilters) (patience : ℕ)
-    → first_failing 1 (clauses w roots filters patience) ≡ Yes → IsGiven given roots filters patience → IsOfScenario w → IsServed given w
-well_served given w roots filters patience verdict g s = record {
+pub well_served : (policy : Policy) (w : World) (roots : List IpAddr) (filters : WorldFilters) (patience : ℕ)
+    → first_failing 1 (clauses w roots filters patience) ≡ Yes → IsGiven policy roots filters patience → IsOfScenario w → IsServed policy w
+well_served policy w roots filters patience verdict g s = record {
   rooted = subst (λ (ips : List IpAddr). 0 < length ips) (sym g.roots) g.rooted;
   root = ap (λ (ips : List IpAddr). has_served_root w ips) g.roots ∙ holds _ (inl refl);
   laid_out = holds _ (inr (inl refl));
@@ -63,5 +63,5 @@ well_served given w roots filters patience verdict g s = record {
     holds : (b : Bool) → Has (clauses w roots filters patience) b → b ≡ true
     holds b h = each_holds 1 (clauses w roots filters patience) verdict b h
 
-    soon : nat_lt w.delay patience ≡ true → w.delay < given.patience
+    soon : nat_lt w.delay patience ≡ true → w.delay < policy.patience
     soon h = let less : w.delay < patience = grind (arith, nat_tests) in let more = g.patience in omega (arith, less, more)

@@ -27,7 +27,7 @@ use Rattle.dns_core.specs.declared.log.ToldOutcome.{ToldOutcome}
 use Rattle.resolution.specs.Names.{is_above, base, walk, last_name, question, same_query}
 use Rattle.resolution.specs.Records.{records, only, cname_target}
 use Rattle.resolution.specs.Class.{has_no_data_for, class_of_message}
-use Rattle.resolution.specs.Given.{Given}
+use Rattle.recursor_types.specs.declared.policy.Policy.{Policy}
 use Rattle.resolution.specs.Telling.{Tells as LogTells}
 use Rattle.resolution.specs.Verdict.{holds_denied, without_denied, in_zone, within, emptied, verdict, verdict_of_told, verdict_of_message}
 use Rattle.resolution.specs.Serving.{Serves, is_delegation}
@@ -96,7 +96,7 @@ ns_no_address denied r e = at_data r.rdata e
 
 -- ---- what the clauses say of an apex
 
-module _ (given : Given) (w : World) (ok : IsServed given w) where
+module _ (policy : Policy) (w : World) (ok : IsServed policy w) where
   -- an apex owns an NS record
   pub record HasNs (y : Zone) : Type 0 where
     pub ns : Record
@@ -322,28 +322,28 @@ module _ (given : Given) (w : World) (ok : IsServed given w) where
   -- what counts of the message, which names servers of c
   module _ (m : Message) (c z : DomainName) (s : ShowsCut m c) (above : is_above z c ≡ true) where
     allowed_left : Record → Bool
-    allowed_left r = not (holds_denied given.answer_denied r)
+    allowed_left r = not (holds_denied (denies policy.answer_filter) r)
 
     abbrev kept_of : Message
-    kept_of = within z (without_denied given.answer_denied m)
+    kept_of = within z (without_denied (denies policy.answer_filter) m)
 
-    undenied : not (holds_denied given.answer_denied s.ns) ≡ true
-    undenied = ap not (ns_no_address given.answer_denied s.ns s.is)
+    undenied : not (holds_denied (denies policy.answer_filter) s.ns) ≡ true
+    undenied = ap not (ns_no_address (denies policy.answer_filter) s.ns s.is)
 
     inside : in_zone z s.ns ≡ true
     inside = is_above-same z s.ns.name c s.named ∙ above
 
-    shown_left : IsShown (without_denied given.answer_denied m) s.ns
-    shown_left = left (λ (r : Record). not (holds_denied given.answer_denied r)) m s.ns undenied s.shown
+    shown_left : IsShown (without_denied (denies policy.answer_filter) m) s.ns
+    shown_left = left (λ (r : Record). not (holds_denied (denies policy.answer_filter) r)) m s.ns undenied s.shown
 
     shown_within : IsShown kept_of s.ns
-    shown_within = left (in_zone z) (without_denied given.answer_denied m) s.ns inside shown_left
+    shown_within = left (in_zone z) (without_denied (denies policy.answer_filter) m) s.ns inside shown_left
 
-    pub counts_whole : verdict_of_message given.answer_denied m z ≡ Pos kept_of
+    pub counts_whole : verdict_of_message (denies policy.answer_filter) m z ≡ Pos kept_of
     counts_whole =
-        ap (λ (b : Bool). if b then Made Filter else (if emptied (without_denied given.answer_denied m) kept_of then Made OutsideZone else Pos kept_of))
-        (unemptied (λ (r : Record). not (holds_denied given.answer_denied r)) m s.ns undenied s.shown)
-        ∙ ap (λ (b : Bool). if b then Made OutsideZone else Pos kept_of) (unemptied (in_zone z) (without_denied given.answer_denied m) s.ns inside shown_left)
+        ap (λ (b : Bool). if b then Made Filter else (if emptied (without_denied (denies policy.answer_filter) m) kept_of then Made OutsideZone else Pos kept_of))
+        (unemptied (λ (r : Record). not (holds_denied (denies policy.answer_filter) r)) m s.ns undenied s.shown)
+        ∙ ap (λ (b : Bool). if b then Made OutsideZone else Pos kept_of) (unemptied (in_zone z) (without_denied (denies policy.answer_filter) m) s.ns inside shown_left)
 
     pub delegates_left : is_delegation kept_of c ≡ true
     delegates_left = any_Has (λ (r : Record). is_ns r && same_names r.name c) (records kept_of) s.ns (in_records kept_of s.ns shown_within) (both (is_ns s.ns) (same_names s.ns.name c) s.is s.named)
@@ -368,30 +368,30 @@ module _ (given : Given) (w : World) (ok : IsServed given w) where
             at_flags true true c e = refl
             at_flags false true c e = refl
 
-module _ (given : Given) (w : World) (log : Log) (ok : IsServed given w) (by : TellsLog w log) where
+module _ (policy : Policy) (w : World) (log : Log) (ok : IsServed policy w) (by : TellsLog w log) where
   -- what a server told for the NS records of an apex is a cut
   told_cut : (i ask moment : ℕ) (o : ToldOutcome) (teller : IpAddr) (z c : DomainName) (v : Verdict) (y : Zone)
-      → LogTells log i (question c 2) o ask teller moment → Serves given log ask teller z → is_above z c ≡ true → verdict given o (question c 2) z ≡ Some v
-      → Has w.zones y → same_names y.apex c ≡ true → IsFree given w ok z c → is_cut v c ≡ true
+      → LogTells log i (question c 2) o ask teller moment → Serves policy log ask teller z → is_above z c ≡ true → verdict policy o (question c 2) z ≡ Some v
+      → Has w.zones y → same_names y.apex c ≡ true → IsFree policy w ok z c → is_cut v c ≡ true
   told_cut i ask moment o teller z c v y t s above e h same free =
       let told = was_told w log by t in
-      let server = serves-world given w log ok by s in
-      let cut = shows given w ok teller told.asked told.message z c y told.same above server told.tells h same free in
+      let server = serves-world policy w log ok by s in
+      let cut = shows policy w ok teller told.asked told.message z c y told.same above server told.tells h same free in
       let asked = asks w teller told.asked z server (walk-same told.asked (question c 2) told.same z ∙ above) in
       let class = is_response told.message (question c 2) (told_whole w teller told.asked told.message asked.zone asked.is told.tells)
       (λ r x. ok.internet r (is_held w told.message r (told_from w teller told.asked told.message r told.tells x) x)) in
-      let verdict_is = sym e ∙ ap (λ (x : ToldOutcome). verdict given x (question c 2) z) told.is ∙ ap (λ (x : Class). verdict_of_told given.answer_denied (Some x) z) (answer told.message cut class)
-      ∙ ap (λ (x : Verdict). Some x) (counts_whole given w ok told.message c z cut above) in
-      ap (λ (x : Verdict). is_cut x c) (same_Some v _ verdict_is) ∙ delegates_left given w ok told.message c z cut above
+      let verdict_is = sym e ∙ ap (λ (x : ToldOutcome). verdict policy x (question c 2) z) told.is ∙ ap (λ (x : Class). verdict_of_told (denies policy.answer_filter) (Some x) z) (answer told.message cut class)
+      ∙ ap (λ (x : Verdict). Some x) (counts_whole policy w ok told.message c z cut above) in
+      ap (λ (x : Verdict). is_cut x c) (same_Some v _ verdict_is) ∙ delegates_left policy w ok told.message c z cut above
     where
-      answer : (m : Message) → ShowsCut given w ok m c → IsResponse m (question c 2) → class_of_message m (question c 2) ≡ Positive m
+      answer : (m : Message) → ShowsCut policy w ok m c → IsResponse m (question c 2) → class_of_message m (question c 2) ≡ Positive m
       answer m cut (positive n k) = k
-      answer m cut (negative n k) = absurd (clash (has_no_data_for (question c 2) m) n (has_data given w ok m c z cut above))
+      answer m cut (negative n k) = absurd (clash (has_no_data_for (question c 2) m) n (has_data policy w ok m c z cut above))
 
-  pub no_cut : {c : DomainName} → NoCut given log c → (y : Zone) → Has w.zones y → same_names y.apex c ≡ true → ⊥
+  pub no_cut : {c : DomainName} → NoCut policy log c → (y : Zone) → Has w.zones y → same_names y.apex c ≡ true → ⊥
   no_cut (told_otherwise {c = c} {i = i} {moment = moment} {o = o} {z = z} {v = v} (heard {ask = ask} {teller = teller} t s a) e n below) y h same =
       clash (is_cut v c) (told_cut i ask moment o teller z c v y t s a e h same (λ x k low high other is. no_cut (below low high other) x k is)) n
   no_cut (not_told {c = c} {z = z} {g = g} {e = e} f n below) y h same =
-      let d = ended-denied given w log ok by at_any_time 0 (question c 2) z g e refl f in
-      let cut = shows given w ok d.teller d.asked d.message z c y d.same f.above d.server d.tells h same (λ x k low high other is. no_cut (below low high other) x k is) in
-      clash (has_no_data_for (question c 2) d.message) d.none (has_data given w ok d.message c z cut f.above)
+      let d = ended-denied policy w log ok by at_any_time 0 (question c 2) z g e refl f in
+      let cut = shows policy w ok d.teller d.asked d.message z c y d.same f.above d.server d.tells h same (λ x k low high other is. no_cut (below low high other) x k is) in
+      clash (has_no_data_for (question c 2) d.message) d.none (has_data policy w ok d.message c z cut f.above)

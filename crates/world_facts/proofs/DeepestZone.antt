@@ -11,7 +11,7 @@ use Rattle.dns_core.specs.Log.{Log}
 use Rattle.dns_core.specs.declared.message.Query.{Query}
 use Rattle.dns_core.specs.declared.message.Message.{Message}
 use Rattle.resolution.specs.Names.{is_above, walk, last_name}
-use Rattle.resolution.specs.Given.{Given}
+use Rattle.recursor_types.specs.declared.policy.Policy.{Policy}
 use Rattle.resolution.proofs.Above.{labels_equiv}
 use Rattle.resolution.proofs.Caseless.{both}
 use Rattle.resolution.proofs.Members.{Has, Contains-from_Has}
@@ -37,7 +37,7 @@ nearest_first look_up (l ∷ ls) zero z low e none = ap (λ (o : Option Zone). o
 nearest_first look_up (l ∷ ls) (suc d) z low e none =
     ap (λ (o : Option Zone). option_or o (nearest look_up ls)) (none 0 (omega arith)) ∙ nearest_first look_up ls d z (omega (arith, low)) e (λ j h. none (suc j) (omega (arith, h)))
 
-module _ (given : Given) (w : World) (log : Log) (ok : IsServed given w) (by_world : TellsLog w log) where
+module _ (policy : Policy) (w : World) (log : Log) (ok : IsServed policy w) (by_world : TellsLog w log) where
   -- the zone of the world with this apex is found by its labels
   found_at : (ls : List (List ℕ)) (z : Zone) → Has w.zones z → same_names z.apex (qualified ls) ≡ true → zone_at w.zones ls ≡ Some z
   found_at ls z h same = at_found (zone_at w.zones ls) refl
@@ -60,7 +60,7 @@ module _ (given : Given) (w : World) (log : Log) (ok : IsServed given w) (by_wor
       (found_at (drop asked.dropped (walk q).labels) asked.zone (zone_asked_Has w ip q asked.zone asked.is) asked.apex)
       (λ j h. let n = length-drop j (walk q).labels in no_cut_below w.zones (length asked.zone.apex.labels) (walk q).labels none j (omega (arith, n, h, long, low)))
 
-  pub from_deepest : (ip : IpAddr) (q : Query) (z : DomainName) (m : Message) → IsServerOf w ip z → is_above z (walk q) ≡ true → PassedAll given log q z → Tells w ip q m → IsFromDeepest w q m
+  pub from_deepest : (ip : IpAddr) (q : Query) (z : DomainName) (m : Message) → IsServerOf w ip z → is_above z (walk q) ≡ true → PassedAll policy log q z → Tells w ip q m → IsFromDeepest w q m
   from_deepest ip q z m server above passed tells = by tells
     where
       asked : IsAsked w ip q z
@@ -73,7 +73,7 @@ module _ (given : Given) (w : World) (log : Log) (ok : IsServed given w) (by_wor
       long = asked_labels w ip q z asked
 
       no_child : (child : Zone) → child_of w asked.zone q ≡ Some child → ⊥
-      no_child child f = no_cut given w log ok by_world (passed (length (walk q).labels - cut.dropped) (omega (arith, left, below, within, low, long)) (omega arith)) child (child_Has w asked.zone q child f) there
+      no_child child f = no_cut policy w log ok by_world (passed (length (walk q).labels - cut.dropped) (omega (arith, left, below, within, low, long)) (omega arith)) child (child_Has w asked.zone q child f) there
         where
           cut : IsCutAt w.zones (length asked.zone.apex.labels) (walk q).labels child
           cut = cut_is w.zones (length asked.zone.apex.labels) (walk q).labels child f

@@ -9,7 +9,7 @@ use Rattle.dns_core.specs.declared.message.Query.{Query}
 use Rattle.dns_core.specs.declared.net_error.NetError.TheVariants as net
 use Rattle.dns_core.specs.declared.net_error.DnsError.TheVariants as dns
 use Rattle.resolution.specs.Names.{walk, candidates, last_name, question}
-use Rattle.resolution.specs.Given.{Given}
+use Rattle.recursor_types.specs.declared.policy.Policy.{Policy}
 use Rattle.resolution.specs.Ending.{Known}
 use Rattle.resolution.proofs.Members.{Has, Has-from_Contains}
 use Rattle.resolution.proofs.WayDown.{last-length}
@@ -32,20 +32,20 @@ labelled n c a zero low high h = elim h [ ]
 labelled n c a (suc m) low high (inl e) = subst (λ (x : DomainName). 0 < length x.labels) e (let count = last-length n a (omega (arith, high)) in omega (arith, count, low))
 labelled n c a (suc m) low high (inr h) = labelled n c (a + 1) m (omega (arith, low)) (omega (arith, high)) h
 
-module _ (given : Given) (w : World) (log : Log) (ok : IsServed given w) (by_world : TellsLog w log) (known : Known) (t0 : ℕ) (q : Query) (g : List ℕ) (in_class : q.query_class.code ≡ 1) (qualified : q.name.fqdn ≡ true) where
+module _ (policy : Policy) (w : World) (log : Log) (ok : IsServed policy w) (by_world : TellsLog w log) (known : Known) (t0 : ℕ) (q : Query) (g : List ℕ) (in_class : q.query_class.code ≡ 1) (qualified : q.name.fqdn ≡ true) where
   -- no server is missing
-  no_cause : (cause : WalkCause) → HasNoServer given known log t0 q cause → ⊥
-  no_cause why.NoAddress h = no_glueless given w log ok by_world t0 h.candidate h.told
+  no_cause : (cause : WalkCause) → HasNoServer policy known log t0 q cause → ⊥
+  no_cause why.NoAddress h = no_glueless policy w log ok by_world t0 h.candidate h.told
       (labelled (walk q) h.candidate 1 (length (walk q).labels) (omega arith) (omega arith) (Has-from_Contains (candidates (walk q)) h.candidate h.on_the_way)) h.glueless
   no_cause why.Timeout h =
-      let d = ended-denied given w log ok by_world known t0 (question h.candidate 2) h.failed.zone h.g net.Timeout refl h.failed.ended in
+      let d = ended-denied policy w log ok by_world known t0 (question h.candidate 2) h.failed.zone h.g net.Timeout refl h.failed.ended in
       let is = d.is in cc
   no_cause why.DepthLimit h = h
   no_cause why.Budget h = h
   no_cause why.ZoneEntries h = h
   no_cause why.Collision h = h
 
-  pub left : (e : RecursorError) → ErrorHolds given known log t0 q g e → MayBe e
+  pub left : (e : RecursorError) → ErrorHolds policy known log t0 q g e → MayBe e
   left (error.MaxRecordLimitExceeded count kind) h = h
   left (error.Message kind) h = let no : q.name.fqdn ≡ false = h.1 in cc
   left (error.Msg text) h = h
@@ -53,7 +53,7 @@ module _ (given : Given) (w : World) (log : Log) (ok : IsServed given w) (by_wor
   left (error.ForwardNS servers) h = tt
   left (error.Io kind) h = h
   left (error.Net e) h =
-      let d = ended-denied given w log ok by_world known t0 q h.1.zone g e in_class h.1.ended in
+      let d = ended-denied policy w log ok by_world known t0 q h.1.zone g e in_class h.1.ended in
       let no : is_lookup_error (net.Dns (dns.NoRecordsFound (no_records d.message))) ≡ true = sym (ap is_lookup_error d.is) ∙ h.0 in cc
   left error.Timeout h = h
   left (error.RecursionLimitExceeded count) h = h

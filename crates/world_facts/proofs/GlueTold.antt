@@ -17,7 +17,7 @@ use Rattle.dns_core.specs.declared.record.RData.{RData}
 use Rattle.dns_core.specs.declared.record.RData.TheVariants.{A, AAAA, NS, CNAME, SOA, RRSIG, Opaque}
 use Rattle.resolution.specs.Names.{is_above, is_root, base, question, same_query}
 use Rattle.resolution.specs.Records.{address, ns_target, records, only}
-use Rattle.resolution.specs.Given.{Given}
+use Rattle.recursor_types.specs.declared.policy.Policy.{Policy}
 use Rattle.resolution.specs.Verdict.{holds_denied, without_denied, in_zone, within}
 use Rattle.resolution.specs.Serving.{Heard, target_below, targets, glue, address_under, allowed}
 use Rattle.resolution.specs.Serving.Heard.{heard}
@@ -125,7 +125,7 @@ record HasGlue (w : World) (c : DomainName) (m : Message) : Type 0 where
   pub under : same_names held.name target ≡ true
   pub below : is_above c held.name ≡ true
 
-module _ (given : Given) (w : World) (ok : IsServed given w) where
+module _ (policy : Policy) (w : World) (ok : IsServed policy w) where
   -- an NS record of a zone is that of its apex
   at_apex : (z : Zone) (r : Record) → Has w.zones z → Has z.records r → is_ns r ≡ true → same_names r.name z.apex ≡ true
   at_apex z r hz hr e = at_data r.rdata refl e
@@ -239,7 +239,7 @@ module _ (given : Given) (w : World) (ok : IsServed given w) where
           let within_z : Has z.records r0 = in_parts (Has z.records r0) rs [] [] r0 h (λ k. alias_within z p w.chain rs r0 b k) (λ k. absurd k) (λ k. absurd k) in
           let apex = at_apex z r0 hz within_z ns in
           let at_name : same_names z.apex p.name ≡ true = through z.apex r0.name p.name (turned r0.name z.apex apex) (through r0.name c p.name named (turned p.name c names)) in
-          absurd (no_alias given w ok z p.name alias hz at_name
+          absurd (no_alias policy w ok z p.name alias hz at_name
           (sym (ap (λ (t : RecordType). if t.code == 5 || t.code == 255 then None else alias_in z p.name) (types_same p (question c 2) same)) ∙ y))
       by h (answers {z = z} e f (gives x y o)) =
           let hz = zone_asked_Has w ip p z e in
@@ -256,39 +256,39 @@ module _ (given : Given) (w : World) (ok : IsServed given w) where
           (ap (λ (t : RecordType). t.code == 255 || r.record_type.code == t.code) (types_same p (question c 2) same) ∙ ns_typed r n)))))
           (λ r k. Has-append_right (owned z p.name p.query_type ++ []) (if p.query_type.code == 2 then server_addresses z p.name else []) r (subst (λ (xs : List Record). Has xs r) (sym flag) k))
 
-module _ (given : Given) (w : World) (log : Log) (ok : IsServed given w) (by_world : TellsLog w log) where
+module _ (policy : Policy) (w : World) (log : Log) (ok : IsServed policy w) (by_world : TellsLog w log) where
   base_above : (c : DomainName) → c.fqdn ≡ true → 0 < length c.labels → is_above (base c) c ≡ true
   base_above c f long =
       let one : length c.labels - (length c.labels - 1) ≡ 1 = omega (arith, long) in
       subst (λ (k : ℕ). is_above (record { labels = drop k c.labels; fqdn = c.fqdn }) c ≡ true) one (last-above c (length c.labels - 1) f (omega arith))
 
   -- what counts of a delegation that was told has an address that may be asked
-  pub no_glueless : (t0 : ℕ) (c : DomainName) (k : Message) → 0 < length c.labels → Glueless given log t0 c k → ⊥
+  pub no_glueless : (t0 : ℕ) (c : DomainName) (k : Message) → 0 < length c.labels → Glueless policy log t0 c k → ⊥
   no_glueless t0 c k long g = at_heard g.base.heard
     where
-      counts : CountsOf given g.base.told (question c 2) g.z k
-      counts = verdict-pos given g.base.told (question c 2) g.z k g.base.counts
+      counts : CountsOf policy g.base.told (question c 2) g.z k
+      counts = verdict-pos policy g.base.told (question c 2) g.z k g.base.counts
 
-      at_heard : Heard given log g.i (question c 2) g.base.told g.base.moment g.z → ⊥
+      at_heard : Heard policy log g.i (question c 2) g.base.told g.base.moment g.z → ⊥
       at_heard (heard {teller = teller} t s above) =
           let told = was_told w log by_world t in
           let same = one_message g.base.told told.message counts.message told.is counts.told in
           let d : (r : Record) × Has (records k) r × ((is_ns r && same_names r.name c) ≡ true) = Has_any (λ (r : Record). is_ns r && same_names r.name c) (records k) g.delegates in
           let parts : (is_ns d.0 ≡ true) × (same_names d.0.name c ≡ true) = halves (is_ns d.0) (same_names d.0.name c) d.2 in
-          let inside : Has (records told.message) d.0 = subst (λ (m : Message). Has (records m) d.0) (sym same) (Has-counted given g.base.told (question c 2) g.z k d.0 counts d.1) in
-          let x = told_glue given w ok teller told.asked told.message c d.0 told.same long inside parts.0 parts.1 told.tells in
+          let inside : Has (records told.message) d.0 = subst (λ (m : Message). Has (records m) d.0) (sym same) (Has-counted policy g.base.told (question c 2) g.z k d.0 counts d.1) in
+          let x = told_glue policy w ok teller told.asked told.message c d.0 told.same long inside parts.0 parts.1 told.tells in
           let ip : (ip : IpAddr) × (address x.held ≡ Some ip) = address_of x.held x.an_address in
-          let free : (given.server_denied ip.0 ≡ false) × (given.answer_denied ip.0 ≡ false) = ok.allowed x.held ip.0 x.of_world ip.1 in
-          let kept : (r : Record) → Has (records told.message) r → holds_denied given.answer_denied r ≡ false → is_above g.z r.name ≡ true → Has (records k) r =
-          λ r h n a. subst (λ (m : Message). Has (records m) r) (sym (counts.kept ∙ ap (λ (m : Message). within g.z (without_denied given.answer_denied m)) (sym same)))
-          (only_Has (in_zone g.z) (without_denied given.answer_denied told.message) r (only_Has (λ (r : Record). not (holds_denied given.answer_denied r)) told.message r h (ap not n)) a) in
-          let ns = kept x.ns x.ns_in (ns_no_address given.answer_denied x.ns (ns_is x.ns x.target x.is)) (is_above-same g.z x.ns.name c x.named ∙ above) in
-          let at : holds_denied given.answer_denied x.held ≡ false = ap (λ (o : Option IpAddr). elim o [ None ↦ false | Some i ↦ given.answer_denied i ]) ip.1 ∙ free.1 in
+          let free : (denies policy.server_filter ip.0 ≡ false) × ((denies policy.answer_filter) ip.0 ≡ false) = ok.allowed x.held ip.0 x.of_world ip.1 in
+          let kept : (r : Record) → Has (records told.message) r → holds_denied (denies policy.answer_filter) r ≡ false → is_above g.z r.name ≡ true → Has (records k) r =
+          λ r h n a. subst (λ (m : Message). Has (records m) r) (sym (counts.kept ∙ ap (λ (m : Message). within g.z (without_denied (denies policy.answer_filter) m)) (sym same)))
+          (only_Has (in_zone g.z) (without_denied (denies policy.answer_filter) told.message) r (only_Has (λ (r : Record). not (holds_denied (denies policy.answer_filter) r)) told.message r h (ap not n)) a) in
+          let ns = kept x.ns x.ns_in (ns_no_address (denies policy.answer_filter) x.ns (ns_is x.ns x.target x.is)) (is_above-same g.z x.ns.name c x.named ∙ above) in
+          let at : holds_denied (denies policy.answer_filter) x.held ≡ false = ap (λ (o : Option IpAddr). elim o [ None ↦ false | Some i ↦ (denies policy.answer_filter) i ]) ip.1 ∙ free.1 in
           let held = kept x.held x.held_in at (is_above-trans g.z c x.held.name above x.below) in
           let qualified = second_so g.z.fqdn c.fqdn (first_so (g.z.fqdn && c.fqdn) _ above) in
           let up : is_above (base c) x.ns.name ≡ true = is_above-same (base c) x.ns.name c x.named ∙ base_above c qualified long in
           let target : Has (targets k c) x.target = filter_map-Has (target_below (base c)) (records k) x.ns x.target ns (ap (λ (b : Bool). if b then ns_target x.ns else None) up ∙ x.is) in
           let among = any_Has (same_names x.held.name) (targets k c) x.target target x.under in
           let glued : Has (glue k c) ip.0 = filter_map-Has (address_under (targets k c)) (records k) x.held ip.0 held (ap (λ (b : Bool). if b then address x.held else None) among ∙ ip.1) in
-          let left : Has (allowed given.server_denied (glue k c)) ip.0 = filter_Has (λ (i : IpAddr). not (given.server_denied i)) (glue k c) ip.0 glued (ap not free.0) in
+          let left : Has (allowed denies policy.server_filter (glue k c)) ip.0 = filter_Has (λ (i : IpAddr). not (denies policy.server_filter i)) (glue k c) ip.0 glued (ap not free.0) in
           subst (λ (xs : List IpAddr). Has xs ip.0) g.none left

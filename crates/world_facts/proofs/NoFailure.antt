@@ -14,7 +14,7 @@ use Rattle.dns_core.specs.declared.net_error.DnsError.TheVariants as dns
 use Rattle.dns_core.specs.declared.log.ToldOutcome.TheVariants as outcome
 use Rattle.resolution.specs.Names.{is_above, walk, same_query}
 use Rattle.resolution.specs.Class.{has_no_data_for}
-use Rattle.resolution.specs.Given.{Given}
+use Rattle.recursor_types.specs.declared.policy.Policy.{Policy}
 use Rattle.resolution.specs.Serving.{Serves}
 use Rattle.resolution.specs.Serving.Serves.{of_root as by_root}
 use Rattle.resolution.specs.Lookups.{End, PoolRun, class_of_answer, answer_of, turns, retries, none_is_final, is_turn, is_retryable, all_were_tried}
@@ -66,11 +66,11 @@ pub record IsAnswered (w : World) (q : Query) (e : End IpAddr) : Type 0 where
 no_error : (w : World) (ip : IpAddr) (q : Query) (e : NetError) → IsTold w ip q (outcome.Error e) → ⊥
 no_error w ip q e t = t
 
-module _ (given : Given) (w : World) (log : Log) (ok : IsServed given w) (by : TellsLog w log) where
-  not_given_up : (n k : ℕ) → given.patience ≤ waits log k n → ⊥
+module _ (policy : Policy) (w : World) (log : Log) (ok : IsServed policy w) (by : TellsLog w log) where
+  not_given_up : (n k : ℕ) → policy.patience ≤ waits log k n → ⊥
   not_given_up n k h = let a = by.patient n k in let b = ok.patient in absurd (omega (arith, h, a, b))
 
-  pub end-answered : (q : Query) {n moment : ℕ} {e : End IpAddr} → EndsSend given log q n e moment → IsAnswered w q e
+  pub end-answered : (q : Query) {n moment : ℕ} {e : End IpAddr} → EndsSend policy log q n e moment → IsAnswered w q e
   end-answered q {n = n} {moment = moment} (open_refused {ip = ip} {protocol = protocol} {e = e} h) = let none = by.opened n ip protocol moment (Some e) h in cc
   end-answered q {n = n} {moment = moment} (ask_refused {ip = ip} {protocol = protocol} {asked = asked} {e = e} h s) = let none = by.asked n ip protocol asked moment (Some e) h in cc
   end-answered q {n = n} {moment = moment} (open_failed {k = k} {since = since} {ip = ip} {protocol = protocol} {e = e} h g) = let stands = by.connected n k moment since (outcome.Error e) ip protocol h g in cc
@@ -80,19 +80,19 @@ module _ (given : Given) (w : World) (log : Log) (ok : IsServed given w) (by : T
   end-answered q {n = n} (given_up {k = k} h g s p) = absurd (not_given_up n k p)
 
   -- each end of a lookup is that of a send to one of these, which was answered
-  pub ends-answered : (q : Query) (ips : List IpAddr) {g moments : List ℕ} {ends : List (End IpAddr)} → EndSends given log q ips g ends moments → (e : End IpAddr) → Has ends e → Has ips e.server × IsAnswered w q e
+  pub ends-answered : (q : Query) (ips : List IpAddr) {g moments : List ℕ} {ends : List (End IpAddr)} → EndSends policy log q ips g ends moments → (e : End IpAddr) → Has ends e → Has ips e.server × IsAnswered w q e
   ends-answered q ips no_send e h = elim h [ ]
   ends-answered q ips (and_send {e = f} s at more) e (inl same) = subst (λ (x : End IpAddr). Has ips x.server × IsAnswered w q x) same (Has-from_Contains ips f.server at, end-answered q s)
   ends-answered q ips (and_send s at more) e (inr h) = ends-answered q ips more e h
 
   -- the servers of a pool for a zone serve it in the world, and there is one
-  listed-serve : (z : DomainName) (ips : List IpAddr) → Listed given log z ips → (0 < length ips) × ((ip : IpAddr) → Has ips ip → IsServerOf w ip z)
-  listed-serve z ips of_roots = (ok.rooted, λ ip h. serves-world given w log ok by {n = 0} (by_root (Contains-from_Has given.roots ip h)))
-  listed-serve z ips (of_told l) = (l.some, λ ip h. serves-world given w log ok by (each ips l.serve ip h))
+  listed-serve : (z : DomainName) (ips : List IpAddr) → Listed policy log z ips → (0 < length ips) × ((ip : IpAddr) → Has ips ip → IsServerOf w ip z)
+  listed-serve z ips of_roots = (ok.rooted, λ ip h. serves-world policy w log ok by {n = 0} (by_root (Contains-from_Has policy.roots ip h)))
+  listed-serve z ips (of_told l) = (l.some, λ ip h. serves-world policy w log ok by (each ips l.serve ip h))
     where
-      each : (ips : List IpAddr) → AllByRecursion (λ ip. Serves given log l.below ip z) ips → (ip : IpAddr) → Has ips ip → Serves given log l.below ip z
+      each : (ips : List IpAddr) → AllByRecursion (λ ip. Serves policy log l.below ip z) ips → (ip : IpAddr) → Has ips ip → Serves policy log l.below ip z
       each [] a ip h = elim h [ ]
-      each (x ∷ xs) a ip (inl e) = subst (λ i. Serves given log l.below i z) e a.0
+      each (x ∷ xs) a ip (inl e) = subst (λ i. Serves policy log l.below i z) e a.0
       each (x ∷ xs) a ip (inr h) = each xs a.1 ip h
 
   -- What ended a send for a question of class IN is an answer or a denial.
@@ -118,7 +118,7 @@ module _ (given : Given) (w : World) (log : Log) (ok : IsServed given w) (by : T
 
   -- an end is final: it is no turn, and no other server is asked after it
   final : (q : Query) (e : End IpAddr) (a : IsAnswered w q e) → IsResponse a.message q
-      → (turns (by_address given.timeout) (class_of_answer q) e ≡ false) × (retries (by_address given.timeout) (class_of_answer q) e ≡ false)
+      → (turns (by_address policy.timeout) (class_of_answer q) e ≡ false) × (retries (by_address policy.timeout) (class_of_answer q) e ≡ false)
   final q e a r = (ap (λ (c : Class). is_turn c) (class q e a r).1 ∙ (class q e a r).2, ap (λ (c : Class). is_retryable true c) (class q e a r).1 ∙ (class q e a r).3)
     where
       class : (q : Query) (e : End IpAddr) (a : IsAnswered w q e) → IsResponse a.message q → (c : Class) × (class_of_answer q e.outcome ≡ c) × (is_turn c ≡ false) × (is_retryable true c ≡ false)
@@ -130,12 +130,12 @@ module _ (given : Given) (w : World) (log : Log) (ok : IsServed given w) (by : T
           kept false = refl
 
   -- where none of the ends is final there is none
-  nothing_ended : (q : Query) (ends : List (End IpAddr)) → ((e : End IpAddr) → Has ends e → (turns (by_address given.timeout) (class_of_answer q) e ≡ false) × (retries (by_address given.timeout) (class_of_answer q) e ≡ false))
-      → none_is_final (by_address given.timeout) (class_of_answer q) ends ≡ true → ends ≡ []
+  nothing_ended : (q : Query) (ends : List (End IpAddr)) → ((e : End IpAddr) → Has ends e → (turns (by_address policy.timeout) (class_of_answer q) e ≡ false) × (retries (by_address policy.timeout) (class_of_answer q) e ≡ false))
+      → none_is_final (by_address policy.timeout) (class_of_answer q) ends ≡ true → ends ≡ []
   nothing_ended q [] each h = refl
-  nothing_ended q (e ∷ ends) each h = let f = each e (inl refl) in absurd (first_final (turns (by_address given.timeout) (class_of_answer q)) (retries (by_address given.timeout) (class_of_answer q)) e ends f.0 f.1 h)
+  nothing_ended q (e ∷ ends) each h = let f = each e (inl refl) in absurd (first_final (turns (by_address policy.timeout) (class_of_answer q)) (retries (by_address policy.timeout) (class_of_answer q)) e ends f.0 f.1 h)
 
-  pub ended-denied : (known : Known) (t0 : ℕ) (q : Query) (z : DomainName) (g : List ℕ) (e : NetError) → q.query_class.code ≡ 1 → Ended given known log t0 q z g e → IsDenial q z e
+  pub ended-denied : (known : Known) (t0 : ℕ) (q : Query) (z : DomainName) (g : List ℕ) (e : NetError) → q.query_class.code ≡ 1 → Ended policy known log t0 q z g e → IsDenial q z e
   ended-denied known t0 q z g e in_class f = at_run f.run
     where
       serve : (0 < length f.ips) × ((ip : IpAddr) → Has f.ips ip → IsServerOf w ip z)
@@ -147,16 +147,16 @@ module _ (given : Given) (w : World) (log : Log) (ok : IsServed given w) (by : T
           let s = serve.1 x.server a.0 in
           (a.1, s, is-response q z x in_class f.above s a.1)
 
-      finals : (x : End IpAddr) → Has f.ends x → (turns (by_address given.timeout) (class_of_answer q) x ≡ false) × (retries (by_address given.timeout) (class_of_answer q) x ≡ false)
+      finals : (x : End IpAddr) → Has f.ends x → (turns (by_address policy.timeout) (class_of_answer q) x ≡ false) × (retries (by_address policy.timeout) (class_of_answer q) x ≡ false)
       finals x h = let r = responses x h in final q x r.0 r.2
 
-      at_run : PoolRun (by_address given.timeout) (class_of_answer q) f.ips f.ends (Err e) f.start f.now → IsDenial q z e
-      at_run (spent s) = absurd (untried f.ips serve.0 (subst (λ (xs : List (End IpAddr)). all_were_tried (by_address given.timeout) (class_of_answer q) f.ips xs ≡ true) (nothing_ended q f.ends finals s.none) s.tried))
+      at_run : PoolRun (by_address policy.timeout) (class_of_answer q) f.ips f.ends (Err e) f.start f.now → IsDenial q z e
+      at_run (spent s) = absurd (untried f.ips serve.0 (subst (λ (xs : List (End IpAddr)). all_were_tried (by_address policy.timeout) (class_of_answer q) f.ips xs ≡ true) (nothing_ended q f.ends finals s.none) s.tried))
         where
-          untried : (ips : List IpAddr) → 0 < length ips → all_were_tried (by_address given.timeout) (class_of_answer q) ips [] ≡ true → ⊥
+          untried : (ips : List IpAddr) → 0 < length ips → all_were_tried (by_address policy.timeout) (class_of_answer q) ips [] ≡ true → ⊥
           untried [] h t = absurd (omega (arith, h))
           untried (ip ∷ ips) h t = cc
-      at_run (late l) = let none = nothing_ended q f.ends finals l.none in absurd (soon given.timeout ok.timed (subst (λ (xs : List (End IpAddr)). (not (length xs == 0) || given.timeout == 0) ≡ true) none l.some))
+      at_run (late l) = let none = nothing_ended q f.ends finals l.none in absurd (soon policy.timeout ok.timed (subst (λ (xs : List (End IpAddr)). (not (length xs == 0) || policy.timeout == 0) ≡ true) none l.some))
         where
           soon : (t : ℕ) → 0 < t → (t == 0) ≡ true → ⊥
           soon t h e = absurd (grind (arith, h, e))

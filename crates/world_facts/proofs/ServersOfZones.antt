@@ -16,7 +16,7 @@ use Rattle.dns_core.specs.declared.log.ToldOutcome.{ToldOutcome}
 use Rattle.dns_core.specs.declared.log.ToldOutcome.TheVariants as outcome
 use Rattle.resolution.specs.Names.{root, is_root, is_above, base, question, same_query}
 use Rattle.resolution.specs.Records.{records, address, ns_target, cname_target}
-use Rattle.resolution.specs.Given.{Given}
+use Rattle.recursor_types.specs.declared.policy.Policy.{Policy}
 use Rattle.resolution.specs.Telling.{Tells}
 use Rattle.resolution.specs.Serving.{Serves, Delegates, Heard, IsAddressQuestion, target_below, targets, address_under, addresses_under}
 use Rattle.resolution.specs.Serving.Serves.{of_root, of_glue, of_target, of_answer}
@@ -87,7 +87,7 @@ address_serves None ip b s e f h = cc
 address_serves (Some i) ip true s e f h = let same : i ≡ ip = cc in ap s (sym same) ∙ h
 address_serves (Some i) ip false s e f h = cc
 
-module _ (given : Given) (w : World) (ok : IsServed given w) where
+module _ (policy : Policy) (w : World) (ok : IsServed policy w) where
   -- the zone of an NS record, which all addresses of its target serve
   record HasServers (r : Record) (t : DomainName) : Type 0 where
     pub zone : Zone
@@ -145,27 +145,27 @@ pub record WasHeard (w : World) (q : Query) (o : ToldOutcome) : Type 0 where
   pub teller : IpAddr
   pub told : WasTold w teller q o
 
-pub heard_told : (given : Given) (w : World) (log : Log) → TellsLog w log → {i : ℕ} {q : Query} {o : ToldOutcome} {moment : ℕ} {z : DomainName} → Heard given log i q o moment z → WasHeard w q o
-heard_told given w log by (heard {teller = teller} t s a) = record { teller = teller; told = was_told w log by t }
+pub heard_told : (policy : Policy) (w : World) (log : Log) → TellsLog w log → {i : ℕ} {q : Query} {o : ToldOutcome} {moment : ℕ} {z : DomainName} → Heard policy log i q o moment z → WasHeard w q o
+heard_told policy w log by (heard {teller = teller} t s a) = record { teller = teller; told = was_told w log by t }
 
 pub one_message : (o : ToldOutcome) (m n : Message) → o ≡ outcome.Message m → o ≡ outcome.Message n → m ≡ n
 one_message o m n e f = let both : outcome.Message m ≡ outcome.Message n = sym e ∙ f in cc
 
 -- ---- delegations
 
-module _ (given : Given) (w : World) (log : Log) (ok : IsServed given w) (by : TellsLog w log) where
+module _ (policy : Policy) (w : World) (log : Log) (ok : IsServed policy w) (by : TellsLog w log) where
   -- What counts of a delegation are records of the world, and its NS records are those of the zone.
   pub record IsDelegated (c : DomainName) (k : Message) : Type 0 where
     pub held : (r : Record) → Has (records k) r → IsHeld w r
     pub owner : (r : Record) → Has (records k) r → is_ns r ≡ true → same_names r.name c ≡ true
 
-  pub is_delegated : {n : ℕ} {c : DomainName} {k : Message} → Delegates given log n c k → IsDelegated c k
+  pub is_delegated : {n : ℕ} {c : DomainName} {k : Message} → Delegates policy log n c k → IsDelegated c k
   is_delegated (delegates {c = c} {z = z} {k = k} {o = o} low h v d r) =
-      let hears = heard_told given w log by h in
+      let hears = heard_told policy w log by h in
       let t = hears.told in
-      let counts = verdict-pos given o (question c 2) z k v in
+      let counts = verdict-pos policy o (question c 2) z k v in
       let same = one_message o counts.message t.message counts.told t.is in
-      let within : (r : Record) → Has (records k) r → Has (records t.message) r = λ r a. subst (λ (m : Message). Has (records m) r) same (Has-counted given o (question c 2) z k r counts a) in
+      let within : (r : Record) → Has (records k) r → Has (records t.message) r = λ r a. subst (λ (m : Message). Has (records m) r) same (Has-counted policy o (question c 2) z k r counts a) in
       let cut : (x : Record) × Has (records k) x × ((is_ns x && same_names x.name c) ≡ true) = Has_any (λ (r : Record). is_ns r && same_names r.name c) (records k) d in
       let from : (r : Record) → Has (records k) r → IsFrom w t.message = λ r a. told_from w hears.teller t.asked t.message r t.tells (within r a) in
       let f = from cut.0 cut.1 in
@@ -182,7 +182,7 @@ module _ (given : Given) (w : World) (log : Log) (ok : IsServed given w) (by : T
       let found : (r : Record) × Has (records k) r × (target_below (base c) r ≡ Some t) = Has-filter_map (target_below (base c)) (records k) t h in
       let r = found.0 in
       let target = below (is_above (base c) r.name) r found.2 in
-      let servers = ns_serves given w ok r t (d.held r found.1) target in
+      let servers = ns_serves policy w ok r t (d.held r found.1) target in
       let owner = d.owner r found.1 (ns_is r t target) in
       record {
         zone = servers.zone;
@@ -234,17 +234,17 @@ module _ (given : Given) (w : World) (log : Log) (ok : IsServed given w) (by : T
           both false b p q = p
 
   -- the root is served by its hosts
-  by_root : (ip : IpAddr) → Contains given.roots ip → IsServerOf w ip root
+  by_root : (ip : IpAddr) → Contains policy.roots ip → IsServerOf w ip root
   by_root ip h =
-      let parts : (list_any (λ (z : Zone). is_root z.apex) w.zones ≡ true) × (list_all (λ (i : IpAddr). serves w i []) given.roots ≡ true)
-      = halves (list_any (λ (z : Zone). is_root z.apex) w.zones) (list_all (λ (i : IpAddr). serves w i []) given.roots) ok.root in
+      let parts : (list_any (λ (z : Zone). is_root z.apex) w.zones ≡ true) × (list_all (λ (i : IpAddr). serves w i []) policy.roots ≡ true)
+      = halves (list_any (λ (z : Zone). is_root z.apex) w.zones) (list_all (λ (i : IpAddr). serves w i []) policy.roots) ok.root in
       let z : (z : Zone) × Has w.zones z × (is_root z.apex ≡ true) = Has_any (λ (z : Zone). is_root z.apex) w.zones parts.0 in
       let is : z.0.apex ≡ root = named z.0.apex z.2 in
       record {
         zone = z.0;
         has = Contains-from_Has w.zones z.0 z.1;
         apex = ap (λ (n : DomainName). same_names n root) is;
-        by = ap (λ (n : DomainName). serves w ip n.labels) is ∙ all_Has (λ (i : IpAddr). serves w i []) given.roots ip parts.1 (Has-from_Contains given.roots ip h);
+        by = ap (λ (n : DomainName). serves w ip n.labels) is ∙ all_Has (λ (i : IpAddr). serves w i []) policy.roots ip parts.1 (Has-from_Contains policy.roots ip h);
       }
     where
       named : (n : DomainName) → is_root n ≡ true → n ≡ root
@@ -253,19 +253,19 @@ module _ (given : Given) (w : World) (log : Log) (ok : IsServed given w) (by : T
           let none : n.labels ≡ [] = empty n.labels flags.1 in
           ap (λ (ls : List (List ℕ)). let x : DomainName = record { labels = ls; fqdn = n.fqdn } in x) none ∙ ap (λ (b : Bool). let x : DomainName = record { labels = []; fqdn = b } in x) flags.0
 
-  pub serves-world : {n : ℕ} {ip : IpAddr} {z : DomainName} → Serves given log n ip z → IsServerOf w ip z
+  pub serves-world : {n : ℕ} {ip : IpAddr} {z : DomainName} → Serves policy log n ip z → IsServerOf w ip z
   serves-world (of_root r) = by_root _ r
   serves-world {ip = ip} (of_glue {c = c} {k = k} d a h) = let x = is_delegated d in by_address c k x (records k) (λ r y. x.held r y) ip h
   serves-world {ip = ip} (of_target {c = c} {z = z} {k = k} {answer = answer} {q = q} {o = o} d a t e low h v x) =
-      let hears = heard_told given w log by h in
+      let hears = heard_told policy w log by h in
       let told = hears.told in
-      let counts = verdict-pos given o q z answer v in
+      let counts = verdict-pos policy o q z answer v in
       let same = one_message o counts.message told.message counts.told told.is in
       by_address c k (is_delegated d) (records answer)
-      (λ r y. let within = subst (λ (m : Message). Has (records m) r) same (Has-counted given o q z answer r counts y) in
+      (λ r y. let within = subst (λ (m : Message). Has (records m) r) same (Has-counted policy o q z answer r counts y) in
       is_held w told.message r (told_from w hears.teller told.asked told.message r told.tells within) within) ip x
   serves-world {ip = ip} (of_answer {c = c} {t = t} {k = k} {m = m} {q = q} {o = o} d a target e low h p v x f) =
-      let hears = heard_told given w log by h in
+      let hears = heard_told policy w log by h in
       let told = hears.told in
       let same = one_message o told.message m told.is (class_of-positive o q m p) in
       let found : (r : Record) × Has m.answers r × (address r ≡ Some ip) = Has-filter_map address m.answers ip (Has-from_Contains (filter_map address m.answers) ip x) in
@@ -275,7 +275,7 @@ module _ (given : Given) (w : World) (log : Log) (ok : IsServed given w) (by : T
       let dd = is_delegated d in
       let has : Has (targets k c) t = Has-from_Contains (targets k c) t target in
       let ns : (r : Record) × Has (records k) r × (target_below (base c) r ≡ Some t) = Has-filter_map (target_below (base c)) (records k) t has in
-      let single = ns_unaliased given w ok ns.0 t (dd.held ns.0 ns.1) (below (is_above (base c) ns.0.name) ns.0 ns.2) in
+      let single = ns_unaliased policy w ok ns.0 t (dd.held ns.0 ns.1) (below (is_above (base c) ns.0.name) ns.0 ns.2) in
       let asked : same_names told.asked.name t ≡ true = for_target q t told.asked e told.same in
       by_target c k dd t has found.0 ip held found.2 (answer_owner hears.teller told.asked told.message t single asked told.tells found.0 inside)
     where

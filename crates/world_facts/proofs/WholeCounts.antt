@@ -14,7 +14,7 @@ use Rattle.dns_core.specs.declared.log.ToldOutcome.{ToldOutcome}
 use Rattle.dns_core.specs.declared.log.ToldOutcome.TheVariants as outcome
 use Rattle.resolution.specs.Names.{root, is_above, walk}
 use Rattle.resolution.specs.Records.{address, records, only}
-use Rattle.resolution.specs.Given.{Given}
+use Rattle.recursor_types.specs.declared.policy.Policy.{Policy}
 use Rattle.resolution.specs.Verdict.{holds_denied, without_denied, in_zone, within, emptied, negative_within, verdict, verdict_of_told, verdict_of_message}
 use Rattle.resolution.specs.Serving.{Heard}
 use Rattle.resolution.specs.Serving.Heard.{heard}
@@ -70,7 +70,7 @@ unemptied m = at_flags (length m.answers == 0) (length m.authorities == 0)
     at_flags true false = refl
     at_flags false b = refl
 
-module _ (given : Given) (w : World) (log : Log) (ok : IsServed given w) (by_world : TellsLog w log) where
+module _ (policy : Policy) (w : World) (log : Log) (ok : IsServed policy w) (by_world : TellsLog w log) where
   -- a record lies in its zone
   pub in_its_zone : (y : Zone) (r : Record) → Has w.zones y → Has y.records r → is_above y.apex r.name ≡ true
   in_its_zone y r hy hr =
@@ -81,7 +81,7 @@ module _ (given : Given) (w : World) (log : Log) (ok : IsServed given w) (by_wor
   replies_within : (z : Zone) (q : Query) (m : Message) (r : Record) → Replies w z q m → Has (records m) r → Has z.records r
   replies_within z q m r (denies e) h = in_parts (Has z.records r) [] (soa_of z) [] r h (λ k. absurd k) (λ k. (soa_is z root r k).within) (λ k. absurd k)
   replies_within z q m r (lacks e a o) h = in_parts (Has z.records r) [] (soa_of z) [] r h (λ k. absurd k) (λ k. (soa_is z root r k).within) (λ k. absurd k)
-  replies_within z q m r (by_alias e a (is_by_alias {rs = rs} b)) h = in_parts (Has z.records r) rs [] [] r h (λ k. alias_within given w ok z q w.chain rs r b k) (λ k. absurd k) (λ k. absurd k)
+  replies_within z q m r (by_alias e a (is_by_alias {rs = rs} b)) h = in_parts (Has z.records r) rs [] [] r h (λ k. alias_within policy w ok z q w.chain rs r b k) (λ k. absurd k) (λ k. absurd k)
   replies_within z q m r (gives e a o) h = in_parts (Has z.records r) (owned z q.name q.query_type) [] (if q.query_type.code == 2 then server_addresses z q.name else []) r h
       (λ k. Has-filter (λ (r : Record). same_names r.name q.name && is_of q.query_type r) z.records r k) (λ k. absurd k) (λ k. beside (q.query_type.code == 2) k)
     where
@@ -128,31 +128,31 @@ module _ (given : Given) (w : World) (log : Log) (ok : IsServed given w) (by_wor
       by (answers {z = z0} {m = n} e f reply) h =
           is_above-trans z z0.apex r.name (subst (λ (x : Zone). is_above z x.apex ≡ true) (sym (one_asked w ip p z0 asked.zone e asked.is)) at_zone) (in_its_zone z0 r (zone_asked_Has w ip p z0 e) (replies_within z0 p n r reply h))
 
-  undenied : (r : Record) → IsHeld w r → not (holds_denied given.answer_denied r) ≡ true
+  undenied : (r : Record) → IsHeld w r → not (holds_denied (denies policy.answer_filter) r) ≡ true
   undenied r held = at_address (address r) refl
     where
-      at_address : (o : Option IpAddr) → address r ≡ o → not (elim o [ None ↦ false | Some ip ↦ given.answer_denied ip ]) ≡ true
+      at_address : (o : Option IpAddr) → address r ≡ o → not (elim o [ None ↦ false | Some ip ↦ (denies policy.answer_filter) ip ]) ≡ true
       at_address None e = refl
-      at_address (Some ip) e = let free : (given.server_denied ip ≡ false) × (given.answer_denied ip ≡ false) = ok.allowed r ip held e in ap not free.1
+      at_address (Some ip) e = let free : (denies policy.server_filter ip ≡ false) × ((denies policy.answer_filter) ip ≡ false) = ok.allowed r ip held e in ap not free.1
 
-  whole_verdict : (m : Message) (z : DomainName) → without_denied given.answer_denied m ≡ m → within z m ≡ m → verdict_of_message given.answer_denied m z ≡ Pos m
+  whole_verdict : (m : Message) (z : DomainName) → without_denied (denies policy.answer_filter) m ≡ m → within z m ≡ m → verdict_of_message (denies policy.answer_filter) m z ≡ Pos m
   whole_verdict m z a b =
       ap (λ (x : Message). if emptied m x then Made Filter else (if emptied x (within z x) then Made OutsideZone else Pos (within z x))) a
       ∙ ap (λ (x : Message). if emptied m m then Made Filter else (if emptied m x then Made OutsideZone else Pos x)) b
       ∙ ap (λ (f : Bool). if f then Made Filter else (if f then Made OutsideZone else Pos m)) (unemptied m)
 
-  pub counts : (q : Query) (o : ToldOutcome) (z : DomainName) (v : Verdict) → q.query_class.code ≡ 1 → {i moment : ℕ} → Heard given log i q o moment z → verdict given o q z ≡ Some v → CountsWhole q z o v
+  pub counts : (q : Query) (o : ToldOutcome) (z : DomainName) (v : Verdict) → q.query_class.code ≡ 1 → {i moment : ℕ} → Heard policy log i q o moment z → verdict policy o q z ≡ Some v → CountsWhole q z o v
   counts q o z v in_class (heard {teller = teller} t s above) e =
       let told = was_told w log by_world t in
-      let server = serves-world given w log ok by_world s in
+      let server = serves-world policy w log ok by_world s in
       let there = walk-same told.asked q told.same z ∙ above in
       let asked = asks w teller told.asked z server there in
       let held : (r : Record) → Has (records told.message) r → IsHeld w r = λ r h. is_held w told.message r (told_from w teller told.asked told.message r told.tells h) h in
       let response = is_response told.message q (told_whole w teller told.asked told.message asked.zone asked.is told.tells) (λ r h. ok.internet r (held r h) ∙ sym in_class) in
-      let all_allowed = only_all (λ (r : Record). not (holds_denied given.answer_denied r)) told.message (λ r h. undenied r (held r h)) in
+      let all_allowed = only_all (λ (r : Record). not (holds_denied (denies policy.answer_filter) r)) told.message (λ r h. undenied r (held r h)) in
       let all_inside = only_all (in_zone z) told.message (λ r h. told_below teller told.asked told.message z r server there told.tells h) in
       by_response told.message told.is all_allowed all_inside response
     where
-      by_response : (m : Message) → o ≡ outcome.Message m → without_denied given.answer_denied m ≡ m → within z m ≡ m → IsResponse m q → CountsWhole q z o v
-      by_response m is a b (positive n k) = as_answer is n (same_Some v (Pos m) (sym e ∙ ap (λ (x : ToldOutcome). verdict given x q z) is ∙ ap (λ (c : Class). verdict_of_told given.answer_denied (Some c) z) k ∙ ap (λ (x : Verdict). Some x) (whole_verdict m z a b)))
-      by_response m is a b (negative n k) = as_denial is n (same_Some v (Neg (negative_within z (no_records m))) (sym e ∙ ap (λ (x : ToldOutcome). verdict given x q z) is ∙ ap (λ (c : Class). verdict_of_told given.answer_denied (Some c) z) k))
+      by_response : (m : Message) → o ≡ outcome.Message m → without_denied (denies policy.answer_filter) m ≡ m → within z m ≡ m → IsResponse m q → CountsWhole q z o v
+      by_response m is a b (positive n k) = as_answer is n (same_Some v (Pos m) (sym e ∙ ap (λ (x : ToldOutcome). verdict policy x q z) is ∙ ap (λ (c : Class). verdict_of_told (denies policy.answer_filter) (Some c) z) k ∙ ap (λ (x : Verdict). Some x) (whole_verdict m z a b)))
+      by_response m is a b (negative n k) = as_denial is n (same_Some v (Neg (negative_within z (no_records m))) (sym e ∙ ap (λ (x : ToldOutcome). verdict policy x q z) is ∙ ap (λ (c : Class). verdict_of_told (denies policy.answer_filter) (Some c) z) k))

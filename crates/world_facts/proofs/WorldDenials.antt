@@ -14,7 +14,7 @@ use Rattle.dns_core.specs.declared.record.Record.{Record}
 use Rattle.dns_core.specs.declared.net_error.NoRecords.{NoRecords}
 use Rattle.dns_core.specs.declared.log.ToldOutcome.{ToldOutcome}
 use Rattle.resolution.specs.Names.{is_above, walk, same_query}
-use Rattle.resolution.specs.Given.{Given}
+use Rattle.recursor_types.specs.declared.policy.Policy.{Policy}
 use Rattle.resolution.specs.Verdict.{negative_within, verdict}
 use Rattle.resolution.specs.Serving.{Heard}
 use Rattle.resolution.specs.Serving.Heard.{heard}
@@ -54,21 +54,21 @@ in_any_case w p q n e (of_name c x) = of_name c (sym (exists_in-same p q e w) �
 in_any_case w p q n e (of_type {zone = z} c x a d o) =
     of_type c (sym (exists_in-same p q e w) ∙ x) (sym (alias_for-same p q e w) ∙ a) (sym (zone_of-same p q e w) ∙ d) (sym (owned-same p q e z) ∙ o)
 
-module _ (given : Given) (w : World) (log : Log) (ok : IsServed given w) (by_world : TellsLog w log) where
+module _ (policy : Policy) (w : World) (log : Log) (ok : IsServed policy w) (by_world : TellsLog w log) where
   -- an answer by an alias is not empty
   by_alias_some : (z : Zone) (q : Query) (chain : Bool) (rs : List Record) (c : Record) → Has w.zones z → alias_in z q.name ≡ Some c → AnswersByAlias z q chain rs → (length rs == 0) ≡ true → ⊥
   by_alias_some z q chain rs c h e (alone f g) none = cc
   by_alias_some z q chain rs c h e (chained {last = last} f (leads {c = d} {cs = ds} g t more)) none =
       clash (length (d ∷ (ds ++ owned z last q.query_type)) == 0) none (some_left (d ∷ (ds ++ owned z last q.query_type)) d (inl refl))
   by_alias_some z q chain rs c h e (chained f (ends last)) none =
-      let inside = sym (is_above-same z.apex c.name q.name (alias_in_owner z q.name c e)) ∙ in_its_zone given w log ok by_world z c h (alias_in_Has z q.name c e) in
+      let inside = sym (is_above-same z.apex c.name q.name (alias_in_owner z q.name c e)) ∙ in_its_zone policy w log ok by_world z c h (alias_in_Has z q.name c e) in
       let next : None ≡ Some c = sym last ∙ ap (λ (b : Bool). if b && not false then alias_in z q.name else None) inside ∙ e in cc
 
   -- a referral names servers
   refers_on : (child : Zone) (glue : List Record) → Has w.zones child
       → (if length (filter is_ns (servers child child.apex)) == 0 then None else Some (delegations (servers child child.apex) glue)) ≡ None → ⊥
   refers_on child glue h e =
-      let ns = has_ns given w ok child h in
+      let ns = has_ns policy w ok child h in
       let there = filter_Has (λ (r : Record). is_ns r && same_names r.name child.apex) child.records ns.ns ns.within (both (is_ns ns.ns) (same_names ns.ns.name child.apex) ns.is ns.named) in
       let some = some_left (filter is_ns (servers child child.apex)) ns.ns (filter_Has is_ns (servers child child.apex) ns.ns there ns.is) in
       let none : Some (delegations (servers child child.apex) glue) ≡ None
@@ -100,12 +100,12 @@ module _ (given : Given) (w : World) (log : Log) (ok : IsServed given w) (by_wor
       by (answers {z = z} {m = n} e f r) none no_ns =
           let at = one_asked w teller p z asked.zone e asked.is in
           of_zone asked.zone p n zone (zone_asked_Has w teller p asked.zone asked.is)
-          (deepest given w log ok by_world teller p zone above asked (subst (λ (x : Zone). child_of w x p ≡ None) at f)) other (subst (λ (x : Zone). Replies w x p n) at r) none
+          (deepest policy w log ok by_world teller p zone above asked (subst (λ (x : Zone). child_of w x p ≡ None) at f)) other (subst (λ (x : Zone). Replies w x p n) at r) none
 
   -- a denial without a referral is that of the deepest zone
   pub denies_as_world : {i moment : ℕ} (q : Query) (o : ToldOutcome) (z : DomainName) (n : NoRecords) → q.query_class.code ≡ 1 → (q.query_type.code == 255) ≡ false
-      → Heard given log i q o moment z → verdict given o q z ≡ Some (Neg n) → n.ns ≡ None → DeniesAsWorld w q n
-  denies_as_world q o z n in_class other (heard {teller = teller} t s above) e no_ns = by (counts given w log ok by_world q o z (Neg n) in_class (heard t s above) e)
+      → Heard policy log i q o moment z → verdict policy o q z ≡ Some (Neg n) → n.ns ≡ None → DeniesAsWorld w q n
+  denies_as_world q o z n in_class other (heard {teller = teller} t s above) e no_ns = by (counts policy w log ok by_world q o z (Neg n) in_class (heard t s above) e)
     where
       told : WasTold w teller q o
       told = was_told w log by_world t
@@ -119,5 +119,5 @@ module _ (given : Given) (w : World) (log : Log) (ok : IsServed given w) (by_wor
           let kind = ap (λ (t : RecordType). t.code == 255) (types_same told.asked q told.same) ∙ other in
           subst (λ (x : NoRecords). DeniesAsWorld w q x) are
           (in_any_case w told.asked q (negative_within z (no_records m)) told.same
-          (of_told teller told.asked m z (serves-world given w log ok by_world s) (walk-same told.asked q told.same z ∙ above) kind
+          (of_told teller told.asked m z (serves-world policy w log ok by_world s) (walk-same told.asked q told.same z ∙ above) kind
           (subst (λ (x : Message). Tells w teller told.asked x) same told.tells) none (ap (λ (x : NoRecords). x.ns) are ∙ no_ns)))

@@ -5,7 +5,7 @@ use Rattle.dns_core.specs.Log.{Log}
 use Rattle.dns_core.specs.declared.message.Query.{Query}
 use Rattle.dns_core.specs.declared.message.Message.{Message}
 use Rattle.resolution.specs.Names.{last_name, walk}
-use Rattle.resolution.specs.Given.{Given}
+use Rattle.recursor_types.specs.declared.policy.Policy.{Policy}
 use Rattle.zone_rules.specs.Tree.{zone_of}
 use Rattle.zone_rules.specs.declared.world.Zone.{Zone}
 use Rattle.zone_rules.specs.declared.world.World.{World}
@@ -13,8 +13,8 @@ use Rattle.zone_worlds.specs.Telling.{Replies}
 use Rattle.resolution.specs.Walking.{NoCut}
 
 -- a walk passed all names below the zone, up to the one to which it went
-abbrev pub PassedAll : Given → Log → Query → DomainName → Type 0
-PassedAll given log q z = (k : ℕ) → length z.labels < k → k ≤ length (walk q).labels → NoCut given log (last_name k (walk q))
+abbrev pub PassedAll : Policy → Log → Query → DomainName → Type 0
+PassedAll policy log q z = (k : ℕ) → length z.labels < k → k ≤ length (walk q).labels → NoCut policy log (last_name k (walk q))
 
 -- The deepest zone of the world answers the question of itself.
 pub record IsFromDeepest (w : World) (q : Query) (m : Message) : Type 0 where

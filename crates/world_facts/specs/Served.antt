@@ -4,7 +4,7 @@ use Rattle.std.specs.declared.net.IpAddr.{IpAddr}
 use Rattle.dns_core.specs.Name.{DomainName, same_names}
 use Rattle.dns_core.specs.declared.record.Record.{Record}
 use Rattle.resolution.specs.Records.{address}
-use Rattle.resolution.specs.Given.{Given}
+use Rattle.recursor_types.specs.declared.policy.Policy.{Policy}
 use Rattle.zone_rules.specs.Tree.{serves}
 use Rattle.zone_rules.specs.declared.world.Zone.{Zone}
 use Rattle.zone_rules.specs.declared.world.World.{World}
@@ -19,16 +19,16 @@ pub record IsHeld (w : World) (r : Record) : Type 0 where
   pub within : Contains zone.records r
 
 -- A world serves a recursor that is given this: the clauses of a well served world; its records are of class IN, and no two zones have one apex.
-pub record IsServed (given : Given) (w : World) : Type 0 where
-  pub rooted : 0 < length given.roots
-  pub root : has_served_root w given.roots ≡ true
+pub record IsServed (policy : Policy) (w : World) : Type 0 where
+  pub rooted : 0 < length policy.roots
+  pub root : has_served_root w policy.roots ≡ true
   pub laid_out : is_laid_out w ≡ true
   pub delegated : is_delegated_well w ≡ true
   pub served : has_served_zones w ≡ true
   pub named : has_sound_names w ≡ true
-  pub allowed : (r : Record) (ip : IpAddr) → IsHeld w r → address r ≡ Some ip → (given.server_denied ip ≡ false) × (given.answer_denied ip ≡ false)
-  pub patient : w.delay < given.patience
-  pub timed : 0 < given.timeout
+  pub allowed : (r : Record) (ip : IpAddr) → IsHeld w r → address r ≡ Some ip → (denies policy.server_filter ip ≡ false) × ((denies policy.answer_filter) ip ≡ false)
+  pub patient : w.delay < policy.patience
+  pub timed : 0 < policy.timeout
   pub internet : (r : Record) → IsHeld w r → r.dns_class.code ≡ 1
   pub apart : (a b : Zone) → Contains w.zones a → Contains w.zones b → same_names a.apex b.apex ≡ true → a ≡ b
 

@@ -5,7 +5,9 @@ use Rattle.dns_core.specs.Log.{Log, log_of}
 use Rattle.dns_core.specs.declared.record.Record.{Record}
 use Rattle.dns_core.specs.declared.record.RData.TheVariants.{SOA}
 use Rattle.resolution.specs.Names.{root}
-use Rattle.resolution.specs.Given.{Given, allows_all}
+use Rattle.recursor_types.specs.declared.policy.Policy.{Policy}
+use Rattle.resolver_settings.specs.Options.{standard_options}
+use Rattle.resolver_settings.specs.Ttl.{one_day}
 use Rattle.resolution.specs.BaseScript.{quad, full, a_record, ns_record}
 use Rattle.zone_rules.specs.declared.world.Zone.{Zone}
 use Rattle.zone_rules.specs.declared.world.World.{World}
@@ -26,18 +28,20 @@ zone = record { apex = root; records = authority ∷ ns_record root 3600 (full (
 abbrev pub world : World
 world = record { zones = zone ∷ []; hosts = record { ip = V4 (quad 11 0 0 1); zones = 1 ∷ [] } ∷ []; chain = false; delay = 1 }
 
-abbrev pub given : Given
-given = record {
+abbrev pub policy : Policy
+policy = record {
   roots = V4 (quad 11 0 0 1) ∷ [];
-  server_denied = allows_all;
-  answer_denied = allows_all;
-  positive_bounds = λ t. record { least = 0; most = 86400 };
-  negative_bounds = λ t. record { least = 0; most = 86400 };
+  server_filter = record { name = []; allow = []; deny = [] };
+  answer_filter = record { name = []; allow = []; deny = [] };
+  ttl_bounds = record { general = one_day; own = [] };
   timeout = 5000000;
-  strict = true;
-  ns_recursion_limit = 24;
-  recursion_limit = 24;
   patience = 3;
+  recursion_limit = 24;
+  ns_recursion_limit = 24;
+  strict = true;
+  response_cache_size = 0;
+  first_delays = 1 ∷ [];
+  resolver = standard_options;
 }
 
 abbrev pub log : Log

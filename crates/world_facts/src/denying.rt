@@ -5,7 +5,7 @@ ghost use Rattle.dns_core.specs.Log.{Log};
 ghost use Rattle.dns_core.specs.declared.message.Query.{Query};
 ghost use Rattle.dns_core.specs.declared.log.ToldOutcome.{ToldOutcome};
 ghost use Rattle.dns_core.specs.declared.net_error.NoRecords.{NoRecords};
-ghost use Rattle.resolution.specs.Given.{Given};
+ghost use Rattle.recursor_types.specs.declared.policy.Policy.{Policy};
 ghost use Rattle.resolution.specs.Verdict.{verdict};
 ghost use Rattle.resolution.specs.Serving.{Heard};
 ghost use Rattle.resolution.specs.declared.verdict.Verdict.TheVariants.{Neg};
@@ -17,7 +17,7 @@ ghost use Rattle.world_facts.specs.Denials.{DeniesAsWorld};
 /// Law: a denial that a server of a zone tells, and that names no other servers, is the world's. No
 /// walk to the zone is needed.
 pub fn a_denial_is_the_worlds()
-    ensures { (given : Given) (world : World) (log : Log) (i moment : ℕ) (q : Query) (told : ToldOutcome) (zone : DomainName) (n : NoRecords) →
-        IsServed given world → TellsLog world log → q.query_class.code ≡ 1 → (q.query_type.code == 255) ≡ false
-        → Heard given log i q told moment zone → verdict given told q zone ≡ Some (Neg n) → n.ns ≡ None → DeniesAsWorld world q n }
+    ensures { (policy : Policy) (world : World) (log : Log) (i moment : ℕ) (q : Query) (told : ToldOutcome) (zone : DomainName) (n : NoRecords) →
+        IsServed policy world → TellsLog world log → q.query_class.code ≡ 1 → (q.query_type.code == 255) ≡ false
+        → Heard policy log i q told moment zone → verdict policy told q zone ≡ Some (Neg n) → n.ns ≡ None → DeniesAsWorld world q n }
 {}

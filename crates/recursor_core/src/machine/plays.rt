@@ -35,7 +35,7 @@ pub fn no_memory(alloc: Global) -> Reply
 /// A question as it begins: under way, or refused.
 pub fn begun(alloc: Global, core: &mut RecursorCore, question: &Question, now: u64) -> Played
     ensures derived { (log : Log) → core.old.moment ≤ now → Derived core.old log → Derived core.new log }
-    ensures setting { core.new.setting ≡ core.old.setting }
+    ensures policy { core.new.policy ≡ core.old.policy }
     ensures moment { core.old.moment ≤ now → (core.new.moment ≡ core.old.moment) ⊎ (core.new.moment ≡ now) }
     ensures others { IsOneMore core.old core.new }
     ensures begun { Begins question.now now core.new result }
@@ -69,7 +69,7 @@ pub fn begin_at(
 )
     requires { core.old.moment ≤ now }
     ensures derived { (log : Log) → Derived core.old log → Derived core.new log }
-    ensures same { (core.new.setting ≡ core.old.setting) × ((core.new.moment ≡ core.old.moment) ⊎ (core.new.moment ≡ now)) }
+    ensures same { (core.new.policy ≡ core.old.policy) × ((core.new.moment ≡ core.old.moment) ⊎ (core.new.moment ≡ now)) }
     ensures begun { IsOneMore core.old core.new }
     ensures others { (k : ℕ) → k ≢ q → slice_get plays.new.items k ≡ slice_get plays.old.items k }
     ensures count { vec_len plays.new ≡ vec_len plays.old }

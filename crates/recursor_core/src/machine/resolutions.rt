@@ -1,5 +1,5 @@
 //! The machine: it gives orders and is fed their outcomes, and knows neither a provider nor a log.
-ghost use Rattle.std.specs.Prelude.{◌≡◌, ◌≤◌, ◌<◌, ◌⊎◌, ◌↔◌, ℕ, [], true, false, max, length, None, Some, Ok, Err, IfOk, IfSome, IfNone, IfErr, IsSome, OnOk, IsTrue, option_copied, if◌then◌else◌};
+ghost use Rattle.std.specs.Prelude.{◌≡◌, ◌≤◌, ◌<◌, ◌⊎◌, ◌↔◌, ℕ, [], true, false, max, min, length, None, Some, Ok, Err, IfOk, IfSome, IfNone, IfErr, IsSome, OnOk, IsTrue, option_copied, if◌then◌else◌};
 ghost use Rattle.dns_core.specs.Log.{Log};
 ghost use Rattle.server_core.specs.Order.{entry_of};
 ghost use Rattle.walk_lookup.specs.Order.{IsNext, is_given_up, closing_of, last_entry};
@@ -7,22 +7,22 @@ ghost use Rattle.walk_tables.specs.Taking.{Takes, TablesHold};
 ghost use Rattle.std.specs.BTreeSet.{contains};
 ghost use Rattle.std.specs.Ordering.{nat_cmp};
 ghost use Rattle.resolver_settings.specs.Ttl.{has_reversed};
-ghost use Rattle.walk_lookup.specs.Asking.{connect_of};
-ghost use Rattle.walk_lookup.specs.Setting.{with_patience};
+ghost use Rattle.walk_lookup.specs.Asking.{connect_of, context_of};
+ghost use Rattle.recursor_types.specs.Policy.{with_patience};
 ghost use Rattle.walk_tables.specs.Pools.{IsOutcomeOf};
 ghost use Rattle.recursor_core.specs.Derived.{seen_by, Derived};
 ghost use Rattle.recursor_core.specs.Machine.{TellsTo, resolution_at, need_at, open_at, given_by, Steps, StepGives, IsBeginError, IsNewCore, SameCore, IsOneMore, IsBegunAt};
 
 use dns_core::{ConnectOptions, NoMemory, Question, TryClone, in_box};
 use recursor_question::{Need, Resolution, Step};
-use recursor_types::{MessageKind, RecursorError, RecursorOptions};
+use recursor_types::{MessageKind, Policy, RecursorError, RecursorOptions};
 use resolver_cache::ResponseCache;
 use server_core::{After, Outcome, PoolContext, Sent, Tick};
 use std::alloc::Global;
 use std::collections::BTreeSet;
 use std::mem;
 use std::net::IpAddr;
-use walk_lookup::{Setting, connect_options};
+use walk_lookup::{connect_options, pool_context};
 use walk_tables::Pools;
 
 /// The resolutions, in the order of their beginning, each kept until it has ended, and what they share: the
@@ -30,7 +30,7 @@ use walk_tables::Pools;
 /// far, and the greatest number of a log entry.
 #[derive(Drop)]
 pub struct RecursorCore {
-    setting: Setting,
+    policy: Policy,
     cache: ResponseCache,
     resolutions: Vec<Option<Box<Resolution>>>,
     pools: Pools,
@@ -38,13 +38,13 @@ pub struct RecursorCore {
     greatest: u64,
 }
 
-/// An empty cache as the options say.
-fn cache_of(alloc: Global, options: &RecursorOptions) -> Result<ResponseCache, NoMemory>
-    requires { has_reversed options.now.cache_policy ≡ false }
-    ensures { IfOk result (λ cache. cache ≡ record { size = options.now.response_cache_size; config = options.now.cache_policy; entries = [] }) }
+/// An empty cache as the policy says.
+fn cache_of(alloc: Global, policy: &Policy) -> Result<ResponseCache, NoMemory>
+    requires { has_reversed policy.now.ttl_bounds ≡ false }
+    ensures { IfOk result (λ cache. cache ≡ record { size = policy.now.response_cache_size; config = policy.now.ttl_bounds; entries = [] }) }
 {
-    let policy = options.cache_policy.try_clone(alloc)?;
-    let Ok(cache) = ResponseCache::new(alloc, options.response_cache_size, policy) else {
+    let bounds = policy.ttl_bounds.try_clone(alloc)?;
+    let Ok(cache) = ResponseCache::new(alloc, policy.response_cache_size, bounds) else {
         unreachable!()
     };
     Ok(cache)
@@ -83,11 +83,11 @@ impl RecursorCore {
         requires { has_reversed options.cache_policy ≡ false }
         ensures { IfOk result (IsNewCore roots.now options) }
     {
-        let cache = cache_of(alloc, &options)?;
-        let setting = Setting::new(alloc, roots, &options)?;
-        let pools = Pools::new(alloc, &options)?;
+        let policy = Policy::new(alloc, roots, &options)?;
+        let cache = cache_of(alloc, &policy)?;
+        let pools = Pools::new(alloc, &policy)?;
         Ok(RecursorCore {
-            setting,
+            policy,
             cache,
             resolutions: Vec::new(alloc),
             pools,
@@ -103,25 +103,25 @@ impl RecursorCore {
         self.moment
     }
 
-    /// What its pools of servers are set to.
-    pub fn pool_context(&self) -> &PoolContext
-        ensures { result.now ≡ self.now.setting.context }
+    /// What its pools of servers are set to. It fails where memory runs out alone.
+    pub fn pool_context(&self, alloc: Global) -> Result<PoolContext, NoMemory>
+        ensures { IfOk result (λ context. context ≡ context_of self.now.policy) }
     {
-        &self.setting.context
+        pool_context(alloc, &self.policy)
     }
 
     /// What each connection is opened with. It fails for want of memory alone.
     pub fn connect_options(&self, alloc: Global) -> Result<ConnectOptions, NoMemory>
-        ensures { IfOk result (λ connect. connect ≡ connect_of self.now.setting.context.options) }
+        ensures { IfOk result (λ connect. connect ≡ connect_of self.now.policy.resolver) }
     {
-        connect_options(alloc, self.setting.context.options())
+        connect_options(alloc, &self.policy.resolver)
     }
 
     /// The moment that has come.
     pub fn reach(&mut self, now: u64)
         ensures moment { self.new.moment ≡ max self.old.moment now }
         ensures derived { (log : Log) → Derived self.old log → Derived self.new log }
-        ensures same { (self.new.setting ≡ self.old.setting) × (self.new.greatest ≡ self.old.greatest) × (self.new.resolutions ≡ self.old.resolutions) × (self.new.cache ≡ self.old.cache) }
+        ensures same { (self.new.policy ≡ self.old.policy) × (self.new.greatest ≡ self.old.greatest) × (self.new.resolutions ≡ self.old.resolutions) × (self.new.cache ≡ self.old.cache) }
         ensures pools { self.new.pools ≡ self.old.pools }
     {
         self.moment = self.moment.max(now);
@@ -129,15 +129,15 @@ impl RecursorCore {
 
     /// Leaves all questions, for a run of this patience.
     pub fn clear(&mut self, patience: u32)
-        ensures derived { (log : Log) → self.old.greatest < log.next → 0 < length self.old.setting.roots
+        ensures derived { (log : Log) → self.old.greatest < log.next → 0 < length self.old.policy.roots
             → TablesHold (seen_by self.old log) self.old.cache self.old.pools → Derived self.new log }
-        ensures setting { self.new.setting ≡ with_patience self.old.setting patience }
+        ensures policy { self.new.policy ≡ with_patience (min self.old.policy.patience patience) self.old.policy }
         ensures same { (self.new.greatest ≡ self.old.greatest) × (self.new.moment ≡ self.old.moment) × (self.new.cache ≡ self.old.cache) }
         ensures cleared { self.new.resolutions.items ≡ [] }
     {
         self.resolutions.clear();
         self.pools.clear();
-        self.setting.with_patience(patience);
+        self.policy.with_patience(patience);
     }
 
     /// Begins a question, and answers its place among the resolutions. One whose name is not fully
@@ -152,7 +152,7 @@ impl RecursorCore {
         ensures only { IfErr result IsBeginError }
         ensures refused { question.query.name.fqdn ≡ false → self.new ≡ self.old }
         ensures derived { (log : Log) → self.old.moment ≤ now → Derived self.old log → Derived self.new log }
-        ensures stays { (self.new.setting ≡ self.old.setting) × (self.old.moment ≤ now → (self.new.moment ≡ self.old.moment) ⊎ (self.new.moment ≡ now)) }
+        ensures stays { (self.new.policy ≡ self.old.policy) × (self.old.moment ≤ now → (self.new.moment ≡ self.old.moment) ⊎ (self.new.moment ≡ now)) }
         ensures others { IsOneMore self.old self.new }
         ensures begun { IfOk result (λ r. (r ≡ length self.old.resolutions.items) × IsBegunAt self.new r question now) }
     {
@@ -177,7 +177,7 @@ impl RecursorCore {
         requires { question.query.name.fqdn ≡ true }
         ensures derived { (log : Log) → self.old.moment ≤ now → Derived self.old log
             → IfOk result (λ r. Derived (record self.new { moment = now }) log) }
-        ensures same { (self.new.setting ≡ self.old.setting) × (self.new.moment ≡ self.old.moment) × (self.new.greatest ≡ self.old.greatest) × (self.new.cache ≡ self.old.cache) }
+        ensures same { (self.new.policy ≡ self.old.policy) × (self.new.moment ≡ self.old.moment) × (self.new.greatest ≡ self.old.greatest) × (self.new.cache ≡ self.old.cache) }
         ensures others { IsOneMore self.old self.new }
         ensures begun { IfOk result (λ r. (r ≡ length self.old.resolutions.items) × IsBegunAt self.new r question now) }
         ensures pools { self.new.pools ≡ self.old.pools }
@@ -242,7 +242,7 @@ impl RecursorCore {
         match &mut self.resolutions[r] {
             Some(resolution) => resolution.next(
                 alloc,
-                &self.setting,
+                &self.policy,
                 &self.cache,
                 &mut self.pools,
                 since,
@@ -308,7 +308,7 @@ impl RecursorCore {
         ensures late { (result ≡ Ok After.Late) ↔ (IsNext self.old.greatest (entry_of outcome) → IsOutcomeOf self.old.pools number (option_copied waits.entry) outcome → ⊥) }
         ensures derived { (log longer : Log) → Derived self.old log → TellsTo self.old log tick (option_copied waits.entry) outcome result longer → Derived self.new longer }
         ensures takes { IfOk result (Takes self.old.cache self.new.cache self.old.pools self.new.pools number outcome tick) }
-        ensures setting { self.new.setting ≡ self.old.setting }
+        ensures policy { self.new.policy ≡ self.old.policy }
         ensures moment { self.old.moment ≡ tick.now → self.new.moment ≡ tick.now }
         ensures begun { self.new.resolutions ≡ self.old.resolutions }
     {

@@ -3,6 +3,7 @@ ghost use Rattle.std.specs.Prelude.{◌≡◌, ◌&&◌, ◌||◌, ◌==◌, ◌
 ghost use Rattle.std.specs.List.{list_any};
 ghost use Rattle.dns_core.specs.Name.{is_suffix, same_names};
 ghost use Rattle.dns_core.specs.Classifying.{is_ns};
+ghost use Rattle.resolver_settings.specs.Access.{denies};
 ghost use Rattle.resolution.specs.Names.{is_above};
 ghost use Rattle.resolution.specs.Records.{address, records};
 ghost use Rattle.resolution.specs.Class.{has_no_data_for};
@@ -13,12 +14,13 @@ ghost use Rattle.resolution.specs.Ending.{same_ip};
 ghost use Rattle.resolution_reference.specs.Plain.{apex, asks, among, holds, passes, kept, counts, names_target, holds_for, answers_with, is_answer, is_emptied, lesser};
 
 use dns_core::{Label, Message, Name, RData, Record};
+use resolver_settings::AccessControlSet;
 use std::net::IpAddr;
 
-/// A message, seen from a zone by the labels of its apex, and the addresses that no answer may hold.
+/// A message, seen from a zone by the labels of its apex, and the filter of the addresses of answers.
 #[derive(Drop)]
 pub struct Kept<'d, 'z, 'm> {
-    pub denied: &'d [IpAddr],
+    pub denied: &'d AccessControlSet,
     pub zone: &'z [Label],
     pub message: &'m Message,
 }
@@ -81,11 +83,11 @@ fn holds(r: &Record, ip: IpAddr) -> bool
     }
 }
 
-fn holds_denied(denied: &[IpAddr], r: &Record) -> bool
-    ensures { result ≡ holds_denied (among denied.now) r.now }
+fn holds_denied(denied: &AccessControlSet, r: &Record) -> bool
+    ensures { result ≡ holds_denied (denies denied.now) r.now }
 {
     match address(r) {
-        Some(held) => is_among(denied, held),
+        Some(held) => denied.denied(held),
         None => false,
     }
 }
@@ -164,7 +166,7 @@ impl Kept<'_, '_, '_> {
     }
 
     fn any_allowed(&self, rs: &[Record]) -> bool
-        ensures { result ≡ list_any (λ r. not (holds_denied (among self.now.denied.now) r)) rs.now }
+        ensures { result ≡ list_any (λ r. not (holds_denied (denies self.now.denied.now) r)) rs.now }
     {
         rs.iter().any(|r| !holds_denied(self.denied, r))
     }
@@ -281,7 +283,7 @@ impl Kept<'_, '_, '_> {
             !authorities.is_empty(),
             self.any_allowed(authorities),
         );
-        is_neither(denied, is_among(self.denied, ip)) & any_holds(answers, ip)
+        is_neither(denied, self.denied.denied(ip)) & any_holds(answers, ip)
     }
 
     /// The least TTL so far, with these records, as far as they are left.

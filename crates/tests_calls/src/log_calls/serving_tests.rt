@@ -4,7 +4,9 @@
 use dns_core::{
     DnsClass, Log, LogEntry, Message, Name, NameError, Protocol, Query, RecordType, ToldOutcome,
 };
+use recursor_types::{Policy, RecursorOptions};
 use resolution_reference::{Setting, base, serves};
+use resolver_settings::{IpNet, Nets, TtlBounds, TtlConfig};
 use std::alloc::Global;
 use std::net::{IpAddr, Ipv4Addr};
 use std::test::Fail;
@@ -153,35 +155,59 @@ struct Answering {
     wanted: bool,
 }
 
-/// The bounds of lives, in seconds, and the address that no answer may hold.
+/// The bounds of lives, in seconds, and the address that no answer may hold, if there is one.
 #[derive(Clone, Copy)]
 struct Terms {
     least_life: u32,
     most_life: u32,
-    denied: [u8; 4],
+    denied: Option<[u8; 4]>,
 }
 
 const A_DAY: Terms = Terms {
     least_life: 0,
     most_life: 86_400,
-    denied: STRANGER,
+    denied: Some(STRANGER),
 };
 
-fn serves_in(log: &[LogEntry], below: usize, ip: [u8; 4], zone: &Name) -> bool {
-    let setting = Setting {
-        roots: &[IpAddr::V4(v4(1))],
-        server_denied: &[],
-        answer_denied: &[],
-        log,
-        least_life: 0,
-        most_life: 86_400,
+const OPEN: Terms = Terms {
+    denied: None,
+    ..A_DAY
+};
+
+/// The address alone.
+fn net_of(alloc: Global, octets: [u8; 4]) -> Result<Nets, NameError> {
+    let Ok(net) = IpNet::new(IpAddr::V4(ip_of(octets)), 32) else {
+        unreachable!()
     };
+    Ok(Nets::new(vec![in alloc; net]?))
+}
+
+/// One root, no server denied, one address of answers denied or none, and these bounds of lives.
+fn policy_by(alloc: Global, terms: Terms) -> Result<Policy, NameError> {
+    let mut options = RecursorOptions::standard(alloc)?;
+    options.deny_server = Nets::empty(alloc);
+    if let Some(denied) = terms.denied {
+        options.deny_answers = net_of(alloc, denied)?;
+    }
+    let bounds = TtlBounds {
+        positive_min: u64::from(terms.least_life),
+        positive_max: u64::from(terms.most_life),
+        negative_min: u64::from(terms.least_life),
+        negative_max: u64::from(terms.most_life),
+    };
+    options.cache_policy = TtlConfig::new(alloc, bounds);
+    Ok(Policy::new(alloc, &[IpAddr::V4(v4(1))], &options)?)
+}
+
+fn serves_in(policy: &Policy, log: &[LogEntry], below: usize, ip: [u8; 4], zone: &Name) -> bool {
+    let setting = Setting { policy, log };
     serves(&setting, below, IpAddr::V4(ip_of(ip)), zone)
 }
 
 fn is_served(alloc: Global, log: &[LogEntry], row: Serving) -> Result<(), Fail> {
     let zone = domain(alloc, row.zone)?;
-    let found = serves_in(log, row.below, row.ip, &zone);
+    let policy = policy_by(alloc, OPEN)?;
+    let found = serves_in(&policy, log, row.below, row.ip, &zone);
     is_wanted(
         (row.zone, row.below, found),
         (row.zone, row.below, row.wanted),
@@ -203,27 +229,21 @@ fn serve(alloc: Global, walk: Walk, rows: &[Serving]) -> Result<(), Fail> {
 
 fn answers_in(
     log: &[LogEntry],
-    terms: Terms,
+    policy: &Policy,
     moment: u64,
     query: &Query,
     entry: usize,
     zone: &Name,
 ) -> bool {
-    let setting = Setting {
-        roots: &[IpAddr::V4(v4(1))],
-        server_denied: &[],
-        answer_denied: &[IpAddr::V4(ip_of(terms.denied))],
-        log,
-        least_life: terms.least_life,
-        most_life: terms.most_life,
-    };
+    let setting = Setting { policy, log };
     base(&setting, moment, query, entry, zone)
 }
 
 fn is_answered(alloc: Global, log: &[LogEntry], terms: Terms, row: Answering) -> Result<(), Fail> {
     let query = query_of(alloc, row.name, row.query_type, DnsClass::IN);
     let (zone, query) = both(domain(alloc, row.zone), query)?;
-    let found = answers_in(log, terms, row.moment, &query, row.entry, &zone);
+    let policy = policy_by(alloc, terms)?;
+    let found = answers_in(log, &policy, row.moment, &query, row.entry, &zone);
     is_wanted(
         (row.name, row.entry, found),
         (row.name, row.entry, row.wanted),
@@ -445,7 +465,7 @@ const LONG: Terms = Terms {
 };
 
 const DENIED: Terms = Terms {
-    denied: ANSWER,
+    denied: Some(ANSWER),
     ..A_DAY
 };
 

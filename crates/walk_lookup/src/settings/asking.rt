@@ -1,26 +1,21 @@
 //! How servers are asked.
 ghost use Rattle.std.specs.Prelude.{◌≡◌, IfOk};
-ghost use Rattle.walk_lookup.specs.Asking.{resolver_of, connect_of, request_options_of};
+ghost use Rattle.walk_lookup.specs.Asking.{context_of, connect_of, request_options_of};
 
 use dns_core::{ConnectOptions, DnsRequestOptions, NoMemory, TryClone};
-use recursor_types::RecursorOptions;
+use recursor_types::Policy;
 use resolver_settings::ResolverOpts;
+use server_core::PoolContext;
 use std::alloc::Global;
 
-/// How servers are asked by a recursor that is set to these options: one at a time, the fastest first,
-/// with EDNS, and without the wish that they recurse. It fails for want of memory alone.
-pub fn resolver_options(alloc: Global, options: &RecursorOptions) -> Result<ResolverOpts, NoMemory>
-    ensures { IfOk result (λ resolver. resolver ≡ resolver_of options.now) }
+/// What the pools of servers are set to by the policy. It fails where memory runs out alone.
+pub fn pool_context(alloc: Global, policy: &Policy) -> Result<PoolContext, NoMemory>
+    ensures { IfOk result (λ context. context ≡ context_of policy.now) }
 {
-    let mut resolver = ResolverOpts::standard(alloc)?;
-    resolver.ndots = 0;
-    resolver.edns0 = true;
-    resolver.edns_payload_len = options.edns_payload_len;
-    resolver.num_concurrent_reqs = 1;
-    resolver.recursion_desired = false;
-    resolver.case_randomization = options.case_randomization;
-    resolver.avoid_local_udp_ports = options.avoid_local_udp_ports.try_clone(alloc)?;
-    Ok(resolver)
+    let filter = policy.answer_filter.try_clone(alloc)?;
+    let mut resolver = policy.resolver.try_clone(alloc)?;
+    resolver.timeout = policy.timeout;
+    Ok(PoolContext::new(resolver).with_answer_filter(filter))
 }
 
 /// What each connection is opened with, as a resolver's options of the same names say. It fails for

@@ -1,17 +1,17 @@
-use Rattle.recursor_core.proofs.Names.{◌<◌, ◌∙◌, ℕ, length, IfOk, sym, subst, TellsThat, IsPast, Standing, run_terms, run_moments, RepliesHold, rises_over, with_patience, Setting}
+use Rattle.recursor_core.proofs.Names.{◌<◌, ◌∙◌, ℕ, min, length, IfOk, sym, subst, TellsThat, IsPast, Standing, run_terms, run_moments, RepliesHold, rises_over, with_patience, Policy}
 use Rattle.recursor_core.proofs.Standing.{rests_holds, holds_rests}
 use Rattle.recursor_core.proofs.driving.drive.Goals as goal
 
 pub answer-requires : goal.answer-requires
 answer-requires g c =
     let was = c.recursor.inside in
-    rests_holds g.P.ConnectionProvider c.args.patience was.run.core c.clear.new.self was.run.runner c.clear.ensures.setting c.clear.ensures.same.1
+    rests_holds g.P.ConnectionProvider c.args.patience was.run.core c.clear.new.self was.run.runner c.clear.ensures.policy c.clear.ensures.same.1
     c.clear.ensures.derived c.recursor.invariant
 
 pub invariant_of-recursor : goal.invariant_of-recursor
 invariant_of-recursor g c =
-    let same = c.answer.ensures.leads.setting ∙ c.clear.ensures.setting in
-    let some : 0 < length c.answer.new.self.core.setting.roots = subst (λ (held : Setting). 0 < length held.roots) (sym same) c.recursor.invariant.some in
+    let same = c.answer.ensures.leads.policy ∙ c.clear.ensures.policy in
+    let some : 0 < length c.answer.new.self.core.policy.roots = subst (λ (held : Policy). 0 < length held.roots) (sym same) c.recursor.invariant.some in
     let log = g.P.ConnectionProvider.log in
     let was = c.recursor.inside in
     let start = c.clear.new.self.moment in
@@ -26,11 +26,11 @@ returns-clause-replies g c =
     let patience = c.args.patience in
     let was = c.recursor.inside.run.core in
     let new = c.clear.new.self in
-    let by_setting = subst (λ (held : Setting). IfOk c.answer.result (λ replies. TellsThat told (λ log.
-    RepliesHold held log new.moment c.args.turns.now c.args.questions.now replies.items))) c.clear.ensures.setting
+    let by_setting = subst (λ (held : Policy). IfOk c.answer.result (λ replies. TellsThat told (λ log.
+    RepliesHold held log new.moment c.args.turns.now c.args.questions.now replies.items))) c.clear.ensures.policy
     c.answer.ensures.replies in
     let by_moment = subst (λ (m : ℕ). IfOk c.answer.result (λ replies. TellsThat told (λ log.
-    RepliesHold (with_patience was.setting patience) log m c.args.turns.now c.args.questions.now replies.items))) c.clear.ensures.same.1
+    RepliesHold (with_patience (min was.policy.patience patience) was.policy) log m c.args.turns.now c.args.questions.now replies.items))) c.clear.ensures.same.1
     by_setting in
     subst (λ (s : Standing _). IfOk c.answer.result (λ replies. TellsThat told (λ log.
     RepliesHold (run_terms patience s) log s.moment c.args.turns.now c.args.questions.now replies.items))) c.recursor.view_is

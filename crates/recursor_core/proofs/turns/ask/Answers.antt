@@ -48,7 +48,7 @@ begin_order-requires-clause-ready g c =
 pub begin_order-requires-clause-goes : goal.begin_order-requires-clause-goes
 begin_order-requires-clause-goes g c =
     step_goes c.orders.core c.next.new.self (g.P.ConnectionProvider.log c.orders.runner.carrier.provider) c.args.r c.in-Order.number c.in_ok-number.field-0 c.in-Order.order
-    c.in-Order.is c.next.ensures.same.setting c.orders.invariant.goes.ready.holds.derived c.in_ok-number.ensures.gives
+    c.in-Order.is c.next.ensures.same.policy c.orders.invariant.goes.ready.holds.derived c.in_ok-number.ensures.gives
 
 pub returns-in_err-begin_order-in-Order-clause-goes : goal.returns-in_err-begin_order-in-Order-clause-goes
 returns-in_err-begin_order-in-Order-clause-goes g c =
@@ -89,5 +89,5 @@ returns-in-Done-clause-told g c =
     let i = c.orders.invariant.goes in
     let told = p.log c.orders.runner.carrier.provider in
     told_before p c.args.tick c.args.core.now c.orders.core c.args.runner.now c.orders.runner told c.args.r (turned.Done c.in-Done.reply) i
-    (subst (λ (now : ℕ). ReplyTold c.orders.core.setting now told (begun_at c.orders.core c.args.r) c.in-Done.reply.value) i.ready.moment
+    (subst (λ (now : ℕ). ReplyTold c.orders.core.policy now told (begun_at c.orders.core c.args.r) c.in-Done.reply.value) i.ready.moment
     (step_replies c.orders.core c.next.new.self told c.args.r c.in_ok-number.field-0 c.in-Done.reply c.in-Done.is i.ready.holds.derived c.in_ok-number.ensures.gives))

@@ -14,7 +14,7 @@ use Rattle.resolution.specs.declared.verdict.Verdict.TheVariants.{Pos}
 use Rattle.resolution.proofs.Sameness.{Same-refl}
 use Rattle.resolution.proofs.base_script.an_alias_is_answered.Goals as goal
 
-serves : (n : ℕ) → Serves script.given script.alias_log n (V4 (script.quad 11 0 0 1)) root
+serves : (n : ℕ) → Serves script.policy script.alias_log n (V4 (script.quad 11 0 0 1)) root
 serves n = of_root (0, omega arith, refl)
 
 told_4 : Tells script.alias_log 4 (question script.x 1) (outcome.Message script.alias_reply) 3 (V4 (script.quad 11 0 0 1)) 0
@@ -23,10 +23,10 @@ told_4 = record { protocol = Udp; asked = question script.x 1; asked_at = 0; tol
 told_8 : Tells script.alias_log 8 (question script.y 1) (outcome.Message script.target_reply) 7 (V4 (script.quad 11 0 0 1)) 0
 told_8 = record { protocol = Udp; asked = question script.y 1; asked_at = 0; told = record { below = omega arith; is = refl }; question = record { below = omega arith; is = refl }; before = omega arith; same = refl }
 
-base_4 : Base script.given script.alias_log 0 (question script.x 1) 4 root (Pos script.alias_reply)
+base_4 : Base script.policy script.alias_log 0 (question script.x 1) 4 root (Pos script.alias_reply)
 base_4 = record { told = outcome.Message script.alias_reply; moment = 0; heard = heard told_4 (serves 3) refl; counts = refl; fresh = inl (omega arith) }
 
-base_8 : Base script.given script.alias_log 0 (question script.y 1) 8 root (Pos script.target_reply)
+base_8 : Base script.policy script.alias_log 0 (question script.y 1) 8 root (Pos script.target_reply)
 base_8 = record { told = outcome.Message script.target_reply; moment = 0; heard = heard told_8 (serves 7) refl; counts = refl; fresh = inl (omega arith) }
 
 pub returns : goal.returns

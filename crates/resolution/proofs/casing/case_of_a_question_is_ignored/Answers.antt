@@ -5,7 +5,7 @@ pub returns-clause-class : goal.returns-clause-class
 returns-clause-class c = λ q p o e. class_of-same q p e o
 
 pub returns-clause-verdict : goal.returns-clause-verdict
-returns-clause-verdict c = λ q p given o z e. verdict-same q p e given o z
+returns-clause-verdict c = λ q p policy o z e. verdict-same q p e policy o z
 
 pub returns-clause-base : goal.returns-clause-base
-returns-clause-base c = λ q p given log t0 i z v e b. Base-same q p e b
+returns-clause-base c = λ q p policy log t0 i z v e b. Base-same q p e b

@@ -3,7 +3,7 @@ use Rattle.resolution.proofs.Keeping.{Serves-keep, Serves-later}
 use Rattle.resolution.proofs.growing.only_earlier_entries_are_read.Goals as goal
 
 pub returns-clause-below : goal.returns-clause-below
-returns-clause-below c = λ given a b n ip z agree s. Serves-keep given given.patience a b n agree.there (omega arith) s
+returns-clause-below c = λ policy a b n ip z agree s. Serves-keep policy policy.patience a b n agree.there (omega arith) s
 
 pub returns-clause-later : goal.returns-clause-later
-returns-clause-later c = λ given log n m ip z le s. Serves-later given log le s
+returns-clause-later c = λ policy log n m ip z le s. Serves-later policy log le s

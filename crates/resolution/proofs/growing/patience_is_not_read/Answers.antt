@@ -7,7 +7,7 @@ itself : (log : Log) → Extends log log
 itself log = record { later = omega arith; kept = λ n h. refl }
 
 pub returns-clause-serves : goal.returns-clause-serves
-returns-clause-serves c = λ given patience log n ip z s. Serves-extend given patience log log (itself log) s
+returns-clause-serves c = λ policy patience log n ip z s. Serves-extend policy patience log log (itself log) s
 
 pub returns-clause-base : goal.returns-clause-base
-returns-clause-base c = λ given patience log t0 q i z v b. Base-extend given patience log log (itself log) b
+returns-clause-base c = λ policy patience log t0 q i z v b. Base-extend policy patience log log (itself log) b

@@ -33,8 +33,8 @@ told_addresses (Waited of) = []
 told_addresses (GaveUp of moment) = []
 
 pub returns : goal.returns
-returns c = λ n z s. elim (no_invention script.given script.log s) [
-  | inl a ↦ none_passes is_stranger script.given.roots script.stranger (Has-from_Contains script.given.roots script.stranger a) refl refl
+returns c = λ n z s. elim (no_invention script.policy script.log s) [
+  | inl a ↦ none_passes is_stranger script.policy.roots script.stranger (Has-from_Contains script.policy.roots script.stranger a) refl refl
   | inr t ↦ none_passes is_stranger (flat_map told_addresses script.entries) script.stranger
       (flat_map-Has told_addresses script.entries _ script.stranger (Has-from_Logged script.entries t.i _ t.told) (Has-from_Contains _ script.stranger t.held)) refl refl
 ]

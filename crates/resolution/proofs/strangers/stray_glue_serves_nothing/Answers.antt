@@ -106,38 +106,38 @@ not_above : (q : Query) (z : DomainName) → (q ≡ question script.commercial 2
 not_above q z (inl a) e h = let t = above-same q.name z script.elsewhere e in let s = ap (λ (x : Query). is_above x.name script.elsewhere) a in cc
 not_above q z (inr a) e h = let t = above-same q.name z script.elsewhere e in let s = ap (λ (x : Query). is_above x.name script.elsewhere) a in cc
 
-not_root : (ip : IpAddr) → com_server ≡ ip → Contains script.given.roots ip → ⊥
-not_root ip is h = none_passes (is_at (11 ∷ 0 ∷ 0 ∷ 2 ∷ [])) script.given.roots com_server (Has-from_Contains script.given.roots com_server (subst (λ (x : IpAddr). Contains script.given.roots x) (sym is) h)) refl refl
+not_root : (ip : IpAddr) → com_server ≡ ip → Contains script.policy.roots ip → ⊥
+not_root ip is h = none_passes (is_at (11 ∷ 0 ∷ 0 ∷ 2 ∷ [])) script.policy.roots com_server (Has-from_Contains script.policy.roots com_server (subst (λ (x : IpAddr). Contains script.policy.roots x) (sym is) h)) refl refl
 
 -- 11.0.0.2 serves no zone above it
-not_served : {n : ℕ} (z : DomainName) (ip : IpAddr) → com_server ≡ ip → Serves script.given script.stray_glue_log n ip z → is_above z script.elsewhere ≡ true → ⊥
-not_served z ip is s h = elim (served_was_asked script.given script.stray_glue_log s) [
+not_served : {n : ℕ} (z : DomainName) (ip : IpAddr) → com_server ≡ ip → Serves script.policy script.stray_glue_log n ip z → is_above z script.elsewhere ≡ true → ⊥
+not_served z ip is s h = elim (served_was_asked script.policy script.stray_glue_log s) [
   | inl r ↦ not_root ip is r.1
   | inr w ↦ not_above w.asked z (asked_cases w.n w.moment w.ip w.protocol w.asked w.logged.is) (names_same w.asked (question z 2) w.same) h
 ]
 
-stray : {i moment : ℕ} {q : Query} {o : ToldOutcome} {z : DomainName} (k : Message) (names : List DomainName) → Heard script.given script.stray_glue_log i q o moment z
-    → verdict script.given o q z ≡ Some (Pos k) → Contains (addresses_under names (records k)) script.stranger → ⊥
+stray : {i moment : ℕ} {q : Query} {o : ToldOutcome} {z : DomainName} (k : Message) (names : List DomainName) → Heard script.policy script.stray_glue_log i q o moment z
+    → verdict script.policy o q z ≡ Some (Pos k) → Contains (addresses_under names (records k)) script.stranger → ⊥
 stray k names (heard {i = i} {ask = ask} {moment = moment} {q = q} {o = o} {teller = teller} {z = z} t s a) v m =
     let r : (x : Record) × Has (records k) x × (address_under names x ≡ Some script.stranger) = Has-filter_map (address_under names) (records k) script.stranger (Has-from_Contains _ script.stranger m) in
-    let counts = verdict-pos script.given o q z k v in
-    let held = Has-counted script.given o q z k r.0 counts r.1 in
+    let counts = verdict-pos script.policy o q z k v in
+    let held = Has-counted script.policy o q z k r.0 counts r.1 in
     let at = of_address names r.0 script.stranger r.2 in
     let told = subst (λ (x : ToldOutcome). numbered script.stray_glue_entries i ≡ Some (Told ask moment x)) counts.told t.told.is in
     elim (told_cases i ask moment counts.message told) [
       | inl is ↦ not_first counts.message r.0 is held at
       | inr is ↦
           let asked = subst (λ (n : ℕ). numbered script.stray_glue_entries n ≡ Some (Asked teller t.protocol t.asked t.asked_at None)) is.0 t.question.is in
-          let inside = in_zone-counted script.given o q z k r.0 v r.1 in
+          let inside = in_zone-counted script.policy o q z k r.0 v r.1 in
           not_served z teller (seventh t.asked_at teller t.protocol t.asked asked) s
           (ap (λ (x : DomainName). is_above z x) (outside counts.message r.0 is.1 held at) ∙ inside)
     ]
 
-unasked : {j moment : ℕ} {q : Query} {o : ToldOutcome} {z : DomainName} (t : DomainName) → IsAddressQuestion t q → Heard script.given script.stray_glue_log j q o moment z → ⊥
+unasked : {j moment : ℕ} {q : Query} {o : ToldOutcome} {z : DomainName} (t : DomainName) → IsAddressQuestion t q → Heard script.policy script.stray_glue_log j q o moment z → ⊥
 unasked {q = q} name b (heard {ask = ask} {teller = teller} t s a) = not_asked t.asked q name (asked_cases ask t.asked_at teller t.protocol t.asked t.question.is) b t.same
 
-of_serves : {n : ℕ} {ip : IpAddr} {z : DomainName} → script.stranger ≡ ip → Serves script.given script.stray_glue_log n ip z → ⊥
-of_serves {ip = ip} is (of_root r) = none_passes is_stranger script.given.roots script.stranger (Has-from_Contains script.given.roots script.stranger (subst (λ (x : IpAddr). Contains script.given.roots x) (sym is) r)) refl refl
+of_serves : {n : ℕ} {ip : IpAddr} {z : DomainName} → script.stranger ≡ ip → Serves script.policy script.stray_glue_log n ip z → ⊥
+of_serves {ip = ip} is (of_root r) = none_passes is_stranger script.policy.roots script.stranger (Has-from_Contains script.policy.roots script.stranger (subst (λ (x : IpAddr). Contains script.policy.roots x) (sym is) r)) refl refl
 of_serves is (of_glue {c = c} (delegates {k = k} i h v d r) a m) = stray k (targets k c) h v (subst (λ (x : IpAddr). Contains (glue k c) x) (sym is) m)
 of_serves is (of_target {t = t} d a m q j h v k) = unasked t q h
 of_serves is (of_answer {t = t} d a m q j h p v k f) = unasked t q h

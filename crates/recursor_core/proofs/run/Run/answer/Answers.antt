@@ -1,4 +1,4 @@
-use Rattle.recursor_core.proofs.Names.{[], subst, IfOk-weaker, TellsThat, Setting, RepliesHold, run_moments}
+use Rattle.recursor_core.proofs.Names.{[], subst, IfOk-weaker, TellsThat, Policy, RepliesHold, run_moments}
 use Rattle.recursor_core.proofs.Leading.{leads_refl}
 use Rattle.recursor_core.proofs.Playing.{plays_wait, replies_hold}
 use Rattle.recursor_core.proofs.Timed.{run_first}
@@ -19,5 +19,5 @@ returns-clause-replies g c =
     let told = g.P.ConnectionProvider.log played.runner.carrier.provider in
     let waits = plays_wait run.core (g.P.ConnectionProvider.log run.runner.carrier.provider) start turns questions c.in_ok-self.field-0.items c.in_ok-self.ensures.waits in
     IfOk-weaker c.replies.result _ _ (λ v each.
-    subst (λ (held : Setting). TellsThat told (λ log. RepliesHold held log start turns questions v.items)) c.play_all.ensures.leads.setting
+    subst (λ (held : Policy). TellsThat told (λ log. RepliesHold held log start turns questions v.items)) c.play_all.ensures.leads.policy
     (replies_hold played.core told start turns [] questions played.plays.items v.items (c.play_all.ensures.plays waits) each)) c.replies.ensures.each

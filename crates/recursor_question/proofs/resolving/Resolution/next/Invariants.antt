@@ -12,7 +12,7 @@ invariant-steps l = record {
   given : given_so_far l.pools ≡ given_so_far l.fn.pools;
   from : (l.self ≡ l.fn.self) ⊎ IsOpen l.self.state;
   begun : SameBegun l.fn.self l.self;
-  holds : (seen : View) → SteppedBy seen l.setting l.cache l.since l.tick → PoolsHold seen l.fn.pools → ResolutionHolds seen l.fn.self
+  holds : (seen : View) → SteppedBy seen l.policy l.cache l.since l.tick → PoolsHold seen l.fn.pools → ResolutionHolds seen l.fn.self
       → ResolutionHolds seen l.self × PoolsHold seen l.pools;
   recalls : want_of l.fn.self ≡ need.SetOut
       → AnswersSoFar l.fn.self.question (answerable (recalled l.cache l.fn.self.question.query l.tick.now)) l.fn.self l.self;

@@ -1,18 +1,18 @@
 use Rattle.std.proofs.lemmas.Result.{IfOk-from_err}
 use Rattle.recursor_question.proofs.Words.{ap}
-use Rattle.walk_lookup.specs.declared.settings.setting.Setting.{Setting}
+use Rattle.recursor_types.specs.declared.policy.Policy.{Policy}
 use Rattle.recursor_question.proofs.resolving.Resolution.send_on.Goals as goal
 
 pub returns-in_err-recall-in-Recall-clause-holds : goal.returns-in_err-recall-in-Recall-clause-holds
 returns-in_err-recall-in-Recall-clause-holds c seen by pools h = record {
-  holds = c.recall.ensures.holds seen by.at.now_is (ap (λ (s : Setting). s.server_filter) by.are) by.keeps h;
+  holds = c.recall.ensures.holds seen by.at.now_is (ap (λ (s : Policy). s.server_filter) by.are) by.keeps h;
   tables = pools;
   gives = IfOk-from_err c.from_residual.result _ c.from_residual.ensures.0;
 }
 
 pub returns-in_ok-recall-in-Recall-clause-holds : goal.returns-in_ok-recall-in-Recall-clause-holds
 returns-in_ok-recall-in-Recall-clause-holds c seen by pools h = record {
-  holds = c.recall.ensures.holds seen by.at.now_is (ap (λ (s : Setting). s.server_filter) by.are) by.keeps h;
+  holds = c.recall.ensures.holds seen by.at.now_is (ap (λ (s : Policy). s.server_filter) by.are) by.keeps h;
   tables = pools;
   gives = tt;
 }
@@ -25,14 +25,14 @@ returns-in-Step-clause-holds c seen by pools h = c.give_order.ensures.holds seen
 
 pub returns-in_err-hear-in-Hear-clause-holds : goal.returns-in_err-hear-in-Hear-clause-holds
 returns-in_err-hear-in-Hear-clause-holds c seen by pools h = record {
-  holds = c.hear.ensures.holds seen (ap (λ (s : Setting). s.server_filter) by.are) h;
+  holds = c.hear.ensures.holds seen (ap (λ (s : Policy). s.server_filter) by.are) h;
   tables = pools;
   gives = IfOk-from_err c.from_residual-in_err-hear-in-Hear.result _ c.from_residual-in_err-hear-in-Hear.ensures.0;
 }
 
 pub returns-in_ok-hear-in-Hear-clause-holds : goal.returns-in_ok-hear-in-Hear-clause-holds
 returns-in_ok-hear-in-Hear-clause-holds c seen by pools h = record {
-  holds = c.hear.ensures.holds seen (ap (λ (s : Setting). s.server_filter) by.are) h;
+  holds = c.hear.ensures.holds seen (ap (λ (s : Policy). s.server_filter) by.are) h;
   tables = pools;
   gives = tt;
 }

@@ -4,7 +4,7 @@ use Rattle.dns_core.specs.declared.message.Query.{Query}
 use Rattle.dns_core.specs.declared.record.Record.{Record}
 use Rattle.resolution.specs.Serving.{targets, IsAddressQuestion}
 use Rattle.resolution_reference.specs.Plain.{apex, kept}
-use Rattle.resolution_reference.specs.PlainServing.{given_of, log_in, AnswerGives, ListedBy, ListedFrom, ServerGives, GivenFrom}
+use Rattle.resolution_reference.specs.PlainServing.{log_in, AnswerGives, ListedBy, ListedFrom, ServerGives, GivenFrom}
 use Rattle.resolution_reference.proofs.setting.Setting.+serving.Given as goal
 
 abbrev pub decreases-serves_apex : goal.decreases-serves_apex
@@ -36,16 +36,16 @@ decreases-is_given_from l = 10 * l.ask + 10
 
 -- no earlier entry lists the address
 abbrev pub invariant-serves_apex-entries : goal.invariant-serves_apex-entries
-invariant-serves_apex-entries l = (k : ℕ) → k < l.i → ListedBy (given_of l.self) (log_in l.self) k l.n l.ip (apex l.zone) → ⊥
+invariant-serves_apex-entries l = (k : ℕ) → k < l.i → ListedBy l.self.policy.now (log_in l.self) k l.n l.ip (apex l.zone) → ⊥
 
 abbrev pub invariant-is_listed_by-cuts : goal.invariant-is_listed_by-cuts
-invariant-is_listed_by-cuts l = (k : ℕ) → k < l.cut → ListedFrom (given_of l.self) (log_in l.self) l.told.ask l.told.teller l.self.answer_denied.now (drop k l.zone) l.told.message.now l.n l.ip (apex l.zone) → ⊥
+invariant-is_listed_by-cuts l = (k : ℕ) → k < l.cut → ListedFrom l.self.policy.now (log_in l.self) l.told.ask l.told.teller l.self.policy.now.answer_filter (drop k l.zone) l.told.message.now l.n l.ip (apex l.zone) → ⊥
 
 abbrev pub invariant-any_server-servers : goal.invariant-any_server-servers
-invariant-any_server-servers l = (k : ℕ) (r : Record) → k < l.r-index → slice_index_or l.rs k r ≡ r → ServerGives (given_of l.self) (log_in l.self) l.n l.ip (apex l.zone) l.kept r → ⊥
+invariant-any_server-servers l = (k : ℕ) (r : Record) → k < l.r-index → slice_index_or l.rs k r ≡ r → ServerGives l.self.policy.now (log_in l.self) l.n l.ip (apex l.zone) l.kept r → ⊥
 
 abbrev pub invariant-target_gives-answers : goal.invariant-target_gives-answers
-invariant-target_gives-answers l = (k : ℕ) (q : Query) → k < l.j → IsAddressQuestion l.target q → AnswerGives (given_of l.self) (log_in l.self) k l.ip (targets (kept l.kept) (apex l.zone)) q → ⊥
+invariant-target_gives-answers l = (k : ℕ) (q : Query) → k < l.j → IsAddressQuestion l.target q → AnswerGives l.self.policy.now (log_in l.self) k l.ip (targets (kept l.kept) (apex l.zone)) q → ⊥
 
 abbrev pub invariant-answer_gives-cuts : goal.invariant-answer_gives-cuts
-invariant-answer_gives-cuts l = (k : ℕ) → k < l.cut → GivenFrom (given_of l.self) (log_in l.self) l.told.ask l.told.teller l.self.answer_denied.now (drop k l.labels) l.told.message.now (kept l.kept) (apex l.zone) l.ip → ⊥
+invariant-answer_gives-cuts l = (k : ℕ) → k < l.cut → GivenFrom l.self.policy.now (log_in l.self) l.told.ask l.told.teller l.self.policy.now.answer_filter (drop k l.labels) l.told.message.now (kept l.kept) (apex l.zone) l.ip → ⊥

@@ -35,7 +35,7 @@ returns c =
     let q = asks c.args.labels.now c.args.record_type c.args.class in
     let m = c.in-Some.told.message.now in
     let walked : is_above (apex c.args.zone.now) (walk q) ≡ true = let a = c.is_walked_below.ensures in let n = c.if-not-is_walked_below.false in cc in
-    let counted : counts_of c.args.self.now.answer_denied.now c.args.zone.now m ≡ true = let a = c.counts.ensures in let n = c.if-not-counts.false in cc in
+    let counted : counts_of c.args.self.now.policy.now.answer_filter c.args.zone.now m ≡ true = let a = c.counts.ensures in let n = c.if-not-counts.false in cc in
     let holds : c.is_fresh.result ≡ true = let n = c.if-not-is_fresh.false in cc in
     let fresh = subst (λ (life : ℕ). IsFreshFor c.args.t0 c.in-Some.told.moment life) c.life.ensures (c.is_fresh.ensures.0 holds) in (
       (λ e. is_base c.args.self.now c.args.t0 q m c.args.zone.now c.in-Some.ensures.tells c.in-Some.ensures.answers

@@ -7,32 +7,32 @@ use Rattle.std.specs.contracts.net.ip_addr.IpAddrOrd.TheImpl as address
 use Rattle.walk_tables.proofs.pools.Pools.add.Goals as goal
 
 pub returns-in_err-server-clause-servers : goal.returns-in_err-server-clause-servers
-returns-in_err-server-clause-servers c setting h =
+returns-in_err-server-clause-servers c policy h =
     let same = c.take_first_delay-delay.ensures.same in
-    servers-same setting c.args.self.now c.take_first_delay-delay.new.self (record { shared = same.0; numbers = same.1 }) h
+    servers-same policy c.args.self.now c.take_first_delay-delay.new.self (record { shared = same.0; numbers = same.1 }) h
 
 pub returns-in_err-number-clause-servers : goal.returns-in_err-number-clause-servers
-returns-in_err-number-clause-servers c setting h =
+returns-in_err-number-clause-servers c policy h =
     let same = c.take_first_delay-delay.ensures.same in
-    servers-same setting c.args.self.now _ (record { shared = c.in_err-number.ensures.err ∙ same.0; numbers = same.1 }) h
+    servers-same policy c.args.self.now _ (record { shared = c.in_err-number.ensures.err ∙ same.0; numbers = same.1 }) h
 
 pub returns-in_err-_before-clause-servers : goal.returns-in_err-_before-clause-servers
-returns-in_err-_before-clause-servers c setting h =
+returns-in_err-_before-clause-servers c policy h =
     let same = c.take_first_delay-delay.ensures.same in
     let core = c.args.self.now in
     let shared = c.in_ok-number.ensures.ok ∙ ap (λ (s : Shared). let new : Shared = record s { table = s.table ++ c.in_ok-server.server ∷ [] } in new) same.0 in
-    servers-by setting core _
+    servers-by policy core _
     (λ ip. ap (λ (es : List (IpAddr × ℕ)). lookup (tree.is_at (address.ghosts.cmp ip)) es) c.in_err-_before.ensures.err ∙ ap (λ (ns : BTreeMap IpAddr ℕ). tree.get address.ghosts.cmp ns ip) same.1)
     (ap (λ (s : Shared). s.context) shared)
     (λ k config is. ap (λ (s : Shared). config_at s.table k) shared ∙ config-before core.shared.table (c.in_ok-server.server ∷ []) k config is) h
 
 pub returns-clause-servers : goal.returns-clause-servers
-returns-clause-servers c setting h =
+returns-clause-servers c policy h =
     let same = c.take_first_delay-delay.ensures.same in
     let core = c.args.self.now in
     let server = c.in_ok-server.server in
     let shared = c.in_ok-number.ensures.ok ∙ ap (λ (s : Shared). let new : Shared = record s { table = s.table ++ server ∷ [] } in new) same.0 in
-    servers-added setting c.args.ip server c.in_ok-number.number core _
+    servers-added policy c.args.ip server c.in_ok-number.number core _
     (record {
       table = ap (λ (s : Shared). s.table) shared;
       context = ap (λ (s : Shared). s.context) shared;

@@ -9,14 +9,14 @@ use Rattle.walk_tables.proofs.pools.Pools.begin.Goals as goal
 pub returns-in_err-servers : goal.returns-in_err-servers
 returns-in_err-servers c = record {
   holds = λ seen here served h.
-      pools-grown seen c.args.self.now c.meet_all.new.self c.meet_all.ensures.grown (c.meet_all.ensures.servers seen.setting h.servers) h;
+      pools-grown seen c.args.self.now c.meet_all.new.self c.meet_all.ensures.grown (c.meet_all.ensures.servers seen.policy h.servers) h;
   given = c.meet_all.ensures.grown.given;
 }
 
 pub returns-in_err-pool : goal.returns-in_err-pool
 returns-in_err-pool c = record {
   holds = λ seen here served h.
-      let met = pools-grown seen c.args.self.now c.meet_all.new.self c.meet_all.ensures.grown (c.meet_all.ensures.servers seen.setting h.servers) h in
+      let met = pools-grown seen c.args.self.now c.meet_all.new.self c.meet_all.ensures.grown (c.meet_all.ensures.servers seen.policy h.servers) h in
       subst (λ shared. PoolsHold seen (record c.meet_all.new.self { shared = shared })) (sym c.in_err-pool.ensures.err) met;
   given = ap (λ (shared : Shared). shared.given) c.in_err-pool.ensures.err ∙ c.meet_all.ensures.grown.given;
 }
@@ -25,7 +25,7 @@ pub returns-in_err-lookup : goal.returns-in_err-lookup
 returns-in_err-lookup c = record {
   holds = λ seen here served h.
       let first = c.meet_all.new.self in
-      let met = pools-grown seen c.args.self.now first c.meet_all.ensures.grown (c.meet_all.ensures.servers seen.setting h.servers) h in
+      let met = pools-grown seen c.args.self.now first c.meet_all.ensures.grown (c.meet_all.ensures.servers seen.policy h.servers) h in
       subst (λ shared. PoolsHold seen (record first { shared = shared })) (sym c.in_err-lookup.ensures.err)
       (pools-numbered seen first c.from_nameservers.new.shared (first.shared.pools + 1) (omega arith) c.in_ok-pool.ensures.ok met);
   given = ap (λ (shared : Shared). shared.given) (c.in_err-lookup.ensures.err ∙ c.in_ok-pool.ensures.ok) ∙ c.meet_all.ensures.grown.given;
@@ -38,14 +38,14 @@ returns c = record {
       let n = c.in_ok-lookup.lookup.number in
       let request = c.args.request in
       let first = c.meet_all.new.self in
-      let met = pools-grown seen c.args.self.now first c.meet_all.ensures.grown (c.meet_all.ensures.servers seen.setting h.servers) h in
+      let met = pools-grown seen c.args.self.now first c.meet_all.ensures.grown (c.meet_all.ensures.servers seen.policy h.servers) h in
       let old : Pools = record first { shared = c.from_nameservers.new.shared } in
       let shared = c.into_lookup.new.shared in
       let one_more = c.in_ok-pool.ensures.ok in
       let numbered : PoolsHold seen old = pools-numbered seen first old.shared (first.shared.pools + 1) (omega arith) one_more met in
       let numbers = c.in_ok-servers.servers.items in
       let there : AllZip (IsMet old.shared.table) c.args.ips.now numbers =
-      subst (λ (table : List Server). AllZip (IsMet table) c.args.ips.now numbers) (sym (ap (λ (x : Shared). x.table) one_more)) (c.in_ok-servers.ensures.met seen.setting h.servers) in
+      subst (λ (table : List Server). AllZip (IsMet table) c.args.ips.now numbers) (sym (ap (λ (x : Shared). x.table) one_more)) (c.in_ok-servers.ensures.met seen.policy h.servers) in
       let pool = c.in_ok-pool.pool.number in
       let own : pool ≡ first.shared.pools + 1 = c.in_ok-pool.ensures.pool.number in
       let count : old.shared.pools ≡ first.shared.pools + 1 = ap (λ (shared : Shared). shared.pools) one_more in
@@ -57,7 +57,7 @@ returns c = record {
       let sought : Sought = c.in_ok-sought.sought in
       let holds : SoughtHolds seen shared n sought =
       rw (c.in_ok-sought.ensures, here)
-      (begun-holds seen c.args.zone.now c.args.ips.now numbers request old.shared shared pool n served numbered.servers.timeout there begun _
+      (begun-holds seen c.args.zone.now c.args.ips.now numbers request old.shared shared pool n served numbered.servers.timeout numbered.servers.lasts there begun _
       (begun-there pool numbers request now old.shared shared n begun) refl (begun-rest pool numbers request now old.shared shared n begun).servers.configs) in
       pools-begun seen n sought old c.keep.new.self shared (begun-rest pool numbers request now old.shared shared n begun)
       (begun-numbered pool numbers request now old.shared shared n begun within numbered.numbered) numbered c.keep.result c.in_ok-lookup.lookup

@@ -5,8 +5,8 @@ use Rattle.walk_tables.proofs.pools.Pools.meet_all.Goals as goal
 pub loop-ip-init : goal.loop-ip-init
 loop-ip-init c = record {
   grown = grown-refl c.args.self.now;
-  servers = λ setting h. h;
-  met = λ setting h. subst (AllZip (IsMet c.args.self.now.shared.table) []) (sym c.in_ok-servers.ensures.items) tt;
+  servers = λ policy h. h;
+  met = λ policy h. subst (AllZip (IsMet c.args.self.now.shared.table) []) (sym c.in_ok-servers.ensures.items) tt;
 }
 
 pub loop-ip-preserved : goal.loop-ip-preserved
@@ -15,21 +15,21 @@ loop-ip-preserved c =
     let g = c.meet.ensures.grown in
     record {
       grown = grown-trans c.args.self.now c.loop-ip.self c.meet.new.self inv.grown g;
-      servers = λ setting h. c.meet.ensures.servers setting (inv.servers setting h);
-      met = λ setting h.
+      servers = λ policy h. c.meet.ensures.servers policy (inv.servers policy h);
+      met = λ policy h.
           more-met c.meet.new.self.shared.table c.args.ips.now c.loop-ip.ip-index _ c.loop-ip.servers.items _ c.in_ok-number.number c.loop-ip-test.true c.in_ok-push.ensures.items
-          (all-met-grown c.loop-ip.self c.meet.new.self g _ _ (inv.met setting h)) (c.in_ok-number.ensures.met setting (inv.servers setting h));
+          (all-met-grown c.loop-ip.self c.meet.new.self g _ _ (inv.met policy h)) (c.in_ok-number.ensures.met policy (inv.servers policy h));
     }
 
 pub returns-in_err-number-clause-grown : goal.returns-in_err-number-clause-grown
 returns-in_err-number-clause-grown c = grown-trans c.args.self.now c.loop-ip.self c.meet.new.self c.loop-ip.invariant.grown c.meet.ensures.grown
 
 pub returns-in_err-number-clause-servers : goal.returns-in_err-number-clause-servers
-returns-in_err-number-clause-servers c setting h = c.meet.ensures.servers setting (c.loop-ip.invariant.servers setting h)
+returns-in_err-number-clause-servers c policy h = c.meet.ensures.servers policy (c.loop-ip.invariant.servers policy h)
 
 pub returns-clause-met : goal.returns-clause-met
-returns-clause-met c setting h =
-    subst (λ (xs : List IpAddr). AllZip (IsMet c.loop-ip.self.shared.table) xs c.loop-ip.servers.items) (take_all c.loop-ip.ip-index c.args.ips.now c.loop-ip-test.false) (c.loop-ip.invariant.met setting h)
+returns-clause-met c policy h =
+    subst (λ (xs : List IpAddr). AllZip (IsMet c.loop-ip.self.shared.table) xs c.loop-ip.servers.items) (take_all c.loop-ip.ip-index c.args.ips.now c.loop-ip-test.false) (c.loop-ip.invariant.met policy h)
 
 pub returns-in_err-push-clause-servers : goal.returns-in_err-push-clause-servers
-returns-in_err-push-clause-servers c setting h = c.meet.ensures.servers setting (c.loop-ip.invariant.servers setting h)
+returns-in_err-push-clause-servers c policy h = c.meet.ensures.servers policy (c.loop-ip.invariant.servers policy h)

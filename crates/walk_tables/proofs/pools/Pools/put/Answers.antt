@@ -45,9 +45,9 @@ returns-in_err-came-clause-holds c seen longer put h =
       cache = cache-later seen middle (later-put seen c.args.tick waits o did was.by was.put) c.args.cache.now h.cache;
       pools = c.in_ok-after.ensures.holds seen was.by was.put h.pools;
     } in
-    let last : View = seen_at seen.setting (max seen.greatest (closing_of waits o)) c.args.tick.now longer in
+    let last : View = seen_at seen.policy (max seen.greatest (closing_of waits o)) c.args.tick.now longer in
     rw (err-last waits o fault.result fault.ensures.0, c.in_err-came.ensures.err)
-    (tables-later middle last (record { setting = refl; patience = omega arith; greatest = omega (arith, fewer); moment = omega arith; extends = was.extends }) c.args.cache.now c.take.new.self tables)
+    (tables-later middle last (record { policy = refl; patience = omega arith; greatest = omega (arith, fewer); moment = omega arith; extends = was.extends }) c.args.cache.now c.take.new.self tables)
 
 pub returns-clause-takes : goal.returns-clause-takes
 returns-clause-takes c =

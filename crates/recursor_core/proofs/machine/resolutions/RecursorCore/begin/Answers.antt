@@ -1,4 +1,4 @@
-use Rattle.recursor_core.proofs.MachineWords.{◌≡◌, ◌∙◌, sym, ap, arith, ℕ, Extends-refl, Setting, Later, seen_by}
+use Rattle.recursor_core.proofs.MachineWords.{◌≡◌, ◌∙◌, sym, ap, arith, ℕ, Extends-refl, Policy, Later, seen_by}
 use Rattle.recursor_core.proofs.Later.{derived-later}
 use Rattle.recursor_core.proofs.machine.resolutions.RecursorCore.begin.Goals as goal
 
@@ -14,9 +14,9 @@ returns-in-Err-clause-derived c log later d =
     let core = c.args.self.now in
     let new = c.begin_resolution.new.self in
     let same = c.begin_resolution.ensures.same in
-    let fewer = ap (λ (s : Setting). s.patience) same.0 in
+    let fewer = ap (λ (s : Policy). s.patience) same.0 in
     let on : Later (seen_by core log) (seen_by new log) = record {
-      setting = same.0 ∙ ap (λ (n : ℕ). record core.setting { patience = n }) (sym fewer);
+      policy = same.0 ∙ ap (λ (n : ℕ). record core.policy { patience = n }) (sym fewer);
       patience = omega (arith, fewer);
       greatest = omega (arith, same.2);
       moment = omega (arith, same.1);

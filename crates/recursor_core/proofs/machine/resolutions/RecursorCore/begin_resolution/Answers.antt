@@ -8,8 +8,8 @@ returns-clause-derived c log later d =
     let core = c.args.self.now in
     let rs = core.resolutions.items in
     let before = seen_by core log in
-    let after = seen_at core.setting core.greatest c.args.now log in
-    let on = later-by core.setting core.greatest core.greatest core.moment c.args.now log log (omega arith) later (Extends-refl log) in
+    let after = seen_at core.policy core.greatest c.args.now log in
+    let on = later-by core.policy core.greatest core.greatest core.moment c.args.now log log (omega arith) later (Extends-refl log) in
     record {
       bound = d.bound;
       some = d.some;

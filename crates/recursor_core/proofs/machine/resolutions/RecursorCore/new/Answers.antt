@@ -1,14 +1,19 @@
-use Rattle.recursor_core.proofs.MachineWords.{refl, sym, ap, ◌∙◌, Setting}
+use Rattle.std.proofs.Common.{ℕ, ◌<◌, false, [], arith, ◌≡◌}
+use Rattle.resolver_settings.specs.Ttl.{has_reversed}
+use Rattle.recursor_core.proofs.MachineWords.{refl, sym, ap, subst, ◌∙◌, Cached, Policy}
 use Rattle.recursor_core.proofs.machine.resolutions.RecursorCore.new.Goals as goal
+
+pub cache_of-requires : goal.cache_of-requires
+cache_of-requires c = subst (λ (held : Policy). has_reversed held.ttl_bounds ≡ false) (sym c.in_ok-policy.ensures) c.requires
 
 pub returns : goal.returns
 returns c =
     record {
-      setting = c.in_ok-setting.ensures;
-      cache = c.in_ok-cache.ensures;
+      policy = c.in_ok-policy.ensures;
+      cache = c.in_ok-cache.ensures ∙ ap (λ (held : Policy). let kept : Cached = record { size = held.response_cache_size; config = held.ttl_bounds; entries = [] } in kept) c.in_ok-policy.ensures;
       moment = refl;
       greatest = refl;
       resolutions = c.new-3.ensures.items;
-      context = c.in_ok-pools.ensures.context ∙ sym (ap (λ (held : Setting). held.context) c.in_ok-setting.ensures);
-      pools = c.in_ok-pools.ensures.holds;
+      context = c.in_ok-pools.ensures.context;
+      pools = λ seen same. c.in_ok-pools.ensures.holds seen (same ∙ sym c.in_ok-policy.ensures) (subst (λ (held : Policy). 0 < held.timeout) (sym c.in_ok-policy.ensures) (omega arith));
     }

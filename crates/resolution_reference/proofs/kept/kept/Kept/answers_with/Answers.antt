@@ -1,6 +1,6 @@
-use Rattle.resolution_reference.specs.Plain.{among}
+use Rattle.resolver_settings.specs.Access.{denies}
 use Rattle.resolution_reference.proofs.SectionTests.{all_denied-tests}
 use Rattle.resolution_reference.proofs.kept.kept.Kept.answers_with.Goals as goal
 
 pub returns : goal.returns
-returns c = let a = all_denied-tests (among c.args.self.now.denied.now) c.args.self.now.message.now in cc
+returns c = let a = all_denied-tests (denies c.args.self.now.denied.now) c.args.self.now.message.now in cc

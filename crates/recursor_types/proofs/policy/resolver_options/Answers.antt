@@ -1,5 +1,5 @@
 use Rattle.std.proofs.Common.{rules}
-use Rattle.walk_lookup.proofs.settings.setting.server_filter.Goals as goal
+use Rattle.recursor_types.proofs.policy.resolver_options.Goals as goal
 
 pub returns : goal.returns
 returns c = search rules
