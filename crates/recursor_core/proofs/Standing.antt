@@ -329,6 +329,7 @@ module _ {P C F E : Type 0} (p : Ghosts P C F E) where
     runner = holds;
     bound = λ es t. let zero = new.greatest in omega arith;
     cache = λ es t. record {
+      size = ap (λ (kept : Cached). kept.size) new.cache ∙ sym (ap (λ (held : Policy). held.response_cache_size) new.policy);
       lives = ap (λ (kept : Cached). kept.config) new.cache ∙ sym (ap (λ (held : Policy). held.ttl_bounds) new.policy);
       entries = subst (λ (kept : Cached). All (EntryHolds (seen_by core (log_of es))) kept.entries) (sym new.cache)
           (λ k d low. absurd (omega (arith, low)));

@@ -223,7 +223,7 @@ module _ (old new : View) (later : Later old new) where
   }
 
   pub cache-later : (cache : Cached) → CacheHolds old cache → CacheHolds new cache
-  cache-later cache h = record { lives = h.lives ∙ sym lives-same; entries = All-weaker (EntryHolds old) (EntryHolds new) entry-later cache.entries h.entries }
+  cache-later cache h = record { size = h.size ∙ sym (ap (λ (s : Policy). s.response_cache_size) later.policy); lives = h.lives ∙ sym lives-same; entries = All-weaker (EntryHolds old) (EntryHolds new) entry-later cache.entries h.entries }
 
   -- ---- a lookup
 

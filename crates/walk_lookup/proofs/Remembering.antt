@@ -4,7 +4,7 @@ use Rattle.std.proofs.Common.{◌*◌}
 use Rattle.resolver_cache.specs.Cache.{upserted}
 use Rattle.resolver_cache.specs.Life.{life_of}
 use Rattle.resolver_cache.specs.Laws.{IsJustWritten}
-use Rattle.resolver_cache.proofs.OneWritten.{one_written, upserted-config}
+use Rattle.resolver_cache.proofs.OneWritten.{one_written, upserted-config, upserted-size}
 use Rattle.resolution.specs.declared.verdict.Verdict.TheVariants.{Pos, Neg, Made}
 use Rattle.resolution.specs.declared.verdict.Cause.TheVariants.{Filter}
 use Rattle.dns_core.specs.declared.net_error.NoRecords.{NoRecords}
@@ -65,6 +65,7 @@ module _ (seen : View) (cache : Cached) (t : Telling) (holds : CacheHolds seen c
   written-holds v counts None h = holds
   written-holds None counts (Some response) h = cc
   written-holds (Some v) counts (Some response) kept = record {
+    size = upserted-size cache t.query response t.entry t.at (t.query.query_type.code == 2) ∙ holds.size;
     lives = upserted-config cache t.query response t.entry t.at (t.query.query_type.code == 2) ∙ holds.lives;
     entries =
         let new = upserted cache t.query response t.entry t.at (t.query.query_type.code == 2) in

@@ -38,8 +38,9 @@ pub record EntryHolds (seen : View) (e : Entry) : Type 0 where
   pub kept : kept_of shown ≡ Some e.response
   pub expires : IsSomeAnd (life_in_seconds seen.policy e.query.query_type whole) (λ life. e.expiry ≤ moment + 1000000 * life)
 
--- Each response is so, and lives by the bounds that are set.
+-- Each response is so, there are no more than the policy allows, and each lives by its bounds.
 pub record CacheHolds (seen : View) (cache : Cached) : Type 0 where
+  pub size : cache.size ≡ seen.policy.response_cache_size
   pub lives : cache.config ≡ seen.policy.ttl_bounds
   pub entries : All (EntryHolds seen) cache.entries
 

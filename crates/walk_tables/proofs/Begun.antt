@@ -7,7 +7,7 @@ pub pools-numbered : (seen : View) (old : Pools) (shared : Shared) (k : ℕ) →
 pools-numbered seen old shared k more is h =
     let count : shared.pools ≡ k = ap (λ (x : Shared). x.pools) is in
     record {
-      servers = servers-with seen.policy old (record old { shared = shared }) refl (ap (λ (x : Shared). x.context) is) (carried 0).reached h.servers;
+      servers = servers-with seen.policy old (record old { shared = shared }) refl (ap (λ (x : Shared). x.context) is) refl (carried 0).reached h.servers;
       numbered = numbered-same old.shared shared (ap (λ (x : Shared). x.lookups) is) (ap (λ (x : Shared). x.sent) is) (omega (arith, more, count)) h.numbered;
       lookups = λ m s at. sought-carried seen m old.shared shared s (carried m) (h.lookups m s at);
     }
@@ -19,14 +19,14 @@ module _ (seen : View) (n : ℕ) (s : Sought) (old new : Pools) (shared : Shared
   -- it is kept
   kept-begun : SoughtHolds seen shared n s → HasKept n s (record old { shared = shared }) new → PoolsHold seen new
   kept-begun holds kept =
-      pools-given seen n old new (subst (λ (x : Shared). SameBut n old.shared x) (sym kept.same.shared) rest) (subst AreNumbered (sym kept.same.shared) numbered) kept.same.numbers kept.others
+      pools-given seen n old new (subst (λ (x : Shared). SameBut n old.shared x) (sym kept.same.shared) rest) (subst AreNumbered (sym kept.same.shared) numbered) kept.same.numbers kept.same.delays kept.others
       (λ t there. subst (SoughtHolds seen new.shared n) (same_Some _ _ (sym kept.is ∙ there)) (subst (λ (x : Shared). SoughtHolds seen x n s) (sym kept.same.shared) holds)) h
 
   -- it is left again, where memory is wanting: nothing was sought by it before
   left-begun : lookup_at old.shared n ≡ None → HasLeft n (record old { shared = shared }) new → PoolsHold seen new
   left-begun fresh left =
       pools-given seen n old new (same_but-trans n old.shared shared new.shared rest (left-rest n shared new.shared left.left))
-      (left-numbered n shared new.shared left.left left.last numbered) left.numbers (λ m other. left.sought m)
+      (left-numbered n shared new.shared left.left left.last numbered) left.numbers left.delays (λ m other. left.sought m)
       (λ t there.
       let before = h.lookups n t (sym (left.sought n) ∙ there) in
       absurd (none-some before.shared_by (sym fresh ∙ before.there))) h

@@ -1,5 +1,6 @@
 -- What holds of the pools and of a lookup goes on holding as a machine comes further.
-use Rattle.walk_tables.proofs.Names.{ℕ, subst, ◌<◌, List, Some, sym, ap, ◌∙◌, DomainName, Query, Cached, View, Later, PoolsHold, TablesHold, Pools, answers-same, timeout-same, cache-later, found-later, sought-later}
+use Rattle.walk_tables.proofs.Names.{ℕ, subst, ◌<◌, List, Some, sym, ap, ◌∙◌, DomainName, Query, Cached, View, Later, PoolsHold, TablesHold, Pools, Policy, timeout-same, cache-later, found-later, sought-later}
+use Rattle.walk_lookup.specs.Asking.{context_of}
 use Rattle.walk_tables.specs.Lookup.{AskHolds, LookupHolds}
 use Rattle.walk_tables.specs.declared.lookup.Ask.{Ask}
 use Rattle.walk_tables.specs.declared.lookup.Lookup.{Lookup}
@@ -9,7 +10,7 @@ module _ (old new : View) (later : Later old new) where
   -- the pools
   pub pools-later : (pools : Pools) → PoolsHold old pools → PoolsHold new pools
   pools-later pools h = record {
-    servers = record { numbers = h.servers.numbers; timeout = h.servers.timeout ∙ sym (timeout-same old new later); lasts = subst (λ (t : ℕ). 0 < t) (sym (timeout-same old new later)) h.servers.lasts; filter = h.servers.filter ∙ ap Some (sym (answers-same old new later)) };
+    servers = record { numbers = h.servers.numbers; context = h.servers.context ∙ sym (ap context_of later.policy); delays = h.servers.delays ∙ sym (ap (λ (p : Policy). p.first_delays) later.policy); lasts = subst (λ (t : ℕ). 0 < t) (sym (timeout-same old new later)) h.servers.lasts };
     numbered = h.numbered;
     lookups = λ n s at. sought-later old new later pools.shared n s (h.lookups n s at);
   }

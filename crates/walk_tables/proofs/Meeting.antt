@@ -7,6 +7,7 @@ use Rattle.std.specs.contracts.net.ip_addr.IpAddrOrd.TheImpl as address
 pub record IsAdded (ip : IpAddr) (server : Server) (n : ℕ) (old new : Pools) : Type 0 where
   pub table : new.shared.table ≡ old.shared.table ++ server ∷ []
   pub context : new.shared.context ≡ old.shared.context
+  pub delays : new.first_delays ≡ old.first_delays
   pub number : n ≡ length old.shared.table + 1
   pub config : server.config ≡ server_at ip
   pub numbers : (q : IpAddr) → number_of new q ≡ cond (tree.is_at (address.ghosts.cmp ip) q) (Some n) (number_of old q)
@@ -16,9 +17,9 @@ module _ (policy : Policy) (ip : IpAddr) (server : Server) (n : ℕ) (old new : 
   pub servers-added : ServersHold policy old → ServersHold policy new
   servers-added h = record {
     numbers = λ q k is. by q k (tree.is_at (address.ghosts.cmp ip) q) refl (sym (a.numbers q) ∙ is);
-    timeout = ap (λ (c : Context). c.options.timeout) a.context ∙ h.timeout;
+    context = a.context ∙ h.context;
+    delays = a.delays ∙ h.delays;
     lasts = h.lasts;
-    filter = ap (λ (c : Context). c.answer_address_filter) a.context ∙ h.filter;
   }
     where
       by : (q : IpAddr) (k : ℕ) (b : Bool) → tree.is_at (address.ghosts.cmp ip) q ≡ b → cond b (Some n) (number_of old q) ≡ Some k → config_at new.shared.table k ≡ Some (server_at q)
@@ -30,7 +31,7 @@ module _ (policy : Policy) (ip : IpAddr) (server : Server) (n : ℕ) (old new : 
 
 -- nothing has changed
 pub grown-refl : (pools : Pools) → IsGrown pools pools
-grown-refl pools = record { more = []; table = sym (append-nil pools.shared.table); context = refl; lookups = refl; orders = refl; sent = refl; pools = refl; given = refl; sought = refl }
+grown-refl pools = record { more = []; table = sym (append-nil pools.shared.table); context = refl; delays = refl; lookups = refl; orders = refl; sent = refl; pools = refl; given = refl; sought = refl }
 
 -- what grew twice has grown
 pub grown-trans : (a b c : Pools) → IsGrown a b → IsGrown b c → IsGrown a c
@@ -38,6 +39,7 @@ grown-trans a b c g h = record {
   more = g.more ++ h.more;
   table = h.table ∙ ap (λ (table : List Server). table ++ h.more) g.table ∙ append_assoc a.shared.table g.more h.more;
   context = h.context ∙ g.context;
+  delays = h.delays ∙ g.delays;
   lookups = h.lookups ∙ g.lookups;
   orders = h.orders ∙ g.orders;
   sent = h.sent ∙ g.sent;

@@ -35,7 +35,7 @@ module _ (seen : View) (old : Pools) (n : ℕ) (w : Option Sent) (o : Outcome) (
         let next = seen_with seen tick w o (done-so did) longer in
         let f : Bool → Sought → Sought = λ ended. noted (given_after (record g { polled = polled_by o }) did) (first_of g.aim w o) (if ended then Some tick.now else None) in
         let ended : note.ended ≡ has_more_ends old.shared shared n = note.more ∙ ap (λ (k : ℕ). nat_lt k (length (closed_by (lookup_at shared n)))) many in
-        let denied : denied_in old.shared ≡ denies seen.policy.answer_filter = ap (λ (f : Option Access). denied_by f) h.servers.filter in
+        let denied : denied_in old.shared ≡ denies seen.policy.answer_filter = ap (λ (c : Context). denied_by c.answer_address_filter) h.servers.context in
         pools-noted next n old new shared (its-rest (done-so did) puts) (its-numbered (done-so did) puts) (f (has_more_ends old.shared shared n))
         (subst (λ (b : Bool). HasNoted n (f b) (record old { shared = shared }) new) ended note.noted)
         (λ s is. subst (λ (s : Sought). SoughtHolds next shared n (f (has_more_ends old.shared shared n) s)) (same_Some _ _ (sym given.is ∙ is))

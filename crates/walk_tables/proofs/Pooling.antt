@@ -6,21 +6,21 @@ use Rattle.resolver_settings.specs.NameServer.{NameServer}
 -- ---- the servers
 
 -- with the same numbers, where each server is reached as it was, by the same settings
-pub servers-by : (policy : Policy) (old new : Pools) → ((ip : IpAddr) → number_of new ip ≡ number_of old ip) → new.shared.context ≡ old.shared.context
+pub servers-by : (policy : Policy) (old new : Pools) → ((ip : IpAddr) → number_of new ip ≡ number_of old ip) → new.shared.context ≡ old.shared.context → new.first_delays ≡ old.first_delays
     → ((k : ℕ) (config : NameServer) → config_at old.shared.table k ≡ Some config → config_at new.shared.table k ≡ Some config) → ServersHold policy old → ServersHold policy new
-servers-by policy old new numbers context reached h = record {
+servers-by policy old new numbers context delays reached h = record {
   numbers = λ ip k is. reached k (server_at ip) (h.numbers ip k (sym (numbers ip) ∙ is));
-  timeout = ap (λ (c : Context). c.options.timeout) context ∙ h.timeout;
+  context = context ∙ h.context;
+  delays = delays ∙ h.delays;
   lasts = h.lasts;
-  filter = ap (λ (c : Context). c.answer_address_filter) context ∙ h.filter;
 }
 
-pub servers-with : (policy : Policy) (old new : Pools) → new.numbers ≡ old.numbers → new.shared.context ≡ old.shared.context
+pub servers-with : (policy : Policy) (old new : Pools) → new.numbers ≡ old.numbers → new.shared.context ≡ old.shared.context → new.first_delays ≡ old.first_delays
     → ((k : ℕ) (config : NameServer) → config_at old.shared.table k ≡ Some config → config_at new.shared.table k ≡ Some config) → ServersHold policy old → ServersHold policy new
 servers-with policy old new numbers = servers-by policy old new (λ ip. ap (λ ns. number_of (record old { numbers = ns }) ip) numbers)
 
 pub servers-same : (policy : Policy) (old new : Pools) → SamePools old new → ServersHold policy old → ServersHold policy new
-servers-same policy old new s = servers-with policy old new s.numbers (ap (λ (shared : Shared). shared.context) s.shared) (carried-same 0 old.shared new.shared s.shared).reached
+servers-same policy old new s = servers-with policy old new s.numbers (ap (λ (shared : Shared). shared.context) s.shared) s.delays (carried-same 0 old.shared new.shared s.shared).reached
 
 -- ---- all of them
 
@@ -37,11 +37,11 @@ noted-of f None t is = cc
 noted-of f (Some s) t is = (s, refl, same_Some _ _ is)
 
 -- One lookup has come on, or is forgotten.
-pub pools-given : (seen : View) (n : ℕ) (old new : Pools) → SameBut n old.shared new.shared → AreNumbered new.shared → new.numbers ≡ old.numbers
+pub pools-given : (seen : View) (n : ℕ) (old new : Pools) → SameBut n old.shared new.shared → AreNumbered new.shared → new.numbers ≡ old.numbers → new.first_delays ≡ old.first_delays
     → ((m : ℕ) → m ≢ n → sought_at new m ≡ sought_at old m) → ((t : Sought) → sought_at new n ≡ Some t → SoughtHolds seen new.shared n t)
     → PoolsHold seen old → PoolsHold seen new
-pools-given seen n old new rest numbered numbers others holds h = record {
-  servers = servers-with seen.policy old new numbers rest.servers.context (λ k config at. config-same old.shared.table new.shared.table k config rest.servers.configs at) h.servers;
+pools-given seen n old new rest numbered numbers delays others holds h = record {
+  servers = servers-with seen.policy old new numbers rest.servers.context delays (λ k config at. config-same old.shared.table new.shared.table k config rest.servers.configs at) h.servers;
   numbered = numbered;
   lookups = λ m t there. ⊎_elim
       (λ at. subst (λ (k : ℕ). SoughtHolds seen new.shared k t) (sym at) (holds t (subst (λ (k : ℕ). sought_at new k ≡ Some t) at there)))
@@ -57,7 +57,7 @@ module _ (seen : View) (n : ℕ) (old new : Pools) (shared : Shared) (rest : Sam
   pub pools-noted : (f : Sought → Sought) → HasNoted n f (record old { shared = shared }) new → ((s : Sought) → sought_at old n ≡ Some s → SoughtHolds seen shared n (f s))
       → PoolsHold seen old → PoolsHold seen new
   pools-noted f note holds =
-      pools-given seen n old new (rest-by note.same.shared) (subst AreNumbered (sym note.same.shared) numbered) note.same.numbers note.others
+      pools-given seen n old new (rest-by note.same.shared) (subst AreNumbered (sym note.same.shared) numbered) note.same.numbers note.same.delays note.others
       (λ t there.
       let s = noted-of f (sought_at old n) t (sym note.is ∙ there) in
       subst (SoughtHolds seen new.shared n) s.2 (subst (λ (x : Shared). SoughtHolds seen x n (f s.0)) (sym note.same.shared) (holds s.0 s.1)))
@@ -65,7 +65,7 @@ module _ (seen : View) (n : ℕ) (old new : Pools) (shared : Shared) (rest : Sam
   -- It has come on, and is forgotten.
   pub pools-lost : HasForgotten n (record old { shared = shared }) new → PoolsHold seen old → PoolsHold seen new
   pools-lost lost =
-      pools-given seen n old new (rest-by lost.same.shared) (subst AreNumbered (sym lost.same.shared) numbered) lost.same.numbers lost.others
+      pools-given seen n old new (rest-by lost.same.shared) (subst AreNumbered (sym lost.same.shared) numbered) lost.same.numbers lost.same.delays lost.others
       (λ t there. absurd (none-some t (sym lost.none ∙ there)))
 
 module _ (seen : View) where
@@ -83,7 +83,7 @@ module _ (seen : View) where
   -- nothing is sought by the lookup that is left
   pub pools-left : (n : ℕ) (old new : Pools) → HasLeft n old new → sought_at old n ≡ None → PoolsHold seen old → PoolsHold seen new
   pools-left n old new left none h =
-      pools-given seen n old new (left-rest n old.shared new.shared left.left) (left-numbered n old.shared new.shared left.left left.last h.numbered) left.numbers (λ m other. left.sought m)
+      pools-given seen n old new (left-rest n old.shared new.shared left.left) (left-numbered n old.shared new.shared left.left left.last h.numbered) left.numbers left.delays (λ m other. left.sought m)
       (λ s is. absurd (none-some s (sym none ∙ sym (left.sought n) ∙ is))) h
 
   -- servers came behind the others

@@ -16,6 +16,7 @@ use Rattle.server_pool.specs.Orders.{open_at}
 use Rattle.server_pool.specs.Shared.{lookup_at}
 use Rattle.recursor_types.specs.declared.policy.Policy.{Policy}
 use Rattle.walk_lookup.specs.View.{View}
+use Rattle.walk_lookup.specs.Asking.{context_of}
 use Rattle.walk_lookup.specs.declared.found.Found.{Found}
 use Rattle.walk_lookup.specs.declared.sought.Given.{Given}
 use Rattle.walk_lookup.specs.declared.sought.Sought.{Sought}
@@ -32,12 +33,12 @@ use Rattle.walk_tables.specs.declared.pools.Stepped.TheVariants as stepped
 abbrev pub number_of : Pools → IpAddr → Option ℕ
 number_of pools ip = tree.get address.ghosts.cmp pools.numbers ip
 
--- Each address that has a number is that of its server, and a lookup has the time of the policy, which is some.
+-- Each address that has a number is that of its server. Servers are asked and begin as the policy says, whose timeout is not zero.
 pub record ServersHold (policy : Policy) (pools : Pools) : Type 0 where
   pub numbers : (ip : IpAddr) (n : ℕ) → number_of pools ip ≡ Some n → config_at pools.shared.table n ≡ Some (server_at ip)
-  pub timeout : pools.shared.context.options.timeout ≡ policy.timeout
+  pub context : pools.shared.context ≡ context_of policy
+  pub delays : pools.first_delays ≡ policy.first_delays
   pub lasts : 0 < policy.timeout
-  pub filter : pools.shared.context.answer_address_filter ≡ Some policy.answer_filter
 
 -- ---- lookups
 
@@ -64,6 +65,7 @@ pub record IsGrown (old new : Pools) : Type 0 where
   pub more : List Server
   pub table : new.shared.table ≡ old.shared.table ++ more
   pub context : new.shared.context ≡ old.shared.context
+  pub delays : new.first_delays ≡ old.first_delays
   pub lookups : new.shared.lookups ≡ old.shared.lookups
   pub orders : new.shared.orders ≡ old.shared.orders
   pub sent : new.shared.sent ≡ old.shared.sent
@@ -75,6 +77,7 @@ pub record IsGrown (old new : Pools) : Type 0 where
 pub record SamePools (old new : Pools) : Type 0 where
   pub shared : new.shared ≡ old.shared
   pub numbers : new.numbers ≡ old.numbers
+  pub delays : new.first_delays ≡ old.first_delays
 
 -- Only what is sought by the lookup of the number has changed, which is nothing now.
 pub record HasForgotten (n : ℕ) (old new : Pools) : Type 0 where
@@ -99,12 +102,14 @@ pub record HasLeft (n : ℕ) (old new : Pools) : Type 0 where
   pub left : new.shared ≡ record old.shared { lookups = after_leave n old.shared.lookups }
   pub last : is_last n old.shared.lookups ≡ true → lookup_at new.shared n ≡ None
   pub numbers : new.numbers ≡ old.numbers
+  pub delays : new.first_delays ≡ old.first_delays
   pub sought : (m : ℕ) → sought_at new m ≡ sought_at old m
 
 -- So it is, and nothing is sought by the lookup any more.
 pub record HasGone (n : ℕ) (old new : Pools) : Type 0 where
   pub left : new.shared ≡ record old.shared { lookups = after_leave n old.shared.lookups }
   pub numbers : new.numbers ≡ old.numbers
+  pub delays : new.first_delays ≡ old.first_delays
   pub none : sought_at new n ≡ None
   pub others : (m : ℕ) → m ≢ n → sought_at new m ≡ sought_at old m
 

@@ -9,12 +9,12 @@ use Rattle.walk_tables.proofs.pools.Pools.add.Goals as goal
 pub returns-in_err-server-clause-servers : goal.returns-in_err-server-clause-servers
 returns-in_err-server-clause-servers c policy h =
     let same = c.take_first_delay-delay.ensures.same in
-    servers-same policy c.args.self.now c.take_first_delay-delay.new.self (record { shared = same.0; numbers = same.1 }) h
+    servers-same policy c.args.self.now c.take_first_delay-delay.new.self (record { shared = same.0; numbers = same.1; delays = c.take_first_delay-delay.ensures.delays }) h
 
 pub returns-in_err-number-clause-servers : goal.returns-in_err-number-clause-servers
 returns-in_err-number-clause-servers c policy h =
     let same = c.take_first_delay-delay.ensures.same in
-    servers-same policy c.args.self.now _ (record { shared = c.in_err-number.ensures.err ∙ same.0; numbers = same.1 }) h
+    servers-same policy c.args.self.now _ (record { shared = c.in_err-number.ensures.err ∙ same.0; numbers = same.1; delays = c.take_first_delay-delay.ensures.delays }) h
 
 pub returns-in_err-_before-clause-servers : goal.returns-in_err-_before-clause-servers
 returns-in_err-_before-clause-servers c policy h =
@@ -23,7 +23,7 @@ returns-in_err-_before-clause-servers c policy h =
     let shared = c.in_ok-number.ensures.ok ∙ ap (λ (s : Shared). let new : Shared = record s { table = s.table ++ c.in_ok-server.server ∷ [] } in new) same.0 in
     servers-by policy core _
     (λ ip. ap (λ (es : List (IpAddr × ℕ)). lookup (tree.is_at (address.ghosts.cmp ip)) es) c.in_err-_before.ensures.err ∙ ap (λ (ns : BTreeMap IpAddr ℕ). tree.get address.ghosts.cmp ns ip) same.1)
-    (ap (λ (s : Shared). s.context) shared)
+    (ap (λ (s : Shared). s.context) shared) c.take_first_delay-delay.ensures.delays
     (λ k config is. ap (λ (s : Shared). config_at s.table k) shared ∙ config-before core.shared.table (c.in_ok-server.server ∷ []) k config is) h
 
 pub returns-clause-servers : goal.returns-clause-servers
@@ -36,6 +36,7 @@ returns-clause-servers c policy h =
     (record {
       table = ap (λ (s : Shared). s.table) shared;
       context = ap (λ (s : Shared). s.context) shared;
+      delays = c.take_first_delay-delay.ensures.delays;
       number = c.in_ok-number.ensures.number ∙ ap (λ (s : Shared). length s.table + 1) same.0;
       config = ap (λ (s : Server). s.config) c.in_ok-server.ensures ∙ c.in_ok-config.ensures;
       numbers = λ q. c.in_ok-_before.ensures.updates.0 q ∙ ap (λ (ns : BTreeMap IpAddr ℕ). cond (tree.is_at (address.ghosts.cmp c.args.ip) q) (Some c.in_ok-number.number) (tree.get address.ghosts.cmp ns q)) same.1;

@@ -1,4 +1,4 @@
-use Rattle.walk_tables.proofs.Names.{◌≡◌, ℕ, ◌+◌, ◌<◌, ◌≤◌, ◌∙◌, Some, refl, sym, ap, subst, arith, List, AllZip, Shared, lookup_at, OpenLookup, PoolsHold, SoughtHolds, IsMet, Pools, Sought, begun-holds, has-begun, sent-count, begun-there, begun-fresh, begun-rest, begun-numbered, Server}
+use Rattle.walk_tables.proofs.Names.{◌≡◌, ℕ, ◌+◌, ◌<◌, ◌≤◌, ◌∙◌, Some, refl, sym, ap, subst, arith, List, AllZip, Shared, lookup_at, OpenLookup, PoolsHold, SoughtHolds, IsMet, Pools, Sought, begun-holds, has-begun, sent-count, begun-there, begun-fresh, begun-rest, begun-numbered, Context, Server}
 use Rattle.server_pool.specs.Sending.{HasSent, HasBegun}
 use Rattle.walk_tables.proofs.Pooling.{pools-grown}
 use Rattle.walk_tables.proofs.Begun.{pools-numbered, pools-begun}
@@ -57,7 +57,7 @@ returns c = record {
       let sought : Sought = c.in_ok-sought.sought in
       let holds : SoughtHolds seen shared n sought =
       rw (c.in_ok-sought.ensures, here)
-      (begun-holds seen c.args.zone.now c.args.ips.now numbers request old.shared shared pool n served numbered.servers.timeout numbered.servers.lasts there begun _
+      (begun-holds seen c.args.zone.now c.args.ips.now numbers request old.shared shared pool n served (ap (λ (x : Context). x.options.timeout) numbered.servers.context) numbered.servers.lasts there begun _
       (begun-there pool numbers request now old.shared shared n begun) refl (begun-rest pool numbers request now old.shared shared n begun).servers.configs) in
       pools-begun seen n sought old c.keep.new.self shared (begun-rest pool numbers request now old.shared shared n begun)
       (begun-numbered pool numbers request now old.shared shared n begun within numbered.numbered) numbered c.keep.result c.in_ok-lookup.lookup

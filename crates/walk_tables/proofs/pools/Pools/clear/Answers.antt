@@ -7,7 +7,7 @@ use Rattle.walk_tables.proofs.pools.Pools.clear.Goals as goal
 pub returns : goal.returns
 returns c = record {
   holds = λ seen next later h. record {
-    servers = let s = (pools-later seen next later c.args.self.now h).servers in record { numbers = s.numbers; timeout = s.timeout; lasts = s.lasts; filter = s.filter };
+    servers = let s = (pools-later seen next later c.args.self.now h).servers in record { numbers = s.numbers; context = s.context; delays = s.delays; lasts = s.lasts };
     numbered = h.numbered;
     lookups = λ n s is. absurd (none-some s (subst (λ (es : List (ℕ × Sought)). lookup (tree.is_at (nat_cmp n)) es ≡ Some s) c.clear.ensures.empty is));
   };
