@@ -1,5 +1,5 @@
 -- What a lookup that was answered came to, as the log shows it.
-use Rattle.walk_lookup.proofs.Names.{◌≡◌, ℕ, zero, suc, ◌≤◌, ◌<◌, Bool, true, false, not, ◌||◌, List, [], ◌∷◌, ◌++◌, map, length, Option, Some, None, IfSome, IsSomeAnd, Result, Ok, Err, ◌⊎◌, inl, inr, refl, sym, ap, subst, ◌∙◌, arith, IsTrue, nat_le, option_and_then, ◌==◌, if◌then◌else◌, list_all, last_or, and_parts, leb-true, same_Some, All-weaker, recursion_from_All, IsPermutation-sym, IpAddr, DomainName, Log, Query, Message, NetError, DnsError, denies, class_of, is_all_denied, without_denied, Heard, Answered, class_of_answer, End, is_retryable, answer_of, what_is_left, IsDecided, PoolRun, IsBounded, by_address, EndSends, no_send, and_send, Class, rules_of, class_of_sent, answer_in, left_of, HeardEnd, ends_of, entries_of, IsRun, out_of_memory, LookupState, question_of, State, Decided, closed_by, lookup_at, Shared, OpenLookup, at_address, IsTrustedBeyondUdp, run_by_address, nothing_left_for, left_of_class, is_lookup_error, last_of, class_of_failure, classified, IsTold, HasFailedBy, FoundHolds, ComesTo, HasCome, View, Began, is_response, told_of, AreHeard, Concluded, IsAt, SoughtHolds, answer_at, AskedAs, Found, Sought}
+use Rattle.walk_lookup.proofs.Names.{◌≡◌, ℕ, ◌≤◌, ◌<◌, eqb-true, Bool, true, false, not, ◌||◌, List, [], ◌∷◌, ◌++◌, map, length, Option, Some, None, IfSome, IsSomeAnd, Result, Ok, Err, ◌⊎◌, inl, inr, refl, sym, ap, subst, ◌∙◌, arith, IsTrue, nat_le, option_and_then, ◌==◌, if◌then◌else◌, list_all, last_or, and_parts, leb-true, same_Some, All-weaker, recursion_from_All, IsPermutation-sym, IpAddr, DomainName, Log, Query, Message, NetError, DnsError, denies, class_of, is_all_denied, without_denied, Heard, Answered, class_of_answer, End, is_retryable, answer_of, what_is_left, IsDecided, PoolRun, IsBounded, by_address, EndSends, no_send, and_send, Class, rules_of, class_of_sent, answer_in, left_of, HeardEnd, ends_of, entries_of, IsRun, out_of_memory, LookupState, question_of, State, Decided, closed_by, lookup_at, Shared, OpenLookup, at_address, IsTrustedBeyondUdp, run_by_address, nothing_left_for, left_of_class, is_lookup_error, last_of, class_of_failure, classified, IsTold, HasFailedBy, FoundHolds, ComesTo, HasCome, View, Began, is_response, told_of, AreHeard, Concluded, IsAt, SoughtHolds, answer_at, AskedAs, Found, Sought}
 use Rattle.dns_core.specs.declared.record.Record.{Record}
 use Rattle.resolution.specs.Lookups.PoolRun.{decided, spent, late}
 use Rattle.resolution.specs.declared.class.Class.TheVariants.{Error, Code, Truncated, Negative, Foreign, Positive}
@@ -106,9 +106,8 @@ some-last [] (x ∷ earlier) e is = cc
 some-last (f ∷ ends) earlier e is = omega arith
 
 late-some : (timeout : ℕ) → 0 < timeout → (ends : List (End IpAddr)) → (not (length ends == 0) || timeout == 0) ≡ true → 0 < length ends
-late-some zero lasts ends some = absurd (omega (arith, lasts))
-late-some (suc t) lasts [] some = cc
-late-some (suc t) lasts (e ∷ ends) some = omega arith
+late-some timeout lasts [] some = let none = eqb-true timeout 0 some in absurd (omega (arith, lasts, none))
+late-some timeout lasts (e ∷ ends) some = omega arith
 
 not_false : (b : Bool) → not b ≡ true → b ≡ false
 not_false true h = cc

@@ -81,6 +81,7 @@ module _ (seen : View) where
     asks = h.asks;
     starts = h.starts;
     time = h.time;
+    lasts = h.lasts;
     past = h.past;
     ips = h.ips;
     served = h.served;

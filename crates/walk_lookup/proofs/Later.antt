@@ -1,5 +1,5 @@
 -- What is known of a lookup, and of what is kept of responses, goes on holding as a machine comes further.
-use Rattle.walk_lookup.proofs.Names.{◌≡◌, ◌≤◌, ◌+◌, ℕ, Bool, true, false, List, [], ◌∷◌, Option, Some, None, IfSome, Err, refl, sym, ap, subst, ◌∙◌, arith, nat_le, ◌*◌, list_all, leb-true, le-leb, and_parts, All-weaker, IpAddr, DomainName, Log, Extends, Query, ToldOutcome, Cached, Entry, Access, denies, with_patience, Answered, End, Serves, Heard, Listed, EndSends, Finished, life_in_seconds, verdict, Walked, Logged-extend, Serves-extend, Serves-later, Heard-extend, waits-extend, EndSends-extend, Listed-extend, Walked-extend, Finished-extend, both, pendings, LookupState, HoldsBy, Candidate, Policy, AskedAs, View, Later, BeganBy, Began, AreHeard, Tried, IsTimed, machine_timer, Concluded, AreServers, IsWaitedFor, IsSentTo, GivenHolds, SoughtHolds, ArePool, AreFor, EntryHolds, CacheHolds, left_of_class, FoundHolds, Found, Aim, Given, Sought, Shared}
+use Rattle.walk_lookup.proofs.Names.{◌≡◌, ◌≤◌, ◌<◌, ◌+◌, ℕ, Bool, true, false, List, [], ◌∷◌, Option, Some, None, IfSome, Err, refl, sym, ap, subst, ◌∙◌, arith, nat_le, ◌*◌, list_all, leb-true, le-leb, and_parts, All-weaker, IpAddr, DomainName, Log, Extends, Query, ToldOutcome, Cached, Entry, Access, denies, with_patience, Answered, End, Serves, Heard, Listed, EndSends, Finished, life_in_seconds, verdict, Walked, Logged-extend, Serves-extend, Serves-later, Heard-extend, waits-extend, EndSends-extend, Listed-extend, Walked-extend, Finished-extend, both, pendings, LookupState, HoldsBy, Candidate, Policy, AskedAs, View, Later, BeganBy, Began, AreHeard, Tried, IsTimed, machine_timer, Concluded, AreServers, IsWaitedFor, IsSentTo, GivenHolds, SoughtHolds, ArePool, AreFor, EntryHolds, CacheHolds, left_of_class, FoundHolds, Found, Aim, Given, Sought, Shared}
 use Rattle.std.proofs.Common.{IsTrue}
 use Rattle.std.specs.Prelude.{IsSomeAnd}
 use Rattle.recursor_types.specs.declared.policy.Policy.{Policy as Resolver}

@@ -7,5 +7,6 @@ returns-clause-err c = record {
   left = c.leave.ensures.left;
   last = c.leave.ensures.last;
   numbers = refl;
+  delays = refl;
   sought = λ m. ap (λ (es : List (ℕ × Sought)). lookup (tree.is_at (nat_cmp m)) es) c.in-Err.ensures.err;
 }
