@@ -1,5 +1,5 @@
 -- By what a fact holds: the policy of the recursor, and how far it has come.
-use Rattle.std.specs.Prelude.{◌≡◌, ◌≤◌, ℕ, true}
+use Rattle.std.specs.Prelude.{◌≡◌, ◌≤◌, ℕ}
 use Rattle.dns_core.specs.Log.{Log, Extends}
 use Rattle.recursor_types.specs.Policy.{with_patience}
 use Rattle.recursor_types.specs.declared.policy.Policy.{Policy}

@@ -1,5 +1,5 @@
 -- What holds of the pools and of a lookup goes on holding as a machine comes further.
-use Rattle.walk_tables.proofs.Names.{ℕ, subst, ◌<◌, List, Some, sym, ap, ◌∙◌, DomainName, Query, Cached, View, Later, PoolsHold, TablesHold, Pools, Policy, timeout-same, cache-later, found-later, sought-later}
+use Rattle.walk_tables.proofs.Names.{ℕ, subst, ◌<◌, List, sym, ap, ◌∙◌, DomainName, Query, Cached, View, Later, PoolsHold, TablesHold, Pools, Policy, timeout-same, cache-later, found-later, sought-later}
 use Rattle.walk_lookup.specs.Asking.{context_of}
 use Rattle.walk_tables.specs.Lookup.{AskHolds, LookupHolds}
 use Rattle.walk_tables.specs.declared.lookup.Ask.{Ask}

@@ -1,5 +1,5 @@
 -- Servers that are met come behind those that were there.
-use Rattle.walk_tables.proofs.Names.{◌≡◌, ℕ, ◌+◌, Bool, true, false, cond, List, [], ◌∷◌, ◌++◌, length, Some, refl, sym, ap, subst, ◌∙◌, append_assoc, AllZip, IpAddr, append-nil, same_Some, Context, Server, Policy, config_at, server_at, IsMet, number_of, IsGrown, ServersHold, Pools, config-before, equal-address, equal-at, met-last}
+use Rattle.walk_tables.proofs.Names.{◌≡◌, ℕ, ◌+◌, Bool, true, false, cond, List, [], ◌∷◌, ◌++◌, length, Some, refl, sym, ap, subst, ◌∙◌, append_assoc, AllZip, IpAddr, append-nil, same_Some, Server, Policy, config_at, server_at, IsMet, number_of, IsGrown, ServersHold, Pools, config-before, equal-address, equal-at, met-last}
 use Rattle.std.specs.BTreeMap as tree
 use Rattle.std.specs.contracts.net.ip_addr.IpAddrOrd.TheImpl as address
 

@@ -1,7 +1,7 @@
 -- The pools after the outcome of an open order of one of their lookups.
-use Rattle.walk_tables.proofs.Names.{◌≡◌, ℕ, Bool, length, Option, Some, None, Result, sym, ap, subst, ◌∙◌, if◌then◌else◌, nat_lt, NoMemory, After, Outcome, Sent, Tick, closed_by, IsOpenOrder, Shared, lookup_at, SameBut, denied_in, HasPut, put_rest, IsPut, seen_with, View, AreNumbered, SoughtHolds, given_after, first_of, polled_by, noted, PoolsHold, IsGivenFor, NotesOutcome, HasForgotten, HasNoted, Given, Pools, Sought, later-put, put-numbered, has_more_ends, same_Some}
+use Rattle.walk_tables.proofs.Names.{◌≡◌, ℕ, Bool, length, Option, Some, None, Result, sym, ap, subst, ◌∙◌, if◌then◌else◌, nat_lt, NoMemory, After, Outcome, Sent, Tick, closed_by, IsOpenOrder, Shared, lookup_at, SameBut, denied_in, Context, HasPut, put_rest, IsPut, seen_with, View, AreNumbered, SoughtHolds, given_after, first_of, polled_by, noted, PoolsHold, IsGivenFor, NotesOutcome, HasForgotten, HasNoted, Given, Pools, Sought, later-put, put-numbered, has_more_ends, same_Some}
 use Rattle.dns_core.specs.Log.{Log}
-use Rattle.resolver_settings.specs.Access.{Access, denies}
+use Rattle.resolver_settings.specs.Access.{denies}
 use Rattle.pool_rules.specs.AnswerFilter.{denied_by}
 use Rattle.walk_lookup.proofs.Ends.{done-so}
 use Rattle.walk_lookup.proofs.Outcomes.{after-holds, open-order}

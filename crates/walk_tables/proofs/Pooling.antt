@@ -1,5 +1,5 @@
 -- What holds of the lookups after a step of one of them.
-use Rattle.walk_tables.proofs.Names.{◌≡◌, ◌≢◌, ℕ, List, Option, Some, None, IfSome, refl, sym, ap, subst, ◌∙◌, ⊎_elim, arith, option_map, same_Some, none-some, IpAddr, Context, Server, Shared, lookup_at, lookup_of, SameBut, OpenLookup, Policy, View, HasCome, config_at, server_at, SoughtHolds, AreNumbered, with_came, number_of, sought_at, ServersHold, PoolsHold, IsGrown, SamePools, HasForgotten, HasNoted, HasLeft, Found, Sought, Pools, numbered-same, left-rest, left-numbered, IsCarried, carried-beside, carried-same, config-before, config-same, same-rest, sought-carried, sought-with}
+use Rattle.walk_tables.proofs.Names.{◌≡◌, ◌≢◌, ℕ, List, Option, Some, None, IfSome, refl, sym, ap, subst, ◌∙◌, ⊎_elim, arith, option_map, same_Some, none-some, IpAddr, Server, Shared, lookup_at, lookup_of, SameBut, OpenLookup, Policy, View, HasCome, config_at, server_at, SoughtHolds, AreNumbered, with_came, number_of, sought_at, ServersHold, PoolsHold, IsGrown, SamePools, HasForgotten, HasNoted, HasLeft, Found, Sought, Pools, numbered-same, left-rest, left-numbered, IsCarried, carried-beside, carried-same, config-before, config-same, same-rest, sought-carried, sought-with}
 use Rattle.std.proofs.lemmas.Bool.{cases_eq}
 use Rattle.resolver_settings.specs.NameServer.{NameServer}
 

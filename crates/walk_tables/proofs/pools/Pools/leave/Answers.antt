@@ -8,7 +8,7 @@ returns c = record {
       let n = c.args.lookup.number in
       let mid = c.forget.new.self in
       let forgotten = rw c.number.ensures at c.forget.ensures in
-      pools-left seen n mid _ (record { left = c.leave.ensures.left; last = c.leave.ensures.last; numbers = refl; sought = λ m. refl }) forgotten.none
+      pools-left seen n mid _ (record { left = c.leave.ensures.left; last = c.leave.ensures.last; numbers = refl; delays = refl; sought = λ m. refl }) forgotten.none
       (pools-forgotten seen n c.args.self.now mid forgotten h);
   given = ap (λ (shared : Shared). shared.given) (c.leave.ensures.left) ∙ ap (λ (shared : Shared). shared.given) c.forget.ensures.same.shared;
   gone =
@@ -17,6 +17,7 @@ returns c = record {
       record {
         left = c.leave.ensures.left ∙ ap (λ (shared : Shared). let left : Shared = record shared { lookups = after_leave n shared.lookups } in left) forgotten.same.shared;
         numbers = forgotten.same.numbers;
+        delays = forgotten.same.delays;
         none = forgotten.none;
         others = forgotten.others;
       };
