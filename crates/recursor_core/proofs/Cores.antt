@@ -1,5 +1,5 @@
 -- The machine after a step of one of its resolutions.
-use Rattle.recursor_core.proofs.MachineWords.{IfOk, ◌≡◌, ◌≤◌, ◌<◌, ◌+◌, ℕ, zero, suc, List, [], ◌∷◌, ◌++◌, length, All, ◌⊎◌, inl, inr, ⊎_elim, Option, Some, None, Result, Ok, Err, refl, sym, ◌∙◌, ap, subst, arith, Box, All-set, set, option_map, Log, Question, NoMemory, View, seen_by, Derived, KeptHolds, SameBegun, open_of, get_or_from_slice_get, slice_get_within, kept_in, Begun, begun_of, begun_at, IsOneMore, need_in, open_in, StepFor, ReplyGiven, StepGives, SameCore, RecursorCore, Step, Resolution, PoolsHold, CacheHolds, length-set}
+use Rattle.recursor_core.proofs.MachineWords.{CanWalk, IfOk, ◌≡◌, ◌≤◌, ◌<◌, ◌+◌, ℕ, zero, suc, List, [], ◌∷◌, ◌++◌, length, All, ◌⊎◌, inl, inr, ⊎_elim, Option, Some, None, Result, Ok, Err, refl, sym, ◌∙◌, ap, subst, arith, Box, All-set, set, option_map, Log, Question, NoMemory, View, seen_by, Derived, KeptHolds, SameBegun, open_of, get_or_from_slice_get, slice_get_within, kept_in, Begun, begun_of, begun_at, IsOneMore, need_in, open_in, StepFor, ReplyGiven, StepGives, SameCore, RecursorCore, Step, Resolution, PoolsHold, CacheHolds, length-set}
 use Rattle.std.specs.Prelude.{slice_get, MatchResult, option_and_then}
 use Rattle.walk_tables.specs.declared.pools.Pools.{Pools}
 use Rattle.recursor_core.proofs.Places.{slice_get-set_same}
@@ -102,7 +102,7 @@ derived-at core new log i x y at is items d step =
     let stepped = step (held-at (KeptHolds seen) core.resolutions.items i x at d.resolutions) in
     record {
       bound = subst (λ (v : View). v.greatest < log.next) (sym same) d.bound;
-      some = subst (λ (v : View). 0 < length v.policy.roots) (sym same) d.some;
+      walks = subst (λ (v : View). CanWalk v.policy) (sym same) d.walks;
       cache = subst (λ (v : View). CacheHolds v new.cache) (sym same) (subst (CacheHolds seen) (sym (ap (λ (c : RecursorCore). c.cache) is)) d.cache);
       pools = subst (λ (v : View). PoolsHold v new.pools) (sym same) stepped.1;
       resolutions = subst (λ (v : View). All (KeptHolds v) new.resolutions.items) (sym same)

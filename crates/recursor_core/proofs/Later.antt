@@ -1,5 +1,9 @@
 -- What the machine keeps goes on being derived as it comes further.
-use Rattle.recursor_core.proofs.MachineWords.{◌≡◌, ◌<◌, List, All, Option, Some, None, length, refl, sym, subst, arith, Box, All-weaker, Log, Extends, Policy, View, Later, cache-later, later-by, pools-later, resolution-later, KeptHolds, seen_by, Derived, Resolution, RecursorCore}
+use Rattle.recursor_core.proofs.MachineWords.{◌≡◌, ◌<◌, ℕ, CanWalk, with_patience, List, All, Option, Some, None, length, refl, sym, subst, arith, Box, All-weaker, Log, Extends, Policy, View, Later, cache-later, later-by, pools-later, resolution-later, KeptHolds, seen_by, Derived, Resolution, RecursorCore}
+
+-- patience says nothing of whether a recursor walks
+pub walks-on : (policy : Policy) (patience : ℕ) → CanWalk policy → CanWalk (with_patience patience policy)
+walks-on policy patience h = record { some = h.some; strict = h.strict }
 
 module _ (old new : View) (later : Later old new) where
   -- the one that is kept at a place
@@ -19,7 +23,7 @@ derived-later old core log longer d later bound cache pools resolutions =
     let after = seen_by core longer in
     record {
       bound = bound;
-      some = subst (λ (s : Policy). 0 < length s.roots) (sym later.policy) d.some;
+      walks = subst CanWalk (sym later.policy) (walks-on _ _ d.walks);
       cache = rw cache (cache-later before after later old.cache d.cache);
       pools = rw pools (pools-later before after later old.pools d.pools);
       resolutions = rw resolutions (resolutions-later before after later old.resolutions.items d.resolutions);

@@ -13,6 +13,7 @@ pub use Rattle.dns_core.specs.Log.{Log, Extends}
 pub use Rattle.dns_core.specs.declared.request.Question.{Question}
 pub use Rattle.dns_core.specs.declared.errors.NoMemory.{NoMemory}
 pub use Rattle.walk_lookup.specs.View.{View, seen_at, Later}
+pub use Rattle.recursor_walk.specs.Way.{CanWalk}
 pub use Rattle.recursor_question.specs.Resolving.{SameBegun, open_of}
 pub use Rattle.recursor_types.specs.declared.policy.Policy.{Policy}
 pub use Rattle.recursor_question.specs.declared.resolving.Resolution.{Resolution}

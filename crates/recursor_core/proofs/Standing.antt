@@ -1,5 +1,6 @@
 -- What holds of the machine and its provider goes on holding at each step of the two.
 use Rattle.recursor_core.proofs.Names.{◌≡◌, ◌≤◌, ◌<◌, ◌+◌, ◌∙◌, ◌⊎◌, ◌++◌, ⊎_elim, inl, inr, ℕ, Bool, true, false, List, [], ◌∷◌, length, All, Option, Some, None, Result, refl, sym, ap, subst, arith, min, max, if◌then◌else◌, Box, Log, log_of, IpAddr, LogEntry, Question, Ghosts, Policy, GoesToServer, seen_at, ReplyHolds, machine_timer, TellsThat, Grown, IsPast, with_entries, seen_by, Derived, Cached, EntryHolds, TablesHold, Begun, begun_at, SameCore, ReplyGiven, StepGives, IsNewCore, TellsTo, Holds, Rests, Moves, Ready, Goes, ReplyTold, TurnedTold, KeepsTo, is_given_up, IsGivenUpIn, LogGoesOnIf, RunnerHolds, RunnerMoves, GoesNowhere, sent_by, still_awaited, IsLast, HasTold, Runner, Policy, Carrier, RecursorCore, Step, NoMemory, Order, After, Reply, Extends-refl, Grown-refl, Grown-trans, Longer-from_added, Extends-added, Logged-newest, unlogged, IsPast-later, IsPast-grown, IsPatient-refl, IsPatient-trans, later-by, reply-later}
+use Rattle.recursor_walk.specs.Way.{CanWalk}
 use Rattle.dns_core.specs.declared.log.LogEntry.TheVariants.{Opened, Asked, GaveUp}
 use Rattle.resolution.specs.Telling.{Logged, MomentsRise}
 use Rattle.resolution.specs.Asking.{AsksServers}
@@ -296,22 +297,22 @@ module _ {P C F E : Type 0} (p : Ghosts P C F E) where
   -- a machine at rest begins a run: its questions are left, and its patience may be less
   pub rests_holds : (patience : ℕ) (core new : RecursorCore) (r : Runner P C F E p) → new.policy ≡ setting_with core.policy patience
       → new.moment ≡ core.moment
-      → ((log : Log) → core.greatest < log.next → 0 < length core.policy.roots → TablesHold (seen_by core log) core.cache core.pools → Derived new log)
+      → ((log : Log) → core.greatest < log.next → CanWalk core.policy → TablesHold (seen_by core log) core.cache core.pools → Derived new log)
       → Rests p core r → Holds p patience new r
   rests_holds patience core new r policy moment derived h = record {
     runner = h.runner;
     patient = subst (λ (held : Policy). held.patience ≤ patience) (sym policy) (omega arith);
-    derived = λ es t. derived (log_of es) (h.bound es t) h.some (record { cache = h.cache es t; pools = h.pools es t });
+    derived = λ es t. derived (log_of es) (h.bound es t) h.walks (record { cache = h.cache es t; pools = h.pools es t });
     asks = subst (λ (held : Policy). TellsThat (p.log r.carrier.provider) (AsksServers held)) (sym policy)
         (λ es t. AsksServers-patience core.policy (min core.policy.patience patience) (log_of es) (h.asks es t));
     past = subst (λ m. TellsThat (p.log r.carrier.provider) (IsPast m)) (sym moment) h.past;
   }
 
   -- and after it the machine is at rest again
-  pub holds_rests : (patience : ℕ) (core : RecursorCore) (r : Runner P C F E p) → 0 < length core.policy.roots → TellsThat (p.log r.carrier.provider) MomentsRise
+  pub holds_rests : (patience : ℕ) (core : RecursorCore) (r : Runner P C F E p) → CanWalk core.policy → TellsThat (p.log r.carrier.provider) MomentsRise
       → Holds p patience core r → Rests p core r
-  holds_rests patience core r some rises h = record {
-    some = some;
+  holds_rests patience core r walks rises h = record {
+    walks = walks;
     runner = h.runner;
     bound = λ es t. (h.derived es t).bound;
     cache = λ es t. (h.derived es t).cache;
@@ -325,7 +326,7 @@ module _ {P C F E : Type 0} (p : Ghosts P C F E) where
   pub new_rests : (roots : List IpAddr) (options : RecursorOptions) (core : RecursorCore) (r : Runner P C F E p) → IsNewCore roots options core
       → 0 < length roots → RunnerHolds p r → ((es : List LogEntry) → p.log r.carrier.provider ≡ Some es → es ≡ []) → Rests p core r
   new_rests roots options core r new some holds empty = record {
-    some = subst (λ (held : Policy). 0 < length held.roots) (sym new.policy) some;
+    walks = subst CanWalk (sym new.policy) (record { some = some; strict = refl });
     runner = holds;
     bound = λ es t. let zero = new.greatest in omega arith;
     cache = λ es t. record {

@@ -1,5 +1,6 @@
 -- What the machine keeps, as derived from a log.
 use Rattle.std.specs.Prelude.{Option, Some, None, ◌<◌, length, All}
+use Rattle.recursor_walk.specs.Way.{CanWalk}
 use Rattle.std.specs.Global.{Box}
 use Rattle.dns_core.specs.Log.{Log}
 use Rattle.walk_lookup.specs.View.{View, seen_at}
@@ -21,7 +22,7 @@ seen_by core log = seen_at core.policy core.greatest core.moment log
 -- All that the machine keeps is derived from the log.
 pub record Derived (core : RecursorCore) (log : Log) : Type 0 where
   pub bound : core.greatest < log.next
-  pub some : 0 < length core.policy.roots
+  pub walks : CanWalk core.policy
   pub cache : CacheHolds (seen_by core log) core.cache
   pub pools : PoolsHold (seen_by core log) core.pools
   pub resolutions : All (KeptHolds (seen_by core log)) core.resolutions.items

@@ -1,5 +1,6 @@
 -- A recursor, as contracts see it, and what holds of its machine and its provider between two calls.
 use Rattle.std.specs.Prelude.{◌≡◌, ◌≤◌, ◌<◌, ℕ, false, min, max, List, [], ◌∷◌, ◌+◌, ◌==◌, map, length, Contains, if◌then◌else◌, Option, Some, None, slice_get}
+use Rattle.recursor_walk.specs.Way.{CanWalk}
 use Rattle.std.specs.declared.net.ip_addr.IpAddr.{IpAddr}
 use Rattle.dns_core.specs.Log.{Log}
 use Rattle.dns_core.specs.declared.log.LogEntry.{LogEntry}
@@ -56,7 +57,7 @@ pub record Holds {P C F E : Type 0} (p : Ghosts P C F E) (patience : ℕ) (core 
 
 -- So it is between two runs, once the questions of the last one are left.
 pub record Rests {P C F E : Type 0} (p : Ghosts P C F E) (core : RecursorCore) (r : Runner P C F E p) : Type 0 where
-  pub some : 0 < length core.policy.roots
+  pub walks : CanWalk core.policy
   pub runner : RunnerHolds p r
   pub bound : TellsThat (p.log r.carrier.provider) (λ log. core.greatest < log.next)
   pub cache : TellsThat (p.log r.carrier.provider) (λ log. CacheHolds (seen_by core log) core.cache)

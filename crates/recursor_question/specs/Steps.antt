@@ -1,5 +1,6 @@
 -- What a question has next.
 use Rattle.std.specs.Prelude.{◌≡◌, ◌≤◌, ◌<◌, ◌+◌, ℕ, length, Option, Some, Result, Ok, Err, IfOk}
+use Rattle.recursor_walk.specs.Way.{CanWalk}
 use Rattle.dns_core.specs.declared.errors.NoMemory.{NoMemory}
 use Rattle.dns_core.specs.declared.request.DnsRequest.{DnsRequest}
 use Rattle.dns_core.specs.declared.request.Question.{Question}
@@ -58,7 +59,7 @@ Gives seen was (progress.Step s) = StepGives seen was s
 -- It is stepped at the moment that is seen, after the greatest entry, with what the machine is set to, which has a root, and with a cache that holds.
 pub record SteppedBy (seen : View) (policy : Policy) (cache : Cached) (since : ℕ) (tick : Tick) : Type 0 where
   pub are : seen.policy ≡ policy
-  pub some : 0 < length policy.roots
+  pub walks : CanWalk policy
   pub at : IsStepAt seen since tick
   pub keeps : CacheHolds seen cache
 

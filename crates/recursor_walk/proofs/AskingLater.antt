@@ -1,5 +1,5 @@
 -- What holds of a question at the servers of its name, and of a reply, goes on holding as a machine comes further.
-use Rattle.recursor_walk.proofs.AskingWords.{ℕ, Bool, List, subst, Result, Ok, Err, DomainName, Query, Message, Question, ForwardNsData, NetError, Base, Known, Verdict, View, Later, ReachesName, machine_timer, RecursorError, Reply, Policy, with_patience, given-is, walked-on, for-on, concluded-later, asked-kept, AuthorityData, WalkCause, IsToldAnswer, OutcomeHolds, Replied, IsDenied, HasFailed, IsReferred, HasNoServer, ErrorHolds, told_on_the_way, made_on_the_way, referred}
+use Rattle.recursor_walk.proofs.AskingWords.{ℕ, IsTrue, Bool, List, subst, Result, Ok, Err, DomainName, Query, Message, Question, ForwardNsData, NetError, Base, Known, Verdict, View, Later, ReachesName, machine_timer, RecursorError, Reply, Policy, with_patience, given-is, walked-on, for-on, concluded-later, asked-kept, AuthorityData, WalkCause, IsToldAnswer, OutcomeHolds, Replied, IsDenied, HasFailed, IsReferred, HasNoServer, ErrorHolds, told_on_the_way, made_on_the_way, referred}
 use Rattle.recursor_walk.specs.Asking.{LastHolds}
 use Rattle.resolution.proofs.Keeping.{Base-extend}
 use Rattle.resolution.proofs.AnswersKept.{ReachesName-extend, IsOwn-extend, Answer-extend}
@@ -57,13 +57,16 @@ module _ (old new : View) (later : Later old new) where
         answer = λ done. Answer-extend before less later.patience old.log new.log later.extends (a.answer done);
       })
 
+  strict-on : IsTrue before.strict → IsTrue after.strict
+  strict-on strict = as-given (λ (policy : Policy). IsTrue policy.strict) strict
+
   -- a denial
   denied-later : (t0 : ℕ) (q : Query) (g : List ℕ) (d : AuthorityData) → IsDenied before old.log t0 q g d → IsDenied after new.log t0 q g d
   denied-later t0 q _ d (denial_told {z = z} b w n s) = denial_told (based b) (walked-on old new later q z w) n s
   denied-later t0 q _ _ (denial_made {i = i} {z = z} {p = p} b w m a) = denial_made (based b) (walked-on old new later q z w) m (asked-kept old.log new.log later.extends i p a)
-  denied-later t0 q _ _ (told_on_the_way {z = z} {c = c} s on b w e same) = told_on_the_way s on (based b) (walked-on old new later (question_for c 2) z w) e same
+  denied-later t0 q _ _ (told_on_the_way {z = z} {c = c} s on b w e same) = told_on_the_way (strict-on s) on (based b) (walked-on old new later (question_for c 2) z w) e same
   denied-later t0 q _ _ (made_on_the_way {i = i} {z = z} {c = c} {p = p} s on b w m a) =
-      made_on_the_way s on (based b) (walked-on old new later (question_for c 2) z w) m (asked-kept old.log new.log later.extends i p a)
+      made_on_the_way (strict-on s) on (based b) (walked-on old new later (question_for c 2) z w) m (asked-kept old.log new.log later.extends i p a)
 
   -- a referral
   referred-later : (t0 : ℕ) (q : Query) (g : List ℕ) (servers : List ForwardNsData) → IsReferred before old.log t0 q g servers → IsReferred after new.log t0 q g servers

@@ -1,5 +1,5 @@
 -- What a reply rests on.
-use Rattle.recursor_walk.proofs.AskingWords.{◌≡◌, ℕ, Bool, true, false, cond, List, [], ◌∷◌, ◌++◌, Option, Some, None, Contains, refl, sym, ap, subst, ◌∙◌, ◌≤◌, arith, inl, inr, Result, Ok, Err, IfOk, ◌&&◌, ◌==◌, not, find, filter, if◌then◌else◌, is_none, same_Some, none-some, filter-append, second_so, IpAddr, DomainName, Log, Query, Message, Record, Question, NoRecords, ForwardNsData, NetError, candidates, walk, question, is_delegation, glue, allowed, Base, direct, Finished, Pos, Neg, Made, Verdict, Filter, Zone, Same-is_delegation, Same-glue, Same-strip, Same, View, IsToldAnswer, OutcomeCame, CameTo, HasCause, RepliesSo, Concluded, machine_timer, IsDenied, HasFailed, HasNoAddress, Walked, Same-refl, told_on_the_way, made_on_the_way, referred, Stands, Answers, IsOwnVerdict, ReachesName, AskedAs, SameIfAny, SameReferrals, SameNegative, SameVerdict, ShowsAsked, IsMadeFor, IsShown, nothing_left_for, left_of_class, told_data, made_data, told_negative, made_negative, ends_walk, outcome_of, RecursorError, Negative, ForwardNS, Reply, same_query-refl, answer_whole}
+use Rattle.recursor_walk.proofs.AskingWords.{◌≡◌, ℕ, IsTrue, Bool, true, false, cond, List, [], ◌∷◌, ◌++◌, Option, Some, None, Contains, refl, sym, ap, subst, ◌∙◌, ◌≤◌, arith, inl, inr, Result, Ok, Err, IfOk, ◌&&◌, ◌==◌, not, find, filter, if◌then◌else◌, is_none, same_Some, none-some, filter-append, second_so, IpAddr, DomainName, Log, Query, Message, Record, Question, NoRecords, ForwardNsData, NetError, candidates, walk, question, is_delegation, glue, allowed, Base, direct, Finished, Pos, Neg, Made, Verdict, Filter, Zone, Same-is_delegation, Same-glue, Same-strip, Same, View, IsToldAnswer, OutcomeCame, CameTo, HasCause, RepliesSo, Concluded, machine_timer, IsDenied, HasFailed, HasNoAddress, Walked, Same-refl, told_on_the_way, made_on_the_way, referred, Stands, Answers, IsOwnVerdict, ReachesName, AskedAs, SameIfAny, SameReferrals, SameNegative, SameVerdict, ShowsAsked, IsMadeFor, IsShown, nothing_left_for, left_of_class, told_data, made_data, told_negative, made_negative, ends_walk, outcome_of, RecursorError, Negative, ForwardNS, Reply, same_query-refl, answer_whole}
 use Rattle.dns_core.specs.declared.errors.NoMemory.{NoMemory}
 use Rattle.std.specs.Global.{Box}
 use Rattle.std.proofs.lemmas.Result.{IfOk-weaker}
@@ -248,28 +248,28 @@ ends-verdict n before same e =
 
 -- a negative that ends a walk at a candidate
 way-negative-by : (seen : View) (t0 : ℕ) (q : Query) (entry : ℕ) (zone c : DomainName) (n : NoRecords) (whole : Verdict)
-    → Contains (candidates (walk q)) c → Base seen.policy seen.log t0 (question c 2) entry zone whole
+    → IsTrue seen.policy.strict → Contains (candidates (walk q)) c → Base seen.policy seen.log t0 (question c 2) entry zone whole
     → Walked seen.policy seen.log (question c 2) zone → SameVerdict (question c 2) (Neg n) whole → ShowsAsked seen.log entry (question c 2) (Neg n) whole → ends_walk n ≡ true
     → HasCause seen t0 q (entry ∷ []) (told_negative n)
-way-negative-by seen t0 q entry zone c n (Made Filter) has base walked same asked ends =
+way-negative-by seen t0 q entry zone c n (Made Filter) strict has base walked same asked ends =
     subst (λ (m : NoRecords). HasCause seen t0 q (entry ∷ []) (told_negative m)) (sym same.is)
-    (made_on_the_way {p = same.first} refl has base walked same.same (first-asked seen.log entry n same.first same.is asked), tt)
-way-negative-by seen t0 q entry zone c n (Neg before) has base walked same asked ends =
-    rw (ends-none n ends) (told_on_the_way refl has base walked (ends-verdict n before same ends) (data_same n before same), tt)
-way-negative-by seen t0 q entry zone c n _ has base walked same asked ends = absurd same
+    (made_on_the_way {p = same.first} strict has base walked same.same (first-asked seen.log entry n same.first same.is asked), tt)
+way-negative-by seen t0 q entry zone c n (Neg before) strict has base walked same asked ends =
+    rw (ends-none n ends) (told_on_the_way strict has base walked (ends-verdict n before same ends) (data_same n before same), tt)
+way-negative-by seen t0 q entry zone c n _ strict has base walked same asked ends = absurd same
 
 pub answers-on-the-way : (seen : View) (t0 : ℕ) (q : Query) (entry : ℕ) (c : DomainName) (n : NoRecords)
-    → Contains (candidates (walk q)) c → Stands seen t0 (question c 2) entry (Neg n) → ends_walk n ≡ true
+    → IsTrue seen.policy.strict → Contains (candidates (walk q)) c → Stands seen t0 (question c 2) entry (Neg n) → ends_walk n ≡ true
     → HasCause seen t0 q (entry ∷ []) (told_negative n)
-answers-on-the-way seen t0 q entry c n has h ends =
-    way-negative-by seen t0 q entry h.zone c n h.whole has h.base h.walked h.same h.asked ends
+answers-on-the-way seen t0 q entry c n strict has h ends =
+    way-negative-by seen t0 q entry h.zone c n h.whole strict has h.base h.walked h.same h.asked ends
 
 -- one that it makes at a candidate
 pub made-on-the-way : (seen : View) (t0 : ℕ) (q : Query) (entry : ℕ) (c : DomainName) (cause : Cause)
-    → Contains (candidates (walk q)) c → Stands seen t0 (question c 2) entry (Made cause)
+    → IsTrue seen.policy.strict → Contains (candidates (walk q)) c → Stands seen t0 (question c 2) entry (Made cause)
     → HasCause seen t0 q (entry ∷ []) (made_negative (question c 2) cause)
-made-on-the-way seen t0 q entry c cause has h =
-    made-by seen t0 q (question c 2) entry h.zone cause h.whole (λ before base same. made_on_the_way refl has base h.walked same h.asked) h.base h.same
+made-on-the-way seen t0 q entry c cause strict has h =
+    made-by seen t0 q (question c 2) entry h.zone cause h.whole (λ before base same. made_on_the_way strict has base h.walked same h.asked) h.base h.same
 
 -- ---- delegations without addresses
 

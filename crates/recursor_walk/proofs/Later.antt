@@ -1,5 +1,5 @@
 -- What holds of a walk goes on holding as a machine comes further.
-use Rattle.recursor_walk.proofs.Names.{ℕ, subst, DomainName, Query, last_name, View, Later, NoCut, Passed, WayHolds, WalkHolds, Walk}
+use Rattle.recursor_walk.proofs.Names.{◌≡◌, ℕ, true, sym, subst, DomainName, Query, last_name, View, Later, NoCut, Passed, WayHolds, WalkHolds, Walk}
 use Rattle.recursor_types.specs.declared.policy.Policy.{Policy}
 use Rattle.walk_lookup.proofs.Later.{given-is, pool-on}
 use Rattle.resolution.proofs.FailuresKept.{NoCut-extend}
@@ -23,6 +23,7 @@ module _ (old new : View) (later : Later old new) where
     beyond = h.beyond;
     asks = h.asks;
     passed = passed-later w.asking.zone w.name w.labels h.passed;
+    strict = subst (λ (policy : Policy). policy.strict ≡ true) (sym later.policy) h.strict;
   }
 
   -- a walk

@@ -1,5 +1,6 @@
 -- How a walk goes on.
 use Rattle.recursor_walk.proofs.Names.{◌≡◌, ◌≤◌, ◌<◌, ◌+◌, ◌-◌, ◌↔◌, ℕ, Bool, true, false, List, length, Contains, refl, sym, ◌∙◌, ap, subst, arith, Result, Ok, Err, nat_lt, ◌&&◌, IsTrue, nat_tests, DomainName, Query, NetError, root, candidates, is_above, last_name, walk, question, Finished, is_timeout, NoCut, Walked, at_any_time, is_cut, Pos, Verdict, View, Stands, LookupHolds, AskingHolds, SameSite, Passed, LeavesBehind, IsAtServers, ReachesName, WayHolds, WalkHolds, Walk, steps_after, Goes, Passes, Course, NoMemory, IfOk, Question, Reply, CameTo, IsCourseOf, WalkComes}
+use Rattle.recursor_walk.specs.Way.{CanWalk}
 use Rattle.std.specs.Prelude.{drop}
 use Rattle.std.specs.Cmp.{second_so, first_so}
 use Rattle.std.specs.declared.net.ip_addr.IpAddr.{IpAddr}
@@ -128,6 +129,7 @@ goes-further seen t0 q w labels asked l way leaves more next ask query made =
         beyond = omega (arith, next, beyond);
         asks = query ∙ ask;
         passed = subst (Passed seen w.asking.zone w.name) (sym next) (passed-by seen q w way leaves);
+        strict = way.strict;
       };
       lookup = made w.asking.zone (subst (λ (p : Query). is_above w.asking.zone (walk p) ≡ true) (sym ask) above);
     }
@@ -169,17 +171,17 @@ comes-there seen q w way leaves all =
 
 -- a walk that begins at the roots
 pub at-start : (seen : View) (t0 : ℕ) (q : Query) (name : DomainName) (a : Asking) (asked : Query)
-    → 0 < length seen.policy.roots → q.name.fqdn ≡ true → name ≡ walk q → 1 ≤ length name.labels
+    → CanWalk seen.policy → q.name.fqdn ≡ true → name ≡ walk q → 1 ≤ length name.labels
     → a.zone ≡ root → a.servers ≡ seen.policy.roots → a.lookup.query ≡ asked → asked ≡ candidate_query name 1
     → (AreFor seen asked a.zone a.servers → AskingHolds seen t0 a)
     → WalkHolds seen t0 q (record { name = name; labels = 1; asking = a })
-at-start seen t0 q name a asked some f n low z s query ask made =
+at-start seen t0 q name a asked walks f n low z s query ask made =
     let top : is_above root name ≡ true = subst (λ (d : DomainName). is_above root d ≡ true) (sym n) (root-above-for q f) in
     let above : is_above a.zone name ≡ true = subst (λ (d : DomainName). is_above d name ≡ true) (sym z) top in
     let short : length a.zone.labels ≡ 0 = ap (λ (d : DomainName). length d.labels) z in
     let passed : Passed seen a.zone name 1 = λ k longer few. absurd (omega (arith, longer, few)) in
     let pool : ArePool seen a.zone a.servers =
-    subst (λ (d : DomainName). ArePool seen d a.servers) (sym z) (subst (ArePool seen root) (sym s) (roots-pool seen some)) in
+    subst (λ (d : DomainName). ArePool seen d a.servers) (sym z) (subst (ArePool seen root) (sym s) (roots-pool seen walks.some)) in
     let near : is_above a.zone (last_name 1 name) ≡ true = above-last a.zone name 1 above (omega (arith, short)) low in
     let site : AreFor seen asked a.zone a.servers = record {
       above = subst (λ (p : Query). is_above a.zone (walk p) ≡ true) (sym ask) near;
@@ -197,6 +199,7 @@ at-start seen t0 q name a asked some f n low z s query ask made =
         beyond = omega (arith, short);
         asks = query ∙ ask;
         passed = passed;
+        strict = walks.strict;
       };
       lookup = (made site).lookup;
     }
@@ -231,6 +234,7 @@ cut-way seen t0 q w kept entry zone ips way stands d z some glued =
       beyond = omega (arith, count);
       asks = way.asks;
       passed = λ k longer short. absurd (omega (arith, count, longer, short));
+      strict = way.strict;
     }
 
 -- a zone cut leaves nothing behind
@@ -253,6 +257,7 @@ way-looked seen q w a same way = record {
   beyond = subst (λ (z : DomainName). length z.labels ≤ w.labels) (sym same.0) way.beyond;
   asks = same.2 ∙ way.asks;
   passed = subst (λ (z : DomainName). Passed seen z w.name w.labels) (sym same.0) way.passed;
+  strict = way.strict;
 }
 
 -- a walk asks at its servers

@@ -10,6 +10,7 @@ use Rattle.resolution.specs.Names.{is_above, walk, last_name}
 use Rattle.resolution.specs.Walking.{NoCut, ReachesName}
 use Rattle.resolution.specs.declared.verdict.Verdict.{Verdict}
 use Rattle.resolver_settings.specs.Access.{Access}
+use Rattle.recursor_types.specs.declared.policy.Policy.{Policy}
 use Rattle.walk_response.specs.Candidate.{candidate_query}
 use Rattle.walk_tables.specs.Lookup.{LookupHolds}
 use Rattle.walk_lookup.specs.Found.{FoundHolds, HasFailedBy}
@@ -26,6 +27,11 @@ use Rattle.recursor_walk.specs.declared.walk.Course.TheVariants as course
 abbrev pub Passed : View → DomainName → DomainName → ℕ → Type 0
 Passed seen zone name n = (k : ℕ) → length zone.labels < k → k < n → NoCut seen.policy seen.log (last_name k name)
 
+-- A policy by which a recursor walks: it has a root, and a name that is denied ends a walk (RFC 8020).
+pub record CanWalk (policy : Policy) : Type 0 where
+  pub some : 0 < length policy.roots
+  pub strict : IsTrue policy.strict
+
 -- A walk is to the name of the question, and has come to a zone at or above it with its servers. The NS records of a candidate are looked for,
 -- which is no shorter than the zone and no longer than the name; at those before it the log shows no cut below the zone.
 pub record WayHolds (seen : View) (q : Query) (w : Walk) : Type 0 where
@@ -37,6 +43,7 @@ pub record WayHolds (seen : View) (q : Query) (w : Walk) : Type 0 where
   pub beyond : length w.asking.zone.labels ≤ w.labels
   pub asks : w.asking.lookup.query ≡ candidate_query w.name w.labels
   pub passed : Passed seen w.asking.zone w.name w.labels
+  pub strict : IsTrue seen.policy.strict
 
 -- The log shows no cut at the present candidate, or it is the zone.
 abbrev pub LeavesBehind : View → Walk → Type 0
@@ -76,10 +83,10 @@ pub record HasHeard (seen : View) (t0 : ℕ) (q : Query) (w : Walk) (entry : ℕ
   pub way : WayHolds seen q w
   pub stands : Stands seen t0 w.asking.lookup.query entry v
 
--- The machine is set to these roots, at least one.
+-- The machine walks from these roots.
 pub record HasRoots (seen : View) (roots : List IpAddr) : Type 0 where
   pub are : seen.policy.roots ≡ roots
-  pub some : 0 < length roots
+  pub walks : CanWalk seen.policy
 
 -- it is set to this filter of servers
 abbrev pub FiltersBy : View → Access → Type 0

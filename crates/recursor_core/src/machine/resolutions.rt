@@ -1,5 +1,6 @@
 //! The machine: it gives orders and is fed their outcomes, and knows neither a provider nor a log.
 ghost use Rattle.std.specs.Prelude.{◌≡◌, ◌≤◌, ◌<◌, ◌⊎◌, ◌↔◌, ℕ, [], true, false, max, min, length, None, Some, Ok, Err, IfOk, IfSome, IfNone, IfErr, IsSome, OnOk, IsTrue, option_copied, if◌then◌else◌};
+ghost use Rattle.recursor_walk.specs.Way.{CanWalk};
 ghost use Rattle.dns_core.specs.Log.{Log};
 ghost use Rattle.server_core.specs.Order.{entry_of};
 ghost use Rattle.walk_lookup.specs.Order.{IsNext, is_given_up, closing_of, last_entry};
@@ -129,7 +130,7 @@ impl RecursorCore {
 
     /// Leaves all questions, for a run of this patience.
     pub fn clear(&mut self, patience: u32)
-        ensures derived { (log : Log) → self.old.greatest < log.next → 0 < length self.old.policy.roots
+        ensures derived { (log : Log) → self.old.greatest < log.next → CanWalk self.old.policy
             → TablesHold (seen_by self.old log) self.old.cache self.old.pools → Derived self.new log }
         ensures policy { self.new.policy ≡ with_patience (min self.old.policy.patience patience) self.old.policy }
         ensures same { (self.new.greatest ≡ self.old.greatest) × (self.new.moment ≡ self.old.moment) × (self.new.cache ≡ self.old.cache) }

@@ -1,4 +1,6 @@
 use Rattle.recursor_core.proofs.Names.{◌<◌, ◌∙◌, ℕ, min, length, IfOk, sym, subst, TellsThat, IsPast, Standing, run_terms, run_moments, RepliesHold, rises_over, with_patience, Policy}
+use Rattle.recursor_core.proofs.Later.{walks-on}
+use Rattle.recursor_walk.specs.Way.{CanWalk}
 use Rattle.recursor_core.proofs.Standing.{rests_holds, holds_rests}
 use Rattle.recursor_core.proofs.driving.drive.Goals as goal
 
@@ -11,14 +13,14 @@ answer-requires g c =
 pub invariant_of-recursor : goal.invariant_of-recursor
 invariant_of-recursor g c =
     let same = c.answer.ensures.leads.policy ∙ c.clear.ensures.policy in
-    let some : 0 < length c.answer.new.self.core.policy.roots = subst (λ (held : Policy). 0 < length held.roots) (sym same) c.recursor.invariant.some in
+    let walks = subst CanWalk (sym same) (walks-on _ _ c.recursor.invariant.walks) in
     let log = g.P.ConnectionProvider.log in
     let was = c.recursor.inside in
     let start = c.clear.new.self.moment in
     let old = log was.run.runner.carrier.provider in
     let past = subst (λ (m : ℕ). TellsThat old (IsPast m)) (sym c.clear.ensures.same.1) c.recursor.invariant.past in
     let rises = rises_over (run_moments start c.args.turns.now) start old (log c.answer.new.self.runner.carrier.provider) past c.recursor.invariant.rises c.answer.ensures.leads.grown in
-    holds_rests g.P.ConnectionProvider c.answer.new.self.patience c.answer.new.self.core c.answer.new.self.runner some rises c.answer.ensures.leads.runs
+    holds_rests g.P.ConnectionProvider c.answer.new.self.patience c.answer.new.self.core c.answer.new.self.runner walks rises c.answer.ensures.leads.runs
 
 pub returns-clause-replies : goal.returns-clause-replies
 returns-clause-replies g c =

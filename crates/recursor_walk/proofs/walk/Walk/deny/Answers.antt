@@ -11,7 +11,7 @@ returns-then-ends_walk-clause-holds c seen t0 question h =
     let n = c.args.found in
     let entry = c.args.entry in
     let here = subst (λ (p : Query). Stands seen t0 p entry (Neg n)) (candidate-asked seen q w way) h.stands in
-    let cause = answers-on-the-way seen t0 q entry w.asking.lookup.query.name n (candidate-on-the-way seen q w way) here
+    let cause = answers-on-the-way seen t0 q entry w.asking.lookup.query.name n way.strict (candidate-on-the-way seen q w way) here
     (sym c.ends_walk.ensures ∙ c.if-ends_walk.true) in
     subst (CameTo seen t0 question) (sym c.in_ok-reply.ensures)
     (subst (HasCause seen t0 q (entry ∷ [])) (sym c.told_negative.ensures) cause)

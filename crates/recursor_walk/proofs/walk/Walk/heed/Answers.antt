@@ -22,7 +22,7 @@ returns-in_ok-reply_by-in-Made-clause-holds c seen t0 question filtered heard =
     let now = rw c.in-Made.is at heard.stands in
     let at = candidate-asked seen q w way in
     let here = subst (λ (p : Query). Stands seen t0 p entry (Made cause)) at now in
-    let made = made-on-the-way seen t0 q entry asks.name cause (candidate-on-the-way seen q w way) here in
+    let made = made-on-the-way seen t0 q entry asks.name cause way.strict (candidate-on-the-way seen q w way) here in
     let told = subst (λ (p : Query). HasCause seen t0 q (entry ∷ []) (made_negative p cause)) (sym at) made in
     subst (CameTo seen t0 question) (sym c.in_ok-reply_by-in-Made.ensures)
     (subst (HasCause seen t0 q (entry ∷ [])) (sym c.in_ok-denial-in-Made.ensures) told)

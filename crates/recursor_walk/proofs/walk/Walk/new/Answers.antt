@@ -6,6 +6,6 @@ pub returns-clause-holds : goal.returns-clause-holds
 returns-clause-holds c seen t0 q named qualified roots =
     let a = c.new-asking in
     at-start seen t0 q c.args.name a.result c.in_ok-query.query
-    (rw roots.are roots.some) qualified named c.requires
+    roots.walks qualified named c.requires
     (a.ensures.is.0 ∙ c.root.ensures) (a.ensures.is.1 ∙ sym roots.are) a.ensures.is.2 c.in_ok-query.ensures
     (λ site. a.ensures.holds seen t0 (rw (a.ensures.is.0, a.ensures.is.1) at site))

@@ -12,7 +12,7 @@ returns-clause-derived c log later d =
     let on = later-by core.policy core.greatest core.greatest core.moment c.args.now log log (omega arith) later (Extends-refl log) in
     record {
       bound = d.bound;
-      some = d.some;
+      walks = d.walks;
       cache = cache-later before after on core.cache d.cache;
       pools = pools-later before after on core.pools d.pools;
       resolutions = rw c.in_ok-push.ensures.items (All-push (KeptHolds after) rs (Some c.in_ok-resolution.resolution) (resolutions-later before after on rs d.resolutions)

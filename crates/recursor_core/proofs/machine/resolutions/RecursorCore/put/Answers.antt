@@ -44,7 +44,7 @@ returns-clause-derived c log longer d tells =
     let moment : c.max-self-2.result ≡ c.args.tick.now = omega (arith, c.max-self-2.ensures, tells.on.tells.later) in
     rw (greatest, moment) (record {
       bound = last-within seen c.args.tick waits o result longer put;
-      some = d.some;
+      walks = d.walks;
       cache = tables.cache;
       pools = tables.pools;
       resolutions = resolutions-later seen after (later-put seen c.args.tick waits o result longer put) core.resolutions.items d.resolutions;

@@ -19,7 +19,7 @@ returns-clause-gives c log d =
     let at = kept_at xs c.args.r c.index_mut.result.now b c.requires c.index_mut.ensures.value c.in-Some.is in
     let seen = seen_by core log in
     let step : IsStepAt seen core.greatest c.tick-tick.result = record { since_is = refl; now_is = c.tick-tick.ensures } in
-    let stepped : SteppedBy seen core.policy core.cache core.greatest c.tick-tick.result = record { are = refl; some = d.some; at = step; keeps = d.cache } in
+    let stepped : SteppedBy seen core.policy core.cache core.greatest c.tick-tick.result = record { are = refl; walks = d.walks; at = step; keeps = d.cache } in
     let held = held-at (KeptHolds seen) xs c.args.r (Some b) at d.resolutions in
     let well = c.next.ensures.holds seen stepped d.pools (rw c.deref_mut.ensures.value held) in (
       derived-at core _ log c.args.r _ _ at refl refl d (λ h. (well.holds, well.tables)),
