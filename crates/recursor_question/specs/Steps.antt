@@ -1,5 +1,5 @@
 -- What a question has next.
-use Rattle.std.specs.Prelude.{◌≡◌, ◌≤◌, ◌<◌, ◌+◌, ℕ, length, Option, Some, Result, Ok, Err, IfOk}
+use Rattle.std.specs.Prelude.{◌≡◌, ◌≤◌, ◌<◌, ◌+◌, ℕ, Option, Some, Result, Ok, Err, IfOk}
 use Rattle.recursor_walk.specs.Way.{CanWalk}
 use Rattle.dns_core.specs.declared.errors.NoMemory.{NoMemory}
 use Rattle.dns_core.specs.declared.request.DnsRequest.{DnsRequest}
