@@ -1,5 +1,5 @@
 -- What the machine keeps goes on being derived as it comes further.
-use Rattle.recursor_core.proofs.MachineWords.{◌≡◌, ◌<◌, ℕ, CanWalk, with_patience, List, All, Option, Some, None, length, refl, sym, subst, arith, Box, All-weaker, Log, Extends, Policy, View, Later, cache-later, later-by, pools-later, resolution-later, KeptHolds, seen_by, Derived, Resolution, RecursorCore}
+use Rattle.recursor_core.proofs.MachineWords.{◌≡◌, ◌<◌, ℕ, CanWalk, with_patience, List, All, Option, Some, None, refl, sym, subst, arith, Box, All-weaker, Log, Extends, Policy, View, Later, cache-later, later-by, pools-later, resolution-later, KeptHolds, seen_by, Derived, Resolution, RecursorCore}
 
 -- patience says nothing of whether a recursor walks
 pub walks-on : (policy : Policy) (patience : ℕ) → CanWalk policy → CanWalk (with_patience patience policy)

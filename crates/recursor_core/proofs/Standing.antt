@@ -14,7 +14,7 @@ use Rattle.server_core.specs.declared.orders.order.Tick.{Tick}
 use Rattle.order_carrier.proofs.Asking.{AsksServers-patience, GoesToServer-later}
 use Rattle.order_carrier.proofs.Carried.{waits-still}
 use Rattle.recursor_core.proofs.Later.{Derived-extends}
-use Rattle.recursor_types.specs.Policy.{with_patience as setting_with}
+use Rattle.recursor_types.specs.Policy.{with_patience}
 use Rattle.recursor_question.specs.declared.steps.Step.TheVariants as step
 use Rattle.recursor_core.specs.declared.turns.Turned.TheVariants as turned
 
@@ -295,7 +295,7 @@ module _ {P C F E : Type 0} (p : Ghosts P C F E) where
         }
 
   -- a machine at rest begins a run: its questions are left, and its patience may be less
-  pub rests_holds : (patience : ℕ) (core new : RecursorCore) (r : Runner P C F E p) → new.policy ≡ setting_with core.policy patience
+  pub rests_holds : (patience : ℕ) (core new : RecursorCore) (r : Runner P C F E p) → new.policy ≡ with_patience (min core.policy.patience patience) core.policy
       → new.moment ≡ core.moment
       → ((log : Log) → core.greatest < log.next → CanWalk core.policy → TablesHold (seen_by core log) core.cache core.pools → Derived new log)
       → Rests p core r → Holds p patience new r

@@ -1,5 +1,5 @@
 -- What the machine keeps, as derived from a log.
-use Rattle.std.specs.Prelude.{Option, Some, None, ◌<◌, length, All}
+use Rattle.std.specs.Prelude.{Option, Some, None, ◌<◌, All}
 use Rattle.recursor_walk.specs.Way.{CanWalk}
 use Rattle.std.specs.Global.{Box}
 use Rattle.dns_core.specs.Log.{Log}

@@ -18,7 +18,6 @@ use Rattle.walk_tables.specs.declared.pools.Pools.{Pools}
 use Rattle.recursor_core.specs.Derived.{seen_by}
 use Rattle.recursor_types.specs.declared.reply.Reply.{Reply}
 use Rattle.dns_core.specs.declared.errors.NoMemory.{NoMemory}
-use Rattle.walk_lookup.specs.Asking.{context_of}
 use Rattle.recursor_types.specs.Policy.{policy_of}
 use Rattle.recursor_types.specs.declared.options.RecursorOptions.{RecursorOptions}
 use Rattle.recursor_types.specs.declared.error.RecursorError.{RecursorError}
@@ -127,15 +126,13 @@ StepGives core log r (step.Waiting number) = Unit {0}
 StepGives core log r (step.Done reply) = ReplyGiven (seen_by core log) (begun_at core r) reply.value
 StepGives core log r step.Ended = Unit {0}
 
--- A new machine is set as the roots and the options say, and so are its pools; its cache is empty, nothing has happened, and its pools hold by
--- any log.
+-- A new machine has the policy that the roots and the options say; its cache is empty, nothing has happened, and its pools hold by any log.
 pub record IsNewCore (roots : List IpAddr) (options : RecursorOptions) (core : RecursorCore) : Type 0 where
   pub policy : core.policy ≡ policy_of roots options
   pub cache : core.cache ≡ record { size = options.response_cache_size; config = options.cache_policy; entries = [] }
   pub moment : core.moment ≡ 0
   pub greatest : core.greatest ≡ 0
   pub resolutions : core.resolutions.items ≡ []
-  pub context : core.pools.shared.context ≡ context_of core.policy
   pub pools : (seen : View) → seen.policy ≡ policy_of roots options → PoolsHold seen core.pools
 
 -- what a question is refused for as it begins

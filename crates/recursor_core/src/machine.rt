@@ -2,5 +2,6 @@
 //! their outcomes, and knows neither a provider nor a log. And what becomes of each question of a run over it.
 
 pub mod plays;
+pub mod policy_with_context;
 pub mod resolutions;
 pub mod threads;

@@ -114,12 +114,11 @@ impl<P: ConnectionProvider> Recursor<P> {
     }
 
     /// What its pools of servers are set to: how servers are asked, one at a time and without the wish
-    /// that they recurse, and which addresses answers may have. It fails
-    /// where memory runs out alone.
-    pub fn pool_context(&self, alloc: Global) -> Result<PoolContext, NoMemory>
-        ensures { IfOk result (λ context. context ≡ context_of self.now.policy) }
+    /// that they recurse, and which addresses answers may have.
+    pub fn pool_context(&self) -> &PoolContext
+        ensures { result.now ≡ context_of self.now.policy }
     {
-        self.run.core.pool_context(alloc)
+        self.run.core.pool_context()
     }
 
     /// What each connection is opened with, as the options of its pools say. It fails for want of memory

@@ -14,6 +14,7 @@ ghost use Rattle.walk_tables.specs.Pools.{IsOutcomeOf};
 ghost use Rattle.recursor_core.specs.Derived.{seen_by, Derived};
 ghost use Rattle.recursor_core.specs.Machine.{TellsTo, resolution_at, need_at, open_at, given_by, Steps, StepGives, IsBeginError, IsNewCore, SameCore, IsOneMore, IsBegunAt};
 
+use crate::machine::policy_with_context::PolicyWithContext;
 use dns_core::{ConnectOptions, NoMemory, Question, TryClone, in_box};
 use recursor_question::{Need, Resolution, Step};
 use recursor_types::{MessageKind, Policy, RecursorError, RecursorOptions};
@@ -23,7 +24,7 @@ use std::alloc::Global;
 use std::collections::BTreeSet;
 use std::mem;
 use std::net::IpAddr;
-use walk_lookup::{connect_options, pool_context};
+use walk_lookup::connect_options;
 use walk_tables::Pools;
 
 /// The resolutions, in the order of their beginning, each kept until it has ended, and what they share: the
@@ -31,7 +32,7 @@ use walk_tables::Pools;
 /// far, and the greatest number of a log entry.
 #[derive(Drop)]
 pub struct RecursorCore {
-    policy: Policy,
+    policy: PolicyWithContext,
     cache: ResponseCache,
     resolutions: Vec<Option<Box<Resolution>>>,
     pools: Pools,
@@ -87,6 +88,7 @@ impl RecursorCore {
         let policy = Policy::new(alloc, roots, &options)?;
         let cache = cache_of(alloc, &policy)?;
         let pools = Pools::new(alloc, &policy)?;
+        let policy = PolicyWithContext::new(alloc, policy)?;
         Ok(RecursorCore {
             policy,
             cache,
@@ -104,18 +106,18 @@ impl RecursorCore {
         self.moment
     }
 
-    /// What its pools of servers are set to. It fails where memory runs out alone.
-    pub fn pool_context(&self, alloc: Global) -> Result<PoolContext, NoMemory>
-        ensures { IfOk result (λ context. context ≡ context_of self.now.policy) }
+    /// What its pools of servers are set to.
+    pub fn pool_context(&self) -> &PoolContext
+        ensures { result.now ≡ context_of self.now.policy }
     {
-        pool_context(alloc, &self.policy)
+        self.policy.context()
     }
 
     /// What each connection is opened with. It fails for want of memory alone.
     pub fn connect_options(&self, alloc: Global) -> Result<ConnectOptions, NoMemory>
         ensures { IfOk result (λ connect. connect ≡ connect_of self.now.policy.resolver) }
     {
-        connect_options(alloc, &self.policy.resolver)
+        connect_options(alloc, &self.policy.policy().resolver)
     }
 
     /// The moment that has come.
@@ -243,7 +245,7 @@ impl RecursorCore {
         match &mut self.resolutions[r] {
             Some(resolution) => resolution.next(
                 alloc,
-                &self.policy,
+                self.policy.policy(),
                 &self.cache,
                 &mut self.pools,
                 since,

@@ -1,4 +1,4 @@
-use Rattle.recursor_core.proofs.Names.{◌<◌, ◌∙◌, ℕ, min, length, IfOk, sym, subst, TellsThat, IsPast, Standing, run_terms, run_moments, RepliesHold, rises_over, with_patience, Policy}
+use Rattle.recursor_core.proofs.Names.{◌∙◌, ℕ, min, IfOk, sym, subst, TellsThat, IsPast, Standing, run_terms, run_moments, RepliesHold, rises_over, with_patience, Policy}
 use Rattle.recursor_core.proofs.Later.{walks-on}
 use Rattle.recursor_walk.specs.Way.{CanWalk}
 use Rattle.recursor_core.proofs.Standing.{rests_holds, holds_rests}

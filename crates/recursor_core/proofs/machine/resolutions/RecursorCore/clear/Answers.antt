@@ -1,4 +1,5 @@
-use Rattle.recursor_core.proofs.MachineWords.{length, min, ap, arith, refl, seen_by, Later, seen_at, with_patience, cache-later, Extends-refl}
+use Rattle.recursor_core.proofs.MachineWords.{length, ap, arith, refl, seen_by, Later, seen_at, with_patience, cache-later, Extends-refl}
+use Rattle.std.proofs.Common.{min}
 use Rattle.recursor_core.proofs.Later.{walks-on}
 use Rattle.recursor_core.proofs.machine.resolutions.RecursorCore.clear.Goals as goal
 

@@ -1,4 +1,4 @@
-use Rattle.std.proofs.Common.{ℕ, ◌<◌, false, [], arith, ◌≡◌}
+use Rattle.std.proofs.Common.{◌<◌, false, [], arith, ◌≡◌}
 use Rattle.resolver_settings.specs.Ttl.{has_reversed}
 use Rattle.recursor_core.proofs.MachineWords.{refl, sym, ap, subst, ◌∙◌, Cached, Policy}
 use Rattle.recursor_core.proofs.machine.resolutions.RecursorCore.new.Goals as goal
@@ -9,11 +9,10 @@ cache_of-requires c = subst (λ (held : Policy). has_reversed held.ttl_bounds �
 pub returns : goal.returns
 returns c =
     record {
-      policy = c.in_ok-policy.ensures;
+      policy = c.in_ok-policy-2.ensures ∙ c.in_ok-policy.ensures;
       cache = c.in_ok-cache.ensures ∙ ap (λ (held : Policy). let kept : Cached = record { size = held.response_cache_size; config = held.ttl_bounds; entries = [] } in kept) c.in_ok-policy.ensures;
       moment = refl;
       greatest = refl;
-      resolutions = c.new-3.ensures.items;
-      context = c.in_ok-pools.ensures.context;
+      resolutions = c.new-4.ensures.items;
       pools = λ seen same. c.in_ok-pools.ensures.holds seen (same ∙ sym c.in_ok-policy.ensures) (subst (λ (held : Policy). 0 < held.timeout) (sym c.in_ok-policy.ensures) (omega arith));
     }

@@ -21,7 +21,7 @@ returns-clause-gives c log d =
     let step : IsStepAt seen core.greatest c.tick-tick.result = record { since_is = refl; now_is = c.tick-tick.ensures } in
     let stepped : SteppedBy seen core.policy core.cache core.greatest c.tick-tick.result = record { are = refl; walks = d.walks; at = step; keeps = d.cache } in
     let held = held-at (KeptHolds seen) xs c.args.r (Some b) at d.resolutions in
-    let well = c.next.ensures.holds seen stepped d.pools (rw c.deref_mut.ensures.value held) in (
+    let well = c.next.ensures.holds seen (rw c.policy.ensures stepped) d.pools (rw c.deref_mut.ensures.value held) in (
       derived-at core _ log c.args.r _ _ at refl refl d (λ h. (well.holds, well.tables)),
       IfOk-weaker c.next.result _ _ (λ s h. gives-at core log c.args.r b s at (rw c.deref_mut.ensures.value at h)) well.gives,
     )
