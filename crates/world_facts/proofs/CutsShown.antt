@@ -27,6 +27,7 @@ use Rattle.dns_core.specs.declared.log.ToldOutcome.{ToldOutcome}
 use Rattle.resolution.specs.Names.{is_above, base, walk, last_name, question, same_query}
 use Rattle.resolution.specs.Records.{records, only, cname_target}
 use Rattle.resolution.specs.Class.{has_no_data_for, class_of_message}
+use Rattle.resolver_settings.specs.Access.{denies as access_denies}
 use Rattle.recursor_types.specs.declared.policy.Policy.{Policy}
 use Rattle.resolution.specs.Telling.{Tells as LogTells}
 use Rattle.resolution.specs.Verdict.{holds_denied, without_denied, in_zone, within, emptied, verdict, verdict_of_told, verdict_of_message}
@@ -322,28 +323,28 @@ module _ (policy : Policy) (w : World) (ok : IsServed policy w) where
   -- what counts of the message, which names servers of c
   module _ (m : Message) (c z : DomainName) (s : ShowsCut m c) (above : is_above z c ≡ true) where
     allowed_left : Record → Bool
-    allowed_left r = not (holds_denied (denies policy.answer_filter) r)
+    allowed_left r = not (holds_denied (access_denies policy.answer_filter) r)
 
     abbrev kept_of : Message
-    kept_of = within z (without_denied (denies policy.answer_filter) m)
+    kept_of = within z (without_denied (access_denies policy.answer_filter) m)
 
-    undenied : not (holds_denied (denies policy.answer_filter) s.ns) ≡ true
-    undenied = ap not (ns_no_address (denies policy.answer_filter) s.ns s.is)
+    undenied : not (holds_denied (access_denies policy.answer_filter) s.ns) ≡ true
+    undenied = ap not (ns_no_address (access_denies policy.answer_filter) s.ns s.is)
 
     inside : in_zone z s.ns ≡ true
     inside = is_above-same z s.ns.name c s.named ∙ above
 
-    shown_left : IsShown (without_denied (denies policy.answer_filter) m) s.ns
-    shown_left = left (λ (r : Record). not (holds_denied (denies policy.answer_filter) r)) m s.ns undenied s.shown
+    shown_left : IsShown (without_denied (access_denies policy.answer_filter) m) s.ns
+    shown_left = left (λ (r : Record). not (holds_denied (access_denies policy.answer_filter) r)) m s.ns undenied s.shown
 
     shown_within : IsShown kept_of s.ns
-    shown_within = left (in_zone z) (without_denied (denies policy.answer_filter) m) s.ns inside shown_left
+    shown_within = left (in_zone z) (without_denied (access_denies policy.answer_filter) m) s.ns inside shown_left
 
-    pub counts_whole : verdict_of_message (denies policy.answer_filter) m z ≡ Pos kept_of
+    pub counts_whole : verdict_of_message (access_denies policy.answer_filter) m z ≡ Pos kept_of
     counts_whole =
-        ap (λ (b : Bool). if b then Made Filter else (if emptied (without_denied (denies policy.answer_filter) m) kept_of then Made OutsideZone else Pos kept_of))
-        (unemptied (λ (r : Record). not (holds_denied (denies policy.answer_filter) r)) m s.ns undenied s.shown)
-        ∙ ap (λ (b : Bool). if b then Made OutsideZone else Pos kept_of) (unemptied (in_zone z) (without_denied (denies policy.answer_filter) m) s.ns inside shown_left)
+        ap (λ (b : Bool). if b then Made Filter else (if emptied (without_denied (access_denies policy.answer_filter) m) kept_of then Made OutsideZone else Pos kept_of))
+        (unemptied (λ (r : Record). not (holds_denied (access_denies policy.answer_filter) r)) m s.ns undenied s.shown)
+        ∙ ap (λ (b : Bool). if b then Made OutsideZone else Pos kept_of) (unemptied (in_zone z) (without_denied (access_denies policy.answer_filter) m) s.ns inside shown_left)
 
     pub delegates_left : is_delegation kept_of c ≡ true
     delegates_left = any_Has (λ (r : Record). is_ns r && same_names r.name c) (records kept_of) s.ns (in_records kept_of s.ns shown_within) (both (is_ns s.ns) (same_names s.ns.name c) s.is s.named)
@@ -380,7 +381,7 @@ module _ (policy : Policy) (w : World) (log : Log) (ok : IsServed policy w) (by 
       let asked = asks w teller told.asked z server (walk-same told.asked (question c 2) told.same z ∙ above) in
       let class = is_response told.message (question c 2) (told_whole w teller told.asked told.message asked.zone asked.is told.tells)
       (λ r x. ok.internet r (is_held w told.message r (told_from w teller told.asked told.message r told.tells x) x)) in
-      let verdict_is = sym e ∙ ap (λ (x : ToldOutcome). verdict policy x (question c 2) z) told.is ∙ ap (λ (x : Class). verdict_of_told (denies policy.answer_filter) (Some x) z) (answer told.message cut class)
+      let verdict_is = sym e ∙ ap (λ (x : ToldOutcome). verdict policy x (question c 2) z) told.is ∙ ap (λ (x : Class). verdict_of_told (access_denies policy.answer_filter) (Some x) z) (answer told.message cut class)
       ∙ ap (λ (x : Verdict). Some x) (counts_whole policy w ok told.message c z cut above) in
       ap (λ (x : Verdict). is_cut x c) (same_Some v _ verdict_is) ∙ delegates_left policy w ok told.message c z cut above
     where

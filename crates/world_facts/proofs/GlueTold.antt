@@ -17,6 +17,7 @@ use Rattle.dns_core.specs.declared.record.RData.{RData}
 use Rattle.dns_core.specs.declared.record.RData.TheVariants.{A, AAAA, NS, CNAME, SOA, RRSIG, Opaque}
 use Rattle.resolution.specs.Names.{is_above, is_root, base, question, same_query}
 use Rattle.resolution.specs.Records.{address, ns_target, records, only}
+use Rattle.resolver_settings.specs.Access.{denies as access_denies}
 use Rattle.recursor_types.specs.declared.policy.Policy.{Policy}
 use Rattle.resolution.specs.Verdict.{holds_denied, without_denied, in_zone, within}
 use Rattle.resolution.specs.Serving.{Heard, target_below, targets, glue, address_under, allowed}
@@ -278,17 +279,17 @@ module _ (policy : Policy) (w : World) (log : Log) (ok : IsServed policy w) (by_
           let inside : Has (records told.message) d.0 = subst (λ (m : Message). Has (records m) d.0) (sym same) (Has-counted policy g.base.told (question c 2) g.z k d.0 counts d.1) in
           let x = told_glue policy w ok teller told.asked told.message c d.0 told.same long inside parts.0 parts.1 told.tells in
           let ip : (ip : IpAddr) × (address x.held ≡ Some ip) = address_of x.held x.an_address in
-          let free : (denies policy.server_filter ip.0 ≡ false) × ((denies policy.answer_filter) ip.0 ≡ false) = ok.allowed x.held ip.0 x.of_world ip.1 in
-          let kept : (r : Record) → Has (records told.message) r → holds_denied (denies policy.answer_filter) r ≡ false → is_above g.z r.name ≡ true → Has (records k) r =
-          λ r h n a. subst (λ (m : Message). Has (records m) r) (sym (counts.kept ∙ ap (λ (m : Message). within g.z (without_denied (denies policy.answer_filter) m)) (sym same)))
-          (only_Has (in_zone g.z) (without_denied (denies policy.answer_filter) told.message) r (only_Has (λ (r : Record). not (holds_denied (denies policy.answer_filter) r)) told.message r h (ap not n)) a) in
-          let ns = kept x.ns x.ns_in (ns_no_address (denies policy.answer_filter) x.ns (ns_is x.ns x.target x.is)) (is_above-same g.z x.ns.name c x.named ∙ above) in
-          let at : holds_denied (denies policy.answer_filter) x.held ≡ false = ap (λ (o : Option IpAddr). elim o [ None ↦ false | Some i ↦ (denies policy.answer_filter) i ]) ip.1 ∙ free.1 in
+          let free : (access_denies policy.server_filter ip.0 ≡ false) × (access_denies policy.answer_filter ip.0 ≡ false) = ok.allowed x.held ip.0 x.of_world ip.1 in
+          let kept : (r : Record) → Has (records told.message) r → holds_denied (access_denies policy.answer_filter) r ≡ false → is_above g.z r.name ≡ true → Has (records k) r =
+          λ r h n a. subst (λ (m : Message). Has (records m) r) (sym (counts.kept ∙ ap (λ (m : Message). within g.z (without_denied (access_denies policy.answer_filter) m)) (sym same)))
+          (only_Has (in_zone g.z) (without_denied (access_denies policy.answer_filter) told.message) r (only_Has (λ (r : Record). not (holds_denied (access_denies policy.answer_filter) r)) told.message r h (ap not n)) a) in
+          let ns = kept x.ns x.ns_in (ns_no_address (access_denies policy.answer_filter) x.ns (ns_is x.ns x.target x.is)) (is_above-same g.z x.ns.name c x.named ∙ above) in
+          let at : holds_denied (access_denies policy.answer_filter) x.held ≡ false = ap (λ (o : Option IpAddr). elim o [ None ↦ false | Some i ↦ access_denies policy.answer_filter i ]) ip.1 ∙ free.1 in
           let held = kept x.held x.held_in at (is_above-trans g.z c x.held.name above x.below) in
           let qualified = second_so g.z.fqdn c.fqdn (first_so (g.z.fqdn && c.fqdn) _ above) in
           let up : is_above (base c) x.ns.name ≡ true = is_above-same (base c) x.ns.name c x.named ∙ base_above c qualified long in
           let target : Has (targets k c) x.target = filter_map-Has (target_below (base c)) (records k) x.ns x.target ns (ap (λ (b : Bool). if b then ns_target x.ns else None) up ∙ x.is) in
           let among = any_Has (same_names x.held.name) (targets k c) x.target target x.under in
           let glued : Has (glue k c) ip.0 = filter_map-Has (address_under (targets k c)) (records k) x.held ip.0 held (ap (λ (b : Bool). if b then address x.held else None) among ∙ ip.1) in
-          let left : Has (allowed denies policy.server_filter (glue k c)) ip.0 = filter_Has (λ (i : IpAddr). not (denies policy.server_filter i)) (glue k c) ip.0 glued (ap not free.0) in
+          let left : Has (allowed (access_denies policy.server_filter) (glue k c)) ip.0 = filter_Has (λ (i : IpAddr). not (access_denies policy.server_filter i)) (glue k c) ip.0 glued (ap not free.0) in
           subst (λ (xs : List IpAddr). Has xs ip.0) g.none left

@@ -21,7 +21,7 @@ in_class r (inr (inl e)) = ap (λ (x : Record). x.dns_class.code) (sym e)
 in_class r (inr (inr (inl e))) = ap (λ (x : Record). x.dns_class.code) (sym e)
 in_class r (inr (inr (inr h))) = elim h [ ]
 
-pub served : IsServed witness.given witness.world
+pub served : IsServed witness.policy witness.world
 served = record {
   rooted = omega arith;
   root = refl;

@@ -14,6 +14,7 @@ use Rattle.dns_core.specs.declared.log.ToldOutcome.{ToldOutcome}
 use Rattle.dns_core.specs.declared.log.ToldOutcome.TheVariants as outcome
 use Rattle.resolution.specs.Names.{root, is_above, walk}
 use Rattle.resolution.specs.Records.{address, records, only}
+use Rattle.resolver_settings.specs.Access.{denies as access_denies}
 use Rattle.recursor_types.specs.declared.policy.Policy.{Policy}
 use Rattle.resolution.specs.Verdict.{holds_denied, without_denied, in_zone, within, emptied, negative_within, verdict, verdict_of_told, verdict_of_message}
 use Rattle.resolution.specs.Serving.{Heard}
@@ -128,14 +129,14 @@ module _ (policy : Policy) (w : World) (log : Log) (ok : IsServed policy w) (by_
       by (answers {z = z0} {m = n} e f reply) h =
           is_above-trans z z0.apex r.name (subst (λ (x : Zone). is_above z x.apex ≡ true) (sym (one_asked w ip p z0 asked.zone e asked.is)) at_zone) (in_its_zone z0 r (zone_asked_Has w ip p z0 e) (replies_within z0 p n r reply h))
 
-  undenied : (r : Record) → IsHeld w r → not (holds_denied (denies policy.answer_filter) r) ≡ true
+  undenied : (r : Record) → IsHeld w r → not (holds_denied (access_denies policy.answer_filter) r) ≡ true
   undenied r held = at_address (address r) refl
     where
-      at_address : (o : Option IpAddr) → address r ≡ o → not (elim o [ None ↦ false | Some ip ↦ (denies policy.answer_filter) ip ]) ≡ true
+      at_address : (o : Option IpAddr) → address r ≡ o → not (elim o [ None ↦ false | Some ip ↦ access_denies policy.answer_filter ip ]) ≡ true
       at_address None e = refl
-      at_address (Some ip) e = let free : (denies policy.server_filter ip ≡ false) × ((denies policy.answer_filter) ip ≡ false) = ok.allowed r ip held e in ap not free.1
+      at_address (Some ip) e = let free : (access_denies policy.server_filter ip ≡ false) × (access_denies policy.answer_filter ip ≡ false) = ok.allowed r ip held e in ap not free.1
 
-  whole_verdict : (m : Message) (z : DomainName) → without_denied (denies policy.answer_filter) m ≡ m → within z m ≡ m → verdict_of_message (denies policy.answer_filter) m z ≡ Pos m
+  whole_verdict : (m : Message) (z : DomainName) → without_denied (access_denies policy.answer_filter) m ≡ m → within z m ≡ m → verdict_of_message (access_denies policy.answer_filter) m z ≡ Pos m
   whole_verdict m z a b =
       ap (λ (x : Message). if emptied m x then Made Filter else (if emptied x (within z x) then Made OutsideZone else Pos (within z x))) a
       ∙ ap (λ (x : Message). if emptied m m then Made Filter else (if emptied m x then Made OutsideZone else Pos x)) b
@@ -149,10 +150,10 @@ module _ (policy : Policy) (w : World) (log : Log) (ok : IsServed policy w) (by_
       let asked = asks w teller told.asked z server there in
       let held : (r : Record) → Has (records told.message) r → IsHeld w r = λ r h. is_held w told.message r (told_from w teller told.asked told.message r told.tells h) h in
       let response = is_response told.message q (told_whole w teller told.asked told.message asked.zone asked.is told.tells) (λ r h. ok.internet r (held r h) ∙ sym in_class) in
-      let all_allowed = only_all (λ (r : Record). not (holds_denied (denies policy.answer_filter) r)) told.message (λ r h. undenied r (held r h)) in
+      let all_allowed = only_all (λ (r : Record). not (holds_denied (access_denies policy.answer_filter) r)) told.message (λ r h. undenied r (held r h)) in
       let all_inside = only_all (in_zone z) told.message (λ r h. told_below teller told.asked told.message z r server there told.tells h) in
       by_response told.message told.is all_allowed all_inside response
     where
-      by_response : (m : Message) → o ≡ outcome.Message m → without_denied (denies policy.answer_filter) m ≡ m → within z m ≡ m → IsResponse m q → CountsWhole q z o v
-      by_response m is a b (positive n k) = as_answer is n (same_Some v (Pos m) (sym e ∙ ap (λ (x : ToldOutcome). verdict policy x q z) is ∙ ap (λ (c : Class). verdict_of_told (denies policy.answer_filter) (Some c) z) k ∙ ap (λ (x : Verdict). Some x) (whole_verdict m z a b)))
-      by_response m is a b (negative n k) = as_denial is n (same_Some v (Neg (negative_within z (no_records m))) (sym e ∙ ap (λ (x : ToldOutcome). verdict policy x q z) is ∙ ap (λ (c : Class). verdict_of_told (denies policy.answer_filter) (Some c) z) k))
+      by_response : (m : Message) → o ≡ outcome.Message m → without_denied (access_denies policy.answer_filter) m ≡ m → within z m ≡ m → IsResponse m q → CountsWhole q z o v
+      by_response m is a b (positive n k) = as_answer is n (same_Some v (Pos m) (sym e ∙ ap (λ (x : ToldOutcome). verdict policy x q z) is ∙ ap (λ (c : Class). verdict_of_told (access_denies policy.answer_filter) (Some c) z) k ∙ ap (λ (x : Verdict). Some x) (whole_verdict m z a b)))
+      by_response m is a b (negative n k) = as_denial is n (same_Some v (Neg (negative_within z (no_records m))) (sym e ∙ ap (λ (x : ToldOutcome). verdict policy x q z) is ∙ ap (λ (c : Class). verdict_of_told (access_denies policy.answer_filter) (Some c) z) k))

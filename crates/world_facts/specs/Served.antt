@@ -3,6 +3,7 @@ use Rattle.std.specs.Prelude.{◌≡◌, ◌<◌, true, false, length, Contains,
 use Rattle.std.specs.declared.net.IpAddr.{IpAddr}
 use Rattle.dns_core.specs.Name.{DomainName, same_names}
 use Rattle.dns_core.specs.declared.record.Record.{Record}
+use Rattle.resolver_settings.specs.Access.{denies}
 use Rattle.resolution.specs.Records.{address}
 use Rattle.recursor_types.specs.declared.policy.Policy.{Policy}
 use Rattle.zone_rules.specs.Tree.{serves}
@@ -18,7 +19,7 @@ pub record IsHeld (w : World) (r : Record) : Type 0 where
   pub has : Contains w.zones zone
   pub within : Contains zone.records r
 
--- A world serves a recursor that is given this: the clauses of a well served world; its records are of class IN, and no two zones have one apex.
+-- A world serves a recursor of the policy: the clauses of a well served world; its records are of class IN, and no two zones have one apex.
 pub record IsServed (policy : Policy) (w : World) : Type 0 where
   pub rooted : 0 < length policy.roots
   pub root : has_served_root w policy.roots ≡ true
@@ -26,7 +27,7 @@ pub record IsServed (policy : Policy) (w : World) : Type 0 where
   pub delegated : is_delegated_well w ≡ true
   pub served : has_served_zones w ≡ true
   pub named : has_sound_names w ≡ true
-  pub allowed : (r : Record) (ip : IpAddr) → IsHeld w r → address r ≡ Some ip → (denies policy.server_filter ip ≡ false) × ((denies policy.answer_filter) ip ≡ false)
+  pub allowed : (r : Record) (ip : IpAddr) → IsHeld w r → address r ≡ Some ip → (denies policy.server_filter ip ≡ false) × (denies policy.answer_filter ip ≡ false)
   pub patient : w.delay < policy.patience
   pub timed : 0 < policy.timeout
   pub internet : (r : Record) → IsHeld w r → r.dns_class.code ≡ 1
