@@ -2,7 +2,8 @@
 //! zone, and which entries answer a question.
 
 use dns_core::{
-    DnsClass, Log, LogEntry, Message, Name, NameError, Protocol, Query, RecordType, ToldOutcome,
+    DnsClass, Log, LogEntry, Message, Name, NameError, NoMemory, Protocol, Query, RecordType,
+    ToldOutcome,
 };
 use recursor_types::{Policy, RecursorOptions};
 use resolution_reference::{Setting, base, serves};
@@ -175,7 +176,7 @@ const OPEN: Terms = Terms {
 };
 
 /// The address alone.
-fn net_of(alloc: Global, octets: [u8; 4]) -> Result<Nets, NameError> {
+fn net_of(alloc: Global, octets: [u8; 4]) -> Result<Nets, NoMemory> {
     let Ok(net) = IpNet::new(IpAddr::V4(ip_of(octets)), 32) else {
         unreachable!()
     };
@@ -183,7 +184,7 @@ fn net_of(alloc: Global, octets: [u8; 4]) -> Result<Nets, NameError> {
 }
 
 /// One root, no server denied, one address of answers denied or none, and these bounds of lives.
-fn policy_by(alloc: Global, terms: Terms) -> Result<Policy, NameError> {
+fn policy_by(alloc: Global, terms: Terms) -> Result<Policy, NoMemory> {
     let mut options = RecursorOptions::standard(alloc)?;
     options.deny_server = Nets::empty(alloc);
     if let Some(denied) = terms.denied {
@@ -196,7 +197,7 @@ fn policy_by(alloc: Global, terms: Terms) -> Result<Policy, NameError> {
         negative_max: u64::from(terms.most_life),
     };
     options.cache_policy = TtlConfig::new(alloc, bounds);
-    Ok(Policy::new(alloc, &[IpAddr::V4(v4(1))], &options)?)
+    Policy::new(alloc, &[IpAddr::V4(v4(1))], &options)
 }
 
 fn serves_in(policy: &Policy, log: &[LogEntry], below: usize, ip: [u8; 4], zone: &Name) -> bool {
