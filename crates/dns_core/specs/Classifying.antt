@@ -13,7 +13,7 @@ use Rattle.dns_core.specs.declared.message.Message.{Message}
 
 -- a record of the asked type, named as the question
 abbrev pub is_asked : Query → Record → Bool
-is_asked q r = r.record_type.code == q.query_type.code && same_names r.name q.name
+is_asked query r = r.record_type.code == query.query_type.code && same_names r.name query.name
 
 abbrev pub is_soa : Record → Bool
 is_soa r = elim (r.rdata) [ SOA s ↦ true | _ ↦ false ]

@@ -13,26 +13,26 @@ use Rattle.dns_core.specs.declared.provider.Poll.TheVariants as poll
 
 -- the log with one entry more, where there is a log
 abbrev pub added : LogEntry → Option (List LogEntry) → Option (List LogEntry)
-added e None = None
-added e (Some es) = Some (es ++ e ∷ [])
+added entry None = None
+added entry (Some es) = Some (es ++ entry ∷ [])
 
 -- an Err leaves an entry with the error, but for want of memory, which leaves none
 abbrev pub refused_by : (Option NetError → LogEntry) → NetError → Option (List LogEntry) → Option (List LogEntry)
-refused_by entry e log = if is_memory e then log else added (entry (Some e)) log
+refused_by entry error log = if is_memory error then log else added (entry (Some error)) log
 
 abbrev pub after_open : {X : Type 0} → Peer → ℕ → Result X NetError → Option (List LogEntry) → Option (List LogEntry)
 after_open peer now (Ok f) log = added (Opened peer.ip peer.protocol now None) log
 after_open peer now (Err e) log = refused_by (Opened peer.ip peer.protocol now) e log
 
 abbrev pub after_send : {X : Type 0} → Peer → Query → ℕ → Result X NetError → Option (List LogEntry) → Option (List LogEntry)
-after_send peer q now (Ok e) log = added (Asked peer.ip peer.protocol q now None) log
-after_send peer q now (Err e) log = refused_by (Asked peer.ip peer.protocol q now) e log
+after_send peer query now (Ok e) log = added (Asked peer.ip peer.protocol query now None) log
+after_send peer query now (Err e) log = refused_by (Asked peer.ip peer.protocol query now) e log
 
 abbrev pub gave_up : ℕ → ℕ → Option (List LogEntry) → Option (List LogEntry)
 gave_up of now log = added (GaveUp of now) log
 
 abbrev pub told_error : ℕ → ℕ → NetError → Option (List LogEntry) → Option (List LogEntry)
-told_error of now e log = if is_memory e then log else added (Told of now (told.Error e)) log
+told_error of now error log = if is_memory error then log else added (Told of now (told.Error error)) log
 
 abbrev pub after_connect_poll : {X : Type 0} → ℕ → ℕ → Poll (Result X NetError) → Option (List LogEntry) → Option (List LogEntry)
 after_connect_poll of now poll.Pending log = added (Waited of) log

@@ -70,17 +70,17 @@ negative_data NoMemory = None
 
 -- the question of a negative response
 abbrev pub negative_query : NetError → Option Query
-negative_query e = option_map (λ n. n.query) (negative_data e)
+negative_query error = option_map (λ n. n.query) (negative_data error)
 
 abbrev pub is_no_records : NetError → Bool
-is_no_records e = is_some (negative_data e)
+is_no_records error = is_some (negative_data error)
 
 -- a negative response whose code says that there is no such name
 abbrev pub is_nx_domain : NetError → Bool
-is_nx_domain e = option_map_or (λ n. n.response_code.code == 3) (negative_data e) false
+is_nx_domain error = option_map_or (λ n. n.response_code.code == 3) (negative_data error) false
 
 abbrev pub soa_of : NetError → Option Record
-soa_of e = option_and_then (λ n. n.soa) (negative_data e)
+soa_of error = option_and_then (λ n. n.soa) (negative_data error)
 
 -- closed by the other side
 abbrev pub is_closed : NetError → Bool

@@ -46,5 +46,5 @@ IsPlain (Err e) = IsTrue (is_qualified_error e) × (negative_query e ≡ None)
 
 -- a message or an error that answers the question, whose other names are all fully qualified
 abbrev pub TellsFor : Query → Result Message NetError → Type 0
-TellsFor q (Ok m) = (m.query ≡ q) × IsTrue (is_qualified_message m)
-TellsFor q (Err e) = IsTrue (is_qualified_error e) × IfSome (negative_query e) (λ n. n ≡ q)
+TellsFor query (Ok m) = (m.query ≡ query) × IsTrue (is_qualified_message m)
+TellsFor query (Err e) = IsTrue (is_qualified_error e) × IfSome (negative_query e) (λ n. n ≡ query)

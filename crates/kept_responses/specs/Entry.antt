@@ -10,7 +10,7 @@ is_same_question a b =
     a.query_type.code == b.query_type.code && a.query_class.code == b.query_class.code && same_names a.name b.name
 
 abbrev pub is_for : Query → Entry → Bool
-is_for q e = is_same_question e.query q
+is_for query e = is_same_question e.query query
 
 -- at a moment that is not above its expiry
 abbrev pub is_current : ℕ → Entry → Bool
@@ -22,4 +22,4 @@ if_current now (Some e) = if is_current now e then Some e else None
 
 -- the entry for a question, where it is current
 abbrev pub current_for : Query → ℕ → List Entry → Option Entry
-current_for q now es = if_current now (find (is_for q) es)
+current_for query now es = if_current now (find (is_for query) es)

@@ -6,7 +6,7 @@ use Rattle.dns_core.specs.declared.log.LogEntry.{LogEntry}
 use Rattle.dns_core.specs.declared.provider.ConnectionProvider.{Ghosts}
 use Rattle.resolution.specs.Ending.{waits}
 use Rattle.recursor_types.specs.declared.policy.Policy.{Policy}
-use Rattle.server_core.specs.declared.orders.order.Sent.{Sent}
+use Rattle.server_core.specs.declared.orders.order.SentBy.{SentBy}
 use Rattle.order_carrier.specs.Carrying.{CarrierHolds, state}
 use Rattle.order_carrier.specs.Did.{Stand, order_in, sent_in}
 use Rattle.order_carrier.specs.Did.Stand.{Over}
@@ -18,16 +18,16 @@ use Rattle.order_carrier.specs.declared.carrier.Carrier.{Carrier}
 use Rattle.order_carrier.specs.declared.key.Form.{Form}
 use Rattle.order_carrier.specs.declared.key.Form.TheVariants as form
 use Rattle.order_carrier.specs.declared.key.OrderKey.{OrderKey}
-use Rattle.order_carrier.proofs.Asking.{given_up-asks}
-use Rattle.order_carrier.proofs.Growing.{given_up-grown, Grown-refl}
-use Rattle.order_carrier.proofs.Keys.{key_cases}
-use Rattle.order_carrier.proofs.Waiting.{given_up-waits, patient-none, WaitsFor-refl}
-use Rattle.order_carrier.specs.Runner.{key_in, held_at, IsRunning, RunnerHolds, RunnerMoves, GoesNowhere, sent_for, sent_by}
-use Rattle.order_carrier.specs.declared.in_flight.runner.Runner.{Runner}
-use Rattle.order_carrier.specs.declared.in_flight.runner.Running.{Running}
-use Rattle.order_carrier.proofs.Carried.{order-sent}
-use Rattle.order_carrier.proofs.Carrying.{same-elsewhere}
-use Rattle.order_carrier.proofs.Free.{is_some-none}
+use Rattle.order_carrier.proofs.AsksOnlyServers.{given_up-asks}
+use Rattle.order_carrier.proofs.LogGrowsByCalls.{given_up-grown, Grown-refl}
+use Rattle.order_carrier.proofs.KeysCompareEqual.{key_cases}
+use Rattle.order_carrier.proofs.LogWaitsOnceMore.{given_up-waits, patient-none, WaitsFor-refl}
+use Rattle.order_carrier.specs.InFlight.{key_in, held_at, IsRunning, InFlightHolds, RunnerMoves, GoesNowhere, sent_for, sent_by}
+use Rattle.order_carrier.specs.declared.in_flight.runner.InFlight.{InFlight}
+use Rattle.order_carrier.specs.declared.in_flight.runner.InFlightOrder.{InFlightOrder}
+use Rattle.order_carrier.proofs.CallCountsWaits.{order-sent}
+use Rattle.order_carrier.proofs.OrderRunsOn.{same-elsewhere}
+use Rattle.order_carrier.proofs.FreeNumberCarried.{is_some-none}
 
 -- the key of what is given up, by which forms are under way
 abbrev key_by : ℕ → Bool → Bool → Bool → Option OrderKey
@@ -91,10 +91,10 @@ module _ {P C F E : Type 0} (p : Ghosts P C F E) (number now : ℕ) (old new : C
     up-same k differ = same-elsewhere key old.slots new.slots g.others k differ
 
     -- what runs runs on, or is over
-    up-runs : (n : ℕ) (running : Running) → IsRunning (stand_at old.slots) (p.log old.provider) n running → IsRunning (stand_at new.slots) (p.log new.provider) n running
+    up-runs : (n : ℕ) (running : InFlightOrder) → IsRunning (stand_at old.slots) (p.log old.provider) n running → IsRunning (stand_at new.slots) (p.log new.provider) n running
     up-runs n running r = record { polled = λ s is. polled_of s (key_cases key (key_in n running)) is; alone = λ k at differ. alone_of k at differ (key_cases key k) }
       where
-        polled_of : (s : Sent) → (key_in n running ≡ key) ⊎ (key_in n running ≢ key) → sent_in (stand_at new.slots (key_in n running)) ≡ Some s → TellsThat (p.log new.provider) (λ log. waits log s.of log.next ≤ running.polls)
+        polled_of : (s : SentBy) → (key_in n running ≡ key) ⊎ (key_in n running ≢ key) → sent_in (stand_at new.slots (key_in n running)) ≡ Some s → TellsThat (p.log new.provider) (λ log. waits log s.of log.next ≤ running.polls)
         polled_of s (inl same) is es t =
             let over : sent_in (stand_at new.slots (key_in n running)) ≡ None = ap sent_in (ap (stand_at new.slots) same ∙ g.given_up.stand) in
             let wrong : None ≡ Some s = sym over ∙ is in cc
@@ -109,7 +109,7 @@ module _ {P C F E : Type 0} (p : Ghosts P C F E) (number now : ℕ) (old new : C
         alone_of k at differ (inr other) = ap order_in (up-same k other) ∙ r.alone k at differ
 
     -- it gives up the order that is held under the number
-    up-log : (running : Running) → IsRunning (stand_at old.slots) (p.log old.provider) number running → open_key (stand_at old.slots) number ≡ Some key
+    up-log : (running : InFlightOrder) → IsRunning (stand_at old.slots) (p.log old.provider) number running → open_key (stand_at old.slots) number ≡ Some key
         → p.log new.provider ≡ with_entries (give_up_entry now (sent_in (stand_at old.slots (key_in number running)))) (p.log old.provider)
     up-log running r is =
         subst (λ (k : OrderKey). p.log new.provider ≡ with_entries (give_up_entry now (sent_in (stand_at old.slots k))) (p.log old.provider)) (sym (by (key_cases key (key_in number running)))) g.given_up.log
@@ -122,13 +122,13 @@ module _ {P C F E : Type 0} (p : Ghosts P C F E) (number now : ℕ) (old new : C
             let wrong : true ≡ false = sym o.1 ∙ shut in cc
 
   -- where none is under way, nothing was sent for the order that is held
-  none-log : (running : Running) → open_key (stand_at old.slots) number ≡ None → sent_in (stand_at old.slots (key_in number running)) ≡ None
+  none-log : (running : InFlightOrder) → open_key (stand_at old.slots) number ≡ None → sent_in (stand_at old.slots (key_in number running)) ≡ None
   none-log running is = by (sent_in (stand_at old.slots (key_in number running))) refl
     where
       none : order_in (stand_at old.slots (key_in number running)) ≡ None
       none = open-none (stand_at old.slots) number is (form_of running.order.value)
 
-      by : (x : Option Sent) → sent_in (stand_at old.slots (key_in number running)) ≡ x → sent_in (stand_at old.slots (key_in number running)) ≡ None
+      by : (x : Option SentBy) → sent_in (stand_at old.slots (key_in number running)) ≡ x → sent_in (stand_at old.slots (key_in number running)) ≡ None
       by None at = at
       by (Some s) at = absurd (order-sent (stand_at old.slots (key_in number running)) s none at)
 
@@ -136,12 +136,12 @@ module _ {P C F E : Type 0} (p : Ghosts P C F E) (number now : ℕ) (old new : C
 pub runner-still : (patience now : ℕ) (goes : Policy → Type 0) (told : Option (List LogEntry)) → RunnerMoves patience now goes told told
 runner-still patience now goes told = record { grown = Grown-refl now told; patient = patient-none (max 1 patience) told told (WaitsFor-refl told); asks = λ policy right asks. asks }
 
-module _ {P C F E : Type 0} (p : Ghosts P C F E) (number now : ℕ) (r : Runner P C F E p) (new : Carrier P C F E p)
+module _ {P C F E : Type 0} (p : Ghosts P C F E) (number now : ℕ) (r : InFlight P C F E p) (new : Carrier P C F E p)
     (ups : (key : OrderKey) → open_key (stand_at r.carrier.slots) number ≡ Some key → GivesUp key now r.carrier new) (none : open_key (stand_at r.carrier.slots) number ≡ None → new ≡ r.carrier) where
-  pub give_up-holds : CarrierHolds p new → RunnerHolds p r → RunnerHolds p (record r { carrier = new })
+  pub give_up-holds : CarrierHolds p new → InFlightHolds p r → InFlightHolds p (record r { carrier = new })
   give_up-holds holds h = record { carrier = holds; held = λ n running is. by n running (h.held n running is) (open_key (stand_at r.carrier.slots) number) refl }
     where
-      by : (n : ℕ) (running : Running) → IsRunning (stand_at r.carrier.slots) (p.log r.carrier.provider) n running → (o : Option OrderKey) → open_key (stand_at r.carrier.slots) number ≡ o
+      by : (n : ℕ) (running : InFlightOrder) → IsRunning (stand_at r.carrier.slots) (p.log r.carrier.provider) n running → (o : Option OrderKey) → open_key (stand_at r.carrier.slots) number ≡ o
           → IsRunning (stand_at new.slots) (p.log new.provider) n running
       by n running h None is = subst (λ (c : Carrier P C F E p). IsRunning (stand_at c.slots) (p.log c.provider) n running) (sym (none is)) h
       by n running h (Some key) is = up-runs p number now r.carrier new key (ups key is) n running h
@@ -153,13 +153,13 @@ module _ {P C F E : Type 0} (p : Ghosts P C F E) (number now : ℕ) (r : Runner 
       by None is = subst (λ (c : Carrier P C F E p). RunnerMoves patience now GoesNowhere (p.log r.carrier.provider) (p.log c.provider)) (sym (none is)) (runner-still patience now GoesNowhere (p.log r.carrier.provider))
       by (Some key) is = up-moves p number now r.carrier new key (ups key is) patience
 
-  pub give_up-log : RunnerHolds p r → IsSome (held_at r number) → p.log new.provider ≡ with_entries (give_up_entry now (sent_by r number)) (p.log r.carrier.provider)
+  pub give_up-log : InFlightHolds p r → IsSome (held_at r number) → p.log new.provider ≡ with_entries (give_up_entry now (sent_by r number)) (p.log r.carrier.provider)
   give_up-log h some = by (held_at r number) (h.held number) some (open_key (stand_at r.carrier.slots) number) refl
     where
-      by : (x : Option Running) → ((running : Running) → x ≡ Some running → IsRunning (stand_at r.carrier.slots) (p.log r.carrier.provider) number running) → IsSome x
+      by : (x : Option InFlightOrder) → ((running : InFlightOrder) → x ≡ Some running → IsRunning (stand_at r.carrier.slots) (p.log r.carrier.provider) number running) → IsSome x
           → (o : Option OrderKey) → open_key (stand_at r.carrier.slots) number ≡ o
           → p.log new.provider ≡ with_entries (give_up_entry now (sent_for (stand_at r.carrier.slots) number x)) (p.log r.carrier.provider)
       by None h some o is = cc
       by (Some running) h some None is =
-          ap (λ (c : Carrier P C F E p). p.log c.provider) (none is) ∙ sym (ap (λ (s : Option Sent). with_entries (give_up_entry now s) (p.log r.carrier.provider)) (none-log p number now r.carrier new running is))
+          ap (λ (c : Carrier P C F E p). p.log c.provider) (none is) ∙ sym (ap (λ (s : Option SentBy). with_entries (give_up_entry now s) (p.log r.carrier.provider)) (none-log p number now r.carrier new running is))
       by (Some running) h some (Some key) is = up-log p number now r.carrier new key (ups key is) running (h running refl) is

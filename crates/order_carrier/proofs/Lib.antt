@@ -1,22 +1,22 @@
-pub mod Growing
-pub mod Keys
-pub mod Moments
-pub mod Asking
-pub mod Begun
-pub mod Outcomes
-pub mod Waiting
-pub mod Closing
-pub mod Holding
+pub mod LogGrowsByCalls
+pub mod KeysCompareEqual
+pub mod MomentsStayInOrder
+pub mod AsksOnlyServers
+pub mod StartAppendsItsEntry
+pub mod OutcomeIsOfItsOrder
+pub mod LogWaitsOnceMore
+pub mod ClosedOnce
+pub mod CarrierHoldsOn
 mod Slots
-mod Steps
-mod Polls
-mod Calls
-mod Taking
+mod CallByItsParts
+mod ProviderTellsPolls
+mod CallByProvider
+mod OrderByCallParts
 pub mod Sums
-pub mod Held
-pub mod Carried
-pub mod Carrying
+pub mod HeldUnderNumber
+pub mod CallCountsWaits
+pub mod OrderRunsOn
 pub mod PolledInFlight
-pub mod Free
+pub mod FreeNumberCarried
 pub mod StartedInFlight
 pub mod GivenUpInFlight

@@ -13,28 +13,28 @@ use Rattle.server_core.specs.declared.orders.order.Order.{Order}
 use Rattle.server_core.specs.declared.orders.order.Tick.{Tick}
 use Rattle.order_carrier.specs.Sent.{is_free}
 use Rattle.order_carrier.specs.Stand.{stand_at}
-use Rattle.order_carrier.specs.Runner.{held_at, polled_again, RunnerHolds, CanRun, RunnerMoves, GoesRight, StartsRight, IsCounted, Grows}
-use Rattle.order_carrier.specs.declared.in_flight.runner.Runner.{Runner}
-use Rattle.order_carrier.specs.declared.in_flight.runner.Running.{Running}
-use Rattle.order_carrier.proofs.Free.{free-runs}
-use Rattle.order_carrier.proofs.Held.{all-with, number-other}
+use Rattle.order_carrier.specs.InFlight.{held_at, polled_again, InFlightHolds, CanRun, RunnerMoves, GoesRight, StartsRight, IsCounted, Grows}
+use Rattle.order_carrier.specs.declared.in_flight.runner.InFlight.{InFlight}
+use Rattle.order_carrier.specs.declared.in_flight.runner.InFlightOrder.{InFlightOrder}
+use Rattle.order_carrier.proofs.FreeNumberCarried.{free-runs}
+use Rattle.order_carrier.proofs.HeldUnderNumber.{all-with, number-other}
 use Rattle.order_carrier.proofs.Sums.{left-put, left-same}
 
-module _ {P C F E : Type 0} (p : Ghosts P C F E) (number : ℕ) (r : Runner P C F E p) (order : Box Order) (held : BTreeMap ℕ Running) where
+module _ {P C F E : Type 0} (p : Ghosts P C F E) (number : ℕ) (r : InFlight P C F E p) (order : Box Order) (held : BTreeMap ℕ InFlightOrder) where
   -- the order, before it was polled
-  abbrev pub first : Running
+  abbrev pub first : InFlightOrder
   first = record { order = order; polls = 0 }
 
   -- the runner that holds it
-  abbrev pub with_first : Runner P C F E p
-  with_first = record r { held = held }
+  abbrev pub with_first : InFlight P C F E p
+  with_first = record r { orders = held }
 
-  module _ (updates : Updates nat_cmp r.held held number (Some first)) where
+  module _ (updates : Updates nat_cmp r.orders held number (Some first)) where
     put-others : (n : ℕ) → n ≢ number → held_at with_first n ≡ held_at r n
     put-others n differ = updates.2 n (number-other number n differ)
 
     -- it may be carried, where its number is free
-    pub start-can : (patience : ℕ) → RunnerHolds p r → is_free (stand_at r.carrier.slots) number ≡ true → CanRun p patience number with_first
+    pub start-can : (patience : ℕ) → InFlightHolds p r → is_free (stand_at r.carrier.slots) number ≡ true → CanRun p patience number with_first
     start-can patience h free = record {
       holds = record {
         carrier = h.carrier;
@@ -53,11 +53,11 @@ module _ {P C F E : Type 0} (p : Ghosts P C F E) (number : ℕ) (r : Runner P C 
       grown = m.grown;
       patient = m.patient;
       asks = λ policy right. m.asks policy (λ running is unseen.
-          subst (λ (h : Running). GoesRight (p.log r.carrier.provider) h.order.value policy) (same_Some _ _ (sym updates.1 ∙ is)) right);
+          subst (λ (h : InFlightOrder). GoesRight (p.log r.carrier.provider) h.order.value policy) (same_Some _ _ (sym updates.1 ∙ is)) right);
     }
 
-    module _ (patience : ℕ) (new : Runner P C F E p) (c : IsCounted patience number with_first new) where
-      pub start-grows : IsOrdered nat_cmp r.held → held.entries ≡ insert_entry nat_cmp r.held.entries number first → Grows patience number r new
+    module _ (patience : ℕ) (new : InFlight P C F E p) (c : IsCounted patience number with_first new) where
+      pub start-grows : IsOrdered nat_cmp r.orders → held.entries ≡ insert_entry nat_cmp r.orders.entries number first → Grows patience number r new
       start-grows ordered is =
           let put = left-put patience number r with_first first ordered is in
           let falls = c.falls in
@@ -68,9 +68,9 @@ module _ {P C F E : Type 0} (p : Ghosts P C F E) (number : ℕ) (r : Runner P C 
           }
 
   -- where nothing was put in all is as it was
-  module _ (same : IsUnchanged r.held held) where
+  module _ (same : IsUnchanged r.orders held) where
     held-same : (n : ℕ) → held_at with_first n ≡ held_at r n
-    held-same n = ap (λ (es : List (ℕ × Running)). lookup (is_at (nat_cmp n)) es) same
+    held-same n = ap (λ (es : List (ℕ × InFlightOrder)). lookup (is_at (nat_cmp n)) es) same
 
     pub same-grows : (patience : ℕ) → Grows patience number r with_first
     same-grows patience =

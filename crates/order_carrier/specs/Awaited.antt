@@ -8,7 +8,7 @@ use Rattle.dns_core.specs.declared.message.Query.{Query}
 use Rattle.dns_core.specs.declared.provider.ConnectionProvider.{Ghosts}
 use Rattle.server_core.specs.declared.orders.order.Order.{Order}
 use Rattle.server_core.specs.declared.orders.order.Order.TheVariants.{Open, Ask, Sleep}
-use Rattle.server_core.specs.declared.orders.order.Sent.{Sent}
+use Rattle.server_core.specs.declared.orders.order.SentBy.{SentBy}
 use Rattle.order_carrier.specs.declared.awaited.Awaited.{Awaited}
 use Rattle.order_carrier.specs.declared.awaited.Awaited.TheVariants as awaited
 
@@ -37,7 +37,7 @@ may_be_polled opens waits (awaited.Answer exchange sent) = waits exchange
 may_be_polled opens waits (awaited.Moment until) = true
 
 -- what was sent for what is waited for; nothing was for a moment
-abbrev pub sent_of : {F E : Type 0} → Awaited F E → Option Sent
+abbrev pub sent_of : {F E : Type 0} → Awaited F E → Option SentBy
 sent_of (awaited.Connection future sent) = Some sent
 sent_of (awaited.Answer exchange sent) = Some sent
 sent_of (awaited.Moment until) = None
@@ -54,7 +54,7 @@ query_of (Ask conn ip protocol request) = Some request.query
 query_of (Sleep until) = None
 
 -- how many entries are counted after the one that sent this, or gave it up, as far as the count goes
-abbrev pub counted_after : ℕ → Option Sent → ℕ
+abbrev pub counted_after : ℕ → Option SentBy → ℕ
 counted_after entries None = entries
 counted_after entries (Some sent) = min (entries + 1) (2 ^ 64 - 1)
 
@@ -65,15 +65,15 @@ target_of (Ask conn ip protocol request) = Some (record { ip = ip; query = Some 
 target_of (Sleep until) = None
 
 -- where what was sent went
-abbrev pub target : Sent → Target
+abbrev pub target : SentBy → Target
 target s = record { ip = s.ip; query = s.query }
 
 -- What was sent went to the address of the order, with its question, where it has one; for a sleep nothing was sent.
-abbrev pub IsSentFor : Order → Option Sent → Type 0
+abbrev pub IsSentFor : Order → Option SentBy → Type 0
 IsSentFor order sent = option_map target sent ≡ target_of order
 
 -- what an entry of this number sends for an order at a moment; for a sleep it is nothing
-abbrev pub sent_for : ℕ → ℕ → Order → Option Sent
+abbrev pub sent_for : ℕ → ℕ → Order → Option SentBy
 sent_for of now (Open ip config) = Some (record { of = of; ip = ip; moment = now; query = None })
 sent_for of now (Ask conn ip protocol request) = Some (record { of = of; ip = ip; moment = now; query = Some request.query })
 sent_for of now (Sleep until) = None

@@ -5,7 +5,7 @@ use Rattle.dns_core.specs.declared.provider.ConnectionProvider.{Ghosts}
 use Rattle.resolution.specs.Ending.{waits}
 use Rattle.server_core.specs.declared.orders.order.Order.{Order}
 use Rattle.server_core.specs.declared.orders.order.Outcome.{Outcome}
-use Rattle.server_core.specs.declared.orders.order.Sent.{Sent}
+use Rattle.server_core.specs.declared.orders.order.SentBy.{SentBy}
 use Rattle.order_carrier.specs.Closing.{AreClosedOnce}
 use Rattle.order_carrier.specs.Did.{State, Stand, Carried, IsHeard, sent_in}
 use Rattle.order_carrier.specs.Did.Stand.{Unseen}
@@ -21,11 +21,11 @@ state {p = p} c = record { options = c.options; provider = c.provider; log = p.l
 
 -- What is under way was sent by the entry that it names.
 abbrev pub AllSent : (OrderKey → Stand) → Log → Type 0
-AllSent stands log = (k : OrderKey) (s : Sent) → sent_in (stands k) ≡ Some s → IsSent log s None
+AllSent stands log = (k : OrderKey) (s : SentBy) → sent_in (stands k) ≡ Some s → IsSent log s None
 
 -- No two of what is under way were sent by one entry.
 abbrev pub AreApart : (OrderKey → Stand) → Type 0
-AreApart stands = (j k : OrderKey) (s t : Sent) → sent_in (stands j) ≡ Some s → sent_in (stands k) ≡ Some t → s.of ≡ t.of → j ≡ k
+AreApart stands = (j k : OrderKey) (s t : SentBy) → sent_in (stands j) ≡ Some s → sent_in (stands k) ≡ Some t → s.of ≡ t.of → j ≡ k
 
 -- No entry to come was waited for.
 abbrev pub IsUnwaited : Log → Type 0
@@ -55,7 +55,7 @@ pub record Carries {P C F E : Type 0} (p : Ghosts P C F E) (key : OrderKey) (ord
 
 -- A carrier polled what was sent for an order: it heard one thing, every other order stands where it stood, and its provider knows what is under way
 -- by the entry that sent it.
-pub record Hears {P C F E : Type 0} (p : Ghosts P C F E) (key : OrderKey) (order : Order) (sent : Option Sent) (now : ℕ) (old new : Carrier P C F E p)
+pub record Hears {P C F E : Type 0} (p : Ghosts P C F E) (key : OrderKey) (order : Order) (sent : Option SentBy) (now : ℕ) (old new : Carrier P C F E p)
     (result : Option (Option Outcome)) : Type 0 where
   pub heard : IsHeard key order sent now (state old) (state new) result
   pub named : IsSlotNamed p (p.log new.provider) (slot_at new.slots key)

@@ -2,7 +2,7 @@
 use Rattle.std.specs.Prelude.{◌≡◌, ◌≤◌, ◌<◌, ◌+◌, ℕ, List, [], ◌∷◌, length, Option, Some, None, if◌then◌else◌}
 use Rattle.dns_core.specs.declared.log.LogEntry.{LogEntry}
 use Rattle.resolution.specs.Timing.{closes}
-use Rattle.server_core.specs.declared.orders.order.Sent.{Sent}
+use Rattle.server_core.specs.declared.orders.order.SentBy.{SentBy}
 use Rattle.order_carrier.specs.Did.{Stand, Did, sent_in}
 use Rattle.order_carrier.specs.Did.Did.{Barred, LacksMemory, Refused, Started, Polled}
 use Rattle.order_carrier.specs.declared.key.OrderKey.{OrderKey}
@@ -17,7 +17,7 @@ closings of (e ∷ es) = (if closes of e then 1 else 0) + closings of es
 -- Each entry is closed at most once; what is under way is open, and so is each entry to come.
 pub record ClosesOnce (stands : OrderKey → Stand) (es : List LogEntry) : Type 0 where
   pub once : (of : ℕ) → closings of es ≤ 1
-  pub under_way : (k : OrderKey) (s : Sent) → sent_in (stands k) ≡ Some s → closings s.of es ≡ 0
+  pub under_way : (k : OrderKey) (s : SentBy) → sent_in (stands k) ≡ Some s → closings s.of es ≡ 0
   pub ahead : (of : ℕ) → length es < of → closings of es ≡ 0
 
 -- It holds where the log is told.

@@ -10,7 +10,7 @@ use Rattle.dns_core.specs.declared.log.ToldOutcome.TheVariants as said
 use Rattle.dns_core.specs.declared.net_error.NetError.{NetError}
 use Rattle.server_core.specs.declared.orders.order.Order.{Order}
 use Rattle.server_core.specs.declared.orders.order.Order.TheVariants.{Open, Ask, Sleep}
-use Rattle.server_core.specs.declared.orders.order.Sent.{Sent}
+use Rattle.server_core.specs.declared.orders.order.SentBy.{SentBy}
 use Rattle.server_core.specs.declared.orders.order.Outcome.{Outcome}
 use Rattle.server_core.specs.declared.orders.order.Outcome.TheVariants as outcome
 use Rattle.order_carrier.specs.Awaited.{IsSentFor, sent_for}
@@ -24,7 +24,7 @@ use Rattle.order_carrier.specs.declared.polling.Heard.TheVariants as hear
 -- outcome was handed out, or it was given up.
 pub data Stand : Type 0 where
   Unseen : Stand
-  UnderWay : Order → Option Sent → Stand
+  UnderWay : Order → Option SentBy → Stand
   Made : Peer → Stand
   Over : Stand
 
@@ -36,7 +36,7 @@ order_in (Made peer) = None
 order_in Over = None
 
 -- what was sent for the order that is under way
-abbrev pub sent_in : Stand → Option Sent
+abbrev pub sent_in : Stand → Option SentBy
 sent_in Unseen = None
 sent_in (UnderWay order sent) = sent
 sent_in (Made peer) = None
@@ -56,7 +56,7 @@ pub record State (P : Type 0) : Type 0 where
 pub data Did : Type 0 where
   Barred : Did
   LacksMemory : Did
-  Refused : Sent → NetError → Did
+  Refused : SentBy → NetError → Did
   Started : Heard → Did
   Polled : Heard → Did
 
@@ -80,8 +80,8 @@ abbrev pub HasNumbers : ℕ → Type 0
 HasNumbers entries = entries + 4 < 2 ^ 64
 
 -- What a poll may come to at a moment, of an order for which this was sent.
-abbrev pub MayHear : ℕ → Order → Option Sent → Heard → Type 0
-MayHear now order sent (hear.Waiting of) = option_map (λ (s : Sent). s.of) sent ≡ Some of
+abbrev pub MayHear : ℕ → Order → Option SentBy → Heard → Type 0
+MayHear now order sent (hear.Waiting of) = option_map (λ (s : SentBy). s.of) sent ≡ Some of
 MayHear now order sent hear.OutOfMemory = IsSome sent
 MayHear now order sent (hear.Connected s) = (sent ≡ Some s) × (s.query ≡ None)
 MayHear now order sent (hear.Answered s message) = (sent ≡ Some s) × (s.query ≡ Some message.query)
@@ -98,7 +98,7 @@ pub record MayStart {P : Type 0} (old : State P) (key : OrderKey) (order : Order
 -- It was under way by what was sent for it, of which this may be heard, and numbers are left.
 pub record MayPoll {P : Type 0} (old : State P) (key : OrderKey) (order : Order) (now : ℕ) (heard : Heard) : Type 0 where
   pub numbers : HasNumbers old.entries
-  pub sent : Option Sent
+  pub sent : Option SentBy
   pub stood : old.stands key ≡ UnderWay order sent
   pub sends : IsSentFor order sent
   pub hears : MayHear now order sent heard
@@ -170,7 +170,7 @@ made_by (Ask conn ip protocol request) = Over
 made_by (Sleep until) = Over
 
 -- where an order stands that was under way, by what was heard of it
-abbrev pub heard_stand : Order → Option Sent → Heard → Stand
+abbrev pub heard_stand : Order → Option SentBy → Heard → Stand
 heard_stand order sent (hear.Waiting of) = UnderWay order sent
 heard_stand order sent hear.OutOfMemory = UnderWay order sent
 heard_stand order sent (hear.Connected s) = made_by order
@@ -199,7 +199,7 @@ pub record Carried {P : Type 0} (key : OrderKey) (order : Order) (now : ℕ) (ol
   pub stand : new.stands key ≡ stand_after (old.entries + 1) now order (old.stands key) did
 
 -- A poll of an order for which this was sent heard one thing that it may hear, and what follows of it is so.
-pub record IsHeard {P : Type 0} (key : OrderKey) (order : Order) (sent : Option Sent) (now : ℕ) (old new : State P) (result : Option (Option Outcome)) : Type 0 where
+pub record IsHeard {P : Type 0} (key : OrderKey) (order : Order) (sent : Option SentBy) (now : ℕ) (old new : State P) (result : Option (Option Outcome)) : Type 0 where
   pub heard : Heard
   pub hears : MayHear now order sent heard
   pub options : new.options ≡ old.options

@@ -12,31 +12,31 @@ use Rattle.resolution.specs.Asking.{IsServer, IsServerFor}
 use Rattle.server_core.specs.Order.{entry_of}
 use Rattle.server_core.specs.declared.orders.order.Order.{Order}
 use Rattle.server_core.specs.declared.orders.order.Order.TheVariants.{Open, Ask, Sleep}
-use Rattle.server_core.specs.declared.orders.order.Sent.{Sent}
+use Rattle.server_core.specs.declared.orders.order.SentBy.{SentBy}
 use Rattle.server_core.specs.declared.orders.order.Outcome.{Outcome}
 use Rattle.server_core.specs.declared.orders.order.Outcome.TheVariants.{Pending, Connected, Told, Failed, Slept}
 use Rattle.order_carrier.specs.Awaited.{IsSentFor}
 
 -- the entry of what was sent: an opening, or a question
-abbrev pub entry_for : Sent → Protocol → Option NetError → LogEntry
+abbrev pub entry_for : SentBy → Protocol → Option NetError → LogEntry
 entry_for s protocol refusal = elim s.query [
   | None ↦ line.Opened s.ip protocol s.moment refusal
   | Some q ↦ line.Asked s.ip protocol q s.moment refusal
 ]
 
 -- It was sent by its entry, or refused.
-pub record IsSent (log : Log) (s : Sent) (refusal : Option NetError) : Type 0 where
+pub record IsSent (log : Log) (s : SentBy) (refusal : Option NetError) : Type 0 where
   pub protocol : Protocol
   pub logged : Logged log s.of (entry_for s protocol refusal)
 
 -- The entry, which came later, speaks of what was sent.
-pub record Closes (log : Log) (s : Sent) (entry : ℕ) (e : LogEntry) : Type 0 where
+pub record Closes (log : Log) (s : SentBy) (entry : ℕ) (e : LogEntry) : Type 0 where
   pub sent : IsSent log s None
   pub logged : Logged log entry e
   pub before : s.of < entry
 
 -- It was refused, at the moment, by its own entry.
-pub record WasRefused (log : Log) (now : ℕ) (s : Sent) (entry : ℕ) (error : NetError) : Type 0 where
+pub record WasRefused (log : Log) (now : ℕ) (s : SentBy) (entry : ℕ) (error : NetError) : Type 0 where
   pub sent : IsSent log s (Some error)
   pub at : s.of ≡ entry
   pub then : s.moment ≡ now
@@ -56,17 +56,17 @@ pub record Fits (log : Log) (now : ℕ) (outcome : Outcome) : Type 0 where
   pub is : OutcomeIs log now outcome
 
 -- A poll that found nothing is in the log as one of what it waits for, where that is known.
-abbrev pub WaitsBy : Log → Option Sent → Outcome → Type 0
+abbrev pub WaitsBy : Log → Option SentBy → Outcome → Type 0
 WaitsBy log (Some s) (Pending entry of) = s.of ≡ of → Closes log s entry (line.Waited of)
 WaitsBy log (Some s) (Connected entry sent) = Unit {0}
 WaitsBy log (Some s) (Told entry sent message) = Unit {0}
 WaitsBy log (Some s) (Failed entry sent refused error) = Unit {0}
 WaitsBy log (Some s) Slept = Unit {0}
-WaitsBy log None o = Unit {0}
+WaitsBy log None outcome = Unit {0}
 
 -- The entry says that a poll of what entry `of` sent for the order found nothing.
 pub record WaitsStill (log : Log) (order : Order) (entry of : ℕ) : Type 0 where
-  pub sent : Sent
+  pub sent : SentBy
   pub sends : IsSentFor order (Some sent)
   pub by_entry : sent.of ≡ of
   pub waits : Closes log sent entry (line.Waited of)

@@ -3,7 +3,7 @@ use Rattle.std.specs.Prelude.{◌≡◌, ℕ, List, [], ◌∷◌, Option, Some,
 use Rattle.dns_core.specs.declared.log.LogEntry.{LogEntry}
 use Rattle.dns_core.specs.declared.log.LogEntry.TheVariants as line
 use Rattle.dns_core.specs.declared.provider.ConnectionProvider.{Ghosts}
-use Rattle.server_core.specs.declared.orders.order.Sent.{Sent}
+use Rattle.server_core.specs.declared.orders.order.SentBy.{SentBy}
 use Rattle.order_carrier.specs.Did.{State, Stand, order_in, sent_in}
 use Rattle.order_carrier.specs.Did.Stand.{Over}
 use Rattle.order_carrier.specs.Awaited.{counted_after}
@@ -26,7 +26,7 @@ open_key stands number =
     else None
 
 -- the entry by which was given up what was sent; a sleep has none
-abbrev pub give_up_entry : ℕ → Option Sent → List LogEntry
+abbrev pub give_up_entry : ℕ → Option SentBy → List LogEntry
 give_up_entry now None = []
 give_up_entry now (Some sent) = line.GaveUp sent.of now ∷ []
 

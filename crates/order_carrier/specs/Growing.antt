@@ -22,7 +22,7 @@ pub record LongerThan (now : ℕ) (old : Option (List LogEntry)) (es : List LogE
   pub before : List LogEntry
   pub was : old ≡ Some before
   pub extends : Extends (log_of before) (log_of es)
-  pub at : (i moment : ℕ) (e : LogEntry) → (log_of before).next ≤ i → Logged (log_of es) i e → moment_of e ≡ Some moment → moment ≡ now
+  pub at : (i moment : ℕ) (entry : LogEntry) → (log_of before).next ≤ i → Logged (log_of es) i entry → moment_of entry ≡ Some moment → moment ≡ now
 
 -- A log that is told has grown by entries of the moment.
 abbrev pub Grown : ℕ → Option (List LogEntry) → Option (List LogEntry) → Type 0
@@ -41,7 +41,7 @@ pub record LongerOver (moments : List ℕ) (from : ℕ) (old : Option (List LogE
   pub before : List LogEntry
   pub was : old ≡ Some before
   pub extends : Extends (log_of before) (log_of es)
-  pub at : (i moment : ℕ) (e : LogEntry) → (log_of before).next ≤ i → Logged (log_of es) i e → moment_of e ≡ Some moment → Contains moments moment × (from ≤ moment)
+  pub at : (i moment : ℕ) (entry : LogEntry) → (log_of before).next ≤ i → Logged (log_of es) i entry → moment_of entry ≡ Some moment → Contains moments moment × (from ≤ moment)
   pub rises : RiseFrom (log_of before).next (log_of es)
 
 abbrev pub GrownOver : List ℕ → ℕ → Option (List LogEntry) → Option (List LogEntry) → Type 0

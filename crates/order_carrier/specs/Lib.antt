@@ -11,4 +11,4 @@ pub mod GivingUp
 pub mod Sent
 pub mod Starts
 pub mod Patience
-pub mod Runner
+pub mod InFlight

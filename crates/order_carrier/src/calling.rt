@@ -8,19 +8,19 @@ ghost use Rattle.server_core.specs.declared.orders.order.Order.{Order as Ordered
 
 use crate::awaited::Awaited;
 use dns_core::{ConnectOptions, ConnectionConfig, ConnectionProvider, DnsRequest, NetError, Query};
-use server_core::{Order, Sent};
+use server_core::{Order, SentBy};
 use std::net::IpAddr;
 
 /// What a call came to: no memory, a refusal of what was sent, or what is waited for.
 #[derive(Drop)]
 pub enum Called<F, E> {
     OutOfMemory,
-    Refused(Sent, NetError),
+    Refused(SentBy, NetError),
     Going(Awaited<F, E>),
 }
 
 /// What an error comes to: want of memory is no refusal.
-fn refusal<F, E>(sent: Sent, error: NetError) -> Called<F, E>
+fn refusal<F, E>(sent: SentBy, error: NetError) -> Called<F, E>
     ensures { result ≡ (if is_memory error then Called.OutOfMemory else Called.Refused sent error) }
 {
     if error.is_memory() {
@@ -35,7 +35,7 @@ fn call_open<P: ConnectionProvider>(
     options: &ConnectOptions,
     ip: IpAddr,
     config: &ConnectionConfig,
-    sent: Sent,
+    sent: SentBy,
     now: u64,
 ) -> Called<P::FutureConn, P::Exchange>
     requires { sent_for sent.of now (Order.Open ip config.now) ≡ Some sent }
@@ -52,7 +52,7 @@ fn call_ask<P: ConnectionProvider>(
     provider: &mut P,
     over: P::Conn,
     request: &DnsRequest,
-    sent: Sent,
+    sent: SentBy,
     now: u64,
 ) -> Called<P::FutureConn, P::Exchange>
     requires { sent ≡ record { of = sent.of; ip = (P.peer over).ip; moment = now; query = Some request.now.query } }
@@ -85,7 +85,7 @@ pub fn call<P: ConnectionProvider>(
 {
     match order {
         Order::Open { ip, config } => {
-            let sent = Sent {
+            let sent = SentBy {
                 of,
                 ip: *ip,
                 moment: now,
@@ -95,7 +95,7 @@ pub fn call<P: ConnectionProvider>(
         }
         Order::Ask { ip, request, .. } => {
             let Some(conn) = over else { unreachable!() };
-            let sent = Sent {
+            let sent = SentBy {
                 of,
                 ip: *ip,
                 moment: now,

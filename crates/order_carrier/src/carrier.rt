@@ -13,7 +13,7 @@ ghost use Rattle.order_carrier.specs.declared.key.OrderKey.{OrderKey as Key};
 use crate::awaited::Awaited;
 use crate::key::OrderKey;
 use crate::polling::{Heard, Polled, poll_awaited};
-use crate::slot::Slot;
+use crate::order_state::OrderState;
 use crate::under_way::UnderWay;
 use dns_core::{ConnectOptions, ConnectionProvider, NoMemory};
 use server_core::{Order, Outcome};
@@ -26,7 +26,7 @@ pub struct Carrier<P: ConnectionProvider> {
     pub(crate) alloc: Global,
     pub(crate) provider: P,
     pub(crate) options: ConnectOptions,
-    pub(crate) slots: BTreeMap<OrderKey, Slot<P>>,
+    pub(crate) slots: BTreeMap<OrderKey, OrderState<P>>,
     pub(crate) entries: u64,
 }
 
@@ -106,7 +106,7 @@ impl<P: ConnectionProvider> Carrier<P> {
     }
 
     /// Puts into a place what stands there from now on.
-    pub(crate) fn put(&mut self, key: OrderKey, slot: Slot<P>)
+    pub(crate) fn put(&mut self, key: OrderKey, slot: OrderState<P>)
         requires { IsSome (slot_at self.old.slots key) }
         ensures same { (self.new.provider ≡ self.old.provider) × (self.new.entries ≡ self.old.entries) × (self.new.options ≡ self.old.options) }
         ensures slots { IsPutAt key slot self.old.slots self.new.slots }
@@ -115,15 +115,15 @@ impl<P: ConnectionProvider> Carrier<P> {
     }
 
     /// Takes what stands in a place, and leaves that it is over.
-    pub(crate) fn take(&mut self, key: OrderKey) -> Slot<P>
+    pub(crate) fn take(&mut self, key: OrderKey) -> OrderState<P>
         requires { IsSome (slot_at self.old.slots key) }
         ensures same { (self.new.provider ≡ self.old.provider) × (self.new.entries ≡ self.old.entries) × (self.new.options ≡ self.old.options) }
-        ensures was { result ≡ unwrap_or (slot_at self.old.slots key) Slot.Over }
-        ensures slots { IsPutAt key Slot.Over self.old.slots self.new.slots }
+        ensures was { result ≡ unwrap_or (slot_at self.old.slots key) OrderState.Done }
+        ensures slots { IsPutAt key OrderState.Done self.old.slots self.new.slots }
     {
         match self.slots.get_mut(&key) {
-            Some(place) => mem::replace(place, Slot::Over),
-            None => Slot::Over,
+            Some(place) => mem::replace(place, OrderState::Done),
+            None => OrderState::Done,
         }
     }
 
@@ -145,8 +145,8 @@ impl<P: ConnectionProvider> Carrier<P> {
             return true;
         }
         match self.slots.get(&key) {
-            None | Some(Slot::Fresh) => true,
-            Some(Slot::UnderWay(_) | Slot::Made(_) | Slot::Over) => false,
+            None | Some(OrderState::Reserved) => true,
+            Some(OrderState::InFlight(_) | OrderState::Connected(_) | OrderState::Done) => false,
         }
     }
 
@@ -155,8 +155,8 @@ impl<P: ConnectionProvider> Carrier<P> {
         ensures { IsTrue result ↔ (order_in (stand_at self.now.slots key) ≡ Some order.now) }
     {
         match self.slots.get(&key) {
-            Some(Slot::UnderWay(under_way)) => under_way.order.identical(order),
-            None | Some(Slot::Fresh | Slot::Made(_) | Slot::Over) => false,
+            Some(OrderState::InFlight(under_way)) => under_way.order.identical(order),
+            None | Some(OrderState::Reserved | OrderState::Connected(_) | OrderState::Done) => false,
         }
     }
 
@@ -240,7 +240,7 @@ impl<P: ConnectionProvider> Carrier<P> {
         if !self.has_numbers() {
             return Err(NoMemory);
         }
-        let Slot::UnderWay(under_way) = self.take(key) else {
+        let OrderState::InFlight(under_way) = self.take(key) else {
             unreachable!()
         };
         self.poll(key, under_way, now)

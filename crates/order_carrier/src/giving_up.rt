@@ -12,7 +12,7 @@ ghost use Rattle.order_carrier.specs.declared.key.OrderKey.{OrderKey as Key};
 use crate::awaited::Awaited;
 use crate::carrier::Carrier;
 use crate::key::{Form, OrderKey};
-use crate::slot::Slot;
+use crate::order_state::OrderState;
 use crate::under_way::UnderWay;
 use dns_core::ConnectionProvider;
 
@@ -39,8 +39,8 @@ impl<P: ConnectionProvider> Carrier<P> {
         ensures { result ≡ is_some (order_in (stand_at self.now.slots key)) }
     {
         match self.slots.get(&key) {
-            Some(Slot::UnderWay(_)) => true,
-            None | Some(Slot::Fresh | Slot::Made(_) | Slot::Over) => false,
+            Some(OrderState::InFlight(_)) => true,
+            None | Some(OrderState::Reserved | OrderState::Connected(_) | OrderState::Done) => false,
         }
     }
 
@@ -78,7 +78,7 @@ impl<P: ConnectionProvider> Carrier<P> {
         ensures vouches { (es : List LogEntry) → P.vouches self.new.provider es → P.vouches self.old.provider es }
         ensures gives_up { GivesUp key now self.old self.new }
     {
-        let Slot::UnderWay(under_way) = self.take(key) else {
+        let OrderState::InFlight(under_way) = self.take(key) else {
             unreachable!()
         };
         let UnderWay { order: _, awaited } = under_way;

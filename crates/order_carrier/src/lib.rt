@@ -12,10 +12,10 @@ mod in_flight;
 mod key;
 mod polling;
 mod sent;
-mod slot;
+mod order_state;
 mod starting;
 mod threads;
 mod under_way;
 
 pub use carrier::Carrier;
-pub use in_flight::runner::{Runner, Running};
+pub use in_flight::runner::{InFlight, InFlightOrder};

@@ -5,10 +5,10 @@ ghost use Rattle.order_carrier.specs.Awaited.{sent_of, GoesFor, IsNamed};
 ghost use Rattle.order_carrier.specs.Stand.{IsPolled};
 
 use crate::awaited::Awaited;
-use crate::slot::Slot;
+use crate::order_state::OrderState;
 use crate::under_way::{Connection, UnderWay};
 use dns_core::{ConnectionProvider, Message, NetError, Poll};
-use server_core::{Order, Sent};
+use server_core::{Order, SentBy};
 
 /// What a poll came to: of what an entry sent nothing yet, no memory, a connection, an answer or an
 /// error; a sleep rests, or has ended.
@@ -16,9 +16,9 @@ use server_core::{Order, Sent};
 pub enum Heard {
     Waiting(u64),
     OutOfMemory,
-    Connected(Sent),
-    Answered(Sent, Message),
-    Failed(Sent, NetError),
+    Connected(SentBy),
+    Answered(SentBy, Message),
+    Failed(SentBy, NetError),
     Resting,
     Slept,
 }
@@ -26,7 +26,7 @@ pub enum Heard {
 /// What a poll leaves in the place of the order, and what was heard.
 #[derive(Drop)]
 pub struct Polled<P: ConnectionProvider> {
-    pub slot: Slot<P>,
+    pub slot: OrderState<P>,
     pub heard: Heard,
 }
 
@@ -34,7 +34,7 @@ fn poll_connection<P: ConnectionProvider>(
     provider: &mut P,
     order: Box<Order>,
     future: P::FutureConn,
-    sent: Sent,
+    sent: SentBy,
     now: u64,
 ) -> Polled<P>
     requires goes { GoesFor P.ConnectionProvider order.value (Awaited.Connection future sent) }
@@ -47,11 +47,11 @@ fn poll_connection<P: ConnectionProvider>(
         Poll::Pending => {
             let heard = Heard::Waiting(sent.of);
             let awaited = Awaited::Connection { future, sent };
-            let slot = Slot::UnderWay(UnderWay { order, awaited });
+            let slot = OrderState::InFlight(UnderWay { order, awaited });
             Polled { slot, heard }
         }
         Poll::Ready(Ok(conn)) => {
-            let slot = Slot::Made(Connection { conn, order });
+            let slot = OrderState::Connected(Connection { conn, order });
             let heard = Heard::Connected(sent);
             Polled { slot, heard }
         }
@@ -59,11 +59,11 @@ fn poll_connection<P: ConnectionProvider>(
             if error.is_memory() {
                 drop(error);
                 let awaited = Awaited::Connection { future, sent };
-                let slot = Slot::UnderWay(UnderWay { order, awaited });
+                let slot = OrderState::InFlight(UnderWay { order, awaited });
                 let heard = Heard::OutOfMemory;
                 return Polled { slot, heard };
             }
-            let slot = Slot::Over;
+            let slot = OrderState::Done;
             let heard = Heard::Failed(sent, error);
             Polled { slot, heard }
         }
@@ -74,7 +74,7 @@ fn poll_answer<P: ConnectionProvider>(
     provider: &mut P,
     order: Box<Order>,
     exchange: P::Exchange,
-    sent: Sent,
+    sent: SentBy,
     now: u64,
 ) -> Polled<P>
     requires goes { GoesFor P.ConnectionProvider order.value (Awaited.Answer exchange sent) }
@@ -87,22 +87,22 @@ fn poll_answer<P: ConnectionProvider>(
         Poll::Pending => {
             let heard = Heard::Waiting(sent.of);
             let awaited = Awaited::Answer { exchange, sent };
-            let slot = Slot::UnderWay(UnderWay { order, awaited });
+            let slot = OrderState::InFlight(UnderWay { order, awaited });
             Polled { slot, heard }
         }
         Poll::Ready(Ok(message)) => {
-            let (slot, heard) = (Slot::Over, Heard::Answered(sent, message));
+            let (slot, heard) = (OrderState::Done, Heard::Answered(sent, message));
             Polled { slot, heard }
         }
         Poll::Ready(Err(error)) => {
             if error.is_memory() {
                 drop(error);
                 let awaited = Awaited::Answer { exchange, sent };
-                let slot = Slot::UnderWay(UnderWay { order, awaited });
+                let slot = OrderState::InFlight(UnderWay { order, awaited });
                 let heard = Heard::OutOfMemory;
                 return Polled { slot, heard };
             }
-            let slot = Slot::Over;
+            let slot = OrderState::Done;
             let heard = Heard::Failed(sent, error);
             Polled { slot, heard }
         }
@@ -116,11 +116,11 @@ fn poll_moment<P: ConnectionProvider>(order: Box<Order>, until: u64, now: u64) -
 {
     if now < until {
         let awaited = Awaited::Moment { until };
-        let slot = Slot::UnderWay(UnderWay { order, awaited });
+        let slot = OrderState::InFlight(UnderWay { order, awaited });
         let heard = Heard::Resting;
         return Polled { slot, heard };
     }
-    let slot = Slot::Over;
+    let slot = OrderState::Done;
     let heard = Heard::Slept;
     Polled { slot, heard }
 }

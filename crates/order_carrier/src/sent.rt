@@ -9,12 +9,12 @@ ghost use Rattle.order_carrier.specs.Stand.{stand_at};
 use crate::awaited::Awaited;
 use crate::carrier::Carrier;
 use crate::key::{Form, OrderKey};
-use crate::slot::Slot;
+use crate::order_state::OrderState;
 use dns_core::ConnectionProvider;
-use server_core::{Order, Sent};
+use server_core::{Order, SentBy};
 
 /// What was sent for what is waited for; nothing was for a moment.
-fn sent_of<F, E>(awaited: &Awaited<F, E>) -> Option<&Sent>
+fn sent_of<F, E>(awaited: &Awaited<F, E>) -> Option<&SentBy>
     ensures { option_copied result ≡ sent_of awaited.now }
 {
     match awaited {
@@ -26,12 +26,12 @@ fn sent_of<F, E>(awaited: &Awaited<F, E>) -> Option<&Sent>
 
 impl<P: ConnectionProvider> Carrier<P> {
     /// What was sent for an order that is under way under its number; nothing was for a sleep.
-    pub fn sent(&self, number: u64, order: &Order) -> Option<&Sent>
+    pub fn sent(&self, number: u64, order: &Order) -> Option<&SentBy>
         ensures { option_copied result ≡ sent_in (stand_at self.now.slots (key_of number order.now)) }
     {
         match self.slots.get(&OrderKey::of(number, order)) {
-            Some(Slot::UnderWay(under_way)) => sent_of(&under_way.awaited),
-            None | Some(Slot::Fresh | Slot::Made(_) | Slot::Over) => None,
+            Some(OrderState::InFlight(under_way)) => sent_of(&under_way.awaited),
+            None | Some(OrderState::Reserved | OrderState::Connected(_) | OrderState::Done) => None,
         }
     }
 
@@ -40,8 +40,8 @@ impl<P: ConnectionProvider> Carrier<P> {
         ensures { result ≡ is_some (order_in (stand_at self.now.slots (record { number = number; form = form }))) }
     {
         match self.slots.get(&OrderKey { number, form }) {
-            Some(Slot::UnderWay(_)) => true,
-            None | Some(Slot::Fresh | Slot::Made(_) | Slot::Over) => false,
+            Some(OrderState::InFlight(_)) => true,
+            None | Some(OrderState::Reserved | OrderState::Connected(_) | OrderState::Done) => false,
         }
     }
 

@@ -13,10 +13,10 @@ ghost use Rattle.order_carrier.specs.Carrying.{Carries, IsRoomMade};
 use crate::calling::{Called, call};
 use crate::carrier::Carrier;
 use crate::key::{Form, OrderKey};
-use crate::slot::Slot;
+use crate::order_state::OrderState;
 use crate::under_way::UnderWay;
 use dns_core::{ConnectionProvider, NetError, NoMemory, Protocol, Query, TryClone, in_box};
-use server_core::{Order, Outcome, Sent};
+use server_core::{Order, Outcome, SentBy};
 use std::alloc::Global;
 use std::net::IpAddr;
 
@@ -53,8 +53,8 @@ impl<P: ConnectionProvider> Carrier<P> {
             form: Form::Open,
         };
         match self.slots.get(&key) {
-            Some(Slot::Made(made)) => made.over(ip, protocol),
-            None | Some(Slot::Fresh | Slot::UnderWay(_) | Slot::Over) => None,
+            Some(OrderState::Connected(made)) => made.over(ip, protocol),
+            None | Some(OrderState::Reserved | OrderState::InFlight(_) | OrderState::Done) => None,
         }
     }
 
@@ -96,7 +96,7 @@ impl<P: ConnectionProvider> Carrier<P> {
         }
         let query = question(self.alloc, order)?;
         let copy = boxed_copy(self.alloc, order)?;
-        match self.slots.insert(key, Slot::Fresh) {
+        match self.slots.insert(key, OrderState::Reserved) {
             Ok(before) => {
                 drop(before);
                 Ok((copy, query))
@@ -110,16 +110,16 @@ impl<P: ConnectionProvider> Carrier<P> {
     }
 
     /// An order was refused by an entry of its own, and is over.
-    fn refuse(&mut self, key: OrderKey, sent: Sent, error: NetError) -> Outcome
+    fn refuse(&mut self, key: OrderKey, sent: SentBy, error: NetError) -> Outcome
         requires numbers { self.old.entries + 2 < 2 ^ 64 }
         requires place { IsSome (slot_at self.old.slots key) }
         ensures told { result ≡ Outcome.Failed (self.old.entries + 1) sent true error }
         ensures entries { self.new.entries ≡ self.old.entries + 1 }
         ensures same { (self.new.provider ≡ self.old.provider) × (self.new.options ≡ self.old.options) }
-        ensures slots { IsPutAt key Slot.Over self.old.slots self.new.slots }
+        ensures slots { IsPutAt key OrderState.Done self.old.slots self.new.slots }
     {
         let entry = self.entries + 1;
-        self.put(key, Slot::Over);
+        self.put(key, OrderState::Done);
         self.entries = entry;
         Outcome::Failed {
             entry,

@@ -6,14 +6,14 @@ use Rattle.server_core.specs.Sending.{is_open}
 use Rattle.server_core.specs.Servers.{Server, server_of}
 use Rattle.server_core.specs.declared.sends.server_send.Stage.{Stage}
 use Rattle.server_core.specs.declared.sends.server_send.Stage.TheVariants as stage
-use Rattle.pool_rules.specs.Agenda.{may_ask}
-use Rattle.pool_rules.specs.declared.candidate.Candidate.{Candidate}
+use Rattle.pool_rules.specs.RetryQueue.{may_ask}
+use Rattle.pool_rules.specs.declared.pool_server.PoolServer.{PoolServer}
 use Rattle.pool_lookup.specs.declared.attempt.Attempt.{Attempt}
 
 -- the request is sent to the server for the first time, over UDP too or without it
-abbrev pub first_attempt : DnsRequest → Bool → Candidate → Attempt
-first_attempt request off c =
-    record { candidate = c; order = 0; send = record { server = c.server; request = request; policy = record { disable_udp = off }; retried = false; stage = stage.Ready } }
+abbrev pub first_attempt : DnsRequest → Bool → PoolServer → Attempt
+first_attempt request udp_off c =
+    record { candidate = c; order = 0; send = record { server = c.server; request = request; policy = record { disable_udp = udp_off }; retried = false; stage = stage.Ready } }
 
 -- its open order has the number
 abbrev pub is_open_at : ℕ → Attempt → Bool

@@ -1,6 +1,6 @@
 -- How a lookup backs off before it asks the servers again that were busy.
 use Rattle.std.specs.Prelude.{◌≡◌, ◌≤◌, ◌<◌, length, ℕ, ◌+◌, ◌==◌, nat_le, Bool, true, false, [], if◌then◌else◌, Option, Some, None}
-use Rattle.pool_rules.specs.Agenda.{Plan}
+use Rattle.pool_rules.specs.RetryQueue.{QueueState}
 use Rattle.server_core.specs.declared.orders.order.Outcome.{Outcome}
 use Rattle.server_core.specs.declared.orders.order.Outcome.TheVariants.{Pending, Connected, Told, Failed, Slept}
 use Rattle.server_core.specs.declared.orders.order.After.{After}
@@ -32,7 +32,7 @@ after_backoff patience polls (Failed entry sent refused error) = Ended
 after_backoff patience polls Slept = Ended
 
 -- the busy servers wait to be asked again
-abbrev pub asked_again : Plan → Plan
+abbrev pub asked_again : QueueState → QueueState
 asked_again p = record p { waiting = p.busy; busy = []; sleeps = p.sleeps + 1 }
 
 -- the backoff is over
@@ -41,12 +41,12 @@ woken now l = settled now (record l { queue = asked_again l.queue; state = Askin
 
 -- the outcome of its order, after so many polls of it
 abbrev pub after_sleep : Tick → ℕ → Option ℕ → ℕ → Outcome → LookupState → LookupState
-after_sleep tick until order polls o l =
-    if goes_on tick.patience polls o then record l { state = BackingOff until order (polls + 1) } else woken tick.now l
+after_sleep tick until order polls outcome l =
+    if goes_on tick.patience polls outcome then record l { state = BackingOff until order (polls + 1) } else woken tick.now l
 
 -- The busy servers can be asked again, and there is room for them.
 pub record CanWake (l : LookupState) : Type 0 where
   pub few : l.queue.sleeps < 4
   pub none : l.queue.waiting ≡ []
-  pub some : 1 ≤ l.together
+  pub some : 1 ≤ l.concurrency
   pub busy : length l.queue.busy ≤ length l.servers

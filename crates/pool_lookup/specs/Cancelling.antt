@@ -19,8 +19,8 @@ use Rattle.pool_lookup.specs.Lookup.{LookupState, under_way}
 
 -- a message ends the lookup: one that is not cut, and where UDP is off each
 abbrev pub ends_by_message : Bool → Answered → Bool
-ends_by_message off (Ok m) = not m.truncation || off
-ends_by_message off (Err e) = false
+ends_by_message udp_off (Ok m) = not m.truncation || udp_off
+ends_by_message udp_off (Err e) = false
 
 -- the server counts as slower by 5,000 microseconds than one that answered in so many
 abbrev pub after_cancelled : ℕ → ℕ → Server → Server
@@ -60,32 +60,32 @@ cancelled_table now l table = fold (λ t n. changed_at (after_cancelled (now - l
 
 -- where an end is a message that ends the lookup, the others of the round record it
 abbrev pub ended_table : Answered → ℕ → Bool → LookupState → List Server → List Server
-ended_table end now off closed table = if ends_by_message off end then cancelled_table now closed table else table
+ended_table end now udp_off closed table = if ends_by_message udp_off end then cancelled_table now closed table else table
 
 -- what the end of the attempt at a place does to the table
 abbrev pub ended_at : ℕ → ℕ → Attempt → ℕ → LookupState → Option Answered → List Server → List Server
 ended_at place entry a now l None table = table
-ended_at place entry a now l (Some end) table = ended_table end now l.queue.off (closed place a.candidate.server entry l) table
+ended_at place entry a now l (Some end) table = ended_table end now l.queue.udp_off (closed place a.candidate.server entry l) table
 
 -- the server of the attempt has heard the outcome of its order
 abbrev pub heard_table : Tick → Outcome → Attempt → List Server → List Server
-heard_table tick o a table = changed_at (heard_put tick.patience a.send.stage tick.now o) a.send.server table
+heard_table tick outcome a table = changed_at (heard_put tick.patience a.send.stage tick.now outcome) a.send.server table
 
 -- what the outcome of the attempt at a place does to the table
 abbrev pub table_after : Tick → ℕ → Outcome → LookupState → List Server → List Server
-table_after tick place o l table = elim (slice_get l.attempts place) [
+table_after tick place outcome l table = elim (slice_get l.attempts place) [
   | None ↦ table
-  | Some a ↦ ended_at place (closing_entry o) a tick.now l (end_by tick.patience o a) (heard_table tick o a table)
+  | Some a ↦ ended_at place (closing_entry outcome) a tick.now l (end_by tick.patience outcome a) (heard_table tick outcome a table)
 ]
 
 abbrev pub table_put : Tick → Option ℕ → Outcome → LookupState → List Server → List Server
-table_put tick None o l table = table
-table_put tick (Some place) o l table = table_after tick place o l table
+table_put tick None outcome l table = table
+table_put tick (Some place) outcome l table = table_after tick place outcome l table
 
 -- and that of the open order of a number: the outcome of a backoff does nothing to it, and neither does a late one
 abbrev pub table_heard : Tick → ℕ → Outcome → LookupState → List Server → List Server
-table_heard tick number o l table = elim l.state [
-  | Asking ↦ table_put tick (position (is_open_at number) l.attempts) o l table
+table_heard tick number outcome l table = elim l.state [
+  | Asking ↦ table_put tick (position (is_open_at number) l.attempts) outcome l table
   | BackingOff until order polls ↦ table
   | Decided answer at ↦ table
 ]

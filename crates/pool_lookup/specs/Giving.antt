@@ -8,7 +8,7 @@ use Rattle.server_core.specs.declared.orders.order.Order.{Order}
 use Rattle.server_core.specs.declared.orders.order.Order.TheVariants.{Sleep}
 use Rattle.server_core.specs.declared.sends.server_send.SendStep.TheVariants as made
 use Rattle.server_core.specs.declared.sends.server_send.Stage.{Stage}
-use Rattle.pool_rules.specs.declared.candidate.Candidate.{Candidate}
+use Rattle.pool_rules.specs.declared.pool_server.PoolServer.{PoolServer}
 use Rattle.pool_lookup.specs.declared.attempt.Attempt.{Attempt}
 use Rattle.pool_lookup.specs.declared.giving.LookupStep.{LookupStep}
 use Rattle.pool_lookup.specs.declared.giving.LookupStep.TheVariants as step
@@ -19,11 +19,11 @@ use Rattle.pool_lookup.specs.Attempts.{first_attempt, is_idle}
 use Rattle.pool_lookup.specs.Lookup.{LookupState}
 
 -- the first attempt without an open order goes on before a server of the round is asked that was not
-abbrev pub first_ready : List Candidate → Want
+abbrev pub first_ready : List PoolServer → Want
 first_ready [] = want.Wait
 first_ready (c ∷ rest) = want.Begin c
 
-abbrev pub first_idle : List Attempt → List Candidate → Want
+abbrev pub first_idle : List Attempt → List PoolServer → Want
 first_idle attempts ready = elim (position is_idle attempts) [ None ↦ first_ready ready | Some place ↦ want.Resume place ]
 
 -- a backoff is an order, which is given once
@@ -44,7 +44,7 @@ abbrev pub ordered : ℕ → Stage → Attempt → Attempt
 ordered number next a = record a { order = number; send = record a.send { stage = next } }
 
 -- the attempt that the first server of the round begins with
-abbrev pub beginning : LookupState → Candidate → Attempt
+abbrev pub beginning : LookupState → PoolServer → Attempt
 beginning l c = first_attempt l.request l.round_off c
 
 -- the attempt gives the order of the number, as a send at its server does
@@ -68,8 +68,8 @@ pub record Resumes (place number now : ℕ) (table : List Server) (l : LookupSta
   pub is : new ≡ record l { attempts = slice_set l.attempts place (ordered number next attempt) }
 
 -- a server of the round is asked for the first time
-pub record Begins (c : Candidate) (number now : ℕ) (table : List Server) (l : LookupState) (order : Order) (new : LookupState) : Type 0 where
-  pub rest : List Candidate
+pub record Begins (c : PoolServer) (number now : ℕ) (table : List Server) (l : LookupState) (order : Order) (new : LookupState) : Type 0 where
+  pub rest : List PoolServer
   pub first : l.ready ≡ c ∷ rest
   pub next : Stage
   pub orders : Orders number now table (beginning l c) order next

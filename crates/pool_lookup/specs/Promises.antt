@@ -1,7 +1,7 @@
 -- What is promised of each lookup, whatever its servers answer.
 use Rattle.std.specs.Prelude.{◌≡◌, IsTrue, slice_get, Some, ℕ, ◌+◌, ◌*◌, ◌≤◌, List, length}
 use Rattle.resolution.specs.Lookups.{IsBounded}
-use Rattle.pool_rules.specs.Agenda.{rules_of, class_of_sent}
+use Rattle.pool_rules.specs.RetryQueue.{rules_of, class_of_sent}
 use Rattle.server_core.specs.Sending.{is_open}
 use Rattle.pool_lookup.specs.declared.attempt.Attempt.{Attempt}
 use Rattle.pool_lookup.specs.declared.lookup.State.{State}

@@ -10,7 +10,7 @@ use Rattle.server_core.specs.declared.orders.order.Outcome.{Outcome}
 use Rattle.server_core.specs.declared.orders.order.Tick.{Tick}
 use Rattle.server_core.specs.declared.sends.server_send.Stage.{Stage}
 use Rattle.server_core.specs.declared.sends.server_send.Stage.TheVariants as stage
-use Rattle.pool_rules.specs.declared.candidate.Candidate.{Candidate}
+use Rattle.pool_rules.specs.declared.pool_server.PoolServer.{PoolServer}
 use Rattle.pool_lookup.specs.declared.attempt.Attempt.{Attempt}
 use Rattle.pool_lookup.specs.declared.lookup.State.TheVariants.{Asking, BackingOff, Decided}
 use Rattle.pool_lookup.specs.Attempts.{is_open_at}
@@ -49,7 +49,7 @@ IsFor asks (stage.Ended result) = ⊥
 IsFor asks stage.Over = ⊥
 
 -- The order of the number is the open one of an attempt at the candidate; it asks, or opens.
-pub record IsOpenTo (number : ℕ) (c : Candidate) (asks : Bool) (l : LookupState) : Type 0 where
+pub record IsOpenTo (number : ℕ) (c : PoolServer) (asks : Bool) (l : LookupState) : Type 0 where
   pub asking : l.state ≡ Asking
   pub attempt : Attempt
   pub at : find (is_open_at number) l.attempts ≡ Some attempt
@@ -58,7 +58,7 @@ pub record IsOpenTo (number : ℕ) (c : Candidate) (asks : Bool) (l : LookupStat
 
 -- The order of the number is open as before, to the same server.
 abbrev pub StaysOpen : ℕ → LookupState → LookupState → Type 0
-StaysOpen number old new = (c : Candidate) (asks : Bool) → IsOpenTo number c asks old → IsOpenTo number c asks new
+StaysOpen number old new = (c : PoolServer) (asks : Bool) → IsOpenTo number c asks old → IsOpenTo number c asks new
 
 -- The order of the number is the one under which it backs off.
 pub record IsBackingOffUnder (number : ℕ) (l : LookupState) : Type 0 where
@@ -68,7 +68,7 @@ pub record IsBackingOffUnder (number : ℕ) (l : LookupState) : Type 0 where
 
 -- The order of the number goes to the address of a server of its pool.
 pub record IsSentTo (table : List Server) (number : ℕ) (asks : Bool) (ip : IpAddr) (l : LookupState) : Type 0 where
-  pub candidate : Candidate
+  pub candidate : PoolServer
   pub from_pool : Contains l.servers candidate
   pub at : address_of table candidate.server ≡ Some ip
   pub open_to : IsOpenTo number candidate asks l
@@ -86,30 +86,30 @@ DecidesAt now old new = (answer : Answered) (at : ℕ) → new.state ≡ Decided
 -- ---- its ends
 
 -- with one end more, of an attempt at the candidate
-abbrev pub with_end : List HeardEnd → Candidate → Answered → ℕ → List HeardEnd
+abbrev pub with_end : List HeardEnd → PoolServer → Answered → ℕ → List HeardEnd
 with_end heard c answered entry = heard ++ record { end = record { server = c; outcome = answered }; by = entry } ∷ []
 
 -- with the end of the attempt, if the outcome of its order ended it
 abbrev pub with_end_of : ℕ → Outcome → List HeardEnd → Option Attempt → List HeardEnd
-with_end_of patience o heard None = heard
-with_end_of patience o heard (Some a) = elim (end_by patience o a) [ None ↦ heard | Some answered ↦ with_end heard a.candidate answered (closing_entry o) ]
+with_end_of patience outcome heard None = heard
+with_end_of patience outcome heard (Some a) = elim (end_by patience outcome a) [ None ↦ heard | Some answered ↦ with_end heard a.candidate answered (closing_entry outcome) ]
 
 -- the ends after the outcome of the order of the number: that of a backoff ends no attempt
 abbrev pub heard_after : ℕ → ℕ → Outcome → List HeardEnd → LookupState → List HeardEnd
-heard_after patience number o heard l = elim l.state [
-  | Asking ↦ with_end_of patience o heard (find (is_open_at number) l.attempts)
+heard_after patience number outcome heard l = elim l.state [
+  | Asking ↦ with_end_of patience outcome heard (find (is_open_at number) l.attempts)
   | BackingOff until order polls ↦ heard
   | Decided answer at ↦ heard
 ]
 
 -- and where memory was wanting for it, which ends the attempt too
 abbrev pub heard_out : ℕ → Outcome → List HeardEnd → LookupState → List HeardEnd
-heard_out number o heard l = elim (find (is_open_at number) l.attempts) [ None ↦ heard | Some a ↦ with_end heard a.candidate (Err NoMemory) (closing_entry o) ]
+heard_out number outcome heard l = elim (find (is_open_at number) l.attempts) [ None ↦ heard | Some a ↦ with_end heard a.candidate (Err NoMemory) (closing_entry outcome) ]
 
 -- after the outcome it stands by these ends, with that of its attempt
 abbrev pub StandsAfter : (IpAddr → Bool) → List HeardEnd → Tick → ℕ → Outcome → LookupState → Type 0
-StandsAfter denied heard tick number o l = HoldsBy denied (heard_after tick.patience number o heard l) (after_outcome denied tick number o l)
+StandsAfter denied heard tick number outcome l = HoldsBy denied (heard_after tick.patience number outcome heard l) (after_outcome denied tick number outcome l)
 
 -- and so it does where memory was wanting for the outcome
 abbrev pub StandsOut : (IpAddr → Bool) → List HeardEnd → ℕ → ℕ → Outcome → LookupState → Type 0
-StandsOut denied heard number now o l = HoldsBy denied (heard_out number o heard l) (after_out_of_memory number now o l)
+StandsOut denied heard number now outcome l = HoldsBy denied (heard_out number outcome heard l) (after_out_of_memory number now outcome l)

@@ -10,7 +10,7 @@ ghost use Rattle.pool_lookup.specs.Giving.{Orders, IsGivenAt, ordered};
 ghost use Rattle.pool_lookup.specs.Hearing.{end_by, put_in, Puts};
 
 use dns_core::{DnsRequest, Message, NetError, NoMemory};
-use pool_rules::Candidate;
+use pool_rules::PoolServer;
 use server_core::{
     After, ConnectionPolicy, Order, Outcome, PoolContext, SendStep, ServerSend, ServerTable, Tick,
 };
@@ -20,7 +20,7 @@ use std::alloc::Global;
 /// its send.
 #[derive(Drop)]
 pub struct Attempt {
-    pub candidate: Candidate,
+    pub candidate: PoolServer,
     pub order: u64,
     pub send: ServerSend,
 }
@@ -34,10 +34,10 @@ pub(crate) struct Put {
 
 impl Attempt {
     /// The request is sent to a server for the first time.
-    pub(crate) fn first(candidate: Candidate, request: DnsRequest, off: bool) -> Attempt
-        ensures { result ≡ first_attempt request off candidate }
+    pub(crate) fn first(candidate: PoolServer, request: DnsRequest, udp_off: bool) -> Attempt
+        ensures { result ≡ first_attempt request udp_off candidate }
     {
-        let policy = ConnectionPolicy { disable_udp: off };
+        let policy = ConnectionPolicy { disable_udp: udp_off };
         Attempt {
             candidate,
             order: 0,

@@ -10,7 +10,7 @@ ghost use Rattle.pool_lookup.specs.Rounds.{started};
 use crate::attempt::{Attempt, give_at};
 use crate::lookup::{Lookup, State};
 use dns_core::{Message, NetError, NoMemory, TryClone};
-use pool_rules::Candidate;
+use pool_rules::PoolServer;
 use server_core::{Order, PoolContext, ServerTable, Tick};
 use std::alloc::Global;
 
@@ -28,7 +28,7 @@ pub enum LookupStep {
 #[derive(Clone, Copy)]
 pub enum Want {
     Resume { place: usize },
-    Begin { candidate: Candidate },
+    Begin { candidate: PoolServer },
     Sleep { until: u64 },
     Wait,
     Tell,
@@ -124,7 +124,7 @@ impl Lookup {
         alloc: Global,
         table: &mut ServerTable,
         cx: &mut PoolContext,
-        candidate: Candidate,
+        candidate: PoolServer,
         number: u64,
         tick: Tick,
     ) -> Result<LookupStep, NoMemory>

@@ -1,7 +1,7 @@
 //! How the outcomes of orders, and the ends of attempts, are heard.
 ghost use Rattle.std.specs.Prelude.{◌≡◌, ◌<◌, ◌+◌, ◌*◌, length, slice_get, Some, MatchResult};
 ghost use Rattle.server_core.specs.Servers.{place_of};
-ghost use Rattle.pool_rules.specs.Agenda.{HasRoom};
+ghost use Rattle.pool_rules.specs.RetryQueue.{HasRoom};
 ghost use Rattle.pool_rules.specs.AnswerFilter.{denied_by};
 ghost use Rattle.pool_lookup.specs.declared.attempt.Attempt.{Attempt as InFlight};
 ghost use Rattle.pool_lookup.specs.Cancelling.{table_after, table_heard, ended_at, ended_table};
@@ -11,10 +11,10 @@ ghost use Rattle.pool_lookup.specs.Lookup.{question_of};
 
 use crate::attempt::{Attempt, Put, put_at};
 use crate::backoff::{after_backoff, is_order};
-use crate::cancelling::ends_by_message;
+use crate::losers::ends_by_message;
 use crate::lookup::{Lookup, State};
 use dns_core::{Message, NetError, NoMemory, Query};
-use pool_rules::{Candidate, Hearing, filtered};
+use pool_rules::{PoolServer, Heard, filtered};
 use server_core::{After, Outcome, PoolContext, ServerTable, Tick};
 use std::alloc::Global;
 
@@ -67,7 +67,7 @@ impl Lookup {
         &mut self,
         alloc: Global,
         cx: &PoolContext,
-        candidate: Candidate,
+        candidate: PoolServer,
         end: Result<Message, NetError>,
         query: Query,
         now: u64,
@@ -77,8 +77,8 @@ impl Lookup {
         ensures { self.new ≡ heard (denied_by cx.now.answer_address_filter) candidate end now self.old }
     {
         match self.queue.hear(candidate, end, &self.request.query) {
-            Hearing::GoesOn => {}
-            Hearing::Answers(answer) => {
+            Heard::Continue => {}
+            Heard::Concluded(answer) => {
                 let left = left_of(alloc, query, cx, answer);
                 self.decide(left, now);
             }
@@ -101,12 +101,12 @@ impl Lookup {
         ensures lookup { (a : InFlight) → slice_get self.old.attempts place ≡ Some a
             → self.new ≡ after_end (denied_by cx.now.answer_address_filter) place entry a end now self.old }
         ensures table { (a : InFlight) → slice_get self.old.attempts place ≡ Some a
-            → table.new ≡ ended_table end now self.old.queue.off (closed place a.candidate.server entry self.old) table.old }
+            → table.new ≡ ended_table end now self.old.queue.udp_off (closed place a.candidate.server entry self.old) table.old }
     {
-        let off = self.queue.policy().disable_udp;
-        let won = ends_by_message(off, &end);
+        let udp_off = self.queue.policy().disable_udp;
+        let won = ends_by_message(udp_off, &end);
         let attempt = self.close(place, entry);
-        self.settle_others(won, table, now);
+        self.record_losers(won, table, now);
         self.hear(
             alloc,
             cx,

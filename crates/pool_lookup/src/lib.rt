@@ -8,7 +8,7 @@
 mod asked;
 mod attempt;
 mod backoff;
-mod cancelling;
+mod losers;
 mod giving;
 mod hearing;
 mod lookup;

@@ -10,7 +10,7 @@ ghost use Rattle.pool_lookup.specs.Rounds.{begun};
 
 use crate::attempt::Attempt;
 use dns_core::{Boxed, DnsRequest, Message, NetError, NoMemory, Query};
-use pool_rules::{Agenda, Candidate};
+use pool_rules::{RetryQueue, PoolServer};
 use std::alloc::Global;
 use std::collections::VecDeque;
 use std::marker::Model;
@@ -36,12 +36,12 @@ pub enum State {
 #[derive(Drop)]
 pub struct Lookup {
     pub(crate) request: DnsRequest,
-    pub(crate) servers: Vec<Candidate>,
-    pub(crate) together: usize,
+    pub(crate) servers: Vec<PoolServer>,
+    pub(crate) concurrency: usize,
     pub(crate) timeout: u64,
     pub(crate) start: u64,
-    pub(crate) queue: Agenda,
-    pub(crate) ready: VecDeque<Candidate>,
+    pub(crate) queue: RetryQueue,
+    pub(crate) ready: VecDeque<PoolServer>,
     pub(crate) attempts: Vec<Attempt>,
     pub(crate) round_start: u64,
     pub(crate) round_off: bool,
@@ -57,7 +57,7 @@ impl Model for Lookup {
 
     ghost Value = { LookupState };
 
-    ghost view = { λ l. record { request = l.request; servers = l.servers.items; together = l.together; timeout = l.timeout; start = l.start; queue = l.queue; ready = l.ready.items; attempts = l.attempts.items; round_start = l.round_start; round_off = l.round_off; ended = l.ended.items; closed_by = l.closed_by.items; state = l.state } };
+    ghost view = { λ l. record { request = l.request; servers = l.servers.items; concurrency = l.concurrency; timeout = l.timeout; start = l.start; queue = l.queue; ready = l.ready.items; attempts = l.attempts.items; round_start = l.round_start; round_off = l.round_off; ended = l.ended.items; closed_by = l.closed_by.items; state = l.state } };
 
     ghost invariant = { λ l. (length l.servers.items ≤ deque_capacity l.ready) × (length l.servers.items ≤ vec_capacity l.attempts) × (length l.servers.items ≤ vec_capacity l.ended) × (5 * length l.servers.items + 1 ≤ vec_capacity l.closed_by) };
 }
@@ -65,17 +65,17 @@ impl Model for Lookup {
 /// What a lookup at some servers has at first, with its room.
 #[derive(Drop)]
 struct Rooms {
-    queue: Agenda,
-    ready: VecDeque<Candidate>,
+    queue: RetryQueue,
+    ready: VecDeque<PoolServer>,
     attempts: Vec<Attempt>,
     ended: Vec<u32>,
     closed_by: Vec<u64>,
 }
 
 /// Takes the room that a lookup at these servers needs.
-fn take_rooms(alloc: Global, servers: &[Candidate]) -> Result<Rooms, NoMemory>
+fn take_rooms(alloc: Global, servers: &[PoolServer]) -> Result<Rooms, NoMemory>
     requires { length servers.now < 2 ^ 32 }
-    ensures queue { IfOk result (λ r. r.queue ≡ record { waiting = servers.now; busy = []; off = false; kept = NetError.NoConnections; sleeps = 0; most = length servers.now }) }
+    ensures queue { IfOk result (λ r. r.queue ≡ record { waiting = servers.now; busy = []; udp_off = false; kept = NetError.NoConnections; sleeps = 0; most = length servers.now }) }
     ensures empty { IfOk result (λ r. (r.ready.items ≡ []) × (r.attempts.items ≡ []) × (r.ended.items ≡ []) × (r.closed_by.items ≡ [])) }
     ensures room { IfOk result (λ r. (length servers.now ≤ deque_capacity r.ready) × (length servers.now ≤ vec_capacity r.attempts) × (length servers.now ≤ vec_capacity r.ended) × (5 * length servers.now + 1 ≤ vec_capacity r.closed_by)) }
 {
@@ -84,7 +84,7 @@ fn take_rooms(alloc: Global, servers: &[Candidate]) -> Result<Rooms, NoMemory>
     let attempts = Vec::with_capacity(alloc, places)?;
     let ended = Vec::with_capacity(alloc, places)?;
     let closed_by = Vec::with_capacity(alloc, 5 * places + 1)?;
-    let queue = Agenda::new(alloc, servers)?;
+    let queue = RetryQueue::new(alloc, servers)?;
     Ok(Rooms {
         queue,
         ready,
@@ -99,13 +99,13 @@ impl Lookup {
     fn unbegun(
         alloc: Global,
         request: DnsRequest,
-        servers: Vec<Candidate>,
-        together: usize,
+        servers: Vec<PoolServer>,
+        concurrency: usize,
         timeout: u64,
         now: u64,
     ) -> Result<Boxed<Self>, NoMemory>
         requires { length servers.items < 2 ^ 32 }
-        ensures { IfOk result (λ l. l ≡ fresh request servers.items together timeout now) }
+        ensures { IfOk result (λ l. l ≡ fresh request servers.items concurrency timeout now) }
     {
         let Ok(rooms) = take_rooms(alloc, servers.as_slice()) else {
             drop(request);
@@ -124,7 +124,7 @@ impl Lookup {
             Lookup {
                 request,
                 servers,
-                together,
+                concurrency,
                 timeout,
                 start: now,
                 queue,
@@ -144,17 +144,17 @@ impl Lookup {
     pub fn begin(
         alloc: Global,
         request: DnsRequest,
-        servers: Vec<Candidate>,
-        together: usize,
+        servers: Vec<PoolServer>,
+        concurrency: usize,
         timeout: u64,
         now: u64,
     ) -> Result<Boxed<Self>, NoMemory>
         requires few { length servers.items < 2 ^ 32 }
-        requires some { 1 ≤ together }
-        ensures begun { IfOk result (λ l. l ≡ begun request servers.items together timeout now) }
+        requires some { 1 ≤ concurrency }
+        ensures begun { IfOk result (λ l. l ≡ begun request servers.items concurrency timeout now) }
         ensures holds { (denied : IpAddr → Bool) → IfOk result (λ l. Holds denied l) }
     {
-        let mut lookup = Lookup::unbegun(alloc, request, servers, together, timeout, now)?;
+        let mut lookup = Lookup::unbegun(alloc, request, servers, concurrency, timeout, now)?;
         lookup.get_mut().begin_round(now);
         Ok(lookup)
     }

@@ -6,7 +6,7 @@ ghost use Rattle.server_core.specs.declared.orders.order.Outcome.{Outcome};
 ghost use Rattle.server_core.specs.declared.orders.order.Tick.{Tick};
 ghost use Rattle.server_core.specs.Hearing.{changed_at};
 ghost use Rattle.server_core.specs.Servers.{Server};
-ghost use Rattle.pool_rules.specs.declared.candidate.Candidate.{Candidate};
+ghost use Rattle.pool_rules.specs.declared.pool_server.PoolServer.{PoolServer};
 ghost use Rattle.pool_lookup.specs.declared.giving.LookupStep.{LookupStep};
 ghost use Rattle.pool_lookup.specs.declared.lookup.State.TheVariants.{Asking};
 ghost use Rattle.pool_lookup.specs.declared.giving.Want.TheVariants.{Wait};
@@ -21,8 +21,8 @@ ghost use Rattle.pool_lookup.specs.Tables.{configs};
 
 /// What holds of a lookup when it begins holds after each of its steps.
 pub fn what_holds_stays()
-    ensures begun { (denied : IpAddr → Bool) (request : DnsRequest) (servers : List Candidate) (together timeout now : ℕ) → 1 ≤ together
-        → Holds denied (begun request servers together timeout now) }
+    ensures begun { (denied : IpAddr → Bool) (request : DnsRequest) (servers : List PoolServer) (concurrency timeout now : ℕ) → 1 ≤ concurrency
+        → Holds denied (begun request servers concurrency timeout now) }
     ensures started { (denied : IpAddr → Bool) (now : ℕ) (l : LookupState) → Holds denied l → Holds denied (started now l) }
     ensures next { (denied : IpAddr → Bool) (n now : ℕ) (table : List Server) (l new : LookupState) (made : LookupStep)
         → Gives n now table (started now l) made new → Holds denied l → Holds denied new }

@@ -6,11 +6,11 @@ ghost use Rattle.pool_lookup.specs.Rounds.{CanBegin, dealt, without_dealt, with_
 
 use crate::lookup::{Lookup, State};
 use dns_core::NetError;
-use pool_rules::{Agenda, Candidate};
+use pool_rules::{RetryQueue, PoolServer};
 use std::collections::VecDeque;
 
 /// Deals the first servers that the policy allows to a round, which has room for them.
-fn deal(queue: &mut Agenda, ready: &mut VecDeque<Candidate>, most: usize)
+fn deal(queue: &mut RetryQueue, ready: &mut VecDeque<PoolServer>, most: usize)
     requires none { ready.old.items ≡ [] }
     requires room { length queue.old.waiting ≤ deque_capacity ready.old }
     ensures dealt { ready.new.items ≡ dealt most queue.old }
@@ -41,7 +41,7 @@ impl Lookup {
         self.round_start = now;
         self.round_off = self.queue.policy().disable_udp;
         self.ended.clear();
-        deal(&mut self.queue, &mut self.ready, self.together);
+        deal(&mut self.queue, &mut self.ready, self.concurrency);
     }
 
     /// When a backoff ends that begins at this moment.

@@ -7,7 +7,7 @@ ghost use Rattle.server_core.specs.declared.orders.order.Order.{Order as Given};
 ghost use Rattle.server_core.specs.declared.orders.order.Outcome.{Outcome};
 ghost use Rattle.server_core.specs.declared.orders.order.Tick.{Tick};
 ghost use Rattle.server_core.specs.Servers.{Server};
-ghost use Rattle.pool_rules.specs.declared.candidate.Candidate.{Candidate};
+ghost use Rattle.pool_rules.specs.declared.pool_server.PoolServer.{PoolServer};
 ghost use Rattle.pool_lookup.specs.declared.lookup.State.TheVariants.{Asking};
 ghost use Rattle.pool_lookup.specs.Asked.{opens, has_order};
 ghost use Rattle.pool_lookup.specs.Hearing.{done_by, after_outcome, after_out_of_memory};
@@ -35,7 +35,7 @@ pub fn a_lookup_is_decided_by_a_step()
 
 /// An order is open at a lookup only where a step gave it, and then once.
 pub fn a_lookup_opens_what_it_gives()
-    ensures begun { (k : ℕ) (request : DnsRequest) (servers : List Candidate) (together timeout now : ℕ) → opens k (begun request servers together timeout now) ≡ 0 }
+    ensures begun { (k : ℕ) (request : DnsRequest) (servers : List PoolServer) (concurrency timeout now : ℕ) → opens k (begun request servers concurrency timeout now) ≡ 0 }
     ensures order { (k number : ℕ) (table : List Server) (l : LookupState) (order : Given) (new : LookupState) → GivesAt table number l order new
         → opens k new ≤ opens k l + (if number == k then 1 else 0) }
     ensures put { (k : ℕ) (denied : IpAddr → Bool) (tick : Tick) (number : ℕ) (o : Outcome) (l : LookupState) → Holds denied l

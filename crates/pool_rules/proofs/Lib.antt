@@ -1,9 +1,9 @@
-mod Foreign
+mod FirstForeignRecord
 mod Unfiltered
-pub mod Turning
-pub mod KeptOver
-pub mod Standing
-pub mod Deciding
-pub mod Finishing
-pub mod Plans
-pub mod Moving
+pub mod FirstThatPasses
+pub mod KeptErrorOverEnds
+pub mod QueueStandsOn
+pub mod StillToBeDone
+pub mod LookupEnds
+pub mod QueueAfterEnd
+pub mod AnyOrderOfSends

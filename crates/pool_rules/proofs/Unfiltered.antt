@@ -9,7 +9,7 @@ use Rattle.resolution.specs.Verdict.{allows_all}
 use Rattle.resolution.specs.Class.{is_foreign}
 use Rattle.resolution.specs.Records.{address, records}
 use Rattle.resolution.specs.Lookups.{Answered}
-use Rattle.resolution.specs.Verdict.{holds_denied, without_denied, emptied, is_all_denied}
+use Rattle.resolution.specs.Verdict.{holds_denied, without_denied, is_emptied, is_all_denied}
 use Rattle.pool_rules.specs.AnswerFilter.{filtered, foreign_class, nothing_left}
 
 filter-true : {X : Type 0} (p : X → Bool) (xs : List X) → ((x : X) → p x ≡ true) → filter p xs ≡ xs
@@ -38,7 +38,7 @@ nothing_left_out false b = refl
 -- the answer itself
 allowed_whole : (q : Query) (m : Message) → (if is_all_denied allows_all m then Err (nothing_left q) else Ok (without_denied allows_all m)) ≡ Ok m
 allowed_whole q m =
-    ap (λ (k : Message). if emptied m k then Err (nothing_left q) else Ok k) (none_denied m)
+    ap (λ (k : Message). if is_emptied m k then Err (nothing_left q) else Ok k) (none_denied m)
     ∙ ap (λ (b : Bool). if b then Err (nothing_left q) else Ok m) (nothing_left_out (length m.answers == 0) (length m.authorities == 0))
 
 -- where no record is of another class, what the addresses leave

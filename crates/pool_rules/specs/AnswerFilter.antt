@@ -29,7 +29,7 @@ nothing_left q = net.Dns (dns.NoRecordsFound (record { query = q; soa = None; ns
 
 -- The first record of another class, section by section, refuses the answer. Else it is left without the records that hold a denied address; where that empties it, there is no such name.
 abbrev pub filtered : Query → (IpAddr → Bool) → Message → Answered
-filtered q denied m = elim (find (is_foreign q) (records m)) [
+filtered query denied m = elim (find (is_foreign query) (records m)) [
   | Some r ↦ Err (foreign_class r)
-  | None ↦ if is_all_denied denied m then Err (nothing_left q) else Ok (without_denied denied m)
+  | None ↦ if is_all_denied denied m then Err (nothing_left query) else Ok (without_denied denied m)
 ]

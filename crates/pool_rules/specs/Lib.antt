@@ -3,4 +3,4 @@ pub mod KeptError
 pub mod Statistics
 pub mod Ordering
 pub mod AnswerFilter
-pub mod Agenda
+pub mod RetryQueue

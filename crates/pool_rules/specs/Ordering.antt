@@ -14,8 +14,8 @@ pub record IsByDelay (table : List Server) (now : ℕ) (given servers : List ℕ
   pub stable : IsStableByKey (delay_of table now) nat_cmp given servers
 
 -- how many are asked side by side: one at least
-abbrev pub side_by_side : ResolverOpts → ℕ
-side_by_side options = max options.num_concurrent_reqs 1
+abbrev pub concurrency_of : ResolverOpts → ℕ
+concurrency_of options = max options.num_concurrent_reqs 1
 
 -- round the list, from a place on
 abbrev pub from_place : ℕ → List ℕ → List ℕ
@@ -23,18 +23,18 @@ from_place place servers = drop place servers ++ take place servers
 
 -- the place whose turn it is, where not all of so many are asked at once
 abbrev pub place_of_turn : ℕ → ℕ → ℕ → ℕ
-place_of_turn together turn count = if nat_lt together count then turn % count else 0
+place_of_turn concurrency turn count = if nat_lt concurrency count then turn % count else 0
 
 -- the turn after that of so many
 abbrev pub turn_after : ℕ → ℕ → ℕ → ℕ
-turn_after together turn count = if nat_lt together count then (turn % count + together) % count else turn
+turn_after concurrency turn count = if nat_lt concurrency count then (turn % count + concurrency) % count else turn
 
 -- By their delays; as they were given; or each in turn first.
 abbrev pub IsOrdered : ResolverOpts → List Server → ℕ → ℕ → List ℕ → List ℕ → Type 0
 IsOrdered options table now turn given servers = elim (options.server_ordering_strategy) [
   | QueryStatistics ↦ IsByDelay table now given servers
   | UserProvidedOrder ↦ servers ≡ given
-  | RoundRobin ↦ servers ≡ from_place (place_of_turn (side_by_side options) turn (length given)) given
+  | RoundRobin ↦ servers ≡ from_place (place_of_turn (concurrency_of options) turn (length given)) given
 ]
 
 -- the turn of the pool's next lookup
@@ -42,5 +42,5 @@ abbrev pub next_turn : ResolverOpts → ℕ → ℕ → ℕ
 next_turn options turn count = elim (options.server_ordering_strategy) [
   | QueryStatistics ↦ turn
   | UserProvidedOrder ↦ turn
-  | RoundRobin ↦ turn_after (side_by_side options) turn count
+  | RoundRobin ↦ turn_after (concurrency_of options) turn count
 ]

@@ -1,6 +1,6 @@
 //! In which order the servers of a pool are asked.
 ghost use Rattle.std.specs.Prelude.{◌≡◌, ◌+◌, ◌%◌, ◌<◌, OnOk, OnErr, vec_len};
-ghost use Rattle.pool_rules.specs.Ordering.{IsByDelay, IsOrdered, from_place, next_turn, place_of_turn, side_by_side, turn_after};
+ghost use Rattle.pool_rules.specs.Ordering.{IsByDelay, IsOrdered, from_place, next_turn, place_of_turn, concurrency_of, turn_after};
 
 use crate::statistics::sort_servers_by_query_statistics;
 use dns_core::NoMemory;
@@ -9,8 +9,8 @@ use server_core::ServerTable;
 use std::alloc::Global;
 
 /// How many servers are asked side by side: one at least.
-pub fn side_by_side(options: &ResolverOpts) -> usize
-    ensures { result ≡ side_by_side options.now }
+pub fn concurrency_of(options: &ResolverOpts) -> usize
+    ensures { result ≡ concurrency_of options.now }
 {
     options.num_concurrent_reqs.max(1)
 }
@@ -30,15 +30,15 @@ fn place_after(place: usize, step: usize, count: usize) -> usize
 }
 
 /// Begins with the server whose turn it is, where not all are asked at once.
-fn take_turns(servers: &mut Vec<u32>, turn: &mut usize, together: usize)
-    ensures order { servers.new.items ≡ from_place (place_of_turn together turn.old (vec_len servers.old)) servers.old.items }
-    ensures turn { turn.new ≡ turn_after together turn.old (vec_len servers.old) }
+fn take_turns(servers: &mut Vec<u32>, turn: &mut usize, concurrency: usize)
+    ensures order { servers.new.items ≡ from_place (place_of_turn concurrency turn.old (vec_len servers.old)) servers.old.items }
+    ensures turn { turn.new ≡ turn_after concurrency turn.old (vec_len servers.old) }
 {
     let count = servers.len();
-    if together < count {
+    if concurrency < count {
         let place = *turn % count;
         servers.rotate_left(place);
-        *turn = place_after(place, together, count);
+        *turn = place_after(place, concurrency, count);
     }
 }
 
@@ -73,7 +73,7 @@ pub fn ordered(
         ServerOrderingStrategy::QueryStatistics => by_delay(alloc, servers, table, now),
         ServerOrderingStrategy::UserProvidedOrder => Ok(()),
         ServerOrderingStrategy::RoundRobin => {
-            take_turns(servers, turn, side_by_side(options));
+            take_turns(servers, turn, concurrency_of(options));
             Ok(())
         }
     }

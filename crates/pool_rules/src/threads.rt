@@ -1,13 +1,13 @@
 //! Which types of this crate may go to another thread, and be shared among threads.
 
-use crate::agenda::Agenda;
-use crate::candidate::{Candidate, Ending, Hearing};
+use crate::retry_queue::RetryQueue;
+use crate::pool_server::{PoolServer, OnError, Heard};
 use dns_core::CrossesThreads;
 
-impl CrossesThreads for Candidate {}
+impl CrossesThreads for PoolServer {}
 
-impl CrossesThreads for Ending {}
+impl CrossesThreads for OnError {}
 
-impl CrossesThreads for Hearing {}
+impl CrossesThreads for Heard {}
 
-impl CrossesThreads for Agenda {}
+impl CrossesThreads for RetryQueue {}

@@ -13,8 +13,8 @@ use Rattle.dns_core.specs.declared.log.LogEntry.{LogEntry}
 use Rattle.dns_core.specs.declared.log.LogEntry.TheVariants.{Opened, Asked, Waited, Told, GaveUp}
 use Rattle.script_upstream.specs.Course.{reply_course, connect_course}
 use Rattle.script_upstream.specs.Giving.{Gives, Fits, course_after, refuses, connects, replies, asks, asking_of, connection_course, question_course_for, waits}
-use Rattle.script_upstream.specs.declared.courses.course.Course.{Course}
-use Rattle.script_upstream.specs.declared.courses.course.Course.TheVariants.{Never, After}
+use Rattle.script_upstream.specs.declared.courses.course.ScriptedReply.{ScriptedReply}
+use Rattle.script_upstream.specs.declared.courses.course.ScriptedReply.TheVariants.{Never, After}
 use Rattle.script_upstream.specs.declared.courses.index.Asking.{Asking}
 use Rattle.script_upstream.specs.declared.courses.index.Endpoint.{Endpoint}
 use Rattle.script_upstream.specs.declared.script.script.Script.{Script}
@@ -23,7 +23,7 @@ use Rattle.script_upstream.specs.declared.script.script.ScriptLine.TheVariants.{
 use Rattle.text_lines.specs.Texts.{has_error_word}
 use Rattle.transcript_printer.specs.Log.{has_refusal_word, has_outcome_words, has_entry_words, has_log_words}
 use Rattle.text_lines.specs.LineSpelling.{IsScriptLine}
-use Rattle.recursor_command.proofs.Failures.{failure_word, failure_stays}
+use Rattle.recursor_command.proofs.ScriptErrors.{failure_word, failure_stays}
 
 -- ---- what holds of each element holds of those that are found
 
@@ -50,7 +50,7 @@ at_place P (y ∷ ys) (suc i) x h e = at_place P ys i x h.1 e
 
 -- ---- courses
 
-abbrev course_words : Course → Bool
+abbrev course_words : ScriptedReply → Bool
 course_words Never = true
 course_words (After polls outcome) = has_outcome_words outcome
 
@@ -66,7 +66,7 @@ reply_words q (Refuse ip protocol) h = refl
 reply_words q (Reply ip protocol name type delay (Ok m)) h = refl
 reply_words q (Reply ip protocol name type delay (Err e)) h = ap has_error_word (failure_stays q e h.failure) ∙ failure_word e h.failure
 
-chosen_words : (f : ScriptLine → Course) (o : Option ScriptLine) (other : Course) → course_words other ≡ true → ((line : ScriptLine) → o ≡ Some line → course_words (f line) ≡ true)
+chosen_words : (f : ScriptLine → ScriptedReply) (o : Option ScriptLine) (other : ScriptedReply) → course_words other ≡ true → ((line : ScriptLine) → o ≡ Some line → course_words (f line) ≡ true)
     → course_words (unwrap_or (option_map f o) other) ≡ true
 chosen_words f None other none some = none
 chosen_words f (Some line) other none some = some line refl
@@ -79,15 +79,15 @@ question_words s a q k h =
     chosen_words (reply_course q) (slice_get (filter (replies a) s.lines) _) Never refl
     (λ line e. reply_words q line (at_place IsScriptLine (filter (replies a) s.lines) _ line (filtered IsScriptLine (replies a) s.lines h) e))
 
-after_words : (s : Script) (es : List LogEntry) (e : LogEntry) (c : Course) → AllByRecursion IsScriptLine s.lines → course_after s es e ≡ Some c → course_words c ≡ true
+after_words : (s : Script) (es : List LogEntry) (e : LogEntry) (c : ScriptedReply) → AllByRecursion IsScriptLine s.lines → course_after s es e ≡ Some c → course_words c ≡ true
 after_words s es (Opened ip protocol moment None) c h is =
     let same : connection_course s (record { ip = ip; protocol = protocol }) ≡ c = cc in
-    subst (λ (x : Course). course_words x ≡ true) same (connection_words s (record { ip = ip; protocol = protocol }) h)
+    subst (λ (x : ScriptedReply). course_words x ≡ true) same (connection_words s (record { ip = ip; protocol = protocol }) h)
 after_words s es (Opened ip protocol moment (Some e)) c h is = cc
 after_words s es (Asked ip protocol q moment refused) c h is =
     let a = asking_of (record { ip = ip; protocol = protocol }) q in
     let same : question_course_for s a q (count_by (asks a) es) ≡ c = cc in
-    subst (λ (x : Course). course_words x ≡ true) same (question_words s a q (count_by (asks a) es) h)
+    subst (λ (x : ScriptedReply). course_words x ≡ true) same (question_words s a q (count_by (asks a) es) h)
 after_words s es (Waited of) c h is = cc
 after_words s es (Told of moment outcome) c h is = cc
 after_words s es (GaveUp of moment) c h is = cc

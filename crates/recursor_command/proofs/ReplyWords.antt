@@ -21,9 +21,9 @@ use Rattle.resolution.specs.declared.class.Class.{Class}
 use Rattle.resolution.specs.declared.class.Class.TheVariants.{Error, Code, Truncated, Negative, Foreign, Positive}
 use Rattle.recursor_types.specs.declared.policy.Policy.{Policy}
 use Rattle.resolution.specs.Telling.{Logged}
-use Rattle.resolution.specs.Lookups.{Answered, End, Rules, PoolRun, class_of_answer, answer_of, class_of_end, least_bad, what_is_left, the_turn, but_turn, turns, negative_of, is_timed_out}
+use Rattle.resolution.specs.Lookups.{Answered, End, Rules, PoolRun, class_of_answer, answer_of, class_of_end, least_bad, what_is_left, the_fallback, but_fallback, falls_back, negative_of, is_timed_out}
 use Rattle.resolution.specs.Lookups.PoolRun.{decided, spent, late}
-use Rattle.resolution.specs.Ending.{Known, EndsSend, EndSends, by_address}
+use Rattle.resolution.specs.Ending.{LookupTiming, EndsSend, EndSends, by_address}
 use Rattle.resolution.specs.Ending.EndsSend.{open_refused, ask_refused, open_failed, ask_failed, answered, given_up}
 use Rattle.resolution.specs.Ending.EndSends.{no_send, and_send}
 use Rattle.recursor_types.specs.declared.error.MessageKind.{MessageKind}
@@ -31,9 +31,9 @@ use Rattle.recursor_types.specs.declared.error.MessageKind.TheVariants.{NotQuali
 use Rattle.recursor_types.specs.declared.error.RecursorError.{RecursorError}
 use Rattle.recursor_types.specs.declared.reply.Reply.{Reply}
 use Rattle.recursor_walk.specs.Causes.{ErrorHolds, HasFailed}
-use Rattle.walk_lookup.specs.Found.{is_lookup_error}
+use Rattle.walk_lookup.specs.LookupResult.{is_lookup_error}
 use Rattle.recursor_walk.specs.Replies.{OutcomeHolds}
-use Rattle.recursor_core.specs.Standing.{RepliesHold}
+use Rattle.recursor_core.specs.RecursorState.{RepliesHold}
 use Rattle.text_lines.specs.Texts.{has_error_word}
 use Rattle.transcript_printer.specs.Errors.{has_words, has_net_words, is_not_qualified}
 use Rattle.transcript_printer.specs.Log.{has_entry_words}
@@ -169,17 +169,17 @@ least_word cut cs = by (filter_map negative_of cs)
     by (n ∷ ns) l = cc
 
 left_word : (rules : Rules IpAddr) (class : Answered → Class) (ends : List (End IpAddr)) → Worded (what_is_left rules class ends)
-left_word rules class ends = by (the_turn rules class ends)
+left_word rules class ends = by (the_fallback rules class ends)
   where
-    cut : Worded (least_bad true (map (class_of_end rules class) (after_first (turns rules class) ends)))
-    cut = least_word true (map (class_of_end rules class) (after_first (turns rules class) ends))
+    cut : Worded (least_bad true (map (class_of_end rules class) (after_first (falls_back rules class) ends)))
+    cut = least_word true (map (class_of_end rules class) (after_first (falls_back rules class) ends))
 
-    whole : Worded (least_bad false (map (class_of_end rules class) (but_turn rules class ends)))
-    whole = least_word false (map (class_of_end rules class) (but_turn rules class ends))
+    whole : Worded (least_bad false (map (class_of_end rules class) (but_fallback rules class ends)))
+    whole = least_word false (map (class_of_end rules class) (but_fallback rules class ends))
 
     by_class : (c : Class) → Worded (elim c [
-      | Truncated ↦ least_bad true (map (class_of_end rules class) (after_first (turns rules class) ends))
-      | _ ↦ least_bad false (map (class_of_end rules class) (but_turn rules class ends))
+      | Truncated ↦ least_bad true (map (class_of_end rules class) (after_first (falls_back rules class) ends))
+      | _ ↦ least_bad false (map (class_of_end rules class) (but_fallback rules class ends))
     ])
     by_class Truncated = cut
     by_class (Error e) = whole
@@ -191,8 +191,8 @@ left_word rules class ends = by (the_turn rules class ends)
     by : (o : Option (End IpAddr)) → Worded (elim o [
       | None ↦ least_bad false (map (class_of_end rules class) ends)
       | Some e ↦ elim (class_of_end rules class e) [
-        | Truncated ↦ least_bad true (map (class_of_end rules class) (after_first (turns rules class) ends))
-        | _ ↦ least_bad false (map (class_of_end rules class) (but_turn rules class ends))
+        | Truncated ↦ least_bad true (map (class_of_end rules class) (after_first (falls_back rules class) ends))
+        | _ ↦ least_bad false (map (class_of_end rules class) (but_fallback rules class ends))
       ]
     ])
     by None = least_word false (map (class_of_end rules class) ends)
@@ -205,7 +205,7 @@ run_word rules q servers ends e start now h (decided d) =
 run_word rules q servers ends e start now h (spent s) = error_is Worded (what_is_left rules (class_of_answer q) ends) e _ _ refl refl (sym s.answers) (left_word rules (class_of_answer q) ends)
 run_word rules q servers ends e start now h (late l) = error_is Worded net.Timeout e _ _ refl refl (sym l.answers) (λ l. refl)
 
-failed_word : (given : Policy) (known : Known) (log : Log) (t0 : ℕ) (q : Query) (g : List ℕ) (e : NetError) → IsWorded log → HasFailed given known log t0 q g e → Worded e
+failed_word : (given : Policy) (known : LookupTiming) (log : Log) (t0 : ℕ) (q : Query) (g : List ℕ) (e : NetError) → IsWorded log → HasFailed given known log t0 q g e → Worded e
 failed_word given known log t0 q g e w f =
     run_word (by_address given.timeout) q f.ended.ips f.ended.ends e f.ended.start f.ended.now (end_words w f.ended.logged) f.ended.run
 
@@ -214,7 +214,7 @@ failed_word given known log t0 q g e w f =
 kind_word : (kind : MessageKind) → kind ≡ NotQualified → is_not_qualified kind ≡ true
 kind_word kind e = ap is_not_qualified e
 
-error_word : (given : Policy) (known : Known) (log : Log) (t0 : ℕ) (q : Query) (g : List ℕ) (e : RecursorError) → IsWorded log → ErrorHolds given known log t0 q g e → has_words e ≡ true
+error_word : (given : Policy) (known : LookupTiming) (log : Log) (t0 : ℕ) (q : Query) (g : List ℕ) (e : RecursorError) → IsWorded log → ErrorHolds given known log t0 q g e → has_words e ≡ true
 error_word given known log t0 q g (error.Message kind) w h = kind_word kind h.0
 error_word given known log t0 q g (error.Negative d) w h = refl
 error_word given known log t0 q g (error.ForwardNS servers) w h = refl
@@ -228,7 +228,7 @@ error_word given known log t0 q g error.Timeout w h = absurd h
 error_word given known log t0 q g (error.RecursionLimitExceeded count) w h = refl
 error_word given known log t0 q g error.QueryBudgetExceeded w h = refl
 
-outcome_word : (given : Policy) (known : Known) (log : Log) (t0 : ℕ) (question : Question) (g : List ℕ) (o : Result Response RecursorError) → IsWorded log → OutcomeHolds given known log t0 question g o
+outcome_word : (given : Policy) (known : LookupTiming) (log : Log) (t0 : ℕ) (question : Question) (g : List ℕ) (o : Result Response RecursorError) → IsWorded log → OutcomeHolds given known log t0 question g o
     → has_result_words o ≡ true
 outcome_word given known log t0 question g (Ok m) w h = refl
 outcome_word given known log t0 question g (Err e) w h = error_word given known log t0 question.query g e w h

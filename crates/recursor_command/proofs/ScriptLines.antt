@@ -5,7 +5,7 @@ use Rattle.std.proofs.lemmas.Bool.{ltb-false, eqb-true}
 use Rattle.std.proofs.lemmas.List.{nil_from_length, append-nil}
 use Rattle.text_lines.specs.Pieces.{pieces}
 use Rattle.text_lines.specs.Spelling.{spelled}
-use Rattle.text_lines.proofs.Cuts.{split_cons}
+use Rattle.text_lines.proofs.TextIsCut.{split_cons}
 use Rattle.script_upstream.specs.declared.script.script.Script.{Script}
 use Rattle.text_lines.specs.declared.lines.option_form.OptionLine.{OptionLine}
 use Rattle.text_lines.specs.LineSpelling.{script_lines, question_line, turn_line, end_words}

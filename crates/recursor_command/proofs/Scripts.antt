@@ -5,8 +5,8 @@ use Rattle.std.specs.Str.{bytes_eq}
 use Rattle.std.proofs.lemmas.List.{append-nil}
 use Rattle.text_lines.specs.Pieces.{pieces}
 use Rattle.text_lines.specs.Spelling.{spelled}
-use Rattle.text_lines.proofs.Cuts.{split_cons}
-use Rattle.text_lines.proofs.Binds.{chosen, some_is}
+use Rattle.text_lines.proofs.TextIsCut.{split_cons}
+use Rattle.text_lines.proofs.StepsThatFail.{chosen, some_is}
 use Rattle.text_lines.proofs.FieldLaws.{bytes_same}
 use Rattle.text_lines.specs.LineSpelling.{told_words}
 use Rattle.recursor_text.specs.Faults.{CanStand, IsWhole, IsFirstBad, IsTrailing, IsCut}

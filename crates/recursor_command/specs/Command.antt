@@ -15,7 +15,7 @@ use Rattle.recursor_types.specs.Policy.{policy_of, with_patience}
 use Rattle.recursor_types.specs.declared.policy.Policy.{Policy}
 use Rattle.resolver_settings.specs.Ttl.{has_reversed}
 use Rattle.recursor_types.specs.Options.{has_bad_first_delays}
-use Rattle.recursor_core.specs.Standing.{Standing, RepliesHold, run_moments}
+use Rattle.recursor_core.specs.RecursorState.{RecursorState, RepliesHold, run_moments}
 use Rattle.recursor_types.specs.declared.options.RecursorOptions.{RecursorOptions}
 use Rattle.std.specs.declared.net.ip_addr.IpAddr.{IpAddr}
 use Rattle.dns_core.specs.declared.request.Question.{Question}
@@ -64,7 +64,7 @@ abbrev pub IsUntold : Option (List LogEntry) → Type 0
 IsUntold told = (es : List LogEntry) → told ≡ Some es → es ≡ []
 
 -- a new recursor over a provider, with these options
-abbrev pub IsNewOver : {P : Type 0} → List IpAddr → RecursorOptions → P → Standing P → Type 0
+abbrev pub IsNewOver : {P : Type 0} → List IpAddr → RecursorOptions → P → RecursorState P → Type 0
 IsNewOver roots options provider r = (r.provider ≡ provider) × (r.policy ≡ policy_of roots options) × (r.moment ≡ 0)
 
 -- what a run is set to by these roots, by what these options say and by this patience

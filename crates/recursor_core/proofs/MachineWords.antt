@@ -12,17 +12,17 @@ pub use Rattle.std.proofs.lemmas.Result.{IfOk-from_err, IfOk-weaker}
 pub use Rattle.dns_core.specs.Log.{Log, Extends}
 pub use Rattle.dns_core.specs.declared.request.Question.{Question}
 pub use Rattle.dns_core.specs.declared.errors.NoMemory.{NoMemory}
-pub use Rattle.walk_lookup.specs.View.{View, seen_at, Later}
+pub use Rattle.walk_lookup.specs.LogView.{LogView, seen_at, Advances}
 pub use Rattle.recursor_walk.specs.Way.{CanWalk}
 pub use Rattle.recursor_question.specs.Resolving.{SameBegun, open_of}
 pub use Rattle.recursor_types.specs.declared.policy.Policy.{Policy}
 pub use Rattle.recursor_question.specs.declared.resolving.Resolution.{Resolution}
 pub use Rattle.walk_tables.specs.Pools.{PoolsHold, IsStepAt}
 pub use Rattle.walk_lookup.specs.Remembered.{CacheHolds}
-pub use Rattle.walk_lookup.proofs.Later.{cache-later, later-by}
-pub use Rattle.walk_tables.proofs.Later.{pools-later}
-pub use Rattle.recursor_question.proofs.Later.{resolution-later}
-pub use Rattle.order_carrier.proofs.Growing.{Extends-refl}
+pub use Rattle.walk_lookup.proofs.LookupAdvances.{cache-later, later-by}
+pub use Rattle.walk_tables.proofs.PoolsAdvance.{pools-later}
+pub use Rattle.recursor_question.proofs.QuestionAdvances.{resolution-later}
+pub use Rattle.order_carrier.proofs.LogGrowsByCalls.{Extends-refl}
 pub use Rattle.resolver_cache.specs.Cached.{Cached}
 pub use Rattle.recursor_types.specs.Policy.{with_patience}
 pub use Rattle.walk_lookup.specs.Order.{IsNext, IsPut, last_entry, seen_with}
@@ -31,6 +31,6 @@ pub use Rattle.recursor_core.specs.Derived.{seen_by, Derived, KeptHolds}
 pub use Rattle.recursor_core.specs.Machine.{kept_in, Begun, begun_of, begun_at, IsOneMore, open_in, StepFor, ReplyGiven, StepGives, SameCore, need_in}
 pub use Rattle.recursor_core.specs.declared.machine.resolutions.RecursorCore.{RecursorCore}
 pub use Rattle.recursor_core.specs.Plays.{open_play, open_plays, Begins, BeginsIf, BeginsAt, ReplyOf}
-pub use Rattle.recursor_core.specs.declared.machine.plays.Played.{Played}
+pub use Rattle.recursor_core.specs.declared.machine.plays.QuestionState.{QuestionState}
 pub use Rattle.recursor_types.specs.declared.reply.Reply.{Reply}
 pub use Rattle.recursor_question.specs.declared.steps.Step.{Step}

@@ -17,37 +17,37 @@ pub use Rattle.dns_core.specs.Log.{Log, log_of}
 pub use Rattle.dns_core.specs.declared.request.Question.{Question}
 pub use Rattle.dns_core.specs.declared.errors.NoMemory.{NoMemory}
 pub use Rattle.order_carrier.specs.Fits.{GoesToServer}
-pub use Rattle.walk_lookup.specs.View.{seen_at}
+pub use Rattle.walk_lookup.specs.LogView.{seen_at}
 pub use Rattle.recursor_walk.specs.Replies.{ReplyHolds}
 pub use Rattle.walk_tables.specs.Taking.{TablesHold}
 pub use Rattle.recursor_types.specs.declared.policy.Policy.{Policy}
 pub use Rattle.recursor_question.specs.declared.resolving.Resolution.{Resolution}
 pub use Rattle.walk_lookup.specs.Remembered.{EntryHolds}
-pub use Rattle.walk_lookup.proofs.Later.{later-by}
-pub use Rattle.recursor_walk.proofs.AskingLater.{reply-later}
+pub use Rattle.walk_lookup.proofs.LookupAdvances.{later-by}
+pub use Rattle.recursor_walk.proofs.QueryAdvances.{reply-later}
 pub use Rattle.dns_core.specs.declared.log.LogEntry.{LogEntry}
 pub use Rattle.dns_core.specs.declared.provider.ConnectionProvider.{Ghosts}
 pub use Rattle.dns_core.specs.declared.request.Turn.{Turn}
 pub use Rattle.order_carrier.specs.Growing.{GrownOver, TellsThat, Grown, IsPast, with_entries}
-pub use Rattle.order_carrier.proofs.Moments.{over_refl, over_one, over_trans, IsPast-later, IsPast-grown, rises_over}
-pub use Rattle.order_carrier.proofs.Waiting.{IsPatient-refl, IsPatient-trans}
-pub use Rattle.order_carrier.specs.declared.in_flight.runner.Runner.{Runner}
+pub use Rattle.order_carrier.proofs.MomentsStayInOrder.{over_refl, over_one, over_trans, IsPast-later, IsPast-grown, rises_over}
+pub use Rattle.order_carrier.proofs.LogWaitsOnceMore.{IsPatient-refl, IsPatient-trans}
+pub use Rattle.order_carrier.specs.declared.in_flight.runner.InFlight.{InFlight}
 pub use Rattle.walk_lookup.specs.Tried.{Timer, machine_timer, IsTimed}
 pub use Rattle.order_carrier.specs.declared.carrier.Carrier.{Carrier}
-pub use Rattle.recursor_walk.proofs.Earlier.{reply-earlier, outcome-earlier}
-pub use Rattle.order_carrier.proofs.Growing.{Grown-refl, Extends-refl, Grown-trans, Longer-from_added, Extends-added, Logged-newest, unlogged, below_or_from}
+pub use Rattle.recursor_walk.proofs.TimelyForEarlier.{reply-earlier, outcome-earlier}
+pub use Rattle.order_carrier.proofs.LogGrowsByCalls.{Grown-refl, Extends-refl, Grown-trans, Longer-from_added, Extends-added, Logged-newest, unlogged, below_or_from}
 pub use Rattle.resolver_cache.specs.Cached.{Cached}
 pub use Rattle.recursor_types.specs.Policy.{with_patience}
 pub use Rattle.walk_lookup.specs.Order.{is_given_up, IsGivenUpIn, LogGoesOnIf}
-pub use Rattle.order_carrier.specs.Runner.{RunnerHolds, RunnerMoves, GoesNowhere, sent_by, still_awaited, IsLast, HasTold, polls_left}
+pub use Rattle.order_carrier.specs.InFlight.{InFlightHolds, RunnerMoves, GoesNowhere, sent_by, still_awaited, IsLast, HasTold, polls_left}
 pub use Rattle.server_core.specs.declared.orders.order.Order.{Order}
 pub use Rattle.server_core.specs.declared.orders.order.After.{After}
 pub use Rattle.recursor_core.specs.Turns.{due}
 pub use Rattle.recursor_core.specs.Plays.{open_plays, Begins, BeginsIf, BeginsAt, IsRefused, ReplyOf}
-pub use Rattle.recursor_core.specs.declared.machine.plays.Played.{Played}
+pub use Rattle.recursor_core.specs.declared.machine.plays.QuestionState.{QuestionState}
 pub use Rattle.recursor_core.specs.Derived.{seen_by, Derived}
 pub use Rattle.recursor_core.specs.Machine.{kept_in, Begun, begun_of, begun_at, IsOneMore, given_by, ReplyGiven, StepGives, SameCore, IsNewCore, TellsTo, open_at}
 pub use Rattle.recursor_core.specs.declared.machine.resolutions.RecursorCore.{RecursorCore}
 pub use Rattle.recursor_question.specs.declared.steps.Step.{Step}
 pub use Rattle.recursor_core.specs.Runs.{Leading, IsDue, IsOver, Leads, PlaysGoOn, work, Plays}
-pub use Rattle.recursor_core.specs.Standing.{Holds, Goes, Moves, ReplyTold, first_moment, last_moment, begin_moment, run_moments, run_timer, PlayHolds, PlaysHold, RepliesHold, ReplyFor, Rests, Ready, TurnedTold, KeepsTo, Standing, run_terms}
+pub use Rattle.recursor_core.specs.RecursorState.{Holds, Goes, Moves, ReplyTold, first_moment, last_moment, begin_moment, run_moments, run_timer, PlayHolds, PlaysHold, RepliesHold, ReplyFor, Rests, Ready, TurnedTold, KeepsTo, RecursorState, policy_of_run}

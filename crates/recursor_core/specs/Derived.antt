@@ -3,7 +3,7 @@ use Rattle.std.specs.Prelude.{Option, Some, None, ◌<◌, All}
 use Rattle.recursor_walk.specs.Way.{CanWalk}
 use Rattle.std.specs.Global.{Box}
 use Rattle.dns_core.specs.Log.{Log}
-use Rattle.walk_lookup.specs.View.{View, seen_at}
+use Rattle.walk_lookup.specs.LogView.{LogView, seen_at}
 use Rattle.walk_tables.specs.Pools.{PoolsHold}
 use Rattle.walk_lookup.specs.Remembered.{CacheHolds}
 use Rattle.recursor_question.specs.Resolved.{ResolutionHolds}
@@ -11,12 +11,12 @@ use Rattle.recursor_question.specs.declared.resolving.Resolution.{Resolution}
 use Rattle.recursor_core.specs.declared.machine.resolutions.RecursorCore.{RecursorCore}
 
 -- so it is with the one that is kept at a place, if there is one
-abbrev pub KeptHolds : View → Option (Box Resolution) → Type 0
-KeptHolds seen None = Unit {0}
-KeptHolds seen (Some r) = ResolutionHolds seen r.value
+abbrev pub KeptHolds : LogView → Option (Box Resolution) → Type 0
+KeptHolds view None = Unit {0}
+KeptHolds view (Some r) = ResolutionHolds view r.value
 
 -- what the machine sees of a log
-abbrev pub seen_by : RecursorCore → Log → View
+abbrev pub seen_by : RecursorCore → Log → LogView
 seen_by core log = seen_at core.policy core.greatest core.moment log
 
 -- All that the machine keeps is derived from the log.

@@ -1,5 +1,5 @@
 pub mod Turns
-pub mod Standing
+pub mod RecursorState
 pub mod Runs
 pub mod Recursor
 pub mod Derived

@@ -8,10 +8,10 @@ use Rattle.dns_core.specs.declared.request.Question.{Question}
 use Rattle.order_carrier.specs.Fits.{GoesToServer}
 use Rattle.server_core.specs.declared.orders.order.After.{After}
 use Rattle.server_core.specs.declared.orders.order.Outcome.{Outcome}
-use Rattle.server_core.specs.declared.orders.order.Sent.{Sent}
+use Rattle.server_core.specs.declared.orders.order.SentBy.{SentBy}
 use Rattle.server_core.specs.declared.orders.order.Tick.{Tick}
 use Rattle.walk_lookup.specs.Order.{TellsOn}
-use Rattle.walk_lookup.specs.View.{View}
+use Rattle.walk_lookup.specs.LogView.{LogView}
 use Rattle.recursor_walk.specs.Replies.{Replied}
 use Rattle.walk_tables.specs.Pools.{PoolsHold, given_so_far}
 use Rattle.walk_tables.specs.declared.pools.Pools.{Pools}
@@ -21,17 +21,17 @@ use Rattle.dns_core.specs.declared.errors.NoMemory.{NoMemory}
 use Rattle.recursor_types.specs.Policy.{policy_of}
 use Rattle.recursor_types.specs.declared.options.RecursorOptions.{RecursorOptions}
 use Rattle.recursor_types.specs.declared.error.RecursorError.{RecursorError}
-use Rattle.recursor_question.specs.declared.resolving.Need.{Need}
+use Rattle.recursor_question.specs.declared.resolving.NextStep.{NextStep}
 use Rattle.recursor_question.specs.declared.resolving.Resolution.{Resolution}
 use Rattle.recursor_question.specs.declared.steps.Step.{Step}
 use Rattle.recursor_core.specs.declared.machine.resolutions.RecursorCore.{RecursorCore}
 use Rattle.recursor_question.specs.Resolving as one
 use Rattle.recursor_types.specs.declared.error.MessageKind.TheVariants as kind
 use Rattle.recursor_types.specs.declared.error.RecursorError.TheVariants as error
-use Rattle.recursor_question.specs.declared.resolving.Need.TheVariants as need
+use Rattle.recursor_question.specs.declared.resolving.NextStep.TheVariants as need
 use Rattle.recursor_question.specs.declared.steps.Step.TheVariants as step
 
-abbrev pub need_in : Option Resolution → Need
+abbrev pub need_in : Option Resolution → NextStep
 need_in None = need.Nothing
 need_in (Some r) = one.want_of r
 
@@ -45,7 +45,7 @@ abbrev pub resolution_at : RecursorCore → ℕ → Option Resolution
 resolution_at core r = kept_in (slice_get core.resolutions.items r)
 
 -- what the resolution at a place needs
-abbrev pub need_at : RecursorCore → ℕ → Need
+abbrev pub need_at : RecursorCore → ℕ → NextStep
 need_at core r = need_in (resolution_at core r)
 
 -- a question, and the moment at which it began
@@ -97,7 +97,7 @@ given_by core = given_so_far core.pools
 
 -- An order has the next number; no other step gives one. What is there waits for the order that is given, or for the one that it is said to wait for; with its
 -- reply nothing is needed any more, and nothing more comes where nothing was needed.
-abbrev pub StepFor : ℕ → ℕ → Need → Need → Option ℕ → Step → Type 0
+abbrev pub StepFor : ℕ → ℕ → NextStep → NextStep → Option ℕ → Step → Type 0
 StepFor before after was left waits (step.Order number order) = (number ≡ before + 1) × (after ≡ before + 1) × (waits ≡ Some number)
 StepFor before after was left waits (step.Waiting number) = (after ≡ before) × (waits ≡ Some number)
 StepFor before after was left waits (step.Done reply) = (after ≡ before) × (left ≡ need.Nothing)
@@ -111,13 +111,13 @@ abbrev pub Steps : RecursorCore → RecursorCore → ℕ → Result Step NoMemor
 Steps old new r result = MatchResult result (StepIs old new r) (λ e. given_by old ≤ given_by new)
 
 -- A log goes on to tell an outcome to the machine, whose patience is no greater.
-pub record TellsTo (core : RecursorCore) (log : Log) (tick : Tick) (waits : Option Sent) (o : Outcome) (result : Result After NoMemory) (longer : Log) : Type 0 where
+pub record TellsTo (core : RecursorCore) (log : Log) (tick : Tick) (waits : Option SentBy) (outcome : Outcome) (result : Result After NoMemory) (longer : Log) : Type 0 where
   pub patient : core.policy.patience ≤ tick.patience
-  pub on : TellsOn core.moment log tick waits o result longer
+  pub on : TellsOn core.moment log tick waits outcome result longer
 
-abbrev pub ReplyGiven : View → Option Begun → Reply → Type 0
-ReplyGiven seen None reply = ⊥
-ReplyGiven seen (Some b) reply = Replied seen b.moment b.question reply
+abbrev pub ReplyGiven : LogView → Option Begun → Reply → Type 0
+ReplyGiven view None reply = ⊥
+ReplyGiven view (Some b) reply = Replied view b.moment b.question reply
 
 -- what a step gives is derived: an order goes to a server by what was put before, and a reply holds
 abbrev pub StepGives : RecursorCore → Log → ℕ → Step → Type 0
@@ -133,7 +133,7 @@ pub record IsNewCore (roots : List IpAddr) (options : RecursorOptions) (core : R
   pub moment : core.moment ≡ 0
   pub greatest : core.greatest ≡ 0
   pub resolutions : core.resolutions.items ≡ []
-  pub pools : (seen : View) → seen.policy ≡ policy_of roots options → PoolsHold seen core.pools
+  pub pools : (view : LogView) → view.policy ≡ policy_of roots options → PoolsHold view core.pools
 
 -- what a question is refused for as it begins
 abbrev pub IsBeginError : RecursorError → Type 0

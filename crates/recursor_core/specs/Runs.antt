@@ -6,8 +6,8 @@ use Rattle.dns_core.specs.declared.request.Question.{Question}
 use Rattle.dns_core.specs.declared.request.Turn.{Turn}
 use Rattle.order_carrier.specs.Growing.{GrownOver}
 use Rattle.order_carrier.specs.Patience.{IsPatient}
-use Rattle.order_carrier.specs.declared.in_flight.runner.Runner.{Runner}
-use Rattle.recursor_core.specs.Standing.{Holds, PlaysHold, first_moment, last_moment, begin_moment, run_moments}
+use Rattle.order_carrier.specs.declared.in_flight.runner.InFlight.{InFlight}
+use Rattle.recursor_core.specs.RecursorState.{Holds, PlaysHold, first_moment, last_moment, begin_moment, run_moments}
 use Rattle.recursor_core.specs.Turns.{due}
 use Rattle.recursor_core.specs.Plays.{open_plays}
 use Rattle.recursor_core.specs.declared.machine.resolutions.RecursorCore.{RecursorCore}
@@ -23,7 +23,7 @@ Runs p run = Holds p run.patience run.core run.runner
 
 -- By steps at these moments, none before that of the machine, machine and orders came to others that hold: what the machine is set to stays, the log has
 -- grown at these moments alone, and none of its entries was waited for beyond patience; the provider vouches for no more than before.
-pub record Leading {P C F E : Type 0} (p : Ghosts P C F E) (moments : List ℕ) (most new_most : ℕ) (core new_core : RecursorCore) (r new : Runner P C F E p) : Type 0 where
+pub record Leading {P C F E : Type 0} (p : Ghosts P C F E) (moments : List ℕ) (most new_most : ℕ) (core new_core : RecursorCore) (r new : InFlight P C F E p) : Type 0 where
   pub vouches : (es : List LogEntry) → p.vouches new.carrier.provider es → p.vouches r.carrier.provider es
   pub runs : Holds p new_most new_core new
   pub policy : new_core.policy ≡ core.policy

@@ -6,7 +6,7 @@ ghost use Rattle.order_carrier.specs.Growing.{TellsThat, IsPast, GrownOver};
 ghost use Rattle.order_carrier.specs.Patience.{IsPatient};
 ghost use Rattle.resolution.specs.Telling.{MomentsRise};
 ghost use Rattle.recursor_types.specs.Policy.{with_patience};
-ghost use Rattle.recursor_core.specs.Standing.{run_terms, RepliesHold, run_moments};
+ghost use Rattle.recursor_core.specs.RecursorState.{policy_of_run, RepliesHold, run_moments};
 
 use crate::recursor::Recursor;
 use dns_core::{ConnectionProvider, NoMemory, Question, Turn};
@@ -31,7 +31,7 @@ pub fn drive<P: ConnectionProvider>(
     // Only servers were asked: by what was told before, each address that was opened serves a zone, and
     // each one that was asked serves a zone at or above the name of the question. Each is a root, or its
     // address is not denied.
-    ensures asks { TellsThat (P.log recursor.new.provider) (AsksServers (run_terms patience recursor.old)) }
+    ensures asks { TellsThat (P.log recursor.new.provider) (AsksServers (policy_of_run patience recursor.old)) }
 
     // Each message that is answered is what counts of a response that a server of a zone at or above the
     // name told: since the question began, or within its life before that, and then it was authoritative.
@@ -39,7 +39,7 @@ pub fn drive<P: ConnectionProvider>(
     // denial or a referral that such a server told, and that was as fresh, a delegation without an
     // address that may be asked, or a lookup at all servers of such a zone that ended so.
     ensures replies { IfOk result (λ replies. TellsThat (P.log recursor.new.provider) (λ log.
-        RepliesHold (run_terms patience recursor.old) log recursor.old.moment turns.now questions.now replies.items)) }
+        RepliesHold (policy_of_run patience recursor.old) log recursor.old.moment turns.now questions.now replies.items)) }
 
     // No entry was waited for more often than patience allows, which is once at least, or than it was before.
     ensures patient { IsPatient (max 1 patience) (P.log recursor.old.provider) (P.log recursor.new.provider) }

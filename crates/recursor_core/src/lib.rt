@@ -10,7 +10,7 @@ mod turns;
 
 pub use driving::drive;
 pub use machine::plays::{
-    Played, begin_at, is_waiting, leave_unanswered, put_answer, replies, under_way, waiting,
+    QuestionState, begin_at, is_waiting, leave_unanswered, put_answer, replies, under_way, waiting,
 };
 pub use machine::resolutions::RecursorCore;
 pub use order_carrier::Carrier;

@@ -6,12 +6,12 @@ ghost use Rattle.recursor_core.specs.Recursor.{IsSetupError, IsSetupKind};
 ghost use Rattle.recursor_types.specs.Options.{has_bad_first_delays};
 ghost use Rattle.recursor_types.specs.Policy.{policy_of};
 ghost use Rattle.walk_lookup.specs.Asking.{context_of, connect_of};
-ghost use Rattle.recursor_core.specs.Standing.{Standing, Rests, first_standing};
+ghost use Rattle.recursor_core.specs.RecursorState.{RecursorState, Rests, first_state};
 
 use crate::machine::resolutions::RecursorCore;
 use crate::run::Run;
 use dns_core::{ConnectOptions, ConnectionProvider, NoMemory};
-use order_carrier::{Carrier, Runner};
+use order_carrier::{Carrier, InFlight};
 use recursor_types::{MessageKind, RecursorError, RecursorOptions};
 use server_core::PoolContext;
 use std::alloc::Global;
@@ -31,7 +31,7 @@ impl<P: ConnectionProvider> Drop for Recursor<P> {
 }
 
 impl<P: ConnectionProvider> Model for Recursor<P> {
-    ghost Value = { Standing P };
+    ghost Value = { RecursorState P };
 
     ghost view = { λ a. record { provider = a.run.runner.carrier.provider; policy = a.run.core.policy; moment = a.run.core.moment } };
 
@@ -93,13 +93,13 @@ impl<P: ConnectionProvider> Recursor<P> {
         requires empty { (es : List LogEntry) → P.log provider ≡ Some es → es ≡ [] }
         requires some { roots.now ≢ [] }
         requires ordered { has_reversed options.cache_policy ≡ false }
-        ensures { IfOk result (λ recursor. recursor ≡ first_standing provider roots.now options) }
+        ensures { IfOk result (λ recursor. recursor ≡ first_state provider roots.now options) }
     {
         let core = RecursorCore::new(alloc, roots, options)?;
         let connect = core.connect_options(alloc)?;
         let run = Run {
             core,
-            runner: Runner::new(alloc, Carrier::new(alloc, provider, connect)),
+            runner: InFlight::new(alloc, Carrier::new(alloc, provider, connect)),
             plays: Vec::new(alloc),
             patience: 0,
         };

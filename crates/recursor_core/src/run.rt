@@ -4,16 +4,16 @@ ghost use Rattle.dns_core.specs.declared.request.Question.{Question};
 ghost use Rattle.dns_core.specs.declared.request.Turn.{Turn};
 ghost use Rattle.order_carrier.specs.Growing.{TellsThat};
 ghost use Rattle.recursor_core.specs.Runs.{Runs, Leads, PlaysOn, PlaysGoOn, IsDue, ComesIn, IsOver, told_by, work};
-ghost use Rattle.recursor_core.specs.Standing.{RepliesHold, last_moment, run_moments};
+ghost use Rattle.recursor_core.specs.RecursorState.{RepliesHold, last_moment, run_moments};
 ghost use Rattle.recursor_core.specs.Plays.{IsUnderWay};
 
 use crate::machine::plays::{
-    Played, begin_at, is_waiting, leave_unanswered, put_answer, replies, under_way, waiting,
+    QuestionState, begin_at, is_waiting, leave_unanswered, put_answer, replies, under_way, waiting,
 };
 use crate::machine::resolutions::RecursorCore;
-use crate::turns::answer_of;
+use crate::turns::turn_result;
 use dns_core::{ConnectionProvider, NoMemory, Question, Turn};
-use order_carrier::Runner;
+use order_carrier::InFlight;
 use recursor_types::Reply;
 use server_core::Tick;
 use std::alloc::Global;
@@ -23,8 +23,8 @@ use std::alloc::Global;
 #[derive(Drop)]
 pub struct Run<P: ConnectionProvider> {
     pub(crate) core: RecursorCore,
-    pub(crate) runner: Runner<P>,
-    pub(crate) plays: Vec<Played>,
+    pub(crate) runner: InFlight<P>,
+    pub(crate) plays: Vec<QuestionState>,
     pub(crate) patience: u32,
 }
 
@@ -64,7 +64,7 @@ impl<P: ConnectionProvider> Run<P> {
             now,
             patience: self.patience,
         };
-        match answer_of(alloc, &mut self.core, &mut self.runner, place, tick) {
+        match turn_result(alloc, &mut self.core, &mut self.runner, place, tick) {
             Ok(Some(reply)) => put_answer(&mut self.plays, q, reply),
             Ok(None) => {}
             Err(_) => leave_unanswered(&mut self.plays, q),
@@ -104,7 +104,7 @@ impl<P: ConnectionProvider> Run<P> {
 
     /// Before a question begins, the one that may be under way is gone round to its end, at the greatest
     /// moment so far. It answers which one may be under way after that.
-    fn make_way(&mut self, alloc: Global, current: usize, q: usize) -> usize
+    fn finish_current(&mut self, alloc: Global, current: usize, q: usize) -> usize
         requires { Runs P.ConnectionProvider self.old }
         ensures leads { Leads P.ConnectionProvider (self.old.core.moment ∷ []) self.old self.new }
         ensures plays { PlaysGoOn P.ConnectionProvider self.old.core.moment self.old self.new }
@@ -138,7 +138,7 @@ impl<P: ConnectionProvider> Run<P> {
             return current;
         }
         let q = (turn.question - 1) as usize;
-        let next = self.make_way(alloc, current, q);
+        let next = self.finish_current(alloc, current, q);
         let now = turn.moment.max(self.core.moment());
         self.begin_one(alloc, questions, q, now);
         let _played = self.play(alloc, q, now);
@@ -160,7 +160,7 @@ impl<P: ConnectionProvider> Run<P> {
     }
 
     /// Begins a question that has not begun, and goes it round to its end.
-    fn play_one(&mut self, alloc: Global, questions: &[Question], q: usize, now: u64)
+    fn resolve_question(&mut self, alloc: Global, questions: &[Question], q: usize, now: u64)
         requires runs { Runs P.ConnectionProvider self.old }
         requires moment { self.old.core.moment ≤ now }
         ensures leads { Leads P.ConnectionProvider (self.old.core.moment ∷ now ∷ []) self.old self.new }
@@ -180,7 +180,7 @@ impl<P: ConnectionProvider> Run<P> {
         ensures count { vec_len self.new.plays ≡ vec_len self.old.plays }
     {
         for q in 0..questions.len() {
-            self.play_one(alloc, questions, q, now);
+            self.resolve_question(alloc, questions, q, now);
         }
     }
 

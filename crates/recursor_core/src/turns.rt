@@ -3,16 +3,16 @@ ghost use Rattle.std.specs.Prelude.{◌≡◌, ◌≤◌, ◌<◌, ◌+◌, ℕ,
 ghost use Rattle.std.specs.BTreeSet.{contains};
 ghost use Rattle.std.specs.Ordering.{nat_cmp};
 ghost use Rattle.order_carrier.specs.Growing.{TellsThat};
-ghost use Rattle.order_carrier.specs.Runner.{GoesRight, held_at, sent_by, HasTold};
+ghost use Rattle.order_carrier.specs.InFlight.{GoesRight, held_at, sent_by, HasTold};
 ghost use Rattle.recursor_core.specs.Machine.{begun_at, need_at, open_at, given_by};
 ghost use Rattle.recursor_core.specs.declared.machine.resolutions.RecursorCore.{RecursorCore};
-ghost use Rattle.recursor_core.specs.Standing.{Holds, Ready, Goes, ReplyTold, TurnedTold};
+ghost use Rattle.recursor_core.specs.RecursorState.{Holds, Ready, Goes, ReplyTold, TurnedTold};
 ghost use Rattle.recursor_core.specs.Turns.{due, TurnFalls, AskFalls, AllPolled};
 
 use crate::machine::resolutions::RecursorCore;
 use dns_core::{ConnectionProvider, NoMemory};
-use order_carrier::Runner;
-use recursor_question::{Need, Step};
+use order_carrier::InFlight;
+use recursor_question::{NextStep, Step};
 use recursor_types::Reply;
 use server_core::{After, Order, Outcome, Tick};
 use std::alloc::Global;
@@ -20,7 +20,7 @@ use std::collections::BTreeSet;
 
 /// What became of a turn of a question: it waits for an order, has its reply, or has ended without one.
 #[derive(Drop)]
-pub enum Turned {
+pub enum TurnResult {
     Pending,
     Done(Box<Reply>),
     Ended,
@@ -33,7 +33,7 @@ pub enum Turned {
 fn settle<P: ConnectionProvider>(
     alloc: Global,
     core: &mut RecursorCore,
-    runner: &mut Runner<P>,
+    runner: &mut InFlight<P>,
     number: u64,
     outcome: Outcome,
     tick: Tick,
@@ -67,7 +67,7 @@ fn settle<P: ConnectionProvider>(
 fn start_order<P: ConnectionProvider>(
     alloc: Global,
     core: &mut RecursorCore,
-    runner: &mut Runner<P>,
+    runner: &mut InFlight<P>,
     number: u64,
     order: Box<Order>,
     tick: Tick,
@@ -86,7 +86,7 @@ fn start_order<P: ConnectionProvider>(
 fn begin_order<P: ConnectionProvider>(
     alloc: Global,
     core: &mut RecursorCore,
-    runner: &mut Runner<P>,
+    runner: &mut InFlight<P>,
     polled: &mut BTreeSet<u64>,
     number: u64,
     order: Box<Order>,
@@ -109,7 +109,7 @@ fn begin_order<P: ConnectionProvider>(
 fn poll_order<P: ConnectionProvider>(
     alloc: Global,
     core: &mut RecursorCore,
-    runner: &mut Runner<P>,
+    runner: &mut InFlight<P>,
     polled: &mut BTreeSet<u64>,
     _r: usize,
     number: u64,
@@ -133,11 +133,11 @@ fn poll_order<P: ConnectionProvider>(
 fn ask<P: ConnectionProvider>(
     alloc: Global,
     core: &mut RecursorCore,
-    runner: &mut Runner<P>,
+    runner: &mut InFlight<P>,
     polled: &mut BTreeSet<u64>,
     r: usize,
     tick: Tick,
-) -> Result<Turned, NoMemory>
+) -> Result<TurnResult, NoMemory>
     requires ready { Ready P.ConnectionProvider tick core.old runner.old }
     ensures goes { Goes P.ConnectionProvider tick core.old core.new runner.old runner.new }
     ensures told { IfOk result (TurnedTold core.old.policy tick.now (P.log runner.new.carrier.provider) (begun_at core.old r)) }
@@ -149,9 +149,9 @@ fn ask<P: ConnectionProvider>(
             Step::Order { number, order } => {
                 begin_order(alloc, core, runner, polled, number, order, tick)?;
             }
-            Step::Waiting { .. } => return Ok(Turned::Pending),
-            Step::Done(reply) => return Ok(Turned::Done(reply)),
-            Step::Ended => return Ok(Turned::Ended),
+            Step::Waiting { .. } => return Ok(TurnResult::Pending),
+            Step::Done(reply) => return Ok(TurnResult::Done(reply)),
+            Step::Ended => return Ok(TurnResult::Ended),
         }
     }
 }
@@ -161,7 +161,7 @@ fn ask<P: ConnectionProvider>(
 fn poll_rest<P: ConnectionProvider>(
     alloc: Global,
     core: &mut RecursorCore,
-    runner: &mut Runner<P>,
+    runner: &mut InFlight<P>,
     polled: &mut BTreeSet<u64>,
     r: usize,
     tick: Tick,
@@ -187,10 +187,10 @@ fn poll_rest<P: ConnectionProvider>(
 fn turn<P: ConnectionProvider>(
     alloc: Global,
     core: &mut RecursorCore,
-    runner: &mut Runner<P>,
+    runner: &mut InFlight<P>,
     r: usize,
     tick: Tick,
-) -> Result<Turned, NoMemory>
+) -> Result<TurnResult, NoMemory>
     requires ready { Ready P.ConnectionProvider tick core.old runner.old }
     ensures goes { Goes P.ConnectionProvider tick core.old core.new runner.old runner.new }
     ensures told { IfOk result (TurnedTold core.old.policy tick.now (P.log runner.new.carrier.provider) (begun_at core.old r)) }
@@ -200,12 +200,12 @@ fn turn<P: ConnectionProvider>(
     let mut polled = BTreeSet::new(alloc);
     'rounds: loop {
         match ask(alloc, core, runner, &mut polled, r, tick)? {
-            Turned::Pending => {}
-            Turned::Done(reply) => return Ok(Turned::Done(reply)),
-            Turned::Ended => return Ok(Turned::Ended),
+            TurnResult::Pending => {}
+            TurnResult::Done(reply) => return Ok(TurnResult::Done(reply)),
+            TurnResult::Ended => return Ok(TurnResult::Ended),
         }
         if !poll_rest(alloc, core, runner, &mut polled, r, tick)? {
-            return Ok(Turned::Pending);
+            return Ok(TurnResult::Pending);
         }
     }
 }
@@ -213,7 +213,7 @@ fn turn<P: ConnectionProvider>(
 /// Ends a resolution, and gives up the order that it waited for.
 fn abandon<P: ConnectionProvider>(
     core: &mut RecursorCore,
-    runner: &mut Runner<P>,
+    runner: &mut InFlight<P>,
     r: usize,
     tick: Tick,
 )
@@ -221,7 +221,7 @@ fn abandon<P: ConnectionProvider>(
     ensures goes { Goes P.ConnectionProvider tick core.old core.new runner.old runner.new }
     ensures keeps { due tick.patience core.new runner.new ≤ due tick.patience core.old runner.old }
     ensures withdrawn { (number : ℕ) → open_at core.old r ≡ Some number → held_at runner.new number ≡ None }
-    ensures ended { need_at core.new r ≡ Need.Nothing }
+    ensures ended { need_at core.new r ≡ NextStep.Nothing }
 {
     if let Some(number) = core.cancel(r) {
         runner.give_up(number, tick.now);
@@ -230,10 +230,10 @@ fn abandon<P: ConnectionProvider>(
 
 /// A turn of a resolution: its reply, or none where an order stays pending. On want of memory it has
 /// ended.
-pub fn answer_of<P: ConnectionProvider>(
+pub fn turn_result<P: ConnectionProvider>(
     alloc: Global,
     core: &mut RecursorCore,
-    runner: &mut Runner<P>,
+    runner: &mut InFlight<P>,
     r: usize,
     tick: Tick,
 ) -> Result<Option<Box<Reply>>, NoMemory>
@@ -246,8 +246,8 @@ pub fn answer_of<P: ConnectionProvider>(
 {
     core.reach(tick.now);
     match turn(alloc, core, runner, r, tick) {
-        Ok(Turned::Pending) => Ok(None),
-        Ok(Turned::Done(reply)) => Ok(Some(reply)),
+        Ok(TurnResult::Pending) => Ok(None),
+        Ok(TurnResult::Done(reply)) => Ok(Some(reply)),
         Ok(_) => Err(NoMemory),
         Err(_) => {
             abandon(core, runner, r, tick);

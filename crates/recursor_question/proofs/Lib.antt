@@ -1,4 +1,4 @@
 pub mod Words
-pub mod Resolved
-pub mod Stepping
-pub mod Later
+pub mod ResolutionAfterStep
+pub mod QuestionHasNext
+pub mod QuestionAdvances

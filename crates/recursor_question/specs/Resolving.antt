@@ -8,41 +8,41 @@ use Rattle.dns_core.specs.declared.request.DnsRequest.{DnsRequest}
 use Rattle.dns_core.specs.declared.request.Question.{Question}
 use Rattle.walk_tables.specs.Taking.{awaited_by}
 use Rattle.walk_tables.specs.declared.pools.Pools.{Pools}
-use Rattle.walk_tables.specs.declared.pools.Stepped.{Stepped}
+use Rattle.walk_tables.specs.declared.pools.PoolsStep.{PoolsStep}
 use Rattle.recursor_types.specs.declared.reply.Reply.{Reply}
 use Rattle.resolution.specs.Failing.{ends_walk}
 use Rattle.resolver_cache.specs.Cached.{Cached}
-use Rattle.recursor_walk.specs.Counted.{recalled, answerable}
+use Rattle.recursor_walk.specs.SourcedVerdict.{from_cache, answerable}
 use Rattle.recursor_walk.specs.Replies.{reply_with}
-use Rattle.recursor_walk.specs.declared.zone_query.counted.Counted.{Counted}
-use Rattle.recursor_walk.specs.declared.walk.Course.{Course}
-use Rattle.recursor_question.specs.declared.resolving.Need.{Need}
+use Rattle.recursor_walk.specs.declared.zone_query.sourced_verdict.SourcedVerdict.{SourcedVerdict}
+use Rattle.recursor_walk.specs.declared.walk.WalkOutcome.{WalkOutcome}
+use Rattle.recursor_question.specs.declared.resolving.NextStep.{NextStep}
 use Rattle.recursor_question.specs.declared.resolving.State.{State}
 use Rattle.recursor_question.specs.declared.resolving.State.TheVariants.{New, Walking, Asking, Done, Ended}
 use Rattle.recursor_question.specs.declared.resolving.Resolution.{Resolution}
-use Rattle.recursor_walk.specs.declared.zone_query.asking.Asking.{Asking as AtServers}
+use Rattle.recursor_walk.specs.declared.zone_query.asking.ZoneQuery.{ZoneQuery as AtServers}
 use Rattle.walk_tables.specs.Lookup as lookup
-use Rattle.recursor_walk.specs.Asking as asking
+use Rattle.recursor_walk.specs.ZoneQuery as asking
 use Rattle.recursor_walk.specs.Walk as walk
-use Rattle.recursor_walk.specs.declared.walk.Course.TheVariants as course
-use Rattle.recursor_question.specs.declared.resolving.Need.TheVariants as need
+use Rattle.recursor_walk.specs.declared.walk.WalkOutcome.TheVariants as course
+use Rattle.recursor_question.specs.declared.resolving.NextStep.TheVariants as need
 
-abbrev pub state_want : State → Need
+abbrev pub state_want : State → NextStep
 state_want New = need.SetOut
 state_want (Walking w) = need.Send (lookup.want_of w.value.asking.lookup.ask)
 state_want (Asking a) = need.Send (lookup.want_of a.value.lookup.ask)
 state_want (Done reply) = need.Reply
 state_want Ended = need.Nothing
 
-abbrev pub want_of : Resolution → Need
+abbrev pub want_of : Resolution → NextStep
 want_of r = state_want r.state
 
 abbrev pub state_steps : Query → State → ℕ
-state_steps q New = walk.begin_steps q
-state_steps q (Walking w) = walk.steps w.value
-state_steps q (Asking a) = asking.steps a.value
-state_steps q (Done reply) = 1
-state_steps q Ended = 0
+state_steps query New = walk.begin_steps query
+state_steps query (Walking w) = walk.steps w.value
+state_steps query (Asking a) = asking.steps a.value
+state_steps query (Done reply) = 1
+state_steps query Ended = 0
 
 -- how many steps it has before it
 abbrev pub steps : Resolution → ℕ
@@ -82,11 +82,11 @@ IsWalking (Done reply) = ⊥
 IsWalking Ended = ⊥
 
 -- It is as it was where the walk goes further; else it has at most to ask, has its reply, or has ended for want of memory.
-abbrev pub IsWalked : Query → Result Course NoMemory → State → State → Type 0
-IsWalked q (Ok course.Further) old new = new ≡ old
-IsWalked q (Ok course.Arrived) old new = state_steps q new ≤ 6
-IsWalked q (Ok (course.Reply reply)) old new = new ≡ Done reply
-IsWalked q (Err e) old new = new ≡ Ended
+abbrev pub IsWalked : Query → Result WalkOutcome NoMemory → State → State → Type 0
+IsWalked query (Ok course.Continue) old new = new ≡ old
+IsWalked query (Ok course.ServersReached) old new = state_steps query new ≤ 6
+IsWalked query (Ok (course.Reply reply)) old new = new ≡ Done reply
+IsWalked query (Err e) old new = new ≡ Ended
 
 -- it is as it was where it goes on; it has its reply, or has ended for want of memory
 abbrev pub IsSettled : Result (Option (Box Reply)) NoMemory → State → State → Type 0
@@ -108,7 +108,7 @@ abbrev pub AsksOn : {X : Type 0} → Result X NoMemory → Resolution → Resolu
 AsksOn result old new = MatchResult result (λ x. asked_of new.state ≡ asked_of old.state) (λ e. new ≡ old)
 
 -- A step of its lookup leaves less to do than before, but where it gives an order, or waits for one; where it is done, what came is to be heard.
-abbrev pub StepsOn : Resolution → Resolution → Stepped → Type 0
+abbrev pub StepsOn : Resolution → Resolution → PoolsStep → Type 0
 StepsOn old new stepped = lookup.LeavesLess (steps old) (steps new) stepped × (want_of new ≡ need.Send (lookup.want_after stepped))
 
 -- ---- how it begins
@@ -128,7 +128,7 @@ IsDoneWith reply (Done given) = given.value ≡ reply
 IsDoneWith reply Ended = ⊥
 
 -- Where the cache has for a question what may be answered, the reply is the one with that; else its walk begins.
-abbrev pub IsAnswered : Question → Option Counted → State → Type 0
+abbrev pub IsAnswered : Question → Option SourcedVerdict → State → Type 0
 IsAnswered question None state = IsUnder state
 IsAnswered question (Some c) state = IsDoneWith (reply_with question c) state
 
@@ -141,8 +141,8 @@ IsDone _ = ⊥
 -- What the cache has for what is asked is heeded: the question itself is answered with it where it may be, and else goes on; one whose walk
 -- it ends is answered.
 abbrev pub IsHeeded : Cached → ℕ → Question → State → State → Type 0
-IsHeeded cache now question (Asking a) new = IsAnswered question (answerable (recalled cache a.value.lookup.query now)) new
-IsHeeded cache now question (Walking w) new = IfSome (recalled cache w.value.asking.lookup.query now) (λ c. IsTrue (ends_walk c.verdict) → IsDone new)
+IsHeeded cache now question (Asking a) new = IsAnswered question (answerable (from_cache cache a.value.lookup.query now)) new
+IsHeeded cache now question (Walking w) new = IfSome (from_cache cache w.value.asking.lookup.query now) (λ c. IsTrue (ends_walk c.verdict) → IsDone new)
 IsHeeded cache now question _ new = Unit {0}
 
 -- What came is heard: the question itself is answered by it, and so is one whose walk it ends.

@@ -8,7 +8,7 @@ use Rattle.server_core.specs.declared.orders.order.Tick.{Tick}
 use Rattle.walk_lookup.specs.Asking.{request_options_of}
 use Rattle.recursor_types.specs.declared.policy.Policy.{Policy}
 use Rattle.resolver_cache.specs.Cached.{Cached}
-use Rattle.walk_lookup.specs.View.{View}
+use Rattle.walk_lookup.specs.LogView.{LogView}
 use Rattle.walk_lookup.specs.Remembered.{CacheHolds}
 use Rattle.walk_tables.specs.Pools.{PoolsHold, StepGoes, IsStepAt, given_so_far}
 use Rattle.walk_tables.specs.declared.pools.Pools.{Pools}
@@ -16,7 +16,7 @@ use Rattle.recursor_walk.specs.Replies.{CameTo}
 use Rattle.recursor_question.specs.Resolving.{steps, open_of, AsksFor, IsOpen, IsAnswered}
 use Rattle.recursor_question.specs.Resolved.{ResolutionHolds}
 use Rattle.recursor_types.specs.declared.reply.Reply.{Reply}
-use Rattle.recursor_walk.specs.declared.zone_query.counted.Counted.{Counted}
+use Rattle.recursor_walk.specs.declared.zone_query.sourced_verdict.SourcedVerdict.{SourcedVerdict}
 use Rattle.recursor_question.specs.declared.resolving.State.{State}
 use Rattle.recursor_question.specs.declared.resolving.Resolution.{Resolution}
 use Rattle.recursor_question.specs.declared.steps.Step.{Step}
@@ -24,7 +24,7 @@ use Rattle.recursor_question.specs.declared.steps.Progress.{Progress}
 use Rattle.recursor_question.specs.declared.resolving.State.TheVariants as state
 use Rattle.recursor_question.specs.declared.steps.Step.TheVariants as step
 use Rattle.recursor_question.specs.declared.steps.Progress.TheVariants as progress
-use Rattle.walk_tables.specs.declared.pools.Stepped.TheVariants as stepped
+use Rattle.walk_tables.specs.declared.pools.PoolsStep.TheVariants as stepped
 
 -- It is the request of what is asked now, with the options that all requests have.
 pub record IsRequestOf (request : DnsRequest) (policy : Policy) (s : State) : Type 0 where
@@ -46,34 +46,34 @@ GoesOn old new was r (Ok (progress.Step s)) = StepIs old new was r s
 GoesOn old new was r (Err e) = given_so_far old ≤ given_so_far new
 
 -- what a step gives is derived: an order goes to a server by what was put before, and a reply holds, for which memory was not wanting
-abbrev pub StepGives : View → Resolution → Step → Type 0
-StepGives seen was (step.Order number order) = StepGoes seen (stepped.Order number order.value)
-StepGives seen was (step.Waiting number) = Unit {0}
-StepGives seen was (step.Done reply) = CameTo seen was.begun was.question reply.value
-StepGives seen was step.Ended = Unit {0}
+abbrev pub StepGives : LogView → Resolution → Step → Type 0
+StepGives view was (step.Order number order) = StepGoes view (stepped.Order number order.value)
+StepGives view was (step.Waiting number) = Unit {0}
+StepGives view was (step.Done reply) = CameTo view was.begun was.question reply.value
+StepGives view was step.Ended = Unit {0}
 
-abbrev pub Gives : View → Resolution → Progress → Type 0
-Gives seen was progress.Again = Unit {0}
-Gives seen was (progress.Step s) = StepGives seen was s
+abbrev pub Gives : LogView → Resolution → Progress → Type 0
+Gives view was progress.Again = Unit {0}
+Gives view was (progress.Step s) = StepGives view was s
 
 -- It is stepped at the moment that is seen, after the greatest entry, with what the machine is set to, which has a root, and with a cache that holds.
-pub record SteppedBy (seen : View) (policy : Policy) (cache : Cached) (since : ℕ) (tick : Tick) : Type 0 where
-  pub are : seen.policy ≡ policy
+pub record SteppedBy (view : LogView) (policy : Policy) (cache : Cached) (since : ℕ) (tick : Tick) : Type 0 where
+  pub are : view.policy ≡ policy
   pub walks : CanWalk policy
-  pub at : IsStepAt seen since tick
-  pub keeps : CacheHolds seen cache
+  pub at : IsStepAt view since tick
+  pub keeps : CacheHolds view cache
 
 -- It holds after a step, so do the pools, and what the step gives is derived.
-pub record GoesWell (seen : View) (was r : Resolution) (new : Pools) (result : Result Progress NoMemory) : Type 0 where
-  pub holds : ResolutionHolds seen r
-  pub tables : PoolsHold seen new
-  pub gives : IfOk result (Gives seen was)
+pub record GoesWell (view : LogView) (was r : Resolution) (new : Pools) (result : Result Progress NoMemory) : Type 0 where
+  pub holds : ResolutionHolds view r
+  pub tables : PoolsHold view new
+  pub gives : IfOk result (Gives view was)
 
 -- So it is after all steps that are due.
-pub record StepsWell (seen : View) (was r : Resolution) (new : Pools) (result : Result Step NoMemory) : Type 0 where
-  pub holds : ResolutionHolds seen r
-  pub tables : PoolsHold seen new
-  pub gives : IfOk result (StepGives seen was)
+pub record StepsWell (view : LogView) (was r : Resolution) (new : Pools) (result : Result Step NoMemory) : Type 0 where
+  pub holds : ResolutionHolds view r
+  pub tables : PoolsHold view new
+  pub gives : IfOk result (StepGives view was)
 
 -- ---- what the cache has
 
@@ -89,6 +89,6 @@ GivesReply reply progress.Again = ⊥
 GivesReply reply (progress.Step s) = HandsOut reply s
 
 -- It has set out, and another step is due: it is answered with what counts, or its walk has begun.
-abbrev pub SetsOut : Question → Option Counted → State → Progress → Type 0
+abbrev pub SetsOut : Question → Option SourcedVerdict → State → Progress → Type 0
 SetsOut question counted s progress.Again = IsAnswered question counted s
 SetsOut question counted s (progress.Step given) = ⊥

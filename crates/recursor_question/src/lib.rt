@@ -8,5 +8,5 @@ mod short_way;
 mod steps;
 mod threads;
 
-pub use resolving::{Need, Resolution, State};
+pub use resolving::{NextStep, Resolution, State};
 pub use steps::Step;

@@ -1,43 +1,43 @@
 //! One question under way, answered, or ended.
 ghost use Rattle.std.specs.Prelude.{◌≡◌, ◌≤◌, ◌<◌, ◌↔◌, ℕ, true, IfOk, IfSome, IsSome, IsErr, OnOk, OnErr, option_copied};
-ghost use Rattle.walk_lookup.specs.View.{View};
+ghost use Rattle.walk_lookup.specs.LogView.{LogView};
 ghost use Rattle.walk_lookup.specs.Remembered.{CacheHolds};
 ghost use Rattle.walk_tables.specs.Taking.{Leaves, IfAwaits};
 ghost use Rattle.walk_tables.specs.Pools.{PoolsHold, StepGoes, IsStepAt, given_so_far, GivesNext};
-ghost use Rattle.recursor_walk.specs.Counted.{ReadsAt, recalled, answerable};
+ghost use Rattle.recursor_walk.specs.SourcedVerdict.{ReadsAt, from_cache, answerable};
 ghost use Rattle.recursor_question.specs.Resolving.{want_of, state_steps, steps, open_of, asking_of, IsWalking, IsUnder, IsWalked, IsSettled, IsDone, IsOpen, StaysOpen, AsksOn, SameBegun, AsksFor, StepsOn, IsAnswered, IsHeeded, IsHeard};
 ghost use Rattle.recursor_question.specs.Resolved.{StandsSo, StateHolds, StateComes, AnswerComes, ResolutionHolds};
 ghost use Rattle.recursor_walk.specs.Walk.{begin_steps};
 ghost use Rattle.recursor_walk.specs.Way.{HasRoots, FiltersBy};
-ghost use Rattle.walk_tables.specs.declared.lookup.Want.TheVariants as want;
+ghost use Rattle.walk_tables.specs.declared.lookup.QueryStep.TheVariants as want;
 
-use crate::short_way::kept_answer;
+use crate::short_way::cached_answer;
 use dns_core::{DnsRequest, Ips, Name, NoMemory, Question, TryClone, in_box};
 use recursor_types::Reply;
-use recursor_walk::{Asking, Course, Walk, answer_with, answerable, recalled};
+use recursor_walk::{ZoneQuery, WalkOutcome, Walk, answer_with, answerable, from_cache};
 use resolver_cache::ResponseCache;
 use resolver_settings::AccessControlSet;
 use server_core::Tick;
 use std::alloc::Global;
 use std::mem;
 use walk_response::walked_name;
-use walk_tables::{Pools, Stepped, Want};
+use walk_tables::{Pools, PoolsStep, QueryStep};
 
 /// Not begun, on the walk to its servers, asked at these, answered, or ended.
 #[derive(Drop)]
 pub enum State {
     New,
     Walking(Box<Walk>),
-    Asking(Box<Asking>),
+    Asking(Box<ZoneQuery>),
     Done(Box<Reply>),
     Ended,
 }
 
 /// What a resolution needs next: to set out, a step of a send, or that its reply is taken.
 #[derive(Clone, Copy)]
-pub enum Need {
+pub enum NextStep {
     SetOut,
-    Send(Want),
+    Send(QueryStep),
     Reply,
     Nothing,
 }
@@ -62,15 +62,15 @@ impl Drop for Resolution {
 /// Where a question stands whose walk begins at the roots. The root itself is theirs.
 fn begun_walk(alloc: Global, question: &Question, roots: &Ips) -> Result<State, NoMemory>
     ensures falls { IfOk result (λ state. state_steps question.now.query state < begin_steps question.now.query) }
-    ensures holds { (seen : View) (t0 : ℕ) → question.now.query.name.fqdn ≡ true → HasRoots seen roots.now
-        → StandsSo seen t0 question.now result }
+    ensures holds { (view : LogView) (asked_at : ℕ) → question.now.query.name.fqdn ≡ true → HasRoots view roots.now
+        → StandsSo view asked_at question.now result }
     ensures under { IfOk result IsUnder }
 {
     let name = walked_name(alloc, &question.query)?;
     let servers = roots.try_clone(alloc)?;
     if name.labels().is_empty() {
         let query = question.query.try_clone(alloc)?;
-        let asking = Asking::new(alloc, Name::root(alloc), servers, query);
+        let asking = ZoneQuery::new(alloc, Name::root(alloc), servers, query);
         return Ok(State::Asking(in_box(alloc, asking)?));
     }
     let walk = Walk::new(alloc, name, servers)?;
@@ -87,14 +87,14 @@ fn begun(
     now: u64,
 ) -> Result<State, NoMemory>
     ensures falls { IfOk result (λ state. state_steps question.now.query state < begin_steps question.now.query) }
-    ensures holds { (seen : View) (t0 : ℕ) → question.now.query.name.fqdn ≡ true → HasRoots seen roots.now
-        → ReadsAt seen t0 now cache.now → StandsSo seen t0 question.now result }
-    ensures answers { IfOk result (IsAnswered question.now (answerable (recalled cache.now question.now.query now))) }
+    ensures holds { (view : LogView) (asked_at : ℕ) → question.now.query.name.fqdn ≡ true → HasRoots view roots.now
+        → ReadsAt view asked_at now cache.now → StandsSo view asked_at question.now result }
+    ensures answers { IfOk result (IsAnswered question.now (answerable (from_cache cache.now question.now.query now))) }
 {
-    if let Some(reply) = kept_answer(alloc, cache, question, now)? {
+    if let Some(reply) = cached_answer(alloc, cache, question, now)? {
         return Ok(State::Done(reply));
     }
-    let counted = recalled(alloc, cache, &question.query, now)?;
+    let counted = from_cache(alloc, cache, &question.query, now)?;
     match answerable(counted) {
         Some(counted) => Ok(State::Done(answer_with(alloc, question, counted)?)),
         None => begun_walk(alloc, question, roots),
@@ -103,7 +103,7 @@ fn begun(
 
 impl State {
     /// What is asked now, and where.
-    pub(crate) fn asking(&self) -> Option<&Asking>
+    pub(crate) fn asking(&self) -> Option<&ZoneQuery>
         ensures { option_copied result ≡ asking_of self.now }
     {
         match self {
@@ -118,7 +118,7 @@ impl Resolution {
     /// A question that begins. Its name is fully qualified.
     pub fn begin(question: Question, now: u64) -> Resolution
         requires { question.query.name.fqdn ≡ true }
-        ensures holds { (seen : View) → now ≤ seen.moment → ResolutionHolds seen result }
+        ensures holds { (view : LogView) → now ≤ view.moment → ResolutionHolds view result }
         ensures begun { (result.question ≡ question) × (result.begun ≡ now) }
         ensures new { result.state ≡ State.New }
     {
@@ -129,15 +129,15 @@ impl Resolution {
         }
     }
 
-    pub fn need(&self) -> Need
+    pub fn need(&self) -> NextStep
         ensures { result ≡ want_of self.now }
     {
         match &self.state {
-            State::New => Need::SetOut,
-            State::Walking(walk) => Need::Send(walk.asking.lookup.want()),
-            State::Asking(asking) => Need::Send(asking.lookup.want()),
-            State::Done(_) => Need::Reply,
-            State::Ended => Need::Nothing,
+            State::New => NextStep::SetOut,
+            State::Walking(walk) => NextStep::Send(walk.asking.lookup.want()),
+            State::Asking(asking) => NextStep::Send(asking.lookup.want()),
+            State::Done(_) => NextStep::Reply,
+            State::Ended => NextStep::Nothing,
         }
     }
 
@@ -160,12 +160,12 @@ impl Resolution {
         cache: &ResponseCache,
         now: u64,
     ) -> Result<(), NoMemory>
-        requires { want_of self.old ≡ Need.SetOut }
+        requires { want_of self.old ≡ NextStep.SetOut }
         ensures falls { steps self.new < steps self.old }
         ensures begun { SameBegun self.old self.new }
-        ensures holds { (seen : View) → now ≡ seen.moment → HasRoots seen roots.now → CacheHolds seen cache.now
-            → ResolutionHolds seen self.old → ResolutionHolds seen self.new }
-        ensures answers { IfOk result (λ x. IsAnswered self.old.question (answerable (recalled cache.now self.old.question.query now)) self.new.state) }
+        ensures holds { (view : LogView) → now ≡ view.moment → HasRoots view roots.now → CacheHolds view cache.now
+            → ResolutionHolds view self.old → ResolutionHolds view self.new }
+        ensures answers { IfOk result (λ x. IsAnswered self.old.question (answerable (from_cache cache.now self.old.question.query now)) self.new.state) }
         ensures err { OnErr result (self.new.state ≡ State.Ended) }
     {
         self.state = State::Ended;
@@ -180,8 +180,8 @@ impl Resolution {
         ensures falls { state_steps self.old.question.query self.new.state ≤ 6 }
         ensures ended { StaysOpen result self.new.state }
         ensures begun { SameBegun self.old self.new }
-        ensures holds { (seen : View) (t0 : ℕ) → StateComes seen t0 self.old.question self.old.state Course.Arrived
-            → StateHolds seen t0 self.old.question self.new.state }
+        ensures holds { (view : LogView) (asked_at : ℕ) → StateComes view asked_at self.old.question self.old.state WalkOutcome.ServersReached
+            → StateHolds view asked_at self.old.question self.new.state }
     {
         let State::Walking(walk) = mem::replace(&mut self.state, State::Ended) else {
             unreachable!()
@@ -193,18 +193,18 @@ impl Resolution {
     }
 
     /// Goes where its walk has gone; on want of memory it has ended.
-    fn follow(&mut self, alloc: Global, came: Result<Course, NoMemory>) -> Result<(), NoMemory>
+    fn follow(&mut self, alloc: Global, came: Result<WalkOutcome, NoMemory>) -> Result<(), NoMemory>
         requires { IsWalking self.old.state }
         ensures steps { IsWalked self.old.question.query came self.old.state self.new.state }
         ensures ended { StaysOpen result self.new.state }
         ensures begun { SameBegun self.old self.new }
-        ensures holds { (seen : View) (t0 : ℕ) → IfOk came (StateComes seen t0 self.old.question self.old.state)
-            → StateHolds seen t0 self.old.question self.new.state }
+        ensures holds { (view : LogView) (asked_at : ℕ) → IfOk came (StateComes view asked_at self.old.question self.old.state)
+            → StateHolds view asked_at self.old.question self.new.state }
     {
         match came {
-            Ok(Course::Further) => Ok(()),
-            Ok(Course::Arrived) => self.arrive(alloc),
-            Ok(Course::Reply(reply)) => {
+            Ok(WalkOutcome::Continue) => Ok(()),
+            Ok(WalkOutcome::ServersReached) => self.arrive(alloc),
+            Ok(WalkOutcome::Reply(reply)) => {
                 self.state = State::Done(reply);
                 Ok(())
             }
@@ -222,8 +222,8 @@ impl Resolution {
         ensures ended { IsOpen self.old.state → StaysOpen result self.new.state }
         ensures done { IfOk came IsSome → IfOk result (λ x. IsDone self.new.state) }
         ensures begun { SameBegun self.old self.new }
-        ensures holds { (seen : View) (t0 : ℕ) → IfOk came (AnswerComes seen t0 self.old.question self.old.state)
-            → StateHolds seen t0 self.old.question self.new.state }
+        ensures holds { (view : LogView) (asked_at : ℕ) → IfOk came (AnswerComes view asked_at self.old.question self.old.state)
+            → StateHolds view asked_at self.old.question self.new.state }
     {
         match came {
             Ok(None) => Ok(()),
@@ -246,12 +246,12 @@ impl Resolution {
         cache: &ResponseCache,
         now: u64,
     ) -> Result<(), NoMemory>
-        requires { want_of self.old ≡ Need.Send want.Recall }
+        requires { want_of self.old ≡ NextStep.Send want.Recall }
         ensures falls { steps self.new < steps self.old }
         ensures ended { StaysOpen result self.new.state }
         ensures begun { SameBegun self.old self.new }
-        ensures holds { (seen : View) → now ≡ seen.moment → FiltersBy seen filter.now → CacheHolds seen cache.now
-            → ResolutionHolds seen self.old → ResolutionHolds seen self.new }
+        ensures holds { (view : LogView) → now ≡ view.moment → FiltersBy view filter.now → CacheHolds view cache.now
+            → ResolutionHolds view self.old → ResolutionHolds view self.new }
         ensures heeds { IfOk result (λ x. IsHeeded cache.now now self.old.question self.old.state self.new.state) }
     {
         match &mut self.state {
@@ -269,12 +269,12 @@ impl Resolution {
 
     /// Hears what came of its order. On want of memory it has ended.
     pub fn hear(&mut self, alloc: Global, filter: &AccessControlSet) -> Result<(), NoMemory>
-        requires { want_of self.old ≡ Need.Send want.Hear }
+        requires { want_of self.old ≡ NextStep.Send want.Hear }
         ensures falls { steps self.new < steps self.old }
         ensures ended { StaysOpen result self.new.state }
         ensures begun { SameBegun self.old self.new }
-        ensures holds { (seen : View) → FiltersBy seen filter.now
-            → ResolutionHolds seen self.old → ResolutionHolds seen self.new }
+        ensures holds { (view : LogView) → FiltersBy view filter.now
+            → ResolutionHolds view self.old → ResolutionHolds view self.new }
         ensures hears { IfOk result (λ x. IsHeard self.old.state self.new.state) }
     {
         match &mut self.state {
@@ -298,14 +298,14 @@ impl Resolution {
         request: DnsRequest,
         tick: Tick,
     ) -> Result<(), NoMemory>
-        requires want { want_of self.old ≡ Need.Send want.Begin }
+        requires want { want_of self.old ≡ NextStep.Send want.Begin }
         requires asks { AsksFor request self.old.state }
         ensures falls { OnOk result (steps self.new < steps self.old) }
         ensures same { AsksOn result self.old self.new }
         ensures given { given_so_far pools.new ≡ given_so_far pools.old }
         ensures begun { SameBegun self.old self.new }
-        ensures holds { (seen : View) → tick.now ≡ seen.moment → PoolsHold seen pools.old
-            → ResolutionHolds seen self.old → ResolutionHolds seen self.new × PoolsHold seen pools.new }
+        ensures holds { (view : LogView) → tick.now ≡ view.moment → PoolsHold view pools.old
+            → ResolutionHolds view self.old → ResolutionHolds view self.new × PoolsHold view pools.new }
     {
         match &mut self.state {
             State::Walking(walk) => walk.asking.send(alloc, pools, request, tick),
@@ -321,14 +321,14 @@ impl Resolution {
         pools: &mut Pools,
         since: u64,
         tick: Tick,
-    ) -> Result<Stepped, NoMemory>
-        requires { want_of self.old ≡ Need.Send want.Step }
+    ) -> Result<PoolsStep, NoMemory>
+        requires { want_of self.old ≡ NextStep.Send want.Step }
         ensures falls { IfOk result (StepsOn self.old self.new) }
         ensures given { GivesNext (given_so_far pools.old) (given_so_far pools.new) result }
         ensures begun { SameBegun self.old self.new }
-        ensures holds { (seen : View) → IsStepAt seen since tick → PoolsHold seen pools.old
-            → ResolutionHolds seen self.old → ResolutionHolds seen self.new × PoolsHold seen pools.new }
-        ensures goes { (seen : View) → IsStepAt seen since tick → PoolsHold seen pools.old → IfOk result (StepGoes seen) }
+        ensures holds { (view : LogView) → IsStepAt view since tick → PoolsHold view pools.old
+            → ResolutionHolds view self.old → ResolutionHolds view self.new × PoolsHold view pools.new }
+        ensures goes { (view : LogView) → IsStepAt view since tick → PoolsHold view pools.old → IfOk result (StepGoes view) }
         ensures waits { IfOk result (IfAwaits (open_of pools.new self.new)) }
     {
         let begun = self.begun;
@@ -343,7 +343,7 @@ impl Resolution {
     pub fn leave(mut self, pools: &mut Pools)
         ensures left { IfSome (asking_of self.state) (λ asking. Leaves asking.lookup.ask pools.old pools.new) }
         ensures given { given_so_far pools.new ≡ given_so_far pools.old }
-        ensures holds { (seen : View) → PoolsHold seen pools.old → PoolsHold seen pools.new }
+        ensures holds { (view : LogView) → PoolsHold view pools.old → PoolsHold view pools.new }
     {
         match &mut self.state {
             State::Walking(walk) => walk.asking.lookup.leave(pools),

@@ -1,17 +1,17 @@
 //! What a question has next, for whoever steps it: an order, one that it waits for, or its reply.
 ghost use Rattle.std.specs.Prelude.{◌≡◌, ◌≤◌, Ok, IfOk, IfSome};
-ghost use Rattle.walk_lookup.specs.View.{View};
+ghost use Rattle.walk_lookup.specs.LogView.{LogView};
 ghost use Rattle.walk_tables.specs.Pools.{PoolsHold, IsStepAt, given_so_far};
 ghost use Rattle.recursor_question.specs.Resolving.{want_of, SameBegun, IsUnder, IsDoneWith};
 ghost use Rattle.recursor_question.specs.Resolved.{ResolutionHolds};
-ghost use Rattle.recursor_walk.specs.Counted.{recalled, answerable};
+ghost use Rattle.recursor_walk.specs.SourcedVerdict.{from_cache, answerable};
 ghost use Rattle.recursor_walk.specs.Replies.{reply_with};
 ghost use Rattle.recursor_question.specs.Steps.{IsRequestOf, StepIs, GoesOn, Gives, SteppedBy, GoesWell, StepsWell, SetsOut, HandsOut, GivesReply};
 ghost use Rattle.recursor_types.specs.declared.reply.Reply.{Reply};
 ghost use Rattle.walk_tables.specs.declared.pools.Pools.{Pools};
-ghost use Rattle.walk_tables.specs.declared.lookup.Want.TheVariants as want;
+ghost use Rattle.walk_tables.specs.declared.lookup.QueryStep.TheVariants as want;
 
-use crate::resolving::{Need, Resolution, State};
+use crate::resolving::{NextStep, Resolution, State};
 use dns_core::{DnsRequest, NoMemory, TryClone, in_box};
 use recursor_types::{Policy, Reply};
 use resolver_cache::ResponseCache;
@@ -19,7 +19,7 @@ use server_core::{Order, Tick};
 use std::alloc::Global;
 use std::mem;
 use walk_lookup::request_options;
-use walk_tables::{Pools, Stepped, Want};
+use walk_tables::{Pools, PoolsStep, QueryStep};
 
 /// What a resolution has for whoever steps it.
 #[derive(Drop)]
@@ -60,11 +60,11 @@ impl Resolution {
         pools: &mut Pools,
         tick: Tick,
     ) -> Result<Progress, NoMemory>
-        requires { want_of self.old ≡ Need.Send want.Begin }
+        requires { want_of self.old ≡ NextStep.Send want.Begin }
         ensures goes { GoesOn pools.old pools.new self.old self.new result }
         ensures begun { SameBegun self.old self.new }
-        ensures holds { (seen : View) → tick.now ≡ seen.moment → PoolsHold seen pools.old
-            → ResolutionHolds seen self.old → GoesWell seen self.old self.new pools.new result }
+        ensures holds { (view : LogView) → tick.now ≡ view.moment → PoolsHold view pools.old
+            → ResolutionHolds view self.old → GoesWell view self.old self.new pools.new result }
     {
         let request = self.request(alloc, policy)?;
         self.send(alloc, pools, request, tick)?;
@@ -80,29 +80,29 @@ impl Resolution {
         since: u64,
         tick: Tick,
     ) -> Result<Progress, NoMemory>
-        requires { want_of self.old ≡ Need.Send want.Step }
+        requires { want_of self.old ≡ NextStep.Send want.Step }
         ensures goes { GoesOn pools.old pools.new self.old self.new result }
         ensures begun { SameBegun self.old self.new }
-        ensures holds { (seen : View) → IsStepAt seen since tick → PoolsHold seen pools.old
-            → ResolutionHolds seen self.old → GoesWell seen self.old self.new pools.new result }
+        ensures holds { (view : LogView) → IsStepAt view since tick → PoolsHold view pools.old
+            → ResolutionHolds view self.old → GoesWell view self.old self.new pools.new result }
     {
         match self.step(alloc, pools, since, tick)? {
-            Stepped::Order { number, order } => {
+            PoolsStep::Order { number, order } => {
                 let order = in_box(alloc, order)?;
                 Ok(Progress::Step(Step::Order { number, order }))
             }
-            Stepped::Waiting { number } => Ok(Progress::Step(Step::Waiting { number })),
-            Stepped::Done => Ok(Progress::Again),
+            PoolsStep::Waiting { number } => Ok(Progress::Step(Step::Waiting { number })),
+            PoolsStep::Done => Ok(Progress::Again),
         }
     }
 
     /// Its reply, after which it has ended.
     fn take_reply(&mut self) -> Progress
-        requires { want_of self.old ≡ Need.Reply }
+        requires { want_of self.old ≡ NextStep.Reply }
         ensures goes { (pools : Pools) → GoesOn pools pools self.old self.new (Ok result) }
         ensures begun { SameBegun self.old self.new }
-        ensures holds { (seen : View) → ResolutionHolds seen self.old
-            → ResolutionHolds seen self.new × Gives seen self.old result }
+        ensures holds { (view : LogView) → ResolutionHolds view self.old
+            → ResolutionHolds view self.new × Gives view self.old result }
         ensures replies { (reply : Reply) → IsDoneWith reply self.old.state → GivesReply reply result }
     {
         match mem::replace(&mut self.state, State::Ended) {
@@ -118,24 +118,24 @@ impl Resolution {
         policy: &Policy,
         cache: &ResponseCache,
         pools: &mut Pools,
-        want: Want,
+        want: QueryStep,
         since: u64,
         tick: Tick,
     ) -> Result<Progress, NoMemory>
-        requires { want_of self.old ≡ Need.Send want }
+        requires { want_of self.old ≡ NextStep.Send want }
         ensures goes { GoesOn pools.old pools.new self.old self.new result }
         ensures begun { SameBegun self.old self.new }
-        ensures holds { (seen : View) → SteppedBy seen policy.now cache.now since tick → PoolsHold seen pools.old
-            → ResolutionHolds seen self.old → GoesWell seen self.old self.new pools.new result }
+        ensures holds { (view : LogView) → SteppedBy view policy.now cache.now since tick → PoolsHold view pools.old
+            → ResolutionHolds view self.old → GoesWell view self.old self.new pools.new result }
     {
         match want {
-            Want::Recall => {
+            QueryStep::Recall => {
                 self.recall(alloc, &policy.server_filter, cache, tick.now)?;
                 Ok(Progress::Again)
             }
-            Want::Begin => self.begin_asking(alloc, policy, pools, tick),
-            Want::Step => self.give_order(alloc, pools, since, tick),
-            Want::Hear => {
+            QueryStep::Begin => self.begin_asking(alloc, policy, pools, tick),
+            QueryStep::Step => self.give_order(alloc, pools, since, tick),
+            QueryStep::Hear => {
                 self.hear(alloc, &policy.server_filter)?;
                 Ok(Progress::Again)
             }
@@ -153,20 +153,20 @@ impl Resolution {
     ) -> Result<Progress, NoMemory>
         ensures goes { GoesOn pools.old pools.new self.old self.new result }
         ensures begun { SameBegun self.old self.new }
-        ensures holds { (seen : View) → SteppedBy seen policy.now cache.now since tick → PoolsHold seen pools.old
-            → ResolutionHolds seen self.old → GoesWell seen self.old self.new pools.new result }
-        ensures sets_out { want_of self.old ≡ Need.SetOut
-            → IfOk result (SetsOut self.old.question (answerable (recalled cache.now self.old.question.query tick.now)) self.new.state) }
+        ensures holds { (view : LogView) → SteppedBy view policy.now cache.now since tick → PoolsHold view pools.old
+            → ResolutionHolds view self.old → GoesWell view self.old self.new pools.new result }
+        ensures sets_out { want_of self.old ≡ NextStep.SetOut
+            → IfOk result (SetsOut self.old.question (answerable (from_cache cache.now self.old.question.query tick.now)) self.new.state) }
         ensures replies { (reply : Reply) → IsDoneWith reply self.old.state → IfOk result (GivesReply reply) }
     {
         match self.need() {
-            Need::SetOut => {
+            NextStep::SetOut => {
                 self.set_out(alloc, &policy.roots, cache, tick.now)?;
                 Ok(Progress::Again)
             }
-            Need::Send(want) => self.send_on(alloc, policy, cache, pools, want, since, tick),
-            Need::Reply => Ok(self.take_reply()),
-            Need::Nothing => Ok(Progress::Step(Step::Ended)),
+            NextStep::Send(want) => self.send_on(alloc, policy, cache, pools, want, since, tick),
+            NextStep::Reply => Ok(self.take_reply()),
+            NextStep::Nothing => Ok(Progress::Step(Step::Ended)),
         }
     }
 
@@ -186,9 +186,9 @@ impl Resolution {
         ensures steps { IfOk result (StepIs pools.old pools.new self.old self.new) }
         ensures given { given_so_far pools.old ≤ given_so_far pools.new }
         ensures begun { SameBegun self.old self.new }
-        ensures holds { (seen : View) → SteppedBy seen policy.now cache.now since tick → PoolsHold seen pools.old
-            → ResolutionHolds seen self.old → StepsWell seen self.old self.new pools.new result }
-        ensures recalls { want_of self.old ≡ Need.SetOut → IfSome (answerable (recalled cache.now self.old.question.query tick.now))
+        ensures holds { (view : LogView) → SteppedBy view policy.now cache.now since tick → PoolsHold view pools.old
+            → ResolutionHolds view self.old → StepsWell view self.old self.new pools.new result }
+        ensures recalls { want_of self.old ≡ NextStep.SetOut → IfSome (answerable (from_cache cache.now self.old.question.query tick.now))
             (λ counted. IfOk result (HandsOut (reply_with self.old.question counted))) }
         ensures replies { (reply : Reply) → IsDoneWith reply self.old.state → IfOk result (HandsOut reply) }
     {

@@ -1,10 +1,10 @@
 //! Which types of this crate may go to another thread, and be shared among threads.
 
-use crate::resolving::{Need, Resolution, State};
+use crate::resolving::{NextStep, Resolution, State};
 use crate::steps::Step;
 use dns_core::CrossesThreads;
 
-impl CrossesThreads for Need {}
+impl CrossesThreads for NextStep {}
 
 impl CrossesThreads for Resolution {}
 

@@ -29,7 +29,7 @@ use Rattle.recursor_text.specs.Steps.{start, may_turn, may_end, is_settled, rule
 use Rattle.text_lines.specs.Spelling.{spelled, IsAddress}
 use Rattle.text_lines.specs.LineSpelling.{record_text, record_texts, script_lines, root_line, option_line, question_line, turn_line, patience_words, told_words, end_words, options_with, option_rank, last_rank, RiseAbove, IsRecord, IsRule, IsScriptLine, IsTurn, IsOption}
 use Rattle.recursor_text.specs.Spelling.{rules_of, to_roots, to_options, to_patience, to_told, to_rules, to_questions, to_turns, scenario_lines, most_roots, most_questions, most_turns, NoneFalls, last_moment, IsAsked, IsScenario}
-use Rattle.text_lines.proofs.Binds.{bind_some}
+use Rattle.text_lines.proofs.StepsThatFail.{bind_some}
 use Rattle.text_lines.proofs.LineLaws.{rule_words, form_words, IsBare, IsLone, IsForm, form_again}
 use Rattle.text_lines.proofs.OptionLaws.{last_push}
 use Rattle.text_lines.proofs.RecordLaws.{record_again}

@@ -5,7 +5,7 @@ use Rattle.std.proofs.lemmas.Bool.{and_parts, ltb-true, leb-true}
 use Rattle.std.proofs.lemmas.List.{append-nil}
 use Rattle.text_lines.specs.Numbers.{◌>>=◌}
 use Rattle.text_lines.specs.Spelling.{spelled}
-use Rattle.text_lines.proofs.Binds.{bind_some, guard_some, some_is, chosen}
+use Rattle.text_lines.proofs.StepsThatFail.{bind_some, guard_some, some_is, chosen}
 use Rattle.text_lines.proofs.FieldLaws.{bytes_same}
 use Rattle.text_lines.specs.declared.lines.lines.Form.{Form}
 use Rattle.text_lines.specs.declared.lines.lines.Form.TheVariants as form

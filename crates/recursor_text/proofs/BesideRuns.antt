@@ -8,7 +8,7 @@ use Rattle.dns_core.specs.declared.request.Question.{Question}
 use Rattle.dns_core.specs.declared.request.Turn.{Turn}
 use Rattle.text_lines.specs.Numbers.{◌>>=◌}
 use Rattle.text_lines.specs.Spelling.{spelled}
-use Rattle.text_lines.proofs.Binds.{bind_some}
+use Rattle.text_lines.proofs.StepsThatFail.{bind_some}
 use Rattle.text_lines.proofs.FieldLaws.{bytes_same}
 use Rattle.text_lines.proofs.WordLaws.{words_again}
 use Rattle.text_lines.specs.declared.lines.lines.Form.{Form}

@@ -16,7 +16,7 @@ use Rattle.text_lines.specs.declared.words.LineError.TheVariants.{Refused, NoMem
 use Rattle.text_lines.specs.Fields.{field, Gives, GivesFields}
 use Rattle.text_lines.specs.Numbers.{◌>>=◌}
 use Rattle.text_lines.specs.Pieces.{pieces}
-use Rattle.text_lines.proofs.Binds.{bind_some, guard_some, some_is}
+use Rattle.text_lines.proofs.StepsThatFail.{bind_some, guard_some, some_is}
 use Rattle.text_lines.proofs.FieldLaws.{IsField, number_field}
 use Rattle.text_lines.proofs.NumberLaws.{is_word_byte}
 use Rattle.text_lines.proofs.PlainLaws.{AllBytes, split_last}

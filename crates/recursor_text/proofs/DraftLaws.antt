@@ -24,7 +24,7 @@ use Rattle.recursor_text.specs.Steps.{may_head, may_root, may_option, may_wait, 
 use Rattle.text_lines.specs.Spelling.{spelled, IsAddress}
 use Rattle.text_lines.specs.LineSpelling.{head_words, patience_words, told_words, end_words, record_text, script_lines, root_line, option_line, question_line, turn_line, IsScriptLine, IsTurn, IsOption, option_rank, RiseAbove, last_rank, options_with}
 use Rattle.recursor_text.specs.Spelling.{to_roots, to_options, to_patience, to_told, to_rules, to_questions, to_turns, scenario_lines, most_roots, most_questions, most_turns, NoneFalls, last_moment, IsAsked, IsScenario}
-use Rattle.text_lines.proofs.Binds.{bind_some, guard_some, some_is}
+use Rattle.text_lines.proofs.StepsThatFail.{bind_some, guard_some, some_is}
 use Rattle.text_lines.proofs.LineLaws.{rule_words, form_words, IsBare, IsLone, IsForm, lone_lines, form_takes}
 use Rattle.text_lines.proofs.OptionLaws.{rise_push}
 use Rattle.recursor_text.proofs.OpenRuleLaws.{all_push, mapped_push, IsOpen, open_lines, same_head, add_takes}

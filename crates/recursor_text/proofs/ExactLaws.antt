@@ -17,8 +17,8 @@ use Rattle.recursor_text.specs.Whole.{start, taken, scenario_of, refusal_of}
 use Rattle.recursor_text.specs.Reading.{cause_of, step_by, finish, onward, read_from, scenario_in, GivesScenario, FailsBy}
 use Rattle.recursor_text.specs.Faults.{CanStand, IsWhole, IsFirstBad, FaultIn, HasFault}
 use Rattle.recursor_text.specs.Spelling.{scenario_lines}
-use Rattle.text_lines.proofs.Binds.{bind_some}
-use Rattle.text_lines.proofs.Cuts.{split_cons}
+use Rattle.text_lines.proofs.StepsThatFail.{bind_some}
+use Rattle.text_lines.proofs.TextIsCut.{split_cons}
 use Rattle.recursor_text.proofs.BesideLaws.{Good, so_far, taken_takes, start_good, ended_is}
 use Rattle.recursor_text.proofs.BesideRuns.{run, run_append, run_again, draft_is, completes}
 

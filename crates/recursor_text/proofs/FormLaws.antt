@@ -19,7 +19,7 @@ use Rattle.recursor_text.specs.Counts.{numeral}
 use Rattle.recursor_text.specs.Lines.{most_zones, alias_words, zone_fields, head_from, rising, zone_numbers, delay_of, aliases_of, zone_of, host_of, world_forms_of, world_form_of, starts_world, is_world_line}
 use Rattle.recursor_text.specs.WorldSpelling.{delay_words, alias_text, aliases_words, zone_words, host_words, RiseWithin}
 use Rattle.text_lines.proofs.AddressLaws.{ip_field}
-use Rattle.text_lines.proofs.Binds.{bind_some, guard_some, some_is, chosen}
+use Rattle.text_lines.proofs.StepsThatFail.{bind_some, guard_some, some_is, chosen}
 use Rattle.text_lines.proofs.PlainLaws.{AllBytes, AllPlain, pieces_take}
 use Rattle.text_lines.proofs.NumberLaws.{is_word_byte}
 use Rattle.text_lines.proofs.FieldLaws.{IsField, IsSeq, one, pair_law, table_field, whole_takes, whole_again, IsWithin, number_field, bytes_same}

@@ -12,5 +12,5 @@ pub mod WholeLaws
 pub mod CountLaws
 pub mod WorldDraftLaws
 pub mod FormLaws
-pub mod Keys
+pub mod KeySet
 pub mod RunLaws

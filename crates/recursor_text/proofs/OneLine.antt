@@ -7,7 +7,7 @@ use Rattle.recursor_text.specs.declared.scenario.ScenarioError.{ScenarioError}
 use Rattle.recursor_text.specs.Unbuilt.{refusal_at}
 use Rattle.recursor_text.specs.Whole.{taken, place_of, refusal_of}
 use Rattle.recursor_text.specs.Reading.{fails_at, cause_of, step_by, step, onward, read_from}
-use Rattle.text_lines.proofs.Cuts.{split_cons}
+use Rattle.text_lines.proofs.TextIsCut.{split_cons}
 
 pub read_line : (d : WholeDraft) (n : ℕ) (line after : List ℕ) → read_from d n (line ∷ pieces 10 after) ≡ onward n (step d line) (λ e. read_from e (n + 1) (pieces 10 after))
 unfolding read_from

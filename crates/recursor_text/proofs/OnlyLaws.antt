@@ -25,7 +25,7 @@ use Rattle.text_lines.specs.Texts.{record_words}
 use Rattle.recursor_text.specs.Reading.{step_by, step, finish, onward, read_from, scenario_in, GivesScenario}
 use Rattle.text_lines.specs.Spelling.{spelled}
 use Rattle.recursor_text.specs.Spelling.{scenario_lines, text_of, Reads}
-use Rattle.text_lines.proofs.Binds.{bind_some, guard_some, chosen}
+use Rattle.text_lines.proofs.StepsThatFail.{bind_some, guard_some, chosen}
 use Rattle.text_lines.proofs.FieldLaws.{bytes_same}
 use Rattle.text_lines.proofs.PlainLaws.{AllBytes, AllPlain, split_at_byte, weaker, joined_plain}
 use Rattle.text_lines.proofs.NumberLaws.{is_word_byte}

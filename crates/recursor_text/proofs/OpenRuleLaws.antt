@@ -9,7 +9,7 @@ use Rattle.text_lines.specs.Codes.{class_in}
 use Rattle.recursor_text.specs.Steps.{add}
 use Rattle.text_lines.specs.Spelling.{spelled, IsFullName, IsAddress, IsType, IsCode}
 use Rattle.text_lines.specs.LineSpelling.{reply_words, record_text, record_texts, most_delay, IsTransport, IsRecord}
-use Rattle.text_lines.proofs.Binds.{guard_some, some_is, chosen}
+use Rattle.text_lines.proofs.StepsThatFail.{guard_some, some_is, chosen}
 
 -- ---- lists that grow
 

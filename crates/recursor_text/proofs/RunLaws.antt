@@ -13,7 +13,7 @@ use Rattle.text_lines.specs.Codes.{class_in}
 use Rattle.text_lines.proofs.NumberLaws.{octet_fits}
 use Rattle.text_lines.specs.Numbers.{◌>>=◌}
 use Rattle.text_lines.specs.Spelling.{spelled}
-use Rattle.text_lines.proofs.Binds.{bind_some}
+use Rattle.text_lines.proofs.StepsThatFail.{bind_some}
 use Rattle.text_lines.specs.LineSpelling.{record_text}
 use Rattle.text_lines.proofs.RecordLaws.{record_again}
 use Rattle.zone_rules.specs.declared.world.Zone.{Zone}

@@ -15,7 +15,7 @@ use Rattle.recursor_text.specs.Steps.{is_ended}
 use Rattle.recursor_text.specs.Whole.{start, taken, scenario_of, refusal_of}
 use Rattle.recursor_text.specs.Reading.{fails_at, step_by, finish, onward, read_from, scenario_in}
 use Rattle.recursor_text.specs.Spelling.{scenario_lines, text_of, IsScenario, Reads}
-use Rattle.text_lines.proofs.Cuts.{split_cons}
+use Rattle.text_lines.proofs.TextIsCut.{split_cons}
 use Rattle.text_lines.proofs.PlainLaws.{pieces_take}
 use Rattle.recursor_text.proofs.BesideLaws.{Good, so_far, taken_takes, start_good, ended_is}
 

@@ -23,7 +23,7 @@ use Rattle.recursor_text.specs.Lines.{most_zones, world_form_of}
 use Rattle.recursor_text.specs.Listed.{has_apex, has_address}
 use Rattle.recursor_text.specs.WorldSteps.{may_delay, may_alias, may_zone, may_host, most_hosts, start, may_close, opened, filled, settled, name_zones, put, added, taken_at, taken, world_of}
 use Rattle.recursor_text.specs.WorldSpelling.{delay_words, aliases_words, zone_words, zone_lines, host_line, to_aliases, to_zones, world_lines, IsZoneRecord, IsZone, RiseWithin, IsHost, Differ, ApexesDiffer, AddressesDiffer, IsWorld}
-use Rattle.text_lines.proofs.Binds.{bind_some, guard_some, some_is}
+use Rattle.text_lines.proofs.StepsThatFail.{bind_some, guard_some, some_is}
 use Rattle.text_lines.proofs.RecordLaws.{record_takes}
 use Rattle.recursor_text.proofs.FormLaws.{form_words, IsHostLine, IsForm, form_takes}
 

@@ -3,5 +3,5 @@ pub mod Way
 pub mod SameTold
 pub mod Causes
 pub mod Replies
-pub mod Counted
-pub mod Asking
+pub mod SourcedVerdict
+pub mod ZoneQuery

@@ -44,28 +44,28 @@ pub record SameDenial (a b : AuthorityData) : Type 0 where
   pub rest : a ≡ record b { soa = a.soa; authorities = a.authorities }
 
 -- It is that, for the question as it was first asked.
-pub record IsNothingLeft (q : Query) (n : NoRecords) : Type 0 where
+pub record IsNothingLeft (query : Query) (n : NoRecords) : Type 0 where
   pub first : Query
-  pub same : IsTrue (same_query first q)
+  pub same : IsTrue (same_query first query)
   pub is : n ≡ nothing_left_for first
 
 -- The question of a denial that the recursor made: one that may be read later is as it was first asked.
 abbrev pub IsMadeFor : Cause → Query → Query → Type 0
-IsMadeFor Filter p q = IsTrue (same_query p q)
-IsMadeFor Zone p q = p ≡ q
+IsMadeFor Filter p query = IsTrue (same_query p query)
+IsMadeFor Zone p query = p ≡ query
 
 -- what a response to a question counts for; what the filter of answers leaves nothing of is read as a negative
 abbrev pub SameVerdict : Query → Verdict → Verdict → Type 0
-SameVerdict q (Pos a) (Pos b) = Same a b
-SameVerdict q (Neg a) (Neg b) = SameNegative a b
-SameVerdict q (Neg a) (Made Filter) = IsNothingLeft q a
-SameVerdict q (Made a) (Made b) = a ≡ b
-SameVerdict q _ _ = ⊥
+SameVerdict query (Pos a) (Pos b) = Same a b
+SameVerdict query (Neg a) (Neg b) = SameNegative a b
+SameVerdict query (Neg a) (Made Filter) = IsNothingLeft query a
+SameVerdict query (Made a) (Made b) = a ≡ b
+SameVerdict query _ _ = ⊥
 
 -- A denial that the recursor made shows the question as it was asked: what it is read as does, or it is shown for that question.
 abbrev pub ShowsAsked : Log → ℕ → Query → Verdict → Verdict → Type 0
-ShowsAsked log i q (Pos k) whole = Unit {0}
-ShowsAsked log i q (Neg n) (Pos k) = Unit {0}
-ShowsAsked log i q (Neg n) (Neg m) = Unit {0}
-ShowsAsked log i q (Neg n) (Made cause) = AskedAs log i n.query
-ShowsAsked log i q (Made cause) whole = AskedAs log i q
+ShowsAsked log i query (Pos k) whole = Unit {0}
+ShowsAsked log i query (Neg n) (Pos k) = Unit {0}
+ShowsAsked log i query (Neg n) (Neg m) = Unit {0}
+ShowsAsked log i query (Neg n) (Made cause) = AskedAs log i n.query
+ShowsAsked log i query (Made cause) whole = AskedAs log i query

@@ -7,6 +7,6 @@ mod threads;
 mod walk;
 mod zone_query;
 
-pub use walk::{Course, Walk};
-pub use zone_query::asking::{Asking, answer_with};
-pub use zone_query::counted::{Counted, answerable, recalled};
+pub use walk::{WalkOutcome, Walk};
+pub use zone_query::asking::{ZoneQuery, answer_with};
+pub use zone_query::sourced_verdict::{SourcedVerdict, answerable, from_cache};

@@ -1,8 +1,8 @@
 //! Which types of this crate may go to another thread, and be shared among threads.
 
-use crate::walk::{Course, Walk};
+use crate::walk::{WalkOutcome, Walk};
 use dns_core::CrossesThreads;
 
-impl CrossesThreads for Course {}
+impl CrossesThreads for WalkOutcome {}
 
 impl CrossesThreads for Walk {}

@@ -5,16 +5,16 @@ ghost use Rattle.dns_core.specs.declared.message.Query.{Query};
 ghost use Rattle.dns_core.specs.declared.request.Question.{Question};
 ghost use Rattle.resolution.specs.Names.{walk};
 ghost use Rattle.walk_tables.specs.Lookup.{want_of};
-ghost use Rattle.walk_lookup.specs.View.{View};
-ghost use Rattle.recursor_walk.specs.Asking.{LastHolds};
-ghost use Rattle.recursor_walk.specs.Counted.{ReadsAt, recalled};
-ghost use Rattle.recursor_walk.specs.Walk.{steps, Goes, Passes, Ends, EndsIf, IsOnward, Recalls, counting, verdict_found, verdict_heard, IsCourseOf};
+ghost use Rattle.walk_lookup.specs.LogView.{LogView};
+ghost use Rattle.recursor_walk.specs.ZoneQuery.{LastHolds};
+ghost use Rattle.recursor_walk.specs.SourcedVerdict.{ReadsAt, from_cache};
+ghost use Rattle.recursor_walk.specs.Walk.{steps, Goes, Passes, Ends, EndsIf, IsOnward, Recalls, counting, verdict_found, verdict_heard, IsWalkOutcomeOf};
 ghost use Rattle.recursor_walk.specs.Way.{WayHolds, WalkHolds, IsAtServers, LeavesBehind, Comes, HasFailedAt, HasHeard, HasFound, HasRoots, FiltersBy};
-ghost use Rattle.walk_tables.specs.declared.lookup.Want.TheVariants as want;
-ghost use Rattle.recursor_walk.specs.Asking as asking;
+ghost use Rattle.walk_tables.specs.declared.lookup.QueryStep.TheVariants as want;
+ghost use Rattle.recursor_walk.specs.ZoneQuery as asking;
 
-use crate::zone_query::asking::Asking;
-use crate::zone_query::counted::{Counted, recalled};
+use crate::zone_query::asking::ZoneQuery;
+use crate::zone_query::sourced_verdict::{SourcedVerdict, from_cache};
 use dns_core::{
     Ips, Message, Name, NetError, NoMemory, NoRecords, Numbers, Query, TryClone, in_box,
 };
@@ -23,9 +23,9 @@ use resolution::Verdict;
 use resolver_cache::ResponseCache;
 use resolver_settings::AccessControlSet;
 use std::alloc::Global;
-use walk_lookup::Found;
+use walk_lookup::LookupResult;
 use walk_response::{
-    addresses, candidate_query, ends_walk, is_delegation, made_negative, reply_by, told_negative,
+    collect_glue, candidate_query, ends_walk, is_delegation, made_negative, reply_by, told_negative,
 };
 use walk_tables::Lookup;
 
@@ -35,15 +35,15 @@ use walk_tables::Lookup;
 pub struct Walk {
     pub name: Name,
     pub labels: usize,
-    pub asking: Asking,
+    pub asking: ZoneQuery,
 }
 
 /// Where a walk goes by a step: further, to the servers of its name, at which it has come, or to a reply
 /// of the question that is walked for.
 #[derive(Drop)]
-pub enum Course {
-    Further,
-    Arrived,
+pub enum WalkOutcome {
+    Continue,
+    ServersReached,
     Reply(Box<Reply>),
 }
 
@@ -51,12 +51,12 @@ impl Walk {
     /// A walk from the roots, which no filter denies, to a name with labels.
     pub fn new(alloc: Global, name: Name, roots: Ips) -> Result<Walk, NoMemory>
         requires { 1 ≤ length name.labels }
-        ensures holds { (seen : View) (t0 : ℕ) (q : Query) → name ≡ walk q → q.name.fqdn ≡ true → HasRoots seen roots
-            → IfOk result (WalkHolds seen t0 q) }
+        ensures holds { (view : LogView) (asked_at : ℕ) (q : Query) → name ≡ walk q → q.name.fqdn ≡ true → HasRoots view roots
+            → IfOk result (WalkHolds view asked_at q) }
         ensures steps { IfOk result (λ w. steps w ≡ 6 + length name.labels * 8) }
     {
         let query = candidate_query(alloc, &name, 1)?;
-        let asking = Asking::new(alloc, Name::root(alloc), roots, query);
+        let asking = ZoneQuery::new(alloc, Name::root(alloc), roots, query);
         Ok(Walk {
             name,
             labels: 1,
@@ -72,30 +72,30 @@ impl Walk {
         filter: &AccessControlSet,
         cache: &ResponseCache,
         now: u64,
-    ) -> Result<Course, NoMemory>
+    ) -> Result<WalkOutcome, NoMemory>
         requires { want_of self.old.asking.lookup.ask ≡ want.Recall }
         ensures falls { Goes self.old self.new result }
-        ensures holds { (seen : View) (t0 : ℕ) (asked : Question) → FiltersBy seen filter.now → ReadsAt seen t0 now cache.now
-            → WalkHolds seen t0 asked.query self.old → Comes seen t0 asked self.new result }
-        ensures ends { Recalls (recalled cache.now self.old.asking.lookup.query now) result }
+        ensures holds { (view : LogView) (asked_at : ℕ) (asked : Question) → FiltersBy view filter.now → ReadsAt view asked_at now cache.now
+            → WalkHolds view asked_at asked.query self.old → Comes view asked_at asked self.new result }
+        ensures ends { Recalls (from_cache cache.now self.old.asking.lookup.query now) result }
     {
-        let counted = recalled(alloc, cache, &self.asking.lookup.query, now)?;
+        let counted = from_cache(alloc, cache, &self.asking.lookup.query, now)?;
         match counted {
-            Some(counted) => self.heed(alloc, filter, counted),
+            Some(counted) => self.apply_response(alloc, filter, counted),
             None => {
                 self.asking.lookup.begin();
-                Ok(Course::Further)
+                Ok(WalkOutcome::Continue)
             }
         }
     }
 
     /// Hears what was told to the lookup of the present candidate.
-    pub fn hear(&mut self, alloc: Global, filter: &AccessControlSet) -> Result<Course, NoMemory>
+    pub fn hear(&mut self, alloc: Global, filter: &AccessControlSet) -> Result<WalkOutcome, NoMemory>
         requires { want_of self.old.asking.lookup.ask ≡ want.Hear }
         ensures falls { Goes self.old self.new result }
         ensures ends { EndsIf (verdict_heard self.old) result }
-        ensures holds { (seen : View) (t0 : ℕ) (asked : Question) → FiltersBy seen filter.now
-            → WalkHolds seen t0 asked.query self.old → Comes seen t0 asked self.new result }
+        ensures holds { (view : LogView) (asked_at : ℕ) (asked : Question) → FiltersBy view filter.now
+            → WalkHolds view asked_at asked.query self.old → Comes view asked_at asked self.new result }
     {
         let found = self.asking.lookup.hear();
         self.conclude(alloc, filter, found)
@@ -106,28 +106,28 @@ impl Walk {
         &mut self,
         alloc: Global,
         filter: &AccessControlSet,
-        found: Found,
-    ) -> Result<Course, NoMemory>
+        found: LookupResult,
+    ) -> Result<WalkOutcome, NoMemory>
         ensures falls { Passes self.old self.new result }
         ensures ends { EndsIf (verdict_found found) result }
-        ensures holds { (seen : View) (t0 : ℕ) (asked : Question) → FiltersBy seen filter.now
-            → HasFound seen t0 asked.query self.old found → Comes seen t0 asked self.new result }
+        ensures holds { (view : LogView) (asked_at : ℕ) (asked : Question) → FiltersBy view filter.now
+            → HasFound view asked_at asked.query self.old found → Comes view asked_at asked self.new result }
     {
         match found {
-            Found::Told { entry, verdict } => self.hear_told(alloc, filter, entry, verdict),
-            Found::Error(error) => self.pass_over(alloc, error),
+            LookupResult::Told { entry, verdict } => self.hear_told(alloc, filter, entry, verdict),
+            LookupResult::Error(error) => self.skip_candidate(alloc, error),
         }
     }
 
     /// Goes on without the candidate whose lookup failed, unless its servers stayed silent.
-    fn pass_over(&mut self, alloc: Global, error: NetError) -> Result<Course, NoMemory>
+    fn skip_candidate(&mut self, alloc: Global, error: NetError) -> Result<WalkOutcome, NoMemory>
         ensures falls { Passes self.old self.new result }
-        ensures holds { (seen : View) (t0 : ℕ) (asked : Question) → HasFailedAt seen t0 asked.query self.old error
-            → Comes seen t0 asked self.new result }
+        ensures holds { (view : LogView) (asked_at : ℕ) (asked : Question) → HasFailedAt view asked_at asked.query self.old error
+            → Comes view asked_at asked self.new result }
     {
         match error {
             NetError::Timeout => self.no_server(alloc, WalkCause::Timeout),
-            _ => self.advance(alloc),
+            _ => self.next_candidate(alloc),
         }
     }
 
@@ -138,53 +138,53 @@ impl Walk {
         filter: &AccessControlSet,
         entry: u64,
         verdict: Result<Verdict, NetError>,
-    ) -> Result<Course, NoMemory>
+    ) -> Result<WalkOutcome, NoMemory>
         ensures falls { Passes self.old self.new result }
         ensures ends { EndsIf (counting verdict) result }
-        ensures holds { (seen : View) (t0 : ℕ) (asked : Question) → FiltersBy seen filter.now
-            → HasFound seen t0 asked.query self.old (Found.Told entry verdict) → Comes seen t0 asked self.new result }
+        ensures holds { (view : LogView) (asked_at : ℕ) (asked : Question) → FiltersBy view filter.now
+            → HasFound view asked_at asked.query self.old (LookupResult.Told entry verdict) → Comes view asked_at asked self.new result }
     {
         match verdict {
-            Ok(verdict) => self.heed(alloc, filter, Counted { entry, verdict }),
-            Err(_) => self.advance(alloc),
+            Ok(verdict) => self.apply_response(alloc, filter, SourcedVerdict { entry, verdict }),
+            Err(_) => self.next_candidate(alloc),
         }
     }
 
     /// Goes by what counts for the NS question of the present candidate.
-    fn heed(
+    fn apply_response(
         &mut self,
         alloc: Global,
         filter: &AccessControlSet,
-        counted: Counted,
-    ) -> Result<Course, NoMemory>
+        counted: SourcedVerdict,
+    ) -> Result<WalkOutcome, NoMemory>
         ensures falls { Passes self.old self.new result }
         ensures ends { Ends counted.verdict result }
-        ensures holds { (seen : View) (t0 : ℕ) (asked : Question) → FiltersBy seen filter.now
-            → HasHeard seen t0 asked.query self.old counted.entry counted.verdict → Comes seen t0 asked self.new result }
+        ensures holds { (view : LogView) (asked_at : ℕ) (asked : Question) → FiltersBy view filter.now
+            → HasHeard view asked_at asked.query self.old counted.entry counted.verdict → Comes view asked_at asked self.new result }
     {
-        let Counted { entry, verdict } = counted;
+        let SourcedVerdict { entry, verdict } = counted;
         match verdict {
             Verdict::Pos(kept) => self.descend(alloc, filter, &kept),
-            Verdict::Neg(found) => self.deny(alloc, entry, found),
+            Verdict::Neg(found) => self.apply_negative(alloc, entry, found),
             Verdict::Made(cause) => {
                 let denial = made_negative(alloc, &self.asking.lookup.query, cause)?;
-                Ok(Course::Reply(reply_by(alloc, entry, Err(denial))?))
+                Ok(WalkOutcome::Reply(reply_by(alloc, entry, Err(denial))?))
             }
         }
     }
 
     /// A negative response ends the walk where it says that the name is not there.
-    fn deny(&mut self, alloc: Global, entry: u64, found: NoRecords) -> Result<Course, NoMemory>
+    fn apply_negative(&mut self, alloc: Global, entry: u64, found: NoRecords) -> Result<WalkOutcome, NoMemory>
         ensures falls { Passes self.old self.new result }
         ensures ends { Ends (Verdict.Neg found) result }
-        ensures holds { (seen : View) (t0 : ℕ) (asked : Question) → HasHeard seen t0 asked.query self.old entry (Verdict.Neg found)
-            → Comes seen t0 asked self.new result }
+        ensures holds { (view : LogView) (asked_at : ℕ) (asked : Question) → HasHeard view asked_at asked.query self.old entry (Verdict.Neg found)
+            → Comes view asked_at asked self.new result }
     {
         if ends_walk(&found) {
             let reply = reply_by(alloc, entry, Err(told_negative(found)))?;
-            return Ok(Course::Reply(reply));
+            return Ok(WalkOutcome::Reply(reply));
         }
-        self.advance(alloc)
+        self.next_candidate(alloc)
     }
 
     /// Takes the zone cut of a response, where it has one.
@@ -193,67 +193,67 @@ impl Walk {
         alloc: Global,
         filter: &AccessControlSet,
         kept: &Message,
-    ) -> Result<Course, NoMemory>
+    ) -> Result<WalkOutcome, NoMemory>
         ensures falls { Passes self.old self.new result }
-        ensures holds { (seen : View) (t0 entry : ℕ) (asked : Question) → FiltersBy seen filter.now
-            → HasHeard seen t0 asked.query self.old entry (Verdict.Pos kept.now) → Comes seen t0 asked self.new result }
+        ensures holds { (view : LogView) (asked_at entry : ℕ) (asked : Question) → FiltersBy view filter.now
+            → HasHeard view asked_at asked.query self.old entry (Verdict.Pos kept.now) → Comes view asked_at asked self.new result }
     {
         if !is_delegation(kept, &self.asking.lookup.query.name) {
-            return self.advance(alloc);
+            return self.next_candidate(alloc);
         }
-        let ips = addresses(alloc, kept, &self.asking.lookup.query.name, filter)?;
+        let ips = collect_glue(alloc, kept, &self.asking.lookup.query.name, filter)?;
         if ips.is_empty() {
             return self.no_server(alloc, WalkCause::NoAddress);
         }
         self.asking.zone = self.asking.lookup.query.name.try_clone(alloc)?;
         self.asking.servers = Ips::new(ips);
-        self.advance(alloc)
+        self.next_candidate(alloc)
     }
 
     /// Goes on to the next candidate, at the present servers; after the last one these are the servers of
     /// the name.
-    fn advance(&mut self, alloc: Global) -> Result<Course, NoMemory>
+    fn next_candidate(&mut self, alloc: Global) -> Result<WalkOutcome, NoMemory>
         ensures falls { Passes self.old self.new result }
         ensures none { IfOk result IsOnward }
-        ensures holds { (seen : View) (t0 : ℕ) (asked : Question) → WayHolds seen asked.query self.old → LeavesBehind seen self.old
-            → Comes seen t0 asked self.new result }
+        ensures holds { (view : LogView) (asked_at : ℕ) (asked : Question) → WayHolds view asked.query self.old → LeavesBehind view self.old
+            → Comes view asked_at asked self.new result }
     {
         if self.labels >= self.name.labels().len() {
-            return Ok(Course::Arrived);
+            return Ok(WalkOutcome::ServersReached);
         }
         let labels = self.labels + 1;
         let query = candidate_query(alloc, &self.name, labels)?;
         self.labels = labels;
         self.asking.lookup = Lookup::new(alloc, query);
-        Ok(Course::Further)
+        Ok(WalkOutcome::Continue)
     }
 
-    fn no_server(&self, alloc: Global, cause: WalkCause) -> Result<Course, NoMemory>
-        ensures { IfOk result (IsCourseOf (record { outcome = Err (RecursorError.NoNameServer self.now.name cause); grounds = [] })) }
+    fn no_server(&self, alloc: Global, cause: WalkCause) -> Result<WalkOutcome, NoMemory>
+        ensures { IfOk result (IsWalkOutcomeOf (record { outcome = Err (RecursorError.NoNameServer self.now.name cause); grounds = [] })) }
     {
         let zone = self.name.try_clone(alloc)?;
         let reply = Reply {
             outcome: Err(RecursorError::NoNameServer { zone, cause }),
             grounds: Numbers::empty(alloc),
         };
-        Ok(Course::Reply(in_box(alloc, reply)?))
+        Ok(WalkOutcome::Reply(in_box(alloc, reply)?))
     }
 
     /// The question itself at the servers of the name, at which the walk has come.
-    pub fn into_asking(self, alloc: Global, query: Query) -> Asking
+    pub fn into_asking(self, alloc: Global, query: Query) -> ZoneQuery
         ensures steps { asking.steps result ≡ 6 }
-        ensures holds { (seen : View) (t0 : ℕ) → IsAtServers seen query self → LastHolds seen t0 query result }
+        ensures holds { (view : LogView) (asked_at : ℕ) → IsAtServers view query self → LastHolds view asked_at query result }
     {
         let Walk {
             name: _,
             labels: _,
             asking,
         } = self;
-        let Asking {
+        let ZoneQuery {
             zone,
             servers,
             lookup: _,
         } = asking;
-        Asking::new(alloc, zone, servers, query)
+        ZoneQuery::new(alloc, zone, servers, query)
     }
 }

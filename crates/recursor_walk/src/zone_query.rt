@@ -3,5 +3,5 @@
 //! candidate of the walk to the servers of its name.
 
 pub mod asking;
-pub mod counted;
+pub mod sourced_verdict;
 pub mod threads;

@@ -9,7 +9,7 @@ use Rattle.recursor_types.specs.Policy.{with_patience}
 use Rattle.resolution.specs.Walking.{ReachesName}
 use Rattle.resolution.specs.Answering.{Answers, Answer, IsOwn}
 use Rattle.resolution.specs.Answering.Answers.{direct, by_alias}
-use Rattle.resolution.proofs.Keeping.{Base-extend}
+use Rattle.resolution.proofs.LongerLogs.{Base-extend}
 use Rattle.resolution.proofs.FailuresKept.{NoCut-extend}
 
 module _ (policy : Policy) (less : ℕ) (fewer : less ≤ policy.patience) (old new : Log) (extends : Extends old new) where

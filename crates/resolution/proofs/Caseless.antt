@@ -33,7 +33,7 @@ use Rattle.resolution.specs.Answering.{Base}
 use Rattle.resolution.specs.declared.class.Class.{Class}
 use Rattle.resolution.specs.declared.class.Class.TheVariants.{Code, Truncated, Negative, Foreign, Positive}
 use Rattle.resolution.specs.declared.verdict.Verdict.{Verdict}
-use Rattle.resolution.proofs.Above.{labels_equiv, pointwise-drop}
+use Rattle.resolution.proofs.AboveIsAnOrder.{labels_equiv, pointwise-drop}
 
 -- equal tests
 pub alike : {A : Type 0} (E : A → A → Bool) → IsEquivalence E → (a b n : A) → E a b ≡ true → E n a ≡ E n b

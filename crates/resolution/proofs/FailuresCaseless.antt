@@ -11,7 +11,7 @@ use Rattle.dns_core.specs.declared.log.LogEntry.TheVariants.{Opened, Asked}
 use Rattle.resolution.specs.Names.{same_query}
 use Rattle.recursor_types.specs.declared.policy.Policy.{Policy}
 use Rattle.resolution.specs.Lookups.{Answered, class_of_answer, End, PoolRun, IsBounded}
-use Rattle.resolution.specs.Ending.{Known, by_address, same_ip, is_begun, EndsSend, EndSends, Finished}
+use Rattle.resolution.specs.Ending.{LookupTiming, by_address, same_ip, is_begun, EndsSend, EndSends, FinishedLookup}
 use Rattle.resolution.specs.Ending.EndsSend.{open_refused, ask_refused, open_failed, ask_failed, answered, given_up}
 use Rattle.resolution.specs.Ending.EndSends.{no_send, and_send}
 use Rattle.resolution.specs.Timing.{is_send, WasOpen, DriveTimed}
@@ -47,9 +47,9 @@ module _ (q p : Query) (same : same_query q p ≡ true) where
   EndSends-same no_send = no_send
   EndSends-same (and_send s c r) = and_send (EndsSend-same s) c (EndSends-same r)
 
-  module _ (known other : Known)
+  module _ (known other : LookupTiming)
       (timed : (ips : List IpAddr) (g moments : List ℕ) (ends : List (End IpAddr)) (start now : ℕ) → known.Timed q ips g ends moments start now → other.Timed p ips g ends moments start now) where
-    pub Finished-same : {policy : Policy} {log : Log} {t0 : ℕ} {z : DomainName} {g : List ℕ} {result : Answered} → Finished policy known log t0 q z g result → Finished policy other log t0 p z g result
+    pub Finished-same : {policy : Policy} {log : Log} {t0 : ℕ} {z : DomainName} {g : List ℕ} {result : Answered} → FinishedLookup policy known log t0 q z g result → FinishedLookup policy other log t0 p z g result
     Finished-same {policy = policy} {z = z} {result = result} f = record {
       ips = f.ips;
       ends = f.ends;

@@ -12,11 +12,11 @@ use Rattle.recursor_types.specs.declared.policy.Policy.{Policy}
 use Rattle.recursor_types.specs.Policy.{with_patience}
 use Rattle.resolution.specs.Serving.{Serves}
 use Rattle.resolution.specs.Lookups.{End, Answered}
-use Rattle.resolution.specs.Ending.{Known, waits, is_wait_for, EndsSend, EndSends, Listed, Finished}
+use Rattle.resolution.specs.Ending.{LookupTiming, waits, is_wait_for, EndsSend, EndSends, Listed, FinishedLookup}
 use Rattle.resolution.specs.Ending.EndsSend.{open_refused, ask_refused, open_failed, ask_failed, answered, given_up}
 use Rattle.resolution.specs.Ending.EndSends.{no_send, and_send}
 use Rattle.resolution.specs.Ending.Listed.{of_roots, of_told}
-use Rattle.resolution.specs.Walking.{at_any_time, NoCut, Walked, looked_at}
+use Rattle.resolution.specs.Walking.{at_any_time, NoCutSeen, Walked, candidates_below}
 use Rattle.resolution.specs.Answering.{Chain}
 use Rattle.resolution.specs.Walking.NoCut.{told_otherwise, not_told}
 use Rattle.resolution.specs.Answering.Chain.{last, then_alias}
@@ -30,7 +30,7 @@ use Rattle.resolution.specs.Failing.Worn.{by_lookups, by_entries, by_count}
 use Rattle.resolution.specs.Failing.Barren.{barren}
 use Rattle.resolution.specs.Failing.Dry.{no_target, asked, not_reached}
 use Rattle.resolution.specs.Failing.WalkFail.{entered, denied, timed_out, no_address, too_deep, worn}
-use Rattle.resolution.proofs.Keeping.{Logged-extend, Serves-extend, Delegates-extend, Heard-extend, Base-extend}
+use Rattle.resolution.proofs.LongerLogs.{Logged-extend, Serves-extend, Delegates-extend, Heard-extend, Base-extend}
 
 le_trans : (a x y : ℕ) → a ≤ x → x ≤ y → a ≤ y
 le_trans a x y h k = omega arith
@@ -86,10 +86,10 @@ module _ (policy : Policy) (less : ℕ) (fewer : less ≤ policy.patience) (log 
     Tours-extend (and_to t ts) = and_to (Tour-extend t) (Tours-extend ts)
 
   -- what is known of moments and counts stays known
-  module _ (known wider : Known)
+  module _ (known wider : LookupTiming)
       (timed : (q : Query) (ips : List IpAddr) (g moments : List ℕ) (ends : List (End IpAddr)) (start now : ℕ) → EndSends policy log q ips g ends moments → known.Timed q ips g ends moments start now → wider.Timed q ips g ends moments start now)
       (exhausted : known.exhausted ≡ true → wider.exhausted ≡ true) where
-    abbrev pub Finished-extend : {t0 : ℕ} {q : Query} {z : DomainName} {g : List ℕ} {result : Answered} → Finished policy known log t0 q z g result → Finished (with_patience less policy) wider new t0 q z g result
+    abbrev pub Finished-extend : {t0 : ℕ} {q : Query} {z : DomainName} {g : List ℕ} {result : Answered} → FinishedLookup policy known log t0 q z g result → FinishedLookup (with_patience less policy) wider new t0 q z g result
     Finished-extend f = record {
       ips = f.ips;
       ends = f.ends;
@@ -109,19 +109,19 @@ module _ (policy : Policy) (less : ℕ) (fewer : less ≤ policy.patience) (log 
       fresh = f.fresh;
     }
 
-  pub NoCut-extend : {c : DomainName} → NoCut policy log c → NoCut (with_patience less policy) new c
+  pub NoCut-extend : {c : DomainName} → NoCutSeen policy log c → NoCutSeen (with_patience less policy) new c
   NoCut-extend (told_otherwise h v n below) = told_otherwise (Heard-extend policy less log new extends h) v n (λ k low high. NoCut-extend (below k low high))
   NoCut-extend (not_told f n below) = not_told (Finished-extend at_any_time at_any_time (λ q ips g moments ends start now s t. t) (λ x. x) f) n (λ k low high. NoCut-extend (below k low high))
 
-  each_no_cut : (cs : List DomainName) → AllByRecursion (NoCut policy log) cs → AllByRecursion (NoCut (with_patience less policy) new) cs
+  each_no_cut : (cs : List DomainName) → AllByRecursion (NoCutSeen policy log) cs → AllByRecursion (NoCutSeen (with_patience less policy) new) cs
   each_no_cut [] w = w
   each_no_cut (c ∷ cs) (n, w) = (NoCut-extend n, each_no_cut cs w)
 
   pub Walked-extend : (q : Query) (z : DomainName) → Walked policy log q z → Walked (with_patience less policy) new q z
-  Walked-extend q z w = each_no_cut (looked_at q z) w
+  Walked-extend q z w = each_no_cut (candidates_below q z) w
 
   -- what is known of moments and counts stays known
-  module _ (known wider : Known)
+  module _ (known wider : LookupTiming)
       (timed : (q : Query) (ips : List IpAddr) (g moments : List ℕ) (ends : List (End IpAddr)) (start now : ℕ) → EndSends policy log q ips g ends moments → known.Timed q ips g ends moments start now → wider.Timed q ips g ends moments start now)
       (exhausted : known.exhausted ≡ true → wider.exhausted ≡ true) where
     pub NoAddress-extend : {t0 : ℕ} {q : Query} {z : DomainName} → NoAddress policy known log t0 q z → NoAddress (with_patience less policy) wider new t0 q z

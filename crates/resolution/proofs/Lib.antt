@@ -1,12 +1,12 @@
-pub mod Members
-pub mod Above
+pub mod ElementsFiltered
+pub mod AboveIsAnOrder
 pub mod Sameness
-pub mod Keeping
-pub mod Invented
+pub mod LongerLogs
+pub mod NoAddressIsInvented
 pub mod Caseless
 pub mod ZoneCase
 pub mod Classified
-pub mod Numbered
+pub mod EntriesNumbered
 pub mod FailuresKept
 pub mod AnswersKept
 pub mod TimingKept
@@ -15,5 +15,5 @@ pub mod RootsTried
 pub mod KeptErrors
 pub mod WalksCaseless
 pub mod SameDelegations
-pub mod Addresses
+pub mod AddressesAreEqual
 pub mod WayDown

@@ -12,14 +12,14 @@ use Rattle.resolution.specs.Names.{root, is_root}
 use Rattle.recursor_types.specs.declared.policy.Policy.{Policy}
 use Rattle.resolution.specs.Serving.{Delegates}
 use Rattle.resolution.specs.Serving.Delegates.{delegates}
-use Rattle.resolution.specs.Lookups.{class_of_answer, End, Rules, PoolRun, is_at, but_turn, turns, has_turned, answer_of, is_retryable, class_of_end}
+use Rattle.resolution.specs.Lookups.{class_of_answer, End, Rules, PoolRun, is_at, but_fallback, falls_back, has_fallen_back, answer_of, is_retryable, class_of_end}
 use Rattle.resolution.specs.Lookups.PoolRun.{decided, spent, late}
-use Rattle.resolution.specs.Ending.{Known, by_address, same_ip, EndsSend, EndSends, Listed, Ended}
+use Rattle.resolution.specs.Ending.{LookupTiming, by_address, same_ip, EndsSend, EndSends, Listed, Ended}
 use Rattle.resolution.specs.Ending.EndSends.{no_send, and_send}
 use Rattle.resolution.specs.Ending.Listed.{of_roots, of_told}
 use Rattle.resolution.specs.declared.class.Class.{Class}
 use Rattle.resolution.specs.declared.class.Class.TheVariants.{Error, Code, Truncated, Negative, Foreign, Positive}
-use Rattle.resolution.proofs.Members.{Has, Has-append_cases, Has-from_Contains}
+use Rattle.resolution.proofs.ElementsFiltered.{Has, Has-append_cases, Has-from_Contains}
 
 both : (a b : Bool) → (a && b) ≡ true → (a ≡ true) × (b ≡ true)
 both true b h = (refl, h)
@@ -60,7 +60,7 @@ no_decision trusted (Negative x) h k = cc
 no_decision trusted (Foreign x) h k = cc
 no_decision trusted (Positive x) h k = cc
 
-module _ (policy : Policy) (known : Known) (log : Log) (q : Query) where
+module _ (policy : Policy) (known : LookupTiming) (log : Log) (q : Query) where
   not_root : {n : ℕ} {c : DomainName} {k : Message} → Delegates policy log n c k → is_root c ≡ false
   not_root (delegates i h v d r) = r
 
@@ -81,10 +81,10 @@ module _ (policy : Policy) (known : Known) (log : Log) (q : Query) where
     the_rules : Rules IpAddr
     the_rules = by_address timeout
 
-    was_asked : (ends : List (End IpAddr)) (ip : IpAddr) → list_any (is_at (by_address timeout) (class_of_answer q) ip) (but_turn (by_address timeout) (class_of_answer q) ends) ≡ true → (e : End IpAddr) × Has ends e × (same_ip ip e.server ≡ true)
+    was_asked : (ends : List (End IpAddr)) (ip : IpAddr) → list_any (is_at (by_address timeout) (class_of_answer q) ip) (but_fallback (by_address timeout) (class_of_answer q) ends) ≡ true → (e : End IpAddr) × Has ends e × (same_ip ip e.server ≡ true)
     was_asked ends ip h =
-        let r = passing (is_at (by_address timeout) (class_of_answer q) ip) (but_turn (by_address timeout) (class_of_answer q) ends) h in
-        (r.0, elim (Has-append_cases (before_first (turns (by_address timeout) (class_of_answer q)) ends) (after_first (turns (by_address timeout) (class_of_answer q)) ends) (r.0) (r.1)) [ inl k ↦ Has-take _ ends (r.0) k | inr k ↦ Has-drop _ ends (r.0) k ], r.2)
+        let r = passing (is_at (by_address timeout) (class_of_answer q) ip) (but_fallback (by_address timeout) (class_of_answer q) ends) h in
+        (r.0, elim (Has-append_cases (before_first (falls_back (by_address timeout) (class_of_answer q)) ends) (after_first (falls_back (by_address timeout) (class_of_answer q)) ends) (r.0) (r.1)) [ inl k ↦ Has-take _ ends (r.0) k | inr k ↦ Has-drop _ ends (r.0) k ], r.2)
 
   off : (a b : Bool) → ((a && false) || b) ≡ true → b ≡ true
   off true b h = h
@@ -93,7 +93,7 @@ module _ (policy : Policy) (known : Known) (log : Log) (q : Query) where
   run_tried : (ips : List IpAddr) (ends : List (End IpAddr)) (start now : ℕ) → PoolRun (by_address policy.timeout) (class_of_answer q) ips ends (Err net.NoConnections) start now → (ip : IpAddr) → Has ips ip → (e : End IpAddr) × Has ends e × (same_ip ip e.server ≡ true)
   run_tried ips ends start now (decided d) ip h = absurd (no_decision true (class_of_end (by_address policy.timeout) (class_of_answer q) d.last) d.answers ((both _ _ d.final).0))
   run_tried ips ends start now (late d) ip h = let x = d.answers in cc
-  run_tried ips ends start now (spent d) ip h = was_asked policy.timeout ends ip (off (has_turned (by_address policy.timeout) (class_of_answer q) ends) _ (each _ ips ip d.tried h))
+  run_tried ips ends start now (spent d) ip h = was_asked policy.timeout ends ip (off (has_fallen_back (by_address policy.timeout) (class_of_answer q) ends) _ (each _ ips ip d.tried h))
 
   pub roots_tried : {t0 : ℕ} {g : List ℕ} → Ended policy known log t0 q root g net.NoConnections → (ip : IpAddr) → Contains policy.roots ip → IsTried g ip
   roots_tried f ip c =

@@ -13,7 +13,7 @@ use Rattle.resolution.specs.Ending.{EndsSend, EndSends}
 use Rattle.resolution.specs.Ending.EndsSend.{open_refused, ask_refused, open_failed, ask_failed, answered, given_up}
 use Rattle.resolution.specs.Ending.EndSends.{no_send, and_send}
 use Rattle.resolution.specs.Timing.{DriveTimed, WasOpen}
-use Rattle.resolution.proofs.Keeping.{Logged-extend}
+use Rattle.resolution.proofs.LongerLogs.{Logged-extend}
 
 -- an early entry of the longer log is one of the shorter
 Logged-shrink : (old new : Log) → Extends old new → (n : ℕ) (e : LogEntry) → n < old.next → Logged new n e → Logged old n e

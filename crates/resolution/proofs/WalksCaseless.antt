@@ -13,11 +13,11 @@ use Rattle.dns_core.specs.declared.codes.RecordType.{RecordType}
 use Rattle.dns_core.specs.declared.message.Query.{Query}
 use Rattle.resolution.specs.Names.{is_above, base, walk, question, same_query}
 use Rattle.recursor_types.specs.declared.policy.Policy.{Policy}
-use Rattle.resolution.specs.Walking.{at_any_time, is_cut, NoCut, Walked}
+use Rattle.resolution.specs.Walking.{at_any_time, is_cut, NoCutSeen, Walked}
 use Rattle.resolution.specs.Walking.NoCut.{told_otherwise, not_told}
 use Rattle.resolution.specs.declared.verdict.Verdict.{Verdict}
 use Rattle.resolution.specs.declared.verdict.Verdict.TheVariants.{Pos, Neg, Made}
-use Rattle.resolution.proofs.Above.{pointwise-drop}
+use Rattle.resolution.proofs.AboveIsAnOrder.{pointwise-drop}
 use Rattle.resolution.proofs.Caseless.{alike, length-same, labels_same, base-same, both, names_same, types_same, verdict-same, Heard-same}
 use Rattle.resolution.proofs.ZoneCase.{above-same, is_delegation-same, ns_question}
 use Rattle.resolution.proofs.FailuresCaseless.{Finished-same}
@@ -42,7 +42,7 @@ last_of-same n m k e =
 longer-same : (c d : DomainName) → same_names c d ≡ true → (k : ℕ) → k < length d.labels → k < length c.labels
 longer-same c d e k h = subst (λ (n : ℕ). k < n) (sym (length-same (pointwise same_letter) c.labels d.labels (labels_same c d e))) h
 
-pub NoCut-same : (policy : Policy) (log : Log) {c : DomainName} (d : DomainName) → NoCut policy log c → same_names c d ≡ true → NoCut policy log d
+pub NoCut-same : (policy : Policy) (log : Log) {c : DomainName} (d : DomainName) → NoCutSeen policy log c → same_names c d ≡ true → NoCutSeen policy log d
 NoCut-same policy log d (told_otherwise {c = c} {o = o} {z = z} {v = v} h w n below) e =
     let asks = ns_question c d e in
     told_otherwise (Heard-same (question c 2) (question d 2) asks h) (sym (verdict-same (question c 2) (question d 2) asks policy o z) ∙ w) (sym (is_cut-same v c d e) ∙ n)
@@ -86,5 +86,5 @@ Walked-same policy log q p z e w =
     let walks = walks_same q p e in
     let long = length-same (pointwise same_letter) (walk q).labels (walk p).labels (labels_same (walk q) (walk p) walks) in
     let same : (k : ℕ) → same_names (last_of (walk q) k) (last_of (walk p) k) ≡ true = λ k. last_of-same (walk q) (walk p) k walks in
-    let moved = each_passing (NoCut policy log) (last_of (walk q)) (last_of (walk p)) (looks z q) (looks z p) (λ k. looks-same q p e z _ _ (same k)) (λ k n. NoCut-same policy log (last_of (walk p) k) n (same k)) (range_with_len 1 (length (walk q).labels)) w in
-    subst (λ (n : ℕ). AllByRecursion (NoCut policy log) (filter (looks z p) (map (last_of (walk p)) (range_with_len 1 n)))) long moved
+    let moved = each_passing (NoCutSeen policy log) (last_of (walk q)) (last_of (walk p)) (looks z q) (looks z p) (λ k. looks-same q p e z _ _ (same k)) (λ k n. NoCut-same policy log (last_of (walk p) k) n (same k)) (range_with_len 1 (length (walk q).labels)) w in
+    subst (λ (n : ℕ). AllByRecursion (NoCutSeen policy log) (filter (looks z p) (map (last_of (walk p)) (range_with_len 1 n)))) long moved

@@ -13,8 +13,8 @@ use Rattle.std.specs.Cmp.Lexicographic.{pointwise}
 use Rattle.dns_core.specs.declared.message.Query.{Query}
 use Rattle.resolution.specs.Names.{is_above, last_name, root, walk, question}
 use Rattle.recursor_types.specs.declared.policy.Policy.{Policy}
-use Rattle.resolution.specs.Walking.{NoCut, Walked}
-use Rattle.resolution.proofs.Above.{is_suffix-refl, labels_equiv, pointwise-drop}
+use Rattle.resolution.specs.Walking.{NoCutSeen, Walked}
+use Rattle.resolution.proofs.AboveIsAnOrder.{is_suffix-refl, labels_equiv, pointwise-drop}
 use Rattle.resolution.proofs.Caseless.{both, length-same, labels_same}
 
 -- the last k labels are k
@@ -132,11 +132,11 @@ true-not-false false e f = cc
 -- The zone is the deepest cut that the log shows for a question, where it shows none at the longer candidates that are looked at.
 walked-from : (policy : Policy) (log : Log) (q : Query) (zone : DomainName) → is_above zone (walk q) ≡ true
     → ((k : ℕ) → length zone.labels < k → k ≤ length (walk q).labels → (q.query_type.code == 2 && same_names (last_name k (walk q)) q.name) ≡ false
-    → NoCut policy log (last_name k (walk q)))
+    → NoCutSeen policy log (last_name k (walk q)))
     → Walked policy log q zone
 walked-from policy log q zone above each =
     let n = walk q in
-    left-have (NoCut policy log) (λ (c : DomainName). not (is_above c zone) && not (q.query_type.code == 2 && same_names c q.name))
+    left-have (NoCutSeen policy log) (λ (c : DomainName). not (is_above c zone) && not (q.query_type.code == 2 && same_names c q.name))
     (λ (k : ℕ). last_name k n) 1 (length n.labels)
     (λ k low high passes.
     let c = last_name k n in
@@ -146,7 +146,7 @@ walked-from policy log q zone above each =
   where
     longer : (k : ℕ) → is_above (last_name k (walk q)) zone ≡ false → k ≤ length (walk q).labels
         → (q.query_type.code == 2 && same_names (last_name k (walk q)) q.name) ≡ false
-        → (b : Bool) → nat_lt (length zone.labels) k ≡ b → NoCut policy log (last_name k (walk q))
+        → (b : Bool) → nat_lt (length zone.labels) k ≡ b → NoCutSeen policy log (last_name k (walk q))
     longer k below high other true e = each k (grind (arith, nat_tests)) high other
     longer k below high other false e =
         let short : k ≤ length zone.labels = grind (arith, nat_tests) in
@@ -154,15 +154,15 @@ walked-from policy log q zone above each =
 
 -- Where the log shows no cut at the candidates between a zone and a name, the zone is the deepest cut for each question that is walked to the name.
 pub walked-from-passed : (policy : Policy) (log : Log) (q : Query) (zone name : DomainName) → name ≡ walk q → is_above zone name ≡ true
-    → ((k : ℕ) → length zone.labels < k → k ≤ length name.labels → NoCut policy log (last_name k name)) → Walked policy log q zone
+    → ((k : ℕ) → length zone.labels < k → k ≤ length name.labels → NoCutSeen policy log (last_name k name)) → Walked policy log q zone
 walked-from-passed policy log q zone name is above each = walked-from policy log q zone
     (subst (λ (n : DomainName). is_above zone n ≡ true) is above)
-    (λ k low high other. subst (λ (n : DomainName). NoCut policy log (last_name k n)) is (each k low (subst (λ (n : DomainName). k ≤ length n.labels) (sym is) high)))
+    (λ k low high other. subst (λ (n : DomainName). NoCutSeen policy log (last_name k n)) is (each k low (subst (λ (n : DomainName). k ≤ length n.labels) (sym is) high)))
 
 -- the same for a candidate, whose own cut is not looked at
 pub walked-at-candidate : (policy : Policy) (log : Log) (zone name : DomainName) (labels : ℕ)
     → is_above zone name ≡ true → length zone.labels ≤ labels → labels ≤ length name.labels
-    → ((k : ℕ) → length zone.labels < k → k < labels → NoCut policy log (last_name k name)) → Walked policy log (question (last_name labels name) 2) zone
+    → ((k : ℕ) → length zone.labels < k → k < labels → NoCutSeen policy log (last_name k name)) → Walked policy log (question (last_name labels name) 2) zone
 walked-at-candidate policy log zone name labels above low high each =
     let c = last_name labels name in
     walked-from policy log (question c 2) zone (above-last zone name labels above low high)
@@ -173,10 +173,10 @@ walked-at-candidate policy log zone name labels above low high each =
 
     shorter : (k : ℕ) → length zone.labels < k → k ≤ length (last_name labels name).labels
         → same_names (last_name k (last_name labels name)) (last_name labels name) ≡ false
-        → (b : Bool) → nat_lt k labels ≡ b → NoCut policy log (last_name k (last_name labels name))
+        → (b : Bool) → nat_lt k labels ≡ b → NoCutSeen policy log (last_name k (last_name labels name))
     shorter k longer short other true e =
         let less : k < labels = grind (arith, nat_tests) in
-        subst (NoCut policy log) (sym (last-of-last name labels k (omega (arith, less)) high)) (each k longer less)
+        subst (NoCutSeen policy log) (sym (last-of-last name labels k (omega (arith, less)) high)) (each k longer less)
     shorter k longer short other false e =
         let more : labels ≤ k = grind (arith, nat_tests) in
         let c = last_name labels name in
@@ -210,9 +210,9 @@ left-had {X} P p f a (suc n) all k low high e = pick (nat_lt a k) refl (left-had
 
 -- Where a zone is the deepest cut that the log shows for a candidate, it shows none at the names between.
 pub passed-at-candidate : (policy : Policy) (log : Log) (zone c : DomainName) → Walked policy log (question c 2) zone
-    → (k : ℕ) → length zone.labels < k → k < length c.labels → NoCut policy log (last_name k c)
+    → (k : ℕ) → length zone.labels < k → k < length c.labels → NoCutSeen policy log (last_name k c)
 passed-at-candidate policy log zone c walked k low high =
-    left-had (NoCut policy log) (λ (d : DomainName). not (is_above d zone) && not (2 == 2 && same_names d c)) (λ (j : ℕ). last_name j c) 1 (length c.labels) walked
+    left-had (NoCutSeen policy log) (λ (d : DomainName). not (is_above d zone) && not (2 == 2 && same_names d c)) (λ (j : ℕ). last_name j c) 1 (length c.labels) walked
     k (omega (arith, low)) (omega (arith, high)) (passes (is_above (last_name k c) zone) (same_names (last_name k c) c) refl refl)
   where
     count : length (last_name k c).labels ≡ k

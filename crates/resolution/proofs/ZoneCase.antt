@@ -19,7 +19,7 @@ use Rattle.resolution.specs.Names.{root, is_root, is_above, base, walk, question
 use Rattle.resolution.specs.Records.{records, ns_target, only}
 use Rattle.resolution.specs.Class.{class_of}
 use Rattle.recursor_types.specs.declared.policy.Policy.{Policy}
-use Rattle.resolution.specs.Verdict.{verdict, verdict_of_told, verdict_of_class, in_zone, if_in_zone, is_all_denied, without_denied, emptied}
+use Rattle.resolution.specs.Verdict.{verdict, verdict_of_told, verdict_of_class, is_in_bailiwick, if_in_bailiwick, is_all_denied, without_denied, is_emptied}
 use Rattle.resolution.specs.Serving.{Serves, Delegates, Heard, targets, target_below, is_delegation, addresses_under}
 use Rattle.resolution.specs.Serving.Serves.{of_root, of_glue, of_target, of_answer}
 use Rattle.resolution.specs.Serving.Delegates.{delegates}
@@ -30,7 +30,7 @@ use Rattle.resolution.specs.declared.class.Class.TheVariants.{Error, Code, Trunc
 use Rattle.resolution.specs.declared.verdict.Verdict.{Verdict}
 use Rattle.resolution.specs.declared.verdict.Verdict.TheVariants.{Pos, Neg, Made}
 use Rattle.resolution.specs.declared.verdict.Cause.TheVariants.{Filter, Zone}
-use Rattle.resolution.proofs.Above.{labels_equiv}
+use Rattle.resolution.proofs.AboveIsAnOrder.{labels_equiv}
 use Rattle.resolution.proofs.Caseless.{alike, length-same, flags, labels_same, base-same, both, Heard-same, verdict-same}
 
 suffix_of-same : (a b n : List (List ℕ)) → same_labels a b ≡ true → is_suffix a n ≡ is_suffix b n
@@ -55,20 +55,20 @@ root_alone d e =
     ∙ ap (λ (f : Bool). let n : DomainName = record { labels = d.labels; fqdn = f } in n) (flags root d e)
 
 module _ (c d : DomainName) (e : same_names c d ≡ true) where
-  in_zone-same : in_zone c ≡ in_zone d
+  in_zone-same : is_in_bailiwick c ≡ is_in_bailiwick d
   in_zone-same i r = above-same c d r.name e i
 
-  if_in_zone-same : (o : Option Record) → if_in_zone c o ≡ if_in_zone d o
+  if_in_zone-same : (o : Option Record) → if_in_bailiwick c o ≡ if_in_bailiwick d o
   if_in_zone-same None = refl
   if_in_zone-same (Some r) = ap (λ (b : Bool). if b then Some r else None) (above-same c d r.name e)
 
   of_class : (denied : IpAddr → Bool) (class : Class) → verdict_of_class denied class c ≡ verdict_of_class denied class d
   of_class denied (Positive m) =
-      let F : (Record → Bool) → Verdict = λ p. if is_all_denied denied m then Made Filter else (if emptied (without_denied denied m) (only p (without_denied denied m)) then Made Zone else Pos (only p (without_denied denied m))) in
+      let F : (Record → Bool) → Verdict = λ p. if is_all_denied denied m then Made Filter else (if is_emptied (without_denied denied m) (only p (without_denied denied m)) then Made Zone else Pos (only p (without_denied denied m))) in
       ap (λ (p : Record → Bool). Some (F p)) in_zone-same
   of_class denied (Negative n) =
       let G : Option Record → (Record → Bool) → NoRecords = λ soa p. record n { soa = soa; authorities = filter p n.authorities } in
-      ap (λ (soa : Option Record). Some (Neg (G soa (in_zone c)))) (if_in_zone-same n.soa) ∙ ap (λ (p : Record → Bool). Some (Neg (G (if_in_zone d n.soa) p))) in_zone-same
+      ap (λ (soa : Option Record). Some (Neg (G soa (is_in_bailiwick c)))) (if_in_zone-same n.soa) ∙ ap (λ (p : Record → Bool). Some (Neg (G (if_in_bailiwick d n.soa) p))) in_zone-same
   of_class denied (Error f) = refl
   of_class denied (Code f) = refl
   of_class denied Truncated = refl

@@ -18,9 +18,9 @@ pub record IsServer (policy : Policy) (log : Log) (n : ℕ) (ip : IpAddr) : Type
   pub serves : Serves policy log n ip zone
 
 -- By what was told below n, the address serves a zone at or above the name of the question.
-pub record IsServerFor (policy : Policy) (log : Log) (n : ℕ) (ip : IpAddr) (q : Query) : Type 0 where
+pub record IsServerFor (policy : Policy) (log : Log) (n : ℕ) (ip : IpAddr) (query : Query) : Type 0 where
   pub zone : DomainName
-  pub above : IsTrue (is_above zone (walk q))
+  pub above : IsTrue (is_above zone (walk query))
   pub serves : Serves policy log n ip zone
 
 -- Whoever was opened or asked was a server by what was told before, and for a question one of a zone at or above its name.

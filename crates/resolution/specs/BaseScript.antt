@@ -80,7 +80,7 @@ reply = answer_to example (a_record example 300 (quad 93 184 215 14) ∷ [])
 
 -- an open that succeeds, and an ask that is answered; the first entry is numbered n
 abbrev pub exchange : ℕ → Ipv4Addr → Query → Message → List LogEntry → List LogEntry
-exchange n ip q m rest = Opened (V4 ip) Udp 0 None ∷ Told n 0 outcome.Connected ∷ Asked (V4 ip) Udp q 0 None ∷ Told (n + 2) 0 (outcome.Message m) ∷ rest
+exchange n ip query m rest = Opened (V4 ip) Udp 0 None ∷ Told n 0 outcome.Connected ∷ Asked (V4 ip) Udp query 0 None ∷ Told (n + 2) 0 (outcome.Message m) ∷ rest
 
 -- the twelve entries
 abbrev pub entries : List LogEntry

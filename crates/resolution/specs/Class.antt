@@ -17,25 +17,25 @@ use Rattle.resolution.specs.declared.class.Class.TheVariants.{Error, Code, Trunc
 
 -- no answers, and no record of the asked type named as the question (RFC 2308 section 2)
 abbrev pub has_no_data_for : Query → Message → Bool
-has_no_data_for q m = length m.answers == 0 && not (list_any (is_asked q) m.authorities) && not (list_any (is_asked q) m.additionals)
+has_no_data_for query m = length m.answers == 0 && not (list_any (is_asked query) m.authorities) && not (list_any (is_asked query) m.additionals)
 
 -- the record's class is not the question's
 abbrev pub is_foreign : Query → Record → Bool
-is_foreign q r = not (r.dns_class.code == q.query_class.code)
+is_foreign query r = not (r.dns_class.code == query.query_class.code)
 
 -- A code other than NoError and NXDomain; else a cut message; else one without the data (RFC 2308 section 2); else one with records of another class; else an answer.
 abbrev pub class_of_message : Message → Query → Class
-class_of_message m q =
+class_of_message m query =
     if not (m.response_code.code == 0 || m.response_code.code == 3) then Code m.response_code else (
     if m.truncation then Truncated else (
-    if has_no_data_for q m then Negative (no_records m) else
-    elim (find (is_foreign q) (records m)) [ Some r ↦ Foreign r | None ↦ Positive m ]))
+    if has_no_data_for query m then Negative (no_records m) else
+    elim (find (is_foreign query) (records m)) [ Some r ↦ Foreign r | None ↦ Positive m ]))
 
 -- what a classified message is for a question
 abbrev pub class_of_classified : Query → Result Message DnsError → Class
-class_of_classified q (Err (dns.ResponseCode code)) = Code code
-class_of_classified q (Err (dns.NoRecordsFound found)) = Negative found
-class_of_classified q (Ok m) = if m.truncation then Truncated else elim (find (is_foreign q) (records m)) [ Some r ↦ Foreign r | None ↦ Positive m ]
+class_of_classified query (Err (dns.ResponseCode code)) = Code code
+class_of_classified query (Err (dns.NoRecordsFound found)) = Negative found
+class_of_classified query (Ok m) = if m.truncation then Truncated else elim (find (is_foreign query) (records m)) [ Some r ↦ Foreign r | None ↦ Positive m ]
 
 -- What a response told is that; every other error is itself.
 abbrev pub class_of_error : NetError → Class
@@ -53,6 +53,6 @@ class_of_error net.NoMemory = Error net.NoMemory
 
 -- of what was told for a question; that a connection stands answers nothing
 abbrev pub class_of : ToldOutcome → Query → Option Class
-class_of outcome.Connected q = None
-class_of (outcome.Message m) q = Some (class_of_message m q)
-class_of (outcome.Error e) q = Some (class_of_error e)
+class_of outcome.Connected query = None
+class_of (outcome.Message m) query = Some (class_of_message m query)
+class_of (outcome.Error e) query = Some (class_of_error e)

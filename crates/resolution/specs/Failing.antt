@@ -16,7 +16,7 @@ use Rattle.recursor_types.specs.declared.policy.Policy.{Policy}
 use Rattle.resolution.specs.Serving.{Heard, targets, glue, allowed, is_delegation}
 use Rattle.resolution.specs.Answering.{Base, label_count}
 use Rattle.resolution.specs.Lookups.{Answered}
-use Rattle.resolution.specs.Ending.{Known, Finished, Ended}
+use Rattle.resolution.specs.Ending.{LookupTiming, FinishedLookup, Ended}
 use Rattle.resolution.specs.Walking.{Walked}
 use Rattle.resolution.specs.declared.class.Class.{Class}
 use Rattle.resolution.specs.declared.class.Class.TheVariants.{Error, Code, Truncated, Negative, Foreign, Positive}
@@ -25,17 +25,17 @@ use Rattle.resolution.specs.declared.verdict.Verdict.TheVariants.{Pos, Neg, Made
 
 -- ---- delegations without addresses
 
--- A delegation of c was told, and no allowed address of a target stands in it.
-pub record Glueless (policy : Policy) (log : Log) (t0 : ℕ) (c : DomainName) (k : Message) : Type 0 where
+-- A delegation of `cut` was told, and no allowed address of a target stands in it.
+pub record Glueless (policy : Policy) (log : Log) (asked_at : ℕ) (cut : DomainName) (kept : Message) : Type 0 where
   pub i : ℕ
   pub z : DomainName
-  pub base : Base policy log t0 (question c 2) i z (Pos k)
-  pub delegates : IsTrue (is_delegation k c)
-  pub none : allowed (denies policy.server_filter) (glue k c) ≡ []
+  pub base : Base policy log asked_at (question cut 2) i z (Pos kept)
+  pub delegates : IsTrue (is_delegation kept cut)
+  pub none : allowed (denies policy.server_filter) (glue kept cut) ≡ []
 
 -- the targets that are chased
 abbrev pub chased : Message → DomainName → List DomainName
-chased k c = take 5 (targets k c)
+chased kept cut = take 5 (targets kept cut)
 
 -- both filters allow an address of the answers
 abbrev pub has_allowed_address : Policy → Message → Bool
@@ -51,20 +51,20 @@ is_addressless policy Truncated = false
 is_addressless policy (Foreign r) = false
 
 -- A question for an address of t was answered without one, or failed.
-pub data NoAddress (policy : Policy) (known : Known) (log : Log) (t0 : ℕ) (q : Query) (z : DomainName) : Type 0 where
+pub data NoAddress (policy : Policy) (timing : LookupTiming) (log : Log) (asked_at : ℕ) (query : Query) (zone : DomainName) : Type 0 where
   none_in_answer : {i moment : ℕ} {o : ToldOutcome} {class : Class}
-      → Heard policy log i q o moment z → t0 ≤ moment → class_of o q ≡ Some class → IsTrue (is_addressless policy class) → NoAddress policy known log t0 q z
-  no_answer : {g : List ℕ} {e : NetError} → Ended policy known log t0 q z g e → NoAddress policy known log t0 q z
+      → Heard policy log i query o moment zone → asked_at ≤ moment → class_of o query ≡ Some class → IsTrue (is_addressless policy class) → NoAddress policy timing log asked_at query zone
+  no_answer : {g : List ℕ} {e : NetError} → Ended policy timing log asked_at query zone g e → NoAddress policy timing log asked_at query zone
 
-pub record TriedFor (policy : Policy) (known : Known) (log : Log) (t0 : ℕ) (c : DomainName) (q : Query) : Type 0 where
+pub record TriedFor (policy : Policy) (timing : LookupTiming) (log : Log) (asked_at : ℕ) (cut : DomainName) (query : Query) : Type 0 where
   pub z : DomainName
-  pub walked : is_above c q.name ≡ false → Walked policy log q z
-  pub none : NoAddress policy known log t0 q z
+  pub walked : is_above cut query.name ≡ false → Walked policy log query z
+  pub none : NoAddress policy timing log asked_at query z
 
 -- Both addresses of t were asked for and not given.
-pub record Tried (policy : Policy) (known : Known) (log : Log) (t0 : ℕ) (c t : DomainName) : Type 0 where
-  pub four : TriedFor policy known log t0 c (question t 1)
-  pub six : TriedFor policy known log t0 c (question t 28)
+pub record Tried (policy : Policy) (timing : LookupTiming) (log : Log) (asked_at : ℕ) (cut t : DomainName) : Type 0 where
+  pub four : TriedFor policy timing log asked_at cut (question t 1)
+  pub six : TriedFor policy timing log asked_at cut (question t 28)
 
 -- ---- limits
 
@@ -73,17 +73,17 @@ abbrev pub are_apart : List ℕ → List ℕ → Bool
 are_apart xs ys = not (list_any (λ x. list_any (nat_eq x) ys) xs)
 
 -- This many lookups finished, by these entries, no two by the same.
-pub data Lookups (policy : Policy) (known : Known) (log : Log) (t0 : ℕ) : List ℕ → ℕ → Type 0 where
-  no_lookup : Lookups policy known log t0 [] 0
+pub data Lookups (policy : Policy) (timing : LookupTiming) (log : Log) (asked_at : ℕ) : List ℕ → ℕ → Type 0 where
+  no_lookup : Lookups policy timing log asked_at [] 0
   one_more : {q : Query} {z : DomainName} {g used : List ℕ} {result : Answered} {n : ℕ}
-      → Finished policy known log t0 q z g result → IsTrue (are_apart g used)
-      → Lookups policy known log t0 used n → Lookups policy known log t0 (g ++ used) (suc n)
+      → FinishedLookup policy timing log asked_at q z g result → IsTrue (are_apart g used)
+      → Lookups policy timing log asked_at used n → Lookups policy timing log asked_at (g ++ used) (suc n)
 
 -- at least a fifth of m lookups finished, since five equal targets share one
-pub record Spent (policy : Policy) (known : Known) (log : Log) (t0 m : ℕ) : Type 0 where
+pub record Spent (policy : Policy) (timing : LookupTiming) (log : Log) (asked_at m : ℕ) : Type 0 where
   pub used : List ℕ
   pub count : ℕ
-  pub lookups : Lookups policy known log t0 used count
+  pub lookups : Lookups policy timing log asked_at used count
   pub enough : m ≤ 5 * count
 
 abbrev pub is_among : List DomainName → DomainName → Bool
@@ -111,10 +111,10 @@ mutual
         → Tour policy log t0 t stack a → Tours policy log t0 ts stack b → Tours policy log t0 (t ∷ ts) stack (a + b)
 
 -- Lookups or zone entries are used up, for a question that walks to these names.
-pub data Worn (policy : Policy) (known : Known) (log : Log) (t0 : ℕ) (names : List DomainName) : Type 0 where
-  by_lookups : Spent policy known log t0 191 → Worn policy known log t0 names
-  by_entries : {m : ℕ} → Tours policy log t0 names [] m → 1000 < m → Worn policy known log t0 names
-  by_count : IsTrue known.exhausted → Worn policy known log t0 names
+pub data Worn (policy : Policy) (timing : LookupTiming) (log : Log) (asked_at : ℕ) (names : List DomainName) : Type 0 where
+  by_lookups : Spent policy timing log asked_at 191 → Worn policy timing log asked_at names
+  by_entries : {m : ℕ} → Tours policy log asked_at names [] m → 1000 < m → Worn policy timing log asked_at names
+  by_count : IsTrue timing.exhausted → Worn policy timing log asked_at names
 
 -- ---- walks that fail
 
@@ -126,14 +126,14 @@ ends_walk (Made cause) = true
 
 mutual
   -- c is delegated without addresses, and none is found for its targets; d is the depth before the walk.
-  pub data Barren (policy : Policy) (known : Known) (log : Log) (t0 : ℕ) (names : List DomainName) : DomainName → List DomainName → ℕ → Type 0 where
+  pub data Barren (policy : Policy) (known : LookupTiming) (log : Log) (t0 : ℕ) (names : List DomainName) : DomainName → List DomainName → ℕ → Type 0 where
     barren : {c : DomainName} {k : Message} {stack : List DomainName} {d : ℕ}
         → Glueless policy log t0 c k → length stack < 1000
         → Dry policy known log t0 names c (chased k c) (c ∷ stack) (d + label_count c)
         → Barren policy known log t0 names c stack d
 
   -- no address is found for these targets of c
-  pub data Dry (policy : Policy) (known : Known) (log : Log) (t0 : ℕ) (names : List DomainName) : DomainName → List DomainName → List DomainName → ℕ → Type 0 where
+  pub data Dry (policy : Policy) (known : LookupTiming) (log : Log) (t0 : ℕ) (names : List DomainName) : DomainName → List DomainName → List DomainName → ℕ → Type 0 where
     no_target : {c : DomainName} {stack : List DomainName} {d : ℕ} → Dry policy known log t0 names c [] stack d
     asked : {c t : DomainName} {ts stack : List DomainName} {d : ℕ}
         → Tried policy known log t0 c t → Dry policy known log t0 names c ts stack d
@@ -143,7 +143,7 @@ mutual
         → Dry policy known log t0 names c (t ∷ ts) stack d
 
   -- A walk to n fails.
-  pub data WalkFail (policy : Policy) (known : Known) (log : Log) (t0 : ℕ) (names : List DomainName) : DomainName → List DomainName → ℕ → Type 0 where
+  pub data WalkFail (policy : Policy) (known : LookupTiming) (log : Log) (t0 : ℕ) (names : List DomainName) : DomainName → List DomainName → ℕ → Type 0 where
     entered : {n c : DomainName} {stack : List DomainName} {d : ℕ}
         → Contains (candidates n) c → IsTrue (is_among stack c) → WalkFail policy known log t0 names n stack d
     denied : {n c z : DomainName} {i : ℕ} {v : Verdict} {stack : List DomainName} {d : ℕ}

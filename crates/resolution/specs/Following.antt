@@ -41,6 +41,6 @@ follow_from (suc steps) answers t met n =
 
 -- A question for CNAME or for all types, or one whose name has no CNAME among the answers, is followed no further.
 abbrev pub follow : Message → Query → Follow
-follow k q =
-    if q.query_type.code == 5 || q.query_type.code == 255 then Done else
-    elim (alias_at k.answers q.name) [ None ↦ Done | Some target ↦ follow_from (suc (length k.answers)) k.answers q.query_type [] q.name ]
+follow kept query =
+    if query.query_type.code == 5 || query.query_type.code == 255 then Done else
+    elim (alias_at kept.answers query.name) [ None ↦ Done | Some target ↦ follow_from (suc (length kept.answers)) kept.answers query.query_type [] query.name ]

@@ -40,6 +40,6 @@ life_in_seconds policy t (Neg n) = Some (negative_life (bounds_of policy.ttl_bou
 life_in_seconds policy t (Made Filter) = Some (negative_life (bounds_of policy.ttl_bounds t) None)
 life_in_seconds policy t (Made Zone) = None
 
--- It was told at or after t0, or t0 is still in its life. Moments are in microseconds.
+-- It was told at or after `asked_at`, or `asked_at` is still in its life. Moments are in microseconds.
 abbrev pub Fresh : Policy → ℕ → ℕ → Query → Verdict → Type 0
-Fresh policy t0 moment q v = (t0 ≤ moment) ⊎ IsSomeAnd (life_in_seconds policy q.query_type v) (λ life. t0 ≤ moment + 1000000 * life)
+Fresh policy asked_at moment query verdict = (asked_at ≤ moment) ⊎ IsSomeAnd (life_in_seconds policy query.query_type verdict) (λ life. asked_at ≤ moment + 1000000 * life)

@@ -32,14 +32,14 @@ pub record Rules (S : Type 0) : Type 0 where
 
 -- of the answer to a question
 abbrev pub class_of_answer : Query → Answered → Class
-class_of_answer q (Ok m) = class_of_message m q
-class_of_answer q (Err e) = class_of_error e
+class_of_answer query (Ok m) = class_of_message m query
+class_of_answer query (Err e) = class_of_error e
 
 -- after it UDP is off, if it was on: a truncated message, or a case mismatch
-abbrev pub is_turn : Class → Bool
-is_turn Truncated = true
-is_turn (Error net.QueryCaseMismatch) = true
-is_turn _ = false
+abbrev pub is_tcp_fallback : Class → Bool
+is_tcp_fallback Truncated = true
+is_tcp_fallback (Error net.QueryCaseMismatch) = true
+is_tcp_fallback _ = false
 
 abbrev pub is_passing_error : NetError → Bool
 is_passing_error net.Busy = true
@@ -88,26 +88,26 @@ module _ {S : Type 0} (rules : Rules S) (class : Answered → Class) where
   abbrev pub class_of_end : End S → Class
   class_of_end e = class e.outcome
 
-  abbrev pub turns : End S → Bool
-  turns e = is_turn (class_of_end e)
+  abbrev pub falls_back : End S → Bool
+  falls_back e = is_tcp_fallback (class_of_end e)
 
   -- the first truncated message or case mismatch, if there is one
-  abbrev pub the_turn : List (End S) → Option (End S)
-  the_turn ends = find turns ends
+  abbrev pub the_fallback : List (End S) → Option (End S)
+  the_fallback ends = find falls_back ends
 
-  abbrev pub has_turned : List (End S) → Bool
-  has_turned ends = list_any turns ends
+  abbrev pub has_fallen_back : List (End S) → Bool
+  has_fallen_back ends = list_any falls_back ends
 
   -- the ends but the turn
-  abbrev pub but_turn : List (End S) → List (End S)
-  but_turn ends = before_first turns ends ++ after_first turns ends
+  abbrev pub but_fallback : List (End S) → List (End S)
+  but_fallback ends = before_first falls_back ends ++ after_first falls_back ends
 
   -- it is no turn, and another server is asked after it; every other end but the turn is final
   abbrev pub retries : End S → Bool
   retries e = is_retryable (rules.trusts e.server) (class_of_end e)
 
   abbrev pub none_is_final : List (End S) → Bool
-  none_is_final ends = list_all retries (but_turn ends)
+  none_is_final ends = list_all retries (but_fallback ends)
 
   -- the server of the end
   abbrev pub is_at : S → End S → Bool
@@ -115,25 +115,25 @@ module _ {S : Type 0} (rules : Rules S) (class : Answered → Class) where
 
   -- each server that the policy still allows has a retryable end
   abbrev pub all_were_tried : List S → List (End S) → Bool
-  all_were_tried servers ends = list_all (λ s. (has_turned ends && not (rules.beyond_udp s)) || list_any (is_at s) (but_turn ends)) servers
+  all_were_tried servers ends = list_all (λ s. (has_fallen_back ends && not (rules.beyond_udp s)) || list_any (is_at s) (but_fallback ends)) servers
 
   -- the turn's server was asked again, where the policy still allows it
   abbrev pub turn_was_repeated : List (End S) → Bool
-  turn_was_repeated ends = elim (the_turn ends) [ None ↦ true | Some e ↦ not (rules.beyond_udp e.server) || list_any (is_at e.server) (after_first turns ends) ]
+  turn_was_repeated ends = elim (the_fallback ends) [ None ↦ true | Some e ↦ not (rules.beyond_udp e.server) || list_any (is_at e.server) (after_first falls_back ends) ]
 
   -- a server that the policy still allows, and that was busy to the last, was asked five times
   abbrev pub busy_were_retried : List S → List (End S) → Bool
   busy_were_retried servers ends = list_all (λ s.
-      (has_turned ends && not (rules.beyond_udp s))
-      || elim (last_or None (filter (is_at s) (but_turn ends))) [ None ↦ true | Some e ↦ not (is_busy (class_of_end e)) || nat_le 5 (length (filter (is_at s) (but_turn ends))) ]) servers
+      (has_fallen_back ends && not (rules.beyond_udp s))
+      || elim (last_or None (filter (is_at s) (but_fallback ends))) [ None ↦ true | Some e ↦ not (is_busy (class_of_end e)) || nat_le 5 (length (filter (is_at s) (but_fallback ends))) ]) servers
 
   -- what the ends leave where none is final: those after a truncated turn, all without one
   abbrev pub what_is_left : List (End S) → NetError
-  what_is_left ends = elim (the_turn ends) [
+  what_is_left ends = elim (the_fallback ends) [
     | None ↦ least_bad false (map class_of_end ends)
     | Some e ↦ elim (class_of_end e) [
-      | Truncated ↦ least_bad true (map class_of_end (after_first turns ends))
-      | _ ↦ least_bad false (map class_of_end (but_turn ends))
+      | Truncated ↦ least_bad true (map class_of_end (after_first falls_back ends))
+      | _ ↦ least_bad false (map class_of_end (but_fallback ends))
     ]
   ]
 
@@ -143,7 +143,7 @@ module _ {S : Type 0} (rules : Rules S) (class : Answered → Class) where
     pub last : End S
     pub whole : ends ≡ earlier ++ last ∷ []
     pub before : IsTrue (none_is_final earlier)
-    pub final : IsTrue (not (retries last) && (not (turns last) || has_turned earlier))
+    pub final : IsTrue (not (retries last) && (not (falls_back last) || has_fallen_back earlier))
     pub answers : result ≡ answer_of (class_of_end last)
 
   -- No end decides, and no server is left.
@@ -168,9 +168,9 @@ module _ {S : Type 0} (rules : Rules S) (class : Answered → Class) where
     late : IsLate ends result start now → PoolRun servers ends result start now
 
   -- the turn was at this server
-  abbrev pub is_turn_at : List (End S) → S → Bool
-  is_turn_at ends s = elim (the_turn ends) [ None ↦ false | Some e ↦ is_at s e ]
+  abbrev pub is_fallback_at : List (End S) → S → Bool
+  is_fallback_at ends s = elim (the_fallback ends) [ None ↦ false | Some e ↦ is_at s e ]
 
   -- at most five ends for each place of a server, and one more where the turn was at it
   abbrev pub IsBounded : List S → List (End S) → Type 0
-  IsBounded servers ends = (s : S) → count_by (is_at s) ends ≤ 5 * count_by (rules.same s) servers + (if is_turn_at ends s then 1 else 0)
+  IsBounded servers ends = (s : S) → count_by (is_at s) ends ≤ 5 * count_by (rules.same s) servers + (if is_fallback_at ends s then 1 else 0)

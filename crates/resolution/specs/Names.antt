@@ -14,9 +14,9 @@ is_root n = n.fqdn && length n.labels == 0
 abbrev pub base : DomainName → DomainName
 base n = record { labels = drop 1 n.labels; fqdn = n.fqdn }
 
--- z is at or above n: both are fully qualified, and the labels of z are the last of n's
+-- `zone` is at or above n: both are fully qualified, and the labels of `zone` are the last of n's
 abbrev pub is_above : DomainName → DomainName → Bool
-is_above z n = z.fqdn && n.fqdn && is_suffix z.labels n.labels
+is_above zone n = zone.fqdn && n.fqdn && is_suffix zone.labels n.labels
 
 -- the last labels of a name
 abbrev pub last_name : ℕ → DomainName → DomainName
@@ -28,7 +28,7 @@ candidates n = map (λ k. record { labels = last_labels k n.labels; fqdn = n.fqd
 
 -- the name to which a question is walked: its own, and for DS the base name, since the parent has the DS records (RFC 4035 section 3.1.4.1)
 abbrev pub walk : Query → DomainName
-walk q = if q.query_type.code == 43 then base q.name else q.name
+walk query = if query.query_type.code == 43 then base query.name else query.name
 
 -- the same question, without ASCII case
 abbrev pub same_query : Query → Query → Bool

@@ -19,17 +19,17 @@ use Rattle.resolution.specs.Telling.{Tells}
 use Rattle.resolution.specs.declared.class.Class.TheVariants.{Positive}
 use Rattle.resolution.specs.declared.verdict.Verdict.TheVariants.{Pos}
 
--- the message has an NS record named c
+-- the message has an NS record named `cut`
 abbrev pub is_delegation : Message → DomainName → Bool
-is_delegation k c = list_any (λ r. is_ns r && same_names r.name c) (records k)
+is_delegation kept cut = list_any (λ r. is_ns r && same_names r.name cut) (records kept)
 
 -- the target of an NS record named at or below a zone
 abbrev pub target_below : DomainName → Record → Option DomainName
 target_below zone r = if is_above zone r.name then ns_target r else None
 
--- the servers of c by name: the targets, in order, of the NS records named at or below the base of c
+-- the servers of `cut` by name: the targets, in order, of the NS records named at or below the base of `cut`
 abbrev pub targets : Message → DomainName → List DomainName
-targets k c = filter_map (target_below (base c)) (records k)
+targets kept cut = filter_map (target_below (base cut)) (records kept)
 
 -- the address that a record holds under one of these names
 abbrev pub address_under : List DomainName → Record → Option IpAddr
@@ -38,9 +38,9 @@ address_under names r = if list_any (same_names r.name) names then address r els
 abbrev pub addresses_under : List DomainName → List Record → List IpAddr
 addresses_under names rs = filter_map (address_under names) rs
 
--- the addresses that a delegation of c has beside it, for its servers
+-- the addresses that a delegation of `cut` has beside it, for its servers
 abbrev pub glue : Message → DomainName → List IpAddr
-glue k c = addresses_under (targets k c) (records k)
+glue kept cut = addresses_under (targets kept cut) (records kept)
 
 -- those that may be asked
 abbrev pub allowed : (IpAddr → Bool) → List IpAddr → List IpAddr
@@ -48,7 +48,7 @@ allowed denied ips = filter (λ ip. not (denied ip)) ips
 
 -- It is the question for an IPv4 or an IPv6 address of t.
 abbrev pub IsAddressQuestion : DomainName → Query → Type 0
-IsAddressQuestion t q = (q ≡ question t 1) ⊎ (q ≡ question t 28)
+IsAddressQuestion t query = (query ≡ question t 1) ⊎ (query ≡ question t 28)
 
 mutual
   -- By what was told below n, the address serves the zone.

@@ -16,19 +16,19 @@ use Rattle.resolution.specs.Names.{same_query}
 use Rattle.resolution.specs.Records.{address, records}
 
 -- The log has this entry under n.
-pub record Logged (log : Log) (n : ℕ) (e : LogEntry) : Type 0 where
+pub record Logged (log : Log) (n : ℕ) (entry : LogEntry) : Type 0 where
   pub below : n < log.next
-  pub is : log.entry n ≡ Some e
+  pub is : log.entry n ≡ Some entry
 
--- Entry i tells the outcome for q at the moment: the address that was asked, by entry `ask`, is the teller.
-pub record Tells (log : Log) (i : ℕ) (q : Query) (o : ToldOutcome) (ask : ℕ) (teller : IpAddr) (moment : ℕ) : Type 0 where
+-- Entry `entry` tells the outcome for `query` at the moment: the address that was asked, by entry `ask`, is the teller.
+pub record Tells (log : Log) (entry : ℕ) (query : Query) (outcome : ToldOutcome) (ask : ℕ) (teller : IpAddr) (moment : ℕ) : Type 0 where
   pub protocol : Protocol
   pub asked : Query
   pub asked_at : ℕ
-  pub told : Logged log i (Told ask moment o)
+  pub told : Logged log entry (Told ask moment outcome)
   pub question : Logged log ask (Asked teller protocol asked asked_at None)
-  pub before : ask < i
-  pub same : IsTrue (same_query asked q)
+  pub before : ask < entry
+  pub same : IsTrue (same_query asked query)
 
 -- Each entry below n of the first log is one of the second.
 abbrev pub KeepsBelow : ℕ → Log → Log → Type 0
@@ -49,14 +49,14 @@ pub record IsTold (log : Log) (ip : IpAddr) : Type 0 where
   pub held : Contains (filter_map address (records message)) ip
 
 -- The question was asked of somebody.
-pub record WasAsked (log : Log) (q : Query) : Type 0 where
+pub record WasAsked (log : Log) (query : Query) : Type 0 where
   pub n : ℕ
   pub ip : IpAddr
   pub protocol : Protocol
   pub asked : Query
   pub moment : ℕ
   pub logged : Logged log n (Asked ip protocol asked moment None)
-  pub same : IsTrue (same_query asked q)
+  pub same : IsTrue (same_query asked query)
 
 -- the number that an entry names
 abbrev pub named : LogEntry → Option ℕ
@@ -90,12 +90,12 @@ is_qualified_outcome (Error e) = is_qualified_error e
 
 -- What an entry names was begun before, and names are fully qualified.
 pub record IsLog (log : Log) : Type 0 where
-  pub begun : (i k : ℕ) (e : LogEntry) → Logged log i e → named e ≡ Some k → (k < i) × (s : LogEntry) × Logged log k s × IsTrue (is_start s)
-  pub qualified : (i ask moment : ℕ) (o : ToldOutcome) → Logged log i (Told ask moment o) → IsTrue (is_qualified_outcome o)
+  pub begun : (i k : ℕ) (entry : LogEntry) → Logged log i entry → named entry ≡ Some k → (k < i) × (s : LogEntry) × Logged log k s × IsTrue (is_start s)
+  pub qualified : (i ask moment : ℕ) (outcome : ToldOutcome) → Logged log i (Told ask moment outcome) → IsTrue (is_qualified_outcome outcome)
 
 -- No entry numbered k or more carries a moment below t.
-abbrev pub Late : Log → ℕ → ℕ → Type 0
-Late log k t = (i moment : ℕ) (e : LogEntry) → k ≤ i → Logged log i e → moment_of e ≡ Some moment → t ≤ moment
+abbrev pub NoneBefore : Log → ℕ → ℕ → Type 0
+NoneBefore log k t = (i moment : ℕ) (e : LogEntry) → k ≤ i → Logged log i e → moment_of e ≡ Some moment → t ≤ moment
 
 -- Moments don't fall.
 abbrev pub MomentsRise : Log → Type 0

@@ -19,8 +19,8 @@ pub fn case_of_a_question_is_ignored()
     ensures class { (q p : Query) (o : ToldOutcome) → same_query q p ≡ true → class_of o q ≡ class_of o p }
     ensures verdict { (q p : Query) (policy : Policy) (o : ToldOutcome) (z : DomainName) →
         same_query q p ≡ true → verdict policy o q z ≡ verdict policy o p z }
-    ensures base { (q p : Query) (policy : Policy) (log : Log) (t0 i : ℕ) (z : DomainName) (v : Verdict) →
-        same_query q p ≡ true → Base policy log t0 q i z v → Base policy log t0 p i z v }
+    ensures base { (q p : Query) (policy : Policy) (log : Log) (asked_at i : ℕ) (z : DomainName) (v : Verdict) →
+        same_query q p ≡ true → Base policy log asked_at q i z v → Base policy log asked_at p i z v }
 {}
 
 /// Nor does who serves a zone, and what counts in it, depend on the spelling of the zone.
@@ -29,6 +29,6 @@ pub fn case_of_a_zone_is_ignored()
         same_names c d ≡ true → verdict policy o q c ≡ verdict policy o q d }
     ensures serves { (c d : DomainName) (policy : Policy) (log : Log) (n : ℕ) (ip : IpAddr) →
         same_names c d ≡ true → Serves policy log n ip c → Serves policy log n ip d }
-    ensures base { (c d : DomainName) (policy : Policy) (log : Log) (t0 : ℕ) (q : Query) (i : ℕ) (v : Verdict) →
-        same_names c d ≡ true → Base policy log t0 q i c v → Base policy log t0 q i d v }
+    ensures base { (c d : DomainName) (policy : Policy) (log : Log) (asked_at : ℕ) (q : Query) (i : ℕ) (v : Verdict) →
+        same_names c d ≡ true → Base policy log asked_at q i c v → Base policy log asked_at q i d v }
 {}

@@ -18,18 +18,18 @@ ghost use Rattle.resolution.specs.declared.verdict.Verdict.{Verdict};
 pub fn a_longer_log_keeps_answers()
     ensures serves { (policy : Policy) (old new : Log) (n : ℕ) (ip : IpAddr) (z : DomainName) →
         Extends old new → Serves policy old n ip z → Serves policy new n ip z }
-    ensures base { (policy : Policy) (old new : Log) (t0 : ℕ) (q : Query) (i : ℕ) (z : DomainName) (v : Verdict) →
-        Extends old new → Base policy old t0 q i z v → Base policy new t0 q i z v }
-    ensures answer { (policy : Policy) (less : ℕ) (old new : Log) (t0 : ℕ) (q : Query) (dnssec : Bool) (g : List ℕ) (r : Message) →
-        less ≤ policy.patience → Extends old new → Answer policy old t0 q dnssec g r → Answer (with_patience less policy) new t0 q dnssec g r }
+    ensures base { (policy : Policy) (old new : Log) (asked_at : ℕ) (q : Query) (i : ℕ) (z : DomainName) (v : Verdict) →
+        Extends old new → Base policy old asked_at q i z v → Base policy new asked_at q i z v }
+    ensures answer { (policy : Policy) (less : ℕ) (old new : Log) (asked_at : ℕ) (q : Query) (dnssec : Bool) (g : List ℕ) (r : Message) →
+        less ≤ policy.patience → Extends old new → Answer policy old asked_at q dnssec g r → Answer (with_patience less policy) new asked_at q dnssec g r }
 {}
 
 /// Neither who serves a zone nor what an entry answers reads how patient the resolver is.
 pub fn patience_is_not_read()
     ensures serves { (policy : Policy) (patience : ℕ) (log : Log) (n : ℕ) (ip : IpAddr) (z : DomainName) →
         Serves policy log n ip z → Serves (with_patience patience policy) log n ip z }
-    ensures base { (policy : Policy) (patience : ℕ) (log : Log) (t0 : ℕ) (q : Query) (i : ℕ) (z : DomainName) (v : Verdict) →
-        Base policy log t0 q i z v → Base (with_patience patience policy) log t0 q i z v }
+    ensures base { (policy : Policy) (patience : ℕ) (log : Log) (asked_at : ℕ) (q : Query) (i : ℕ) (z : DomainName) (v : Verdict) →
+        Base policy log asked_at q i z v → Base (with_patience patience policy) log asked_at q i z v }
 {}
 
 /// Who serves a zone at a number is read from the entries below it alone, and at a later number it

@@ -10,7 +10,7 @@ ghost use Rattle.resolver_settings.specs.Access.{denies};
 ghost use Rattle.resolution.specs.Names.{root, question};
 ghost use Rattle.resolution.specs.Records.{records};
 ghost use Rattle.recursor_types.specs.declared.policy.Policy.{Policy};
-ghost use Rattle.resolution.specs.Verdict.{verdict, in_zone, holds_denied};
+ghost use Rattle.resolution.specs.Verdict.{verdict, is_in_bailiwick, holds_denied};
 ghost use Rattle.resolution.specs.Telling.{IsTold, WasAsked};
 ghost use Rattle.resolution.specs.Serving.{Serves};
 ghost use Rattle.resolution.specs.declared.verdict.Verdict.TheVariants.{Pos};
@@ -30,7 +30,7 @@ pub fn no_zone_is_served_unasked()
 /// What counts of an answer lies in the zone and holds no denied address.
 pub fn nothing_counts_outside_a_zone()
     ensures inside { (policy : Policy) (o : ToldOutcome) (q : Query) (z : DomainName) (k : Message) →
-        verdict policy o q z ≡ Some (Pos k) → All (λ r. in_zone z r ≡ true) (records k) }
+        verdict policy o q z ≡ Some (Pos k) → All (λ r. is_in_bailiwick z r ≡ true) (records k) }
     ensures allowed { (policy : Policy) (o : ToldOutcome) (q : Query) (z : DomainName) (k : Message) →
         verdict policy o q z ≡ Some (Pos k) → All (λ r. holds_denied (denies policy.answer_filter) r ≡ false) (records k) }
 {}

@@ -6,7 +6,7 @@ use Rattle.std.proofs.lemmas.List.Sums.{fold-append}
 use Rattle.dns_core.specs.declared.record.Record.{Record}
 use Rattle.resolver_settings.specs.Access.{denies}
 use Rattle.resolution.specs.Records.{records}
-use Rattle.resolution.specs.Verdict.{holds_denied, in_zone}
+use Rattle.resolution.specs.Verdict.{holds_denied, is_in_bailiwick}
 use Rattle.resolution.specs.Life.{least_ttl}
 use Rattle.resolution_reference.specs.Plain.{apex, passes, kept, lesser}
 use Rattle.resolution_reference.specs.declared.kept.kept.Kept.{Kept}
@@ -31,7 +31,7 @@ least_of_all (r ∷ rs) = ap (λ (o : Option ℕ). unwrap_or o 0) (least_so_far 
 pub least_left : (k : Kept) → unwrap_or (fold lesser (fold lesser (fold lesser None (filter (passes k) k.message.now.answers)) (filter (passes k) k.message.now.authorities)) (filter (passes k) k.message.now.additionals)) 0 ≡ least_ttl (records (kept k))
 least_left k =
     let d : Record → Bool = λ r. not (holds_denied (denies k.denied.now) r) in
-    let z : Record → Bool = in_zone (apex k.zone.now) in
+    let z : Record → Bool = is_in_bailiwick (apex k.zone.now) in
     let left : (rs : List Record) → filter z (filter d rs) ≡ filter (passes k) rs = λ rs. filter-filter d z rs in
     let a = k.message.now.answers in
     let u = k.message.now.authorities in

@@ -19,7 +19,7 @@ use Rattle.resolution_reference.specs.PlainServing.{log_in}
 use Rattle.resolution_reference.specs.PlainBase.{IsBase, IsFreshFor}
 use Rattle.resolution.specs.declared.class.Class.TheVariants.{Positive}
 use Rattle.resolution_reference.specs.declared.setting.Setting.{Setting}
-use Rattle.resolution.proofs.Invented.{verdict-pos}
+use Rattle.resolution.proofs.NoAddressIsInvented.{verdict-pos}
 use Rattle.resolution_reference.proofs.PlainServed.{counts-verdict, verdict-counts, class-is_answer, one_telling}
 
 -- ---- an entry

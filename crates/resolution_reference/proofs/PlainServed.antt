@@ -16,12 +16,12 @@ use Rattle.resolver_settings.specs.Access.{denies}
 use Rattle.resolution.specs.Names.{is_above, base}
 use Rattle.resolution.specs.Records.{address, records}
 use Rattle.resolution.specs.Class.{class_of, class_of_message, has_no_data_for, is_foreign}
-use Rattle.resolution.specs.Verdict.{verdict, emptied, is_all_denied, without_denied}
+use Rattle.resolution.specs.Verdict.{verdict, is_emptied, is_all_denied, without_denied}
 use Rattle.resolution.specs.Serving.{targets, target_below, address_under, addresses_under}
 use Rattle.resolution.specs.Ending.{same_ip}
 use Rattle.resolution_reference.specs.Plain.{apex, among, holds, holds_for, names_target, left_of, counts_of, is_answer}
 use Rattle.resolution.specs.Names.{is_root, walk}
-use Rattle.resolution.specs.Verdict.{verdict_of_message, verdict_of_told, holds_denied, in_zone}
+use Rattle.resolution.specs.Verdict.{verdict_of_message, verdict_of_told, holds_denied, is_in_bailiwick}
 use Rattle.resolution.specs.Telling.{Tells}
 use Rattle.resolution.specs.Names.{question}
 use Rattle.std.proofs.lemmas.Bool.{cases_lt}
@@ -43,11 +43,11 @@ use Rattle.dns_core.specs.declared.log.LogEntry.TheVariants.{Asked}
 use Rattle.resolution.specs.declared.class.Class.{Class}
 use Rattle.resolution.specs.declared.class.Class.TheVariants.{Foreign, Positive}
 use Rattle.resolution.specs.declared.verdict.Verdict.TheVariants.{Pos, Made}
-use Rattle.resolution.proofs.Members.{Has, Has-from_Contains, Contains-from_Has, Has-filter_map, filter_map-Has, Has-append_left, Has-append_right, Has-append_cases, Has-filter, Has-passes, any_Has, Has_any}
-use Rattle.resolution.proofs.Addresses.{same_ip-true, same_ip-itself}
-use Rattle.resolution.proofs.Above.{labels_equiv}
+use Rattle.resolution.proofs.ElementsFiltered.{Has, Has-from_Contains, Contains-from_Has, Has-filter_map, filter_map-Has, Has-append_left, Has-append_right, Has-append_cases, Has-filter, Has-passes, any_Has, Has_any}
+use Rattle.resolution.proofs.AddressesAreEqual.{same_ip-true, same_ip-itself}
+use Rattle.resolution.proofs.AboveIsAnOrder.{labels_equiv}
 use Rattle.resolution_reference.proofs.SectionTests.{list_any-filter_map}
-use Rattle.resolution.proofs.Invented.{chosen, verdict-pos, class_of-positive}
+use Rattle.resolution.proofs.NoAddressIsInvented.{chosen, verdict-pos, class_of-positive}
 use Rattle.resolution.proofs.ZoneCase.{Serves-zone, verdict-zone}
 
 -- ---- tests and elements
@@ -190,7 +190,7 @@ module _ (s : Setting) where
   counted : (m k : Message) (ls : List (List ℕ)) → verdict_of_message (denies s.policy.now.answer_filter) m (apex ls) ≡ Pos k → (counts_of s.policy.now.answer_filter ls m ≡ true) × (k ≡ left_of s.policy.now.answer_filter ls m)
   counted m k ls e = elim (chosen (is_all_denied (denies s.policy.now.answer_filter) m) _ _ _ e) [
     | inl a ↦ let x = a.1 in cc
-    | inr a ↦ elim (chosen (emptied (without_denied (denies s.policy.now.answer_filter) m) (left_of s.policy.now.answer_filter ls m)) _ _ _ a.1) [
+    | inr a ↦ elim (chosen (is_emptied (without_denied (denies s.policy.now.answer_filter) m) (left_of s.policy.now.answer_filter ls m)) _ _ _ a.1) [
       | inl b ↦ let x = b.1 in cc
       | inr b ↦ let x = b.1 in (join _ _ (false_not _ a.0) (false_not _ b.0), cc)
     ]
@@ -411,7 +411,7 @@ module _ (s : Setting) where
   section_record k r h e =
       let parts = split _ _ e in
       let d : Record → Bool = λ x. not (holds_denied (denies k.denied.now) x) in
-      let z : Record → Bool = in_zone (apex k.zone.now) in
+      let z : Record → Bool = is_in_bailiwick (apex k.zone.now) in
       let a = filter z (filter d k.message.now.answers) in
       let u = filter z (filter d k.message.now.authorities) in
       let x = filter z (filter d k.message.now.additionals) in
@@ -421,16 +421,16 @@ module _ (s : Setting) where
         | inr (inr g) ↦ Has-append_right (a ++ u) x r (filtered_Has z _ r (filtered_Has d _ r g parts.0) parts.1)
       ]
 
-  both_pass : (k : Kept) (xs : List Record) (r : Record) → Has (filter (in_zone (apex k.zone.now)) (filter (λ x. not (holds_denied (denies k.denied.now) x)) xs)) r → Has xs r × (passes k r ≡ true)
+  both_pass : (k : Kept) (xs : List Record) (r : Record) → Has (filter (is_in_bailiwick (apex k.zone.now)) (filter (λ x. not (holds_denied (denies k.denied.now) x)) xs)) r → Has xs r × (passes k r ≡ true)
   both_pass k xs r h =
       let d : Record → Bool = λ x. not (holds_denied (denies k.denied.now) x) in
-      let g = Has-filter (in_zone (apex k.zone.now)) (filter d xs) r h in
-      (Has-filter d xs r g, join _ _ (Has-passes d xs r g) (Has-passes (in_zone (apex k.zone.now)) (filter d xs) r h))
+      let g = Has-filter (is_in_bailiwick (apex k.zone.now)) (filter d xs) r h in
+      (Has-filter d xs r g, join _ _ (Has-passes d xs r g) (Has-passes (is_in_bailiwick (apex k.zone.now)) (filter d xs) r h))
 
   record_section : (k : Kept) (r : Record) → Has (records (kept k)) r → InSection k.message.now r × (passes k r ≡ true)
   record_section k r h =
       let d : Record → Bool = λ x. not (holds_denied (denies k.denied.now) x) in
-      let z : Record → Bool = in_zone (apex k.zone.now) in
+      let z : Record → Bool = is_in_bailiwick (apex k.zone.now) in
       let a = filter z (filter d k.message.now.answers) in
       let u = filter z (filter d k.message.now.authorities) in
       let x = filter z (filter d k.message.now.additionals) in

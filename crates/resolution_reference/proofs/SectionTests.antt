@@ -9,8 +9,8 @@ use Rattle.std.specs.declared.net.ip_addr.IpAddr.{IpAddr}
 use Rattle.dns_core.specs.declared.message.Message.{Message}
 use Rattle.resolver_settings.specs.Access.{denies}
 use Rattle.resolution.specs.Records.{records, only}
-use Rattle.resolution.specs.Verdict.{holds_denied, in_zone, emptied, is_all_denied}
-use Rattle.resolution_reference.specs.Plain.{apex, passes, kept, is_emptied}
+use Rattle.resolution.specs.Verdict.{holds_denied, is_in_bailiwick, is_emptied, is_all_denied}
+use Rattle.resolution_reference.specs.Plain.{apex, passes, kept, nothing_is_left}
 use Rattle.resolution_reference.specs.declared.kept.kept.Kept.{Kept}
 
 pub list_any-filter : {X : Type 0} (p q : X → Bool) (xs : List X) → list_any p (filter q xs) ≡ list_any (λ x. q x && p x) xs
@@ -34,7 +34,7 @@ list_any-filters {X} p q r xs =
 pub list_any-kept : (k : Kept) (p : Record → Bool) → list_any p (records (kept k)) ≡ ((list_any (λ r. passes k r && p r) k.message.now.answers || list_any (λ r. passes k r && p r) k.message.now.authorities) || list_any (λ r. passes k r && p r) k.message.now.additionals)
 list_any-kept k p =
     let d : Record → Bool = λ r. not (holds_denied (denies k.denied.now) r) in
-    let z : Record → Bool = in_zone (apex k.zone.now) in
+    let z : Record → Bool = is_in_bailiwick (apex k.zone.now) in
     let a = k.message.now.answers in
     let u = k.message.now.authorities in
     let x = k.message.now.additionals in
@@ -65,7 +65,7 @@ is_empty-filter {X} p (x ∷ xs) = at_head (p x) (is_empty-filter p xs)
     at_head false e = e
 
 -- what the filter empties, by tests
-pub all_denied-tests : (d : IpAddr → Bool) (m : Message) → is_all_denied d m ≡ is_emptied (not (length m.answers == 0)) (list_any (λ r. not (holds_denied d r)) m.answers) (not (length m.authorities == 0)) (list_any (λ r. not (holds_denied d r)) m.authorities)
+pub all_denied-tests : (d : IpAddr → Bool) (m : Message) → is_all_denied d m ≡ nothing_is_left (not (length m.answers == 0)) (list_any (λ r. not (holds_denied d r)) m.answers) (not (length m.authorities == 0)) (list_any (λ r. not (holds_denied d r)) m.authorities)
 all_denied-tests d m =
     let p : Record → Bool = λ r. not (holds_denied d r) in
     ap (λ (t : Bool). (not (length m.answers == 0) && t) || (t && not (length m.authorities == 0) && length (filter p m.authorities) == 0)) (is_empty-filter p m.answers)
@@ -76,7 +76,7 @@ not_not true = refl
 not_not false = refl
 
 -- what a filter and then a zone empty, by tests
-pub emptied-tests : (d z : Record → Bool) (m : Message) → emptied (only d m) (only z (only d m)) ≡ is_emptied (list_any d m.answers) (list_any (λ r. d r && z r) m.answers) (list_any d m.authorities) (list_any (λ r. d r && z r) m.authorities)
+pub emptied-tests : (d z : Record → Bool) (m : Message) → is_emptied (only d m) (only z (only d m)) ≡ nothing_is_left (list_any d m.answers) (list_any (λ r. d r && z r) m.answers) (list_any d m.authorities) (list_any (λ r. d r && z r) m.authorities)
 emptied-tests d z m =
     let was : (xs : List Record) → not (length (filter d xs) == 0) ≡ list_any d xs = λ xs. ap not (is_empty-filter d xs) ∙ not_not (list_any d xs) in
     let none : (xs : List Record) → (length (filter z (filter d xs)) == 0) ≡ not (list_any (λ r. d r && z r) xs) = λ xs. is_empty-filter z (filter d xs) ∙ ap not (list_any-filter z d xs) in

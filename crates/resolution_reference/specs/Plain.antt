@@ -9,7 +9,7 @@ use Rattle.dns_core.specs.declared.record.Record.{Record}
 use Rattle.resolver_settings.specs.Access.{Access, denies}
 use Rattle.resolution.specs.Records.{address, records}
 use Rattle.resolution.specs.Class.{has_no_data_for, is_foreign}
-use Rattle.resolution.specs.Verdict.{holds_denied, in_zone, without_denied, within, emptied, is_all_denied}
+use Rattle.resolution.specs.Verdict.{holds_denied, is_in_bailiwick, without_denied, in_bailiwick, is_emptied, is_all_denied}
 use Rattle.resolution.specs.Serving.{target_below}
 use Rattle.resolution.specs.Ending.{same_ip}
 use Rattle.resolution_reference.specs.declared.kept.kept.Kept.{Kept}
@@ -32,22 +32,22 @@ holds ip r = elim (address r) [ None ↦ false | Some held ↦ same_ip ip held ]
 
 -- the record is left by the filter and by the zone
 abbrev pub passes : Kept → Record → Bool
-passes k r = not (holds_denied (denies k.denied.now) r) && in_zone (apex k.zone.now) r
+passes k r = not (holds_denied (denies k.denied.now) r) && is_in_bailiwick (apex k.zone.now) r
 
 -- what the filter and the zone leave of a message
 abbrev pub left_of : Access → List (List ℕ) → Message → Message
-left_of denied zone m = within (apex zone) (without_denied (denies denied) m)
+left_of denied zone m = in_bailiwick (apex zone) (without_denied (denies denied) m)
 
 abbrev pub kept : Kept → Message
 kept k = left_of k.denied.now k.zone.now k.message.now
 
 -- something was there of the answers and nothing is left, or nothing is left of them and of the authorities that were there
-abbrev pub is_emptied : Bool → Bool → Bool → Bool → Bool
-is_emptied answers answers_left authorities authorities_left = (answers && not answers_left) || (not answers_left && authorities && not authorities_left)
+abbrev pub nothing_is_left : Bool → Bool → Bool → Bool → Bool
+nothing_is_left answers answers_left authorities authorities_left = (answers && not answers_left) || (not answers_left && authorities && not authorities_left)
 
 -- something is left of the answers, or of the authorities of a message without answers
 abbrev pub counts_of : Access → List (List ℕ) → Message → Bool
-counts_of denied zone m = not (is_all_denied (denies denied) m) && not (emptied (without_denied (denies denied) m) (left_of denied zone m))
+counts_of denied zone m = not (is_all_denied (denies denied) m) && not (is_emptied (without_denied (denies denied) m) (left_of denied zone m))
 
 abbrev pub counts : Kept → Bool
 counts k = counts_of k.denied.now k.zone.now k.message.now
@@ -69,9 +69,9 @@ answers_with k ip = has_in_answers k.denied.now k.message.now ip
 
 -- the message is an answer to the question
 abbrev pub is_answer : Query → Message → Bool
-is_answer q m =
-    (m.response_code.code == 0 || m.response_code.code == 3) && (not m.truncation && (not (has_no_data_for q m)
-    && not (list_any (is_foreign q) m.answers || list_any (is_foreign q) m.authorities || list_any (is_foreign q) m.additionals)))
+is_answer query m =
+    (m.response_code.code == 0 || m.response_code.code == 3) && (not m.truncation && (not (has_no_data_for query m)
+    && not (list_any (is_foreign query) m.answers || list_any (is_foreign query) m.authorities || list_any (is_foreign query) m.additionals)))
 
 -- the least TTL so far, with one record more
 abbrev pub lesser : Option ℕ → Record → Option ℕ

@@ -13,15 +13,15 @@ use Rattle.resolution_reference.specs.declared.kept.kept.Kept.{Kept}
 use Rattle.resolution_reference.specs.declared.setting.Setting.{Setting}
 use Rattle.resolution.specs.declared.verdict.Verdict.TheVariants.{Pos}
 
--- Entry i tells an answer to q, by a server of the zone z, that is fresh at t0.
-pub record IsBase (policy : Policy) (log : Log) (t0 : ℕ) (q : Query) (i : ℕ) (z : DomainName) : Type 0 where
+-- Entry `entry` tells an answer to `query`, by a server of the zone `zone`, that is fresh at `asked_at`.
+pub record IsBase (policy : Policy) (log : Log) (asked_at : ℕ) (query : Query) (entry : ℕ) (zone : DomainName) : Type 0 where
   pub answer : Message
-  pub base : Base policy log t0 q i z (Pos answer)
+  pub base : Base policy log asked_at query entry zone (Pos answer)
 
 -- the seconds for which what is left of a message counts, as an answer to a question of the type
 abbrev pub life_of : Setting → ℕ → Kept → ℕ
 life_of s t k = positive_life (bounds_of s.policy.now.ttl_bounds (record { code = t })) (kept k)
 
--- It was told at or after t0, or t0 is still in its life, in microseconds.
+-- It was told at or after `asked_at`, or `asked_at` is still in its life, in microseconds.
 abbrev pub IsFreshFor : ℕ → ℕ → ℕ → Type 0
-IsFreshFor t0 moment life = (t0 ≤ moment) ⊎ (t0 ≤ moment + 1000000 * life)
+IsFreshFor asked_at moment life = (asked_at ≤ moment) ⊎ (asked_at ≤ moment + 1000000 * life)

@@ -49,20 +49,20 @@ pub data ListedBy (policy : Policy) (log : Log) : ℕ → ℕ → IpAddr → Dom
       → ListedBy policy log i n ip c
 
 -- The teller serves the zone, and what counts of the message there is such a delegation.
-pub record ListedFrom (policy : Policy) (log : Log) (ask : ℕ) (teller : IpAddr) (denied : Access) (zone : List (List ℕ)) (m : Message) (n : ℕ) (ip : IpAddr) (c : DomainName) : Type 0 where
+pub record ListedFrom (policy : Policy) (log : Log) (ask : ℕ) (teller : IpAddr) (denied : Access) (zone : List (List ℕ)) (m : Message) (n : ℕ) (ip : IpAddr) (cut : DomainName) : Type 0 where
   pub serves : Serves policy log ask teller (apex zone)
   pub counts : IsTrue (counts_of denied zone m)
-  pub delegates : IsTrue (is_delegation (left_of denied zone m) c)
-  pub lists : Lists policy log n ip c (left_of denied zone m)
+  pub delegates : IsTrue (is_delegation (left_of denied zone m) cut)
+  pub lists : Lists policy log n ip cut (left_of denied zone m)
 
--- The record is left, names a server of c, and what was told below n gives the address for it.
-pub record ServerGives (policy : Policy) (log : Log) (n : ℕ) (ip : IpAddr) (c : DomainName) (k : Kept) (r : Record) : Type 0 where
+-- The record is left, names a server of `cut`, and what was told below n gives the address for it.
+pub record ServerGives (policy : Policy) (log : Log) (n : ℕ) (ip : IpAddr) (cut : DomainName) (k : Kept) (r : Record) : Type 0 where
   pub left : IsTrue (passes k r)
   pub target : DomainName
-  pub names : target_below (base c) r ≡ Some target
-  pub gives : TargetGives policy log n ip (targets (kept k) c) target
+  pub names : target_below (base cut) r ≡ Some target
+  pub gives : TargetGives policy log n ip (targets (kept k) cut) target
 
 -- The teller serves the zone, and what counts of the answer there has the address under the name of a server, or its answers have it.
-pub record GivenFrom (policy : Policy) (log : Log) (ask : ℕ) (teller : IpAddr) (denied : Access) (zone : List (List ℕ)) (m delegation : Message) (c : DomainName) (ip : IpAddr) : Type 0 where
+pub record GivenFrom (policy : Policy) (log : Log) (ask : ℕ) (teller : IpAddr) (denied : Access) (zone : List (List ℕ)) (m delegation : Message) (cut : DomainName) (ip : IpAddr) : Type 0 where
   pub serves : Serves policy log ask teller (apex zone)
-  pub gives : IsTrue ((counts_of denied zone m && list_any (holds_for delegation (base c) ip) (records (left_of denied zone m))) || has_in_answers denied m ip)
+  pub gives : IsTrue ((counts_of denied zone m && list_any (holds_for delegation (base cut) ip) (records (left_of denied zone m))) || has_in_answers denied m ip)

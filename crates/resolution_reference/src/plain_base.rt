@@ -30,10 +30,10 @@ fn is_walked_below(zone: &[Label], labels: &[Label], record_type: u16, class: u1
 }
 
 /// Whether what was told at a moment is fresh at another: no earlier, or within its life.
-fn is_fresh(t0: u64, moment: u64, life: u64) -> bool
-    ensures { IsTrue result ↔ IsFreshFor t0 moment life }
+fn is_fresh(asked_at: u64, moment: u64, life: u64) -> bool
+    ensures { IsTrue result ↔ IsFreshFor asked_at moment life }
 {
-    t0 <= moment || t0 - moment <= life.saturating_mul(1_000_000)
+    asked_at <= moment || asked_at - moment <= life.saturating_mul(1_000_000)
 }
 
 impl Setting<'_> {
@@ -53,14 +53,14 @@ impl Setting<'_> {
     /// the zone with these labels, that is fresh.
     fn base_at(
         &self,
-        t0: u64,
+        asked_at: u64,
         labels: &[Label],
         record_type: u16,
         class: u16,
         entry: usize,
         zone: &[Label],
     ) -> bool
-        ensures { IsTrue result ↔ IsBase self.now.policy.now (log_in self.now) t0 (asks labels.now record_type class) entry (apex zone.now) }
+        ensures { IsTrue result ↔ IsBase self.now.policy.now (log_in self.now) asked_at (asks labels.now record_type class) entry (apex zone.now) }
     {
         let Some(told) = told_answer(self.log, entry, labels, record_type, class) else {
             return false;
@@ -76,16 +76,16 @@ impl Setting<'_> {
         if !kept.counts() {
             return false;
         }
-        if !is_fresh(t0, told.moment, self.life(record_type, &kept)) {
+        if !is_fresh(asked_at, told.moment, self.life(record_type, &kept)) {
             return false;
         }
         self.serves_apex(told.ask, told.teller, zone)
     }
 }
 
-/// Whether the entry tells an answer to the question, by a server of the zone, that is fresh at `t0`.
-pub fn base(setting: &Setting, t0: u64, query: &Query, entry: usize, zone: &Name) -> bool
-    ensures { IsTrue result ↔ IsBase setting.now.policy.now (log_in setting.now) t0 query.now entry zone.now }
+/// Whether the entry tells an answer to the question, by a server of the zone, that is fresh at `asked_at`.
+pub fn base(setting: &Setting, asked_at: u64, query: &Query, entry: usize, zone: &Name) -> bool
+    ensures { IsTrue result ↔ IsBase setting.now.policy.now (log_in setting.now) asked_at query.now entry zone.now }
 {
     if !query.name.is_fqdn() {
         return false;
@@ -94,7 +94,7 @@ pub fn base(setting: &Setting, t0: u64, query: &Query, entry: usize, zone: &Name
         return false;
     }
     setting.base_at(
-        t0,
+        asked_at,
         query.name.labels(),
         query.query_type.code,
         query.query_class.code,

@@ -10,7 +10,7 @@ use Rattle.std.proofs.lemmas.Iterator.Adapters.{position_from-zero}
 use Rattle.std.proofs.lemmas.Map.Keys.{sorted_tail}
 use Rattle.kept_responses.specs.declared.entry.Entry.{Entry}
 use Rattle.resolver_cache.specs.Writings.{under, number_of}
-use Rattle.resolver_cache.proofs.Numbers.{at_itself}
+use Rattle.resolver_cache.proofs.NumberKeys.{at_itself}
 use Rattle.resolver_cache.proofs.LeastDated.{found_later}
 use Rattle.resolver_cache.proofs.Counted.{one_more}
 

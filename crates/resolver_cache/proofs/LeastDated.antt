@@ -15,7 +15,7 @@ use Rattle.std.proofs.lemmas.Map.Keys.{sorted_head, sorted_tail}
 use Rattle.kept_responses.specs.declared.entry.Entry.{Entry}
 use Rattle.resolver_cache.specs.Placing.{least_expiry}
 use Rattle.resolver_cache.specs.Writings.{under, number_of, number_of_least, by_expiry, expires_at, AreKept}
-use Rattle.resolver_cache.proofs.Numbers.{at_itself, same_number}
+use Rattle.resolver_cache.proofs.NumberKeys.{at_itself, same_number}
 
 -- none of later numbers has this one
 none_later : (n : ℕ) (es : List (ℕ × Entry)) → AllByRecursion (λ k. nat_cmp n k ≡ Less) (keys_of es) → under n es ≡ None

@@ -2,15 +2,15 @@ mod LeastFound
 mod Counted
 mod SameQuestion
 mod LeastThere
-mod Kept
-mod Numbers
-mod Dated
+mod CacheWithinSize
+mod NumberKeys
+mod ExpiriesStay
 mod Above
 mod LeastDated
 mod ByNumber
 mod QuestionOrder
-mod Placed
-mod Renumbered
+mod EntriesUnderQuestions
+mod CopiesRenumbered
 mod CurrentRead
 pub mod FoundThere
 pub mod OneWritten

@@ -15,13 +15,13 @@ use Rattle.resolver_cache.specs.Cached.{Cached, IsWithin}
 
 -- the response of the current entry for a question, its TTLs lowered by the whole seconds since it was written
 abbrev pub read : Cached → Query → ℕ → Option (Result Message NetError)
-read cache q now =
-    option_map (λ e. lowered (seconds_between e.written now) e.response) (current_for q now cache.entries)
+read cache query now =
+    option_map (λ e. lowered (seconds_between e.written now) e.response) (current_for query now cache.entries)
 
 -- the same response, and what told it
 abbrev pub found_for : Cached → Query → ℕ → Option CachedResponse
-found_for cache q now =
-    option_map (λ e. record { response = lowered (seconds_between e.written now) e.response; source = e.source }) (current_for q now cache.entries)
+found_for cache query now =
+    option_map (λ e. record { response = lowered (seconds_between e.written now) e.response; source = e.source }) (current_for query now cache.entries)
 
 abbrev pub no_later_than : Option Entry → ℕ → ℕ
 no_later_than None moment = moment
@@ -29,8 +29,8 @@ no_later_than (Some e) moment = min moment e.expiry
 
 -- so many seconds from now; with a clamp no later than the expiry of an entry for the question that is current
 abbrev pub new_expiry : List Entry → Query → ℕ → Bool → ℕ → ℕ
-new_expiry es q now clamp life =
-    if clamp then no_later_than (current_for q now es) (moment_after now life) else moment_after now life
+new_expiry es query now clamp life =
+    if clamp then no_later_than (current_for query now es) (moment_after now life) else moment_after now life
 
 -- the cache with a response of this life and source, or as it was where the response has none
 abbrev pub written_with : Cached → Query → Result Message NetError → ℕ → ℕ → Bool → Option ℕ → Cached
@@ -40,8 +40,8 @@ written_with cache q response source now clamp (Some life) =
 
 -- the cache once a response to a question was written that the log entry of this number told
 abbrev pub upserted : Cached → Query → Result Message NetError → ℕ → ℕ → Bool → Cached
-upserted cache q response source now clamp =
-    written_with cache q response source now clamp (life_of cache.config q.query_type response)
+upserted cache query response source now clamp =
+    written_with cache query response source now clamp (life_of cache.config query.query_type response)
 
 -- whatever is written, the cache stays as it is
 abbrev pub KeepsNothing : Cached → Type 0

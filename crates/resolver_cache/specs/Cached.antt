@@ -14,4 +14,4 @@ pub record Cached : Type 0 where
 -- no more entries than the size, and no two for one question
 pub record IsWithin (size : ℕ) (entries : List Entry) : Type 0 where
   pub few : length entries ≤ size
-  pub single : (q : Query) → count_by (is_for q) entries ≤ 1
+  pub single : (query : Query) → count_by (is_for query) entries ≤ 1

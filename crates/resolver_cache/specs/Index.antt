@@ -10,7 +10,7 @@ use Rattle.resolver_cache.specs.Writings.{number_of}
 
 -- the number that stands under a question
 abbrev pub number_at : BTreeMap Query ℕ → Query → Option ℕ
-number_at places q = get question_order.ghosts.cmp places q
+number_at places query = get question_order.ghosts.cmp places query
 
 -- under each question stands the number of its entry
 abbrev pub ArePlaced : List (ℕ × Entry) → BTreeMap Query ℕ → Type 0

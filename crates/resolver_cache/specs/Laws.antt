@@ -13,10 +13,10 @@ use Rattle.resolver_cache.specs.Cached.{Cached}
 use Rattle.resolver_cache.specs.Cache.{read, upserted}
 
 -- an entry of the cache for the question, written no later than now and not expired, reads so
-pub record IsReadFrom (cache : Cached) (q : Query) (now : ℕ) (response : Result Message NetError) : Type 0 where
+pub record IsReadFrom (cache : Cached) (query : Query) (now : ℕ) (response : Result Message NetError) : Type 0 where
   pub entry : Entry
   pub kept : Contains cache.entries entry
-  pub question : IsTrue (is_for q entry)
+  pub question : IsTrue (is_for query entry)
   pub begun : entry.written ≤ now
   pub current : now ≤ entry.expiry
   pub reads : response ≡ lowered (seconds_between entry.written now) entry.response
@@ -27,22 +27,22 @@ ReadIsCurrent =
     (cache : Cached) (q : Query) (now : ℕ) (response : Result Message NetError) → All (λ e. e.written ≤ now) cache.entries → read cache q now ≡ Some response → IsReadFrom cache q now response
 
 -- an entry of the cache for the question that has not expired reads so, and has this source
-pub record IsFoundIn (cache : Cached) (q : Query) (now : ℕ) (f : CachedResponse) : Type 0 where
+pub record IsFoundIn (cache : Cached) (query : Query) (now : ℕ) (f : CachedResponse) : Type 0 where
   pub entry : Entry
   pub kept : Contains cache.entries entry
-  pub question : IsTrue (is_for q entry)
+  pub question : IsTrue (is_for query entry)
   pub current : now ≤ entry.expiry
   pub reads : f.response ≡ lowered (seconds_between entry.written now) entry.response
   pub source : f.source ≡ entry.source
 
 -- the response that was just written, from this source, which expires no later than its life says
-pub record IsJustWritten (cache : Cached) (q : Query) (response : Result Message NetError) (told : ℕ) (now : ℕ) (entry : Entry) : Type 0 where
-  pub question : entry.query ≡ q
+pub record IsJustWritten (cache : Cached) (query : Query) (response : Result Message NetError) (told : ℕ) (now : ℕ) (entry : Entry) : Type 0 where
+  pub question : entry.query ≡ query
   pub answer : entry.response ≡ response
   pub source : entry.source ≡ told
   pub written : entry.written ≡ now
   pub life : ℕ
-  pub lives : life_of cache.config q.query_type response ≡ Some life
+  pub lives : life_of cache.config query.query_type response ≡ Some life
   pub no_longer : entry.expiry ≤ now + life * 1000000
 
 -- each entry after a write was there before, or is that response

@@ -15,8 +15,8 @@ place_of_least es = position (λ e. e.expiry == least_expiry es) es
 
 -- the place of the entry for the question, or else in a full cache that of the one with the least expiry
 abbrev pub giving_way : ℕ → Query → List Entry → Option ℕ
-giving_way size q es =
-    elim (position (is_for q) es) [ Some i ↦ Some i | None ↦ if nat_lt (length es) size then None else place_of_least es ]
+giving_way size query es =
+    elim (position (is_for query) es) [ Some i ↦ Some i | None ↦ if nat_lt (length es) size then None else place_of_least es ]
 
 abbrev pub without : List Entry → Option ℕ → List Entry
 without es None = es

@@ -1,10 +1,10 @@
 pub mod SharedBits
-pub mod Spans
+pub mod FirstBitsSpan
 pub mod ByOrder
 pub mod OneAddress
 pub mod OneNumber
 pub mod WordsInOrder
-mod Cuts
+mod TextIsCut
 mod InOrder
 mod ChangesJoin
 mod ReadNumbers

@@ -1,5 +1,5 @@
-pub mod Putting
-pub mod Indexing
-pub mod Finding
-pub mod Keeping
-pub mod Holding
+pub mod MapAfterPut
+pub mod IndexOfOneMore
+pub mod IndexFindsLine
+pub mod LogStaysTrue
+pub mod LogHoldsOn

@@ -13,31 +13,31 @@ use Rattle.script_upstream.specs.Stage.{IsDueOf}
 use Rattle.script_upstream.specs.declared.courses.course.Stage.{Stage}
 use Rattle.script_upstream.specs.declared.courses.course.Stage.TheVariants.{Unknown, Due}
 use Rattle.script_upstream.specs.declared.courses.course.Stage.TheVariants as stage
-use Rattle.script_upstream.specs.declared.courses.course.Course.{Course}
-use Rattle.script_upstream.specs.declared.courses.course.Course.TheVariants.{Never, After}
+use Rattle.script_upstream.specs.declared.courses.course.ScriptedReply.{ScriptedReply}
+use Rattle.script_upstream.specs.declared.courses.course.ScriptedReply.TheVariants.{Never, After}
 use Rattle.script_upstream.specs.declared.script.script.Script.{Script}
-use Rattle.script_upstream.specs.declared.books.book.Book.{Book}
+use Rattle.script_upstream.specs.declared.books.book.ScriptLog.{ScriptLog}
 
 -- the whole log: what found memory, and what waits for it
-abbrev pub told : Book → List LogEntry
+abbrev pub told : ScriptLog → List LogEntry
 told b = b.log ++ b.late
 
 -- what the entry of a number comes to, where it is open
-abbrev pub open_at : Book → ℕ → Option Course
+abbrev pub open_at : ScriptLog → ℕ → Option ScriptedReply
 open_at b n = get nat_eq b.open n
 
 -- no entry ended it, and what is left of the course that the script says, after what was waited
-pub record Awaits (s : Script) (es : List LogEntry) (n : ℕ) (c : Course) : Type 0 where
+pub record Awaits (s : Script) (es : List LogEntry) (n : ℕ) (c : ScriptedReply) : Type 0 where
   pub unended : HasNoEnd n es
   pub due : course s es n ≡ Some (lengthened (waits n es) c)
   pub qualified : IsTrue (is_qualified_course c)
 
 -- the script gives the log, and each open entry is known by what it still comes to
-pub record IsKept (s : Script) (es : List LogEntry) (open_of : ℕ → Option Course) : Type 0 where
+pub record IsKept (s : Script) (es : List LogEntry) (open_of : ℕ → Option ScriptedReply) : Type 0 where
   pub gives : Gives s es
-  pub awaited : (n : ℕ) (c : Course) → open_of n ≡ Some c → Awaits s es n c
+  pub awaited : (n : ℕ) (c : ScriptedReply) → open_of n ≡ Some c → Awaits s es n c
 
-abbrev pub Keeps : Book → Type 0
+abbrev pub Keeps : ScriptLog → Type 0
 Keeps b = IsKept b.script (told b) (open_at b)
 
 -- as many lines are used up as questions were asked, but for the last
@@ -49,32 +49,32 @@ pub record Knows (s : Script) (index : Index) : Type 0 where
   pub qualified : IsTrue (is_qualified_script s)
   pub indexed : IsIndexed s.lines s.lines index
 
-pub record Holds (b : Book) : Type 0 where
+pub record Holds (b : ScriptLog) : Type 0 where
   pub keeps : Keeps b
   pub counts : Counts b.script (told b) b.index
   pub knows : Knows b.script b.index
 
 -- the two books differ at most in what was noted
-pub record SameScript (old new : Book) : Type 0 where
+pub record SameScript (old new : ScriptLog) : Type 0 where
   pub script : new.script ≡ old.script
   pub index : new.index ≡ old.index
 
 -- nothing is left to be waited, and the outcome is such
-abbrev pub IsDue : (ToldOutcome → Type 0) → Option Course → Type 0
+abbrev pub IsDue : (ToldOutcome → Type 0) → Option ScriptedReply → Type 0
 IsDue P None = ⊥
 IsDue P (Some c) = IsDueOf P c
 
-abbrev pub IsDueAs : ToldOutcome → Option Course → Type 0
+abbrev pub IsDueAs : ToldOutcome → Option ScriptedReply → Type 0
 IsDueAs o None = ⊥
 IsDueAs o (Some Never) = ⊥
 IsDueAs o (Some (After polls outcome)) = o ≡ outcome
 
-abbrev pub Waits : Option Course → Type 0
+abbrev pub Waits : Option ScriptedReply → Type 0
 Waits None = ⊥
 Waits (Some c) = IsWaiting c
 
 -- what a stage says of what is open
-abbrev pub IsStage : (ToldOutcome → Type 0) → Stage → Option Course → Type 0
+abbrev pub IsStage : (ToldOutcome → Type 0) → Stage → Option ScriptedReply → Type 0
 IsStage P Unknown o = Unit {0}
 IsStage P stage.Waits o = Waits o
 IsStage P Due o = IsDue P o

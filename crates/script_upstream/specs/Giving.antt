@@ -14,8 +14,8 @@ use Rattle.script_upstream.specs.Keys.{same_endpoint, same_asking}
 use Rattle.script_upstream.specs.Course.{connect_course, reply_course}
 use Rattle.script_upstream.specs.declared.courses.index.Endpoint.{Endpoint}
 use Rattle.script_upstream.specs.declared.courses.index.Asking.{Asking}
-use Rattle.script_upstream.specs.declared.courses.course.Course.{Course}
-use Rattle.script_upstream.specs.declared.courses.course.Course.TheVariants.{Never, After}
+use Rattle.script_upstream.specs.declared.courses.course.ScriptedReply.{ScriptedReply}
+use Rattle.script_upstream.specs.declared.courses.course.ScriptedReply.TheVariants.{Never, After}
 use Rattle.script_upstream.specs.declared.script.script.ScriptLine.{ScriptLine}
 use Rattle.script_upstream.specs.declared.script.script.ScriptLine.TheVariants.{Connect, Refuse, Reply}
 use Rattle.script_upstream.specs.declared.script.script.Script.{Script}
@@ -40,7 +40,7 @@ replies a (Refuse ip protocol) = false
 
 -- the four values of a question that is asked over a connection
 abbrev pub asking_of : Endpoint → Query → Asking
-asking_of p q = record { ip = p.ip; protocol = p.protocol; name = q.name; query_type = q.query_type }
+asking_of p query = record { ip = p.ip; protocol = p.protocol; name = query.name; query_type = query.query_type }
 
 -- an entry that asked a question of these four values
 abbrev pub asks : Asking → LogEntry → Bool
@@ -55,17 +55,17 @@ abbrev pub refusal : Script → Endpoint → Option NetError
 refusal s p = if list_any (refuses p) s.lines then Some (Io Refused) else None
 
 -- what a connection comes to: what the first line for it says, and without one it is connected at once
-abbrev pub connection_course : Script → Endpoint → Course
+abbrev pub connection_course : Script → Endpoint → ScriptedReply
 connection_course s p = unwrap_or (option_map connect_course (find (connects p) s.lines)) (After 0 Connected)
 
 -- what a question of these values comes to after k like it: the lines for it are used up in their order, but for the last
-abbrev pub question_course_for : Script → Asking → Query → ℕ → Course
-question_course_for s a q k =
+abbrev pub question_course_for : Script → Asking → Query → ℕ → ScriptedReply
+question_course_for s a query k =
     let lines = filter (replies a) s.lines in
-    unwrap_or (option_map (reply_course q) (slice_get lines (min k (length lines - 1)))) Never
+    unwrap_or (option_map (reply_course query) (slice_get lines (min k (length lines - 1)))) Never
 
 -- what an entry comes to that opened or asked, after these entries
-abbrev pub course_after : Script → List LogEntry → LogEntry → Option Course
+abbrev pub course_after : Script → List LogEntry → LogEntry → Option ScriptedReply
 course_after s es (Opened ip protocol moment None) = Some (connection_course s (record { ip = ip; protocol = protocol }))
 course_after s es (Opened ip protocol moment (Some e)) = None
 course_after s es (Asked ip protocol q moment refused) =
@@ -76,7 +76,7 @@ course_after s es (Told of moment outcome) = None
 course_after s es (GaveUp of moment) = None
 
 -- what the entry of a number comes to, where it opened or asked
-abbrev pub course : Script → List LogEntry → ℕ → Option Course
+abbrev pub course : Script → List LogEntry → ℕ → Option ScriptedReply
 course s es n = option_and_then (course_after s (take (n - 1) es)) (numbered es n)
 
 -- an entry by which the entry of this number waited
@@ -104,7 +104,7 @@ abbrev pub HasNoEnd : ℕ → List LogEntry → Type 0
 HasNoEnd n es = list_any (ends n) (drop n es) ≡ false
 
 -- it may wait once more
-abbrev pub MayWait : ℕ → Course → Type 0
+abbrev pub MayWait : ℕ → ScriptedReply → Type 0
 MayWait waited Never = Unit {0}
 MayWait waited (After polls outcome) = waited < polls
 

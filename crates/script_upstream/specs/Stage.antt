@@ -8,8 +8,8 @@ use Rattle.dns_core.specs.declared.message.Query.{Query}
 use Rattle.dns_core.specs.declared.log.ToldOutcome.{ToldOutcome}
 use Rattle.dns_core.specs.declared.log.ToldOutcome.TheVariants.{Connected, Message, Error}
 use Rattle.script_upstream.specs.Course.{IsWaiting}
-use Rattle.script_upstream.specs.declared.courses.course.Course.{Course}
-use Rattle.script_upstream.specs.declared.courses.course.Course.TheVariants.{Never, After}
+use Rattle.script_upstream.specs.declared.courses.course.ScriptedReply.{ScriptedReply}
+use Rattle.script_upstream.specs.declared.courses.course.ScriptedReply.TheVariants.{Never, After}
 use Rattle.script_upstream.specs.declared.courses.course.Stage.{Stage}
 use Rattle.script_upstream.specs.declared.courses.course.Stage.TheVariants.{Unknown, Waits, Due}
 
@@ -21,22 +21,22 @@ TellsConnection (Error e) = (is_memory e ≡ false) × (is_no_records e ≡ fals
 
 -- it can be told who asked this
 abbrev pub TellsQuestion : Query → ToldOutcome → Type 0
-TellsQuestion q Connected = ⊥
-TellsQuestion q (Message m) = m.query ≡ q
-TellsQuestion q (Error e) = (is_memory e ≡ false) × IfSome (negative_query e) (λ n. n ≡ q)
+TellsQuestion query Connected = ⊥
+TellsQuestion query (Message m) = m.query ≡ query
+TellsQuestion query (Error e) = (is_memory e ≡ false) × IfSome (negative_query e) (λ n. n ≡ query)
 
 -- there is an outcome, and it is such
-abbrev pub OutcomeIs : (ToldOutcome → Type 0) → Course → Type 0
+abbrev pub OutcomeIs : (ToldOutcome → Type 0) → ScriptedReply → Type 0
 OutcomeIs P Never = ⊥
 OutcomeIs P (After polls outcome) = P outcome
 
 -- nothing is left to be waited, and the outcome is such
-abbrev pub IsDueOf : (ToldOutcome → Type 0) → Course → Type 0
+abbrev pub IsDueOf : (ToldOutcome → Type 0) → ScriptedReply → Type 0
 IsDueOf P Never = ⊥
 IsDueOf P (After polls outcome) = (polls ≡ 0) × P outcome
 
 -- what a stage says of a course, where F says that the outcome can be told
-abbrev pub IsStageOf : Type 0 → Stage → Course → Type 0
+abbrev pub IsStageOf : Type 0 → Stage → ScriptedReply → Type 0
 IsStageOf F Unknown c = Unit {0}
 IsStageOf F Waits c = IsWaiting c
 IsStageOf F Due c = IsDueOf (λ o. F) c

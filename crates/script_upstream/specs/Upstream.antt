@@ -27,9 +27,9 @@ abbrev pub peer_of : Endpoint → Peer
 peer_of e = record { ip = e.ip; protocol = e.protocol }
 
 -- the upstream noted an entry, and nothing else changed
-pub record Notes (old new : Upstream) (e : LogEntry) : Type 0 where
+pub record Notes (old new : Upstream) (entry : LogEntry) : Type 0 where
   pub script : new.script ≡ old.script
-  pub log : told_by new ≡ told_by old ++ e ∷ []
+  pub log : told_by new ≡ told_by old ++ entry ∷ []
   pub faults : new.faults ≡ old.faults
   pub pendings : new.pendings ≡ old.pendings
 

@@ -13,11 +13,11 @@ mod script;
 mod threads;
 mod upstream;
 
-pub use books::book::Book;
-pub use courses::course::{Course, Stage};
+pub use books::book::ScriptLog;
+pub use courses::course::{ScriptedReply, Stage};
 pub use courses::index::{Asking, Endpoint, Index, Route, Turns};
 pub use laws::fronts_are_given;
 pub use provider::{ScriptExchange, ScriptOpening};
-pub use script::late::{Late, Room, push_or_back};
+pub use script::late::{UnrecordedEntries, Room, push_or_back};
 pub use script::script::{Script, ScriptLine};
 pub use upstream::ScriptUpstream;

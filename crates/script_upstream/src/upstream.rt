@@ -5,7 +5,7 @@ ghost use Rattle.dns_core.specs.declared.net_error.NetError.TheVariants.{Io};
 ghost use Rattle.dns_core.specs.declared.net_error.IoKind.TheVariants.{Refused};
 ghost use Rattle.dns_core.specs.declared.log.LogEntry.TheVariants.{Opened, Asked, GaveUp};
 
-use crate::books::book::Book;
+use crate::books::book::ScriptLog;
 use crate::courses::course::Stage;
 use crate::courses::index::Endpoint;
 use crate::script::late::Room;
@@ -18,7 +18,7 @@ use std::marker::Model;
 /// that wait for memory, and how many calls failed and how many polls found nothing yet.
 pub struct ScriptUpstream {
     pub(crate) alloc: Global,
-    pub(crate) book: Book,
+    pub(crate) book: ScriptLog,
     pub(crate) faults: u64,
     pub(crate) pendings: u64,
 }
@@ -56,7 +56,7 @@ impl ScriptUpstream {
         requires { IsTrue (is_qualified_script script) }
         ensures { IfOk result (λ u. u ≡ record { script = script; noted = []; late = []; faults = 0; pendings = 0 }) }
     {
-        let book = Book::new(alloc, script)?;
+        let book = ScriptLog::new(alloc, script)?;
         Ok(ScriptUpstream {
             alloc,
             book,

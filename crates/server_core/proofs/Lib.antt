@@ -1,10 +1,10 @@
-pub mod Changing
-pub mod Places
-pub mod Lending
+pub mod TableChanged
+pub mod ServerPlaces
+pub mod ServerIsLent
 mod Factors
-pub mod Stages
-pub mod Steps
-pub mod Putting
-pub mod Coming
-pub mod Configured
+pub mod SendStages
+pub mod SendSteps
+pub mod OutcomeInTable
+pub mod SendComesTo
+pub mod ConfigurationStays
 pub mod FirstLeast

@@ -20,7 +20,7 @@ pub use delay_laws::{
 pub use delays::DecayingSrtt;
 pub use heard::{Heard, heard_error, heard_of};
 pub use name_server::{Connection, NameServer, is_udp};
-pub use orders::order::{After, Order, Outcome, Sent, Tick};
+pub use orders::order::{After, Order, Outcome, SentBy, Tick};
 pub use orders::same_orders::same_address;
 pub use protocols::Protocols;
 pub use sends::choice_laws::{a_connection_is_chosen_alone, a_way_is_chosen_alone};

@@ -12,23 +12,23 @@ use Rattle.dns_core.specs.declared.net_error.DnsError.TheVariants as dns
 use Rattle.resolution.specs.Names.{same_query}
 use Rattle.resolution.specs.Class.{class_of_classified}
 use Rattle.resolution.specs.Ending.{by_address}
-use Rattle.resolution.specs.Lookups.{Answered, class_of_answer, End, Rules, is_turn, is_retryable, is_busy, answer_of, least_bad, class_of_end, turns, the_turn, has_turned, but_turn, retries, none_is_final, is_at, all_were_tried, turn_was_repeated, busy_were_retried, what_is_left, IsDecided, IsSpent, IsLate, PoolRun}
+use Rattle.resolution.specs.Lookups.{Answered, class_of_answer, End, Rules, is_tcp_fallback, is_retryable, is_busy, answer_of, least_bad, class_of_end, falls_back, the_fallback, has_fallen_back, but_fallback, retries, none_is_final, is_at, all_were_tried, turn_was_repeated, busy_were_retried, what_is_left, IsDecided, IsSpent, IsLate, PoolRun}
 use Rattle.resolution.specs.Lookups.PoolRun.{decided, spent, late}
 use Rattle.resolution.specs.declared.class.Class.{Class}
 use Rattle.resolution.specs.declared.class.Class.TheVariants.{Truncated}
-use Rattle.resolution.proofs.Members.{Has, Has-from_Contains, Contains-from_Has}
-use Rattle.resolution.proofs.Addresses.{same_ip-true, same_ip-itself}
+use Rattle.resolution.proofs.ElementsFiltered.{Has, Has-from_Contains, Contains-from_Has}
+use Rattle.resolution.proofs.AddressesAreEqual.{same_ip-true, same_ip-itself}
 use Rattle.resolution.proofs.Classified.{class_of_message-itself}
 use Rattle.resolution.proofs.Caseless.{class_of_message-same, classified-same}
 use Rattle.server_core.specs.Sending.{result_of}
-use Rattle.pool_rules.specs.Agenda.{rules_of, class_of_sent, end_at}
-use Rattle.pool_rules.specs.declared.candidate.Candidate.{Candidate}
+use Rattle.pool_rules.specs.RetryQueue.{rules_of, class_of_sent, end_at}
+use Rattle.pool_rules.specs.declared.pool_server.PoolServer.{PoolServer}
 use Rattle.server_pool.specs.ByAddress.{Beside, IsSameEnd, SameEnds, at_address}
-use Rattle.server_pool.proofs.Beside.{BesideOption, beside_parted, beside_length, beside_map, beside_last, beside_any, beside_all, beside_filter, beside_find, beside_after, beside_but, beside_image, beside_and}
-use Rattle.server_pool.proofs.Narrowed.{or_follows, last_passing, IsNarrower, length_narrowed, last_narrowed, any_follows, all_follow}
-use Rattle.pool_rules.proofs.Standing.{or_right}
-use Rattle.pool_rules.proofs.Plans.{same_self, same_is}
-use Rattle.server_pool.proofs.Beside.BesideOption.{neither, both}
+use Rattle.server_pool.proofs.ListsRelated.{BesideOption, beside_parted, beside_length, beside_map, beside_last, beside_any, beside_all, beside_filter, beside_find, beside_after, beside_but, beside_image, beside_and}
+use Rattle.server_pool.proofs.NarrowerTest.{or_follows, last_passing, IsNarrower, length_narrowed, last_narrowed, any_follows, all_follow}
+use Rattle.pool_rules.proofs.QueueStandsOn.{or_right}
+use Rattle.pool_rules.proofs.QueueAfterEnd.{same_self, same_is}
+use Rattle.server_pool.proofs.ListsRelated.BesideOption.{neither, both}
 
 -- ---- what holds of all
 
@@ -71,8 +71,8 @@ module _ {S T : Type 0} (rules : Rules S) (rules' : Rules T) (class class' : Ans
   Both e e' = IsSameEnd f class class' e e' × P e.server
 
   -- the tests agree
-  same_turns : (e : End S) (e' : End T) → Both e e' → turns rules class e ≡ turns rules' class' e'
-  same_turns e e' b = ap is_turn b.0.outcome
+  same_turns : (e : End S) (e' : End T) → Both e e' → falls_back rules class e ≡ falls_back rules' class' e'
+  same_turns e e' b = ap is_tcp_fallback b.0.outcome
 
   same_retries : (e : End S) (e' : End T) → Both e e' → retries rules class e ≡ retries rules' class' e'
   same_retries e e' b =
@@ -88,17 +88,17 @@ module _ {S T : Type 0} (rules : Rules S) (rules' : Rules T) (class class' : Ans
 
   -- the ends of a server but the turn
   abbrev own : S → List (End S) → List (End S)
-  own s ends = filter (is_at rules class s) (but_turn rules class ends)
+  own s ends = filter (is_at rules class s) (but_fallback rules class ends)
 
   abbrev own' : T → List (End T) → List (End T)
-  own' t ends = filter (is_at rules' class' t) (but_turn rules' class' ends)
+  own' t ends = filter (is_at rules' class' t) (but_fallback rules' class' ends)
 
   -- the policy allows the server no more
   abbrev refuses : List (End S) → S → Bool
-  refuses ends s = has_turned rules class ends && not (rules.beyond_udp s)
+  refuses ends s = has_fallen_back rules class ends && not (rules.beyond_udp s)
 
   abbrev refuses' : List (End T) → T → Bool
-  refuses' ends t = has_turned rules' class' ends && not (rules'.beyond_udp t)
+  refuses' ends t = has_fallen_back rules' class' ends && not (rules'.beyond_udp t)
 
   -- the server of the turn was asked again
   abbrev repeated_of : List (End S) → Option (End S) → Bool
@@ -119,17 +119,17 @@ module _ {S T : Type 0} (rules : Rules S) (rules' : Rules T) (class class' : Ans
   class_left after but c = elim c [ Truncated ↦ least_bad true after | _ ↦ least_bad false but ]
 
   module _ {ends : List (End S)} {ends' : List (End T)} (beside : Beside Both ends ends') where
-    same_turned : has_turned rules class ends ≡ has_turned rules' class' ends'
-    same_turned = beside_any Both (turns rules class) (turns rules' class') same_turns beside
+    same_turned : has_fallen_back rules class ends ≡ has_fallen_back rules' class' ends'
+    same_turned = beside_any Both (falls_back rules class) (falls_back rules' class') same_turns beside
 
-    but_beside : Beside Both (but_turn rules class ends) (but_turn rules' class' ends')
-    but_beside = beside_but Both (turns rules class) (turns rules' class') same_turns beside
+    but_beside : Beside Both (but_fallback rules class ends) (but_fallback rules' class' ends')
+    but_beside = beside_but Both (falls_back rules class) (falls_back rules' class') same_turns beside
 
-    after_beside : Beside Both (after_first (turns rules class) ends) (after_first (turns rules' class') ends')
-    after_beside = beside_after Both (turns rules class) (turns rules' class') same_turns beside
+    after_beside : Beside Both (after_first (falls_back rules class) ends) (after_first (falls_back rules' class') ends')
+    after_beside = beside_after Both (falls_back rules class) (falls_back rules' class') same_turns beside
 
-    turn_beside : BesideOption Both (the_turn rules class ends) (the_turn rules' class' ends')
-    turn_beside = beside_find Both (turns rules class) (turns rules' class') same_turns beside
+    turn_beside : BesideOption Both (the_fallback rules class ends) (the_fallback rules' class' ends')
+    turn_beside = beside_find Both (falls_back rules class) (falls_back rules' class') same_turns beside
 
     same_final : none_is_final rules class ends ≡ none_is_final rules' class' ends'
     same_final = beside_all Both (retries rules class) (retries rules' class') same_retries but_beside
@@ -137,7 +137,7 @@ module _ {S T : Type 0} (rules : Rules S) (rules' : Rules T) (class class' : Ans
     same_refused : (s : S) (t : T) → Image s t → refuses ends s ≡ refuses' ends' t
     same_refused s t i =
         ap (λ (b : Bool). b && not (rules.beyond_udp s)) same_turned
-        ∙ ap (λ (b : Bool). has_turned rules' class' ends' && not b) (same_beyond s t i)
+        ∙ ap (λ (b : Bool). has_fallen_back rules' class' ends' && not b) (same_beyond s t i)
 
     classes_beside : {es : List (End S)} {es' : List (End T)} → Beside Both es es' → map (class_of_end rules class) es ≡ map (class_of_end rules' class') es'
     classes_beside b = beside_map Both (class_of_end rules class) (class_of_end rules' class') (λ e e' h. h.0.outcome) b
@@ -145,21 +145,21 @@ module _ {S T : Type 0} (rules : Rules S) (rules' : Rules T) (class class' : Ans
     abbrev left_of : Option (End S) → NetError
     left_of o = elim o [
       | None ↦ least_bad false (map (class_of_end rules class) ends)
-      | Some e ↦ class_left (map (class_of_end rules class) (after_first (turns rules class) ends)) (map (class_of_end rules class) (but_turn rules class ends)) (class_of_end rules class e)
+      | Some e ↦ class_left (map (class_of_end rules class) (after_first (falls_back rules class) ends)) (map (class_of_end rules class) (but_fallback rules class ends)) (class_of_end rules class e)
     ]
 
     abbrev left_of' : Option (End T) → NetError
     left_of' o = elim o [
       | None ↦ least_bad false (map (class_of_end rules' class') ends')
-      | Some e ↦ class_left (map (class_of_end rules' class') (after_first (turns rules' class') ends')) (map (class_of_end rules' class') (but_turn rules' class' ends')) (class_of_end rules' class' e)
+      | Some e ↦ class_left (map (class_of_end rules' class') (after_first (falls_back rules' class') ends')) (map (class_of_end rules' class') (but_fallback rules' class' ends')) (class_of_end rules' class' e)
     ]
 
     left_beside : {o : Option (End S)} {o' : Option (End T)} → BesideOption Both o o' → left_of o ≡ left_of' o'
     left_beside neither = ap (least_bad false) (classes_beside beside)
     left_beside (both {x = e} {y = e'} b) =
-        ap (λ (cs : List Class). class_left cs (map (class_of_end rules class) (but_turn rules class ends)) (class_of_end rules class e)) (classes_beside after_beside)
-        ∙ ap (λ (cs : List Class). class_left (map (class_of_end rules' class') (after_first (turns rules' class') ends')) cs (class_of_end rules class e)) (classes_beside but_beside)
-        ∙ ap (class_left (map (class_of_end rules' class') (after_first (turns rules' class') ends')) (map (class_of_end rules' class') (but_turn rules' class' ends'))) b.0.outcome
+        ap (λ (cs : List Class). class_left cs (map (class_of_end rules class) (but_fallback rules class ends)) (class_of_end rules class e)) (classes_beside after_beside)
+        ∙ ap (λ (cs : List Class). class_left (map (class_of_end rules' class') (after_first (falls_back rules' class') ends')) cs (class_of_end rules class e)) (classes_beside but_beside)
+        ∙ ap (class_left (map (class_of_end rules' class') (after_first (falls_back rules' class') ends')) (map (class_of_end rules' class') (but_fallback rules' class' ends'))) b.0.outcome
 
     same_left : what_is_left rules class ends ≡ what_is_left rules' class' ends'
     same_left = left_beside turn_beside
@@ -175,9 +175,9 @@ module _ {S T : Type 0} (rules : Rules S) (rules' : Rules T) (class class' : Ans
         whole = parted.whole;
         before = sym (same_final parted.before) ∙ d.before;
         final =
-            sym (ap (λ (b : Bool). not b && (not (turns rules class d.last) || has_turned rules class d.earlier)) (same_retries d.last parted.last parted.at_last)
-            ∙ ap (λ (b : Bool). not (retries rules' class' parted.last) && (not b || has_turned rules class d.earlier)) (same_turns d.last parted.last parted.at_last)
-            ∙ ap (λ (b : Bool). not (retries rules' class' parted.last) && (not (turns rules' class' parted.last) || b)) (same_turned parted.before))
+            sym (ap (λ (b : Bool). not b && (not (falls_back rules class d.last) || has_fallen_back rules class d.earlier)) (same_retries d.last parted.last parted.at_last)
+            ∙ ap (λ (b : Bool). not (retries rules' class' parted.last) && (not b || has_fallen_back rules class d.earlier)) (same_turns d.last parted.last parted.at_last)
+            ∙ ap (λ (b : Bool). not (retries rules' class' parted.last) && (not (falls_back rules' class' parted.last) || b)) (same_turned parted.before))
             ∙ d.final;
         answers = d.answers ∙ ap answer_of parted.at_last.0.outcome;
       }
@@ -211,19 +211,19 @@ module _ {S T : Type 0} (rules : Rules S) (rules' : Rules T) (class class' : Ans
 
     module _ {ends : List (End S)} {ends' : List (End T)} (beside : Beside Both ends ends') where
       was_tried : (s : S) (t : T) → Image s t
-          → (refuses ends s || list_any (is_at rules class s) (but_turn rules class ends)) ≡ (refuses' ends' t || list_any (is_at rules' class' t) (but_turn rules' class' ends'))
+          → (refuses ends s || list_any (is_at rules class s) (but_fallback rules class ends)) ≡ (refuses' ends' t || list_any (is_at rules' class' t) (but_fallback rules' class' ends'))
       was_tried s t i =
-          ap (λ (b : Bool). b || list_any (is_at rules class s) (but_turn rules class ends)) (same_refused beside s t i)
+          ap (λ (b : Bool). b || list_any (is_at rules class s) (but_fallback rules class ends)) (same_refused beside s t i)
           ∙ ap (λ (b : Bool). refuses' ends' t || b) (beside_any Both (is_at rules class s) (is_at rules' class' t) (same_at s t i) (but_beside beside))
 
       same_tried : {pool : List S} {pool' : List T} → Beside Image pool pool' → all_were_tried rules class pool ends ≡ all_were_tried rules' class' pool' ends'
       same_tried p =
-          beside_all Image (λ s. refuses ends s || list_any (is_at rules class s) (but_turn rules class ends)) (λ t. refuses' ends' t || list_any (is_at rules' class' t) (but_turn rules' class' ends')) was_tried p
+          beside_all Image (λ s. refuses ends s || list_any (is_at rules class s) (but_fallback rules class ends)) (λ t. refuses' ends' t || list_any (is_at rules' class' t) (but_fallback rules' class' ends')) was_tried p
 
-      repeated_beside : {o : Option (End S)} {o' : Option (End T)} → BesideOption Both o o' → repeated_of (after_first (turns rules class) ends) o ≡ repeated_of' (after_first (turns rules' class') ends') o'
+      repeated_beside : {o : Option (End S)} {o' : Option (End T)} → BesideOption Both o o' → repeated_of (after_first (falls_back rules class) ends) o ≡ repeated_of' (after_first (falls_back rules' class') ends') o'
       repeated_beside neither = refl
       repeated_beside (both {x = e} {y = e'} b) =
-          ap (λ (t : Bool). not t || list_any (is_at rules class e.server) (after_first (turns rules class) ends)) (same_beyond e.server e'.server (image_of e e' b))
+          ap (λ (t : Bool). not t || list_any (is_at rules class e.server) (after_first (falls_back rules class) ends)) (same_beyond e.server e'.server (image_of e e' b))
           ∙ ap (λ (t : Bool). not (rules'.beyond_udp e'.server) || t)
           (beside_any Both (is_at rules class e.server) (is_at rules' class' e'.server) (same_at e.server e'.server (image_of e e' b)) (after_beside beside))
 
@@ -285,10 +285,10 @@ module _ {S T : Type 0} (rules : Rules S) (rules' : Rules T) (class class' : Ans
 
     module _ {ends : List (End S)} {ends' : List (End T)} (beside : Beside Both ends ends') where
       abbrev rest : List (End S)
-      rest = but_turn rules class ends
+      rest = but_fallback rules class ends
 
       abbrev rest' : List (End T)
-      rest' = but_turn rules' class' ends'
+      rest' = but_fallback rules' class' ends'
 
       abbrev tries : S → Bool
       tries s = refuses ends s || list_any (is_at rules class s) rest
@@ -305,12 +305,12 @@ module _ {S T : Type 0} (rules : Rules S) (rules' : Rules T) (class class' : Ans
       images_tried p h = all_follow Image tries' (λ s t i. image_tried s t i (all_at tries pool h s (Has-from_Contains pool s (listed s i.1)))) p
 
       image_repeated : {o : Option (End S)} {o' : Option (End T)} → BesideOption Both o o'
-          → repeated_of (after_first (turns rules class) ends) o ≡ true → repeated_of' (after_first (turns rules' class') ends') o' ≡ true
+          → repeated_of (after_first (falls_back rules class) ends) o ≡ true → repeated_of' (after_first (falls_back rules' class') ends') o' ≡ true
       image_repeated neither h = refl
       image_repeated (both {x = e} {y = e'} b) h =
           let i = image_of e e' b in
-          or_follows (not (rules.beyond_udp e.server)) (list_any (is_at rules class e.server) (after_first (turns rules class) ends))
-          (not (rules'.beyond_udp e'.server)) (list_any (is_at rules' class' e'.server) (after_first (turns rules' class') ends')) (ap not (same_beyond e.server e'.server i))
+          or_follows (not (rules.beyond_udp e.server)) (list_any (is_at rules class e.server) (after_first (falls_back rules class) ends))
+          (not (rules'.beyond_udp e'.server)) (list_any (is_at rules' class' e'.server) (after_first (falls_back rules' class') ends')) (ap not (same_beyond e.server e'.server i))
           (any_follows Both (is_at rules' class' e'.server) (is_at rules class e.server) (at_image e.server e'.server i) (after_beside beside)) h
 
       -- the ends at servers with an image
@@ -376,20 +376,20 @@ module _ {S T : Type 0} (rules : Rules S) (rules' : Rules T) (class class' : Ans
 -- ---- candidates and their addresses
 
 -- reached over another protocol than UDP too, with negatives that are trusted
-pub record IsTrustedBeyondUdp (c : Candidate) : Type 0 where
+pub record IsTrustedBeyondUdp (c : PoolServer) : Type 0 where
   pub beyond_udp : c.beyond_udp ≡ true
   pub trusted : c.trusted ≡ true
 
-module _ (timeout : ℕ) (ip_of : ℕ → IpAddr) (pool : List Candidate) where
+module _ (timeout : ℕ) (ip_of : ℕ → IpAddr) (pool : List PoolServer) where
   -- a candidate of the pool
-  abbrev Known : Candidate → Type 0
+  abbrev Known : PoolServer → Type 0
   Known c = IsTrustedBeyondUdp c × Contains pool c
 
-  known : AllByRecursion IsTrustedBeyondUdp pool → (c : Candidate) → Contains pool c → Known c
+  known : AllByRecursion IsTrustedBeyondUdp pool → (c : PoolServer) → Contains pool c → Known c
   known plain c h = (each_of IsTrustedBeyondUdp pool plain c (Has-from_Contains pool c h), h)
 
   -- A run over a pool of such candidates is one over their addresses; several may have one address.
-  pub run_by_address : (class class' : Answered → Class) {ends : List (End Candidate)} {ends' : List (End IpAddr)} {result : Answered} {start now : ℕ}
+  pub run_by_address : (class class' : Answered → Class) {ends : List (End PoolServer)} {ends' : List (End IpAddr)} {result : Answered} {start now : ℕ}
       → AllByRecursion IsTrustedBeyondUdp pool → AllByRecursion (λ e. Contains pool e.server) ends → SameEnds (at_address ip_of) class class' ends ends'
       → PoolRun (rules_of timeout) class pool ends result start now → PoolRun (by_address timeout) class' (map (at_address ip_of) pool) ends' result start now
   run_by_address class class' plain at beside run =
@@ -426,19 +426,19 @@ pub failed_class : (q : Query) (e : NetError) → class_of_sent q (Err e) ≡ cl
 failed_class q e = refl
 
 -- the end of a send, by a message or by an error, and the one at its server's address
-pub told_end : (ip_of : ℕ → IpAddr) (q : Query) (c : Candidate) (m : Message) → m.query ≡ q
+pub told_end : (ip_of : ℕ → IpAddr) (q : Query) (c : PoolServer) (m : Message) → m.query ≡ q
     → IsSameEnd (at_address ip_of) (class_of_sent q) (class_of_answer q) (end_at c (result_of (classify_of m))) (record { server = ip_of c.server; outcome = Ok m })
 told_end ip_of q c m itself = record { server = refl; outcome = told_class_itself q m itself }
 
-pub failed_end : (ip_of : ℕ → IpAddr) (q : Query) (c : Candidate) (e : NetError)
+pub failed_end : (ip_of : ℕ → IpAddr) (q : Query) (c : PoolServer) (e : NetError)
     → IsSameEnd (at_address ip_of) (class_of_sent q) (class_of_answer q) (end_at c (Err e)) (record { server = ip_of c.server; outcome = Err e })
 failed_end ip_of q c e = record { server = refl; outcome = failed_class q e }
 
 -- the address of a candidate of the pool is one of those of the pool
-pub address_from_pool : (ip_of : ℕ → IpAddr) (pool : List Candidate) (c : Candidate) → Contains pool c → Contains (map (at_address ip_of) pool) (ip_of c.server)
+pub address_from_pool : (ip_of : ℕ → IpAddr) (pool : List PoolServer) (c : PoolServer) → Contains pool c → Contains (map (at_address ip_of) pool) (ip_of c.server)
 address_from_pool ip_of pool c h = Contains-from_Has _ _ (has_image_of pool (Has-from_Contains pool c h))
   where
-    has_image_of : (cs : List Candidate) → Has cs c → Has (map (at_address ip_of) cs) (ip_of c.server)
+    has_image_of : (cs : List PoolServer) → Has cs c → Has (map (at_address ip_of) cs) (ip_of c.server)
     has_image_of [] k = elim k [ ]
     has_image_of (x ∷ xs) (inl e) = inl (ap (at_address ip_of) e)
     has_image_of (x ∷ xs) (inr k) = inr (has_image_of xs k)

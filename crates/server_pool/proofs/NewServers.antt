@@ -9,7 +9,7 @@ use Rattle.std.specs.Vec.Iter.{into_iter_items, into_iter_steps}
 use Rattle.std.specs.declared.vec.IntoIter.{IntoIter}
 use Rattle.resolver_settings.specs.NameServer.{NameServer}
 use Rattle.resolver_settings.specs.declared.options.ServerOrderingStrategy.{ServerOrderingStrategy}
-use Rattle.server_core.proofs.Places.{place-within}
+use Rattle.server_core.proofs.ServerPlaces.{place-within}
 use Rattle.server_core.specs.NewServer.{new_server}
 use Rattle.server_core.specs.Servers.{Server, place_of}
 use Rattle.server_pool.specs.NewPool.{delay_at, new_servers, with_servers, HasSomeOf}

@@ -3,7 +3,7 @@ use Rattle.std.specs.Prelude.{◌≡◌, ℕ, List, [], ◌∷◌}
 use Rattle.std.specs.declared.net.ip_addr.IpAddr.{IpAddr}
 use Rattle.resolution.specs.Lookups.{Answered, End}
 use Rattle.resolution.specs.declared.class.Class.{Class}
-use Rattle.pool_rules.specs.declared.candidate.Candidate.{Candidate}
+use Rattle.pool_rules.specs.declared.pool_server.PoolServer.{PoolServer}
 
 module _ {X Y : Type 0} (R : X → Y → Type 0) where
   -- Each element of the one list is related to the one beside it in the other, and none is over.
@@ -22,5 +22,5 @@ module _ {S T : Type 0} (f : S → T) (class class' : Answered → Class) where
   SameEnds ends ends' = Beside IsSameEnd ends ends'
 
 -- the address of a candidate
-abbrev pub at_address : (ℕ → IpAddr) → Candidate → IpAddr
+abbrev pub at_address : (ℕ → IpAddr) → PoolServer → IpAddr
 at_address ip_of c = ip_of c.server

@@ -35,13 +35,13 @@ pub record IsHaltedAt (n now : ℕ) (l : OpenLookup) (old : List (ℕ × OpenLoo
 
 -- what the outcome of the order of the number leaves of its lookup, and of the servers
 abbrev pub put_lookup : (IpAddr → Bool) → Tick → ℕ → Outcome → Result After NoMemory → LookupState → LookupState
-put_lookup denied tick number o (Ok after) l = after_outcome denied tick number o l
-put_lookup denied tick number o (Err error) l = after_out_of_memory number tick.now o l
+put_lookup denied tick number outcome (Ok after) l = after_outcome denied tick number outcome l
+put_lookup denied tick number outcome (Err error) l = after_out_of_memory number tick.now outcome l
 
 abbrev pub put_table : Tick → ℕ → Outcome → Result After NoMemory → LookupState → List Server → List Server
-put_table tick number o (Ok after) l table = table_heard tick number o l table
-put_table tick number o (Err error) l table = table
+put_table tick number outcome (Ok after) l table = table_heard tick number outcome l table
+put_table tick number outcome (Err error) l table = table
 
 -- the lookups where the one of the number took the outcome of an order
 abbrev pub with_put : Context → Tick → ℕ → Outcome → Result After NoMemory → ℕ → OpenLookup → List (ℕ × OpenLookup) → List (ℕ × OpenLookup)
-with_put cx tick number o result n l lookups = with_at n (moved_to (put_lookup (denied_by cx.answer_address_filter) tick number o result l.lookup)) lookups
+with_put cx tick number outcome result n l lookups = with_at n (moved_to (put_lookup (denied_by cx.answer_address_filter) tick number outcome result l.lookup)) lookups

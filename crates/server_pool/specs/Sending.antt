@@ -8,10 +8,10 @@ use Rattle.dns_core.specs.declared.request.DnsRequestOptions.{DnsRequestOptions}
 use Rattle.resolver_settings.specs.declared.options.ResolverOpts.{ResolverOpts}
 use Rattle.server_core.specs.Context.{Context}
 use Rattle.server_core.specs.Servers.{Server}
-use Rattle.pool_rules.specs.Ordering.{IsOrdered, next_turn, side_by_side}
+use Rattle.pool_rules.specs.Ordering.{IsOrdered, next_turn, concurrency_of}
 use Rattle.pool_lookup.specs.Lookup.{LookupState}
 use Rattle.pool_lookup.specs.Rounds.{begun}
-use Rattle.server_pool.specs.UsableServers.{candidates}
+use Rattle.server_pool.specs.UsableServers.{usable_servers}
 use Rattle.server_pool.specs.OpenLookups.{with_at, joined, is_for, open_for}
 use Rattle.server_pool.specs.declared.open_lookups.open_lookup.OpenLookup.{OpenLookup}
 use Rattle.server_pool.specs.Shared.{Shared, lookup_at, turn_at}
@@ -24,7 +24,7 @@ request_by context query options = record { query = query; options = record opti
 pub record Begins (options : ResolverOpts) (table : List Server) (servers : List ℕ) (turn : ℕ) (request : DnsRequest) (now : ℕ) (l : LookupState) : Type 0 where
   pub ordered : List ℕ
   pub in_order : IsOrdered options table now turn servers ordered
-  pub is : l ≡ begun request (candidates table ordered) (side_by_side options) options.timeout now
+  pub is : l ≡ begun request (usable_servers table ordered) (concurrency_of options) options.timeout now
 
 -- It has the next number, one waits for it, and then it is the turn of the next one.
 pub record HasBegun (pool : ℕ) (servers : List ℕ) (request : DnsRequest) (now : ℕ) (old new : Shared) (number : ℕ) : Type 0 where

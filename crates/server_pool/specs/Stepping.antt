@@ -55,12 +55,12 @@ pub record HasHalted (n now : ℕ) (l : OpenLookup) (old new : Shared) : Type 0 
 
 -- only the lookup of the order has changed, and what the servers record
 abbrev pub after_put : ℕ → ℕ → OpenLookup → Outcome → Tick → Result After NoMemory → Shared → Shared
-after_put number n l o tick result old =
-    let next = put_lookup (denied_in old) tick number o result l.lookup in
-    record old { table = put_table tick number o result l.lookup old.table; lookups = with_at n (moved_to next) old.lookups; orders = orders_left number next old.orders }
+after_put number n l outcome tick result old =
+    let next = put_lookup (denied_in old) tick number outcome result l.lookup in
+    record old { table = put_table tick number outcome result l.lookup old.table; lookups = with_at n (moved_to next) old.lookups; orders = orders_left number next old.orders }
 
 -- The lookup of the number n took the outcome of its order. Only for a message memory can be wanting.
-pub record HasPut (number n : ℕ) (l : OpenLookup) (o : Outcome) (tick : Tick) (old : Shared) (result : Result After NoMemory) (new : Shared) : Type 0 where
-  pub did : MatchResult result (λ after. after ≡ done_by tick.patience number o l.lookup) (λ error. RunsOut number o l.lookup)
-  pub is : new ≡ after_put number n l o tick result old
-  pub forgets : has_order number (put_lookup (denied_in old) tick number o result l.lookup) ≡ false → lookup_of new number ≡ None
+pub record HasPut (number n : ℕ) (l : OpenLookup) (outcome : Outcome) (tick : Tick) (old : Shared) (result : Result After NoMemory) (new : Shared) : Type 0 where
+  pub did : MatchResult result (λ after. after ≡ done_by tick.patience number outcome l.lookup) (λ error. RunsOut number outcome l.lookup)
+  pub is : new ≡ after_put number n l outcome tick result old
+  pub forgets : has_order number (put_lookup (denied_in old) tick number outcome result l.lookup) ≡ false → lookup_of new number ≡ None

@@ -24,12 +24,12 @@ RunsBy denied after now n l old new = (heard : List HeardEnd) → StandsBy denie
 
 -- the ends that were heard once the outcome of an order was, also where memory was wanting for it
 abbrev pub ends_after : Tick → ℕ → Outcome → OpenLookup → Result After NoMemory → List HeardEnd → List HeardEnd
-ends_after tick number o l (Ok did) heard = heard_after tick.patience number o heard l.lookup
-ends_after tick number o l (Err error) heard = heard_out number o heard l.lookup
+ends_after tick number outcome l (Ok did) heard = heard_after tick.patience number outcome heard l.lookup
+ends_after tick number outcome l (Err error) heard = heard_out number outcome heard l.lookup
 
 -- so it is with the outcome of an order
 abbrev pub RunsByOutcome : ℕ → ℕ → OpenLookup → Outcome → Tick → Shared → Result After NoMemory → Shared → Type 0
-RunsByOutcome number n l o tick old result new = RunsBy (denied_in old) (ends_after tick number o l result) tick.now n l old new
+RunsByOutcome number n l outcome tick old result new = RunsBy (denied_in old) (ends_after tick number outcome l result) tick.now n l old new
 
 -- Whatever ends it stood by, the order that it gave is open at it, and goes to a server of its pool.
 abbrev pub GoesToServer : ℕ → ℕ → OpenLookup → Order → Shared → Shared → Type 0

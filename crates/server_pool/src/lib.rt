@@ -19,11 +19,11 @@ pub use open_lookups::open_lookup::{
     OpenLookup, is_last, is_open_in, join_at, leave_at, open_for, put_at, step_at, take_lookup,
 };
 pub use open_lookups::orders::{drop_closed, keep_order, take_out};
-pub use open_lookups::reached::candidates;
+pub use open_lookups::reached::usable_servers;
 pub use pool::NameServerPool;
 pub use pool_laws::a_pool_expires_after_its_ttl;
 pub use pool_rules::{
-    Candidate, a_deadline_ends_a_lookup, a_lookup_makes_few_sends, filtered, most_specific,
+    PoolServer, a_deadline_ends_a_lookup, a_lookup_makes_few_sends, filtered, most_specific,
     ordered, sort_servers_by_query_statistics, the_earlier_negative_is_kept,
     the_kept_error_is_what_is_left,
 };

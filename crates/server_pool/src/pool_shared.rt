@@ -18,10 +18,10 @@ use crate::open_lookups::open_lookup::{
     OpenLookup, is_last, is_open_in, join_at, leave_at, open_for, put_at, step_at, take_lookup,
 };
 use crate::open_lookups::orders::{drop_closed, keep_order, take_out};
-use crate::open_lookups::reached::candidates;
+use crate::open_lookups::reached::usable_servers;
 use dns_core::{Boxed, DnsRequest, Message, NetError, NoMemory, Numbers, TryClone};
 use pool_lookup::{Lookup, LookupStep};
-use pool_rules::{ordered, side_by_side};
+use pool_rules::{ordered, concurrency_of};
 use server_core::{After, NameServer, Order, Outcome, PoolContext, ServerTable, Tick};
 use std::alloc::Global;
 use std::collections::BTreeMap;
@@ -213,12 +213,12 @@ impl PoolShared {
         let options = self.context.options();
         let mut servers = Vec::from_slice(alloc, servers)?;
         ordered(alloc, &mut servers, turn, &self.table, options, tick.now)?;
-        let found = candidates(alloc, &self.table, servers)?;
+        let found = usable_servers(alloc, &self.table, servers)?;
         if found.len() > u32::MAX as usize {
             return Err(NoMemory);
         }
-        let together = side_by_side(options);
-        Lookup::begin(alloc, request, found, together, options.timeout, tick.now)
+        let concurrency = concurrency_of(options);
+        Lookup::begin(alloc, request, found, concurrency, options.timeout, tick.now)
     }
 
     /// Begins a lookup of a request at the servers of the pool of a number. Where memory is wanting,

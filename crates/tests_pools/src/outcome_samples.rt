@@ -1,7 +1,7 @@
 //! Outcomes of orders, and the moments at which they come.
 
 use dns_core::{IoKind, Message, NameError, NetError, Records, ResponseCode};
-use server_core::{Outcome, Sent, Tick};
+use server_core::{Outcome, SentBy, Tick};
 use std::alloc::Global;
 use tests_samples::{ip, message, query, response};
 
@@ -29,8 +29,8 @@ pub fn tick(now: u64) -> Tick {
     Tick { now, patience: 3 }
 }
 
-fn sent() -> Sent {
-    Sent {
+fn sent() -> SentBy {
+    SentBy {
         of: 1,
         ip: ip(1),
         moment: 0,

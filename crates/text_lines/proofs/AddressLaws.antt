@@ -19,7 +19,7 @@ use Rattle.text_lines.specs.Addresses.{IsIpv6Word, ipv6_of, either_family, ip_of
 use Rattle.text_lines.specs.Numbers.{ipv4_of}
 use Rattle.text_lines.specs.Spelling.{IsAddress}
 use Rattle.text_lines.specs.Texts.{ip_text}
-use Rattle.text_lines.proofs.Binds.{bind_some, guard_some, some_is}
+use Rattle.text_lines.proofs.StepsThatFail.{bind_some, guard_some, some_is}
 use Rattle.text_lines.proofs.FieldLaws.{IsField}
 use Rattle.text_lines.proofs.NumberLaws.{ipv4_takes, ipv4_again}
 

@@ -13,7 +13,7 @@ use Rattle.dns_core.specs.declared.codes.ResponseCode.{ResponseCode}
 use Rattle.text_lines.specs.Codes.{code_in, number_behind, first_of, code_of, type_of, class_of, response_code_of}
 use Rattle.text_lines.specs.Numbers.{◌>>=◌, number_of}
 use Rattle.dns_core.specs.CodeTexts.{name_in, code_text, type_names, class_names, code_names, type_text, class_text, response_code_text}
-use Rattle.text_lines.proofs.Binds.{bind_some, guard_some, guard_not, some_is, chosen}
+use Rattle.text_lines.proofs.StepsThatFail.{bind_some, guard_some, guard_not, some_is, chosen}
 use Rattle.text_lines.proofs.FieldLaws.{IsField, bytes_same}
 use Rattle.text_lines.proofs.NumberLaws.{is_word_byte, number_takes, number_again, decimal_plain}
 use Rattle.text_lines.proofs.PlainLaws.{AllBytes, append_plain}

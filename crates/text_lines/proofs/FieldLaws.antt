@@ -14,7 +14,7 @@ use Rattle.text_lines.specs.Numbers.{◌>>=◌, number_of, number_within, ipv4_o
 use Rattle.text_lines.specs.Names.{relaxed_name, full_name}
 use Rattle.text_lines.specs.Fields.{Fields, field, literal, in_table, both, skip, whole, nothing, end_of}
 use Rattle.text_lines.specs.Spelling.{IsName, IsFullName}
-use Rattle.text_lines.proofs.Binds.{bind_some, guard_some, guard_not, some_is, chosen}
+use Rattle.text_lines.proofs.StepsThatFail.{bind_some, guard_some, guard_not, some_is, chosen}
 use Rattle.text_lines.proofs.NumberLaws.{number_takes, number_again, ipv4_takes, ipv4_again}
 use Rattle.text_lines.proofs.NameLaws.{name_takes, name_again, relaxed_takes, relaxed_again}
 

@@ -12,7 +12,7 @@ use Rattle.text_lines.specs.Hex.{hex_value, pair_value, pairs_after, few, bytes_
 use Rattle.text_lines.specs.Numbers.{◌>>=◌}
 use Rattle.text_lines.specs.Texts.{hex_pair, hex_text}
 use Rattle.text_lines.specs.Spelling.{AreBytes}
-use Rattle.text_lines.proofs.Binds.{bind_some, bind_none, bind_same, guard_some, some_is, chosen}
+use Rattle.text_lines.proofs.StepsThatFail.{bind_some, bind_none, bind_same, guard_some, some_is, chosen}
 use Rattle.text_lines.proofs.FieldLaws.{IsField, bytes_same}
 use Rattle.text_lines.proofs.NumberLaws.{is_word_byte}
 use Rattle.text_lines.proofs.PlainLaws.{AllBytes, append_plain}

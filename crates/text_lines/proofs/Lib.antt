@@ -1,7 +1,7 @@
 pub mod AddressLaws
-pub mod Binds
+pub mod StepsThatFail
 pub mod CodeLaws
-pub mod Cuts
+pub mod TextIsCut
 pub mod FieldLaws
 pub mod HexLaws
 pub mod NameLaws

@@ -26,7 +26,7 @@ use Rattle.text_lines.specs.Texts.{ip_text, protocol_text, error_word, flags_tex
 use Rattle.text_lines.specs.Spelling.{spelled, IsName, IsFullName, IsAddress, IsType, IsCode}
 use Rattle.text_lines.specs.LineSpelling.{dnssec_text, head_words, root_words, option_words, patience_words, told_words, question_words, turn_words, end_words, reply_words, error_words, failed_words, connected_words, connect_words, refuse_words, script_lines, most_delay, IsOption, IsTransport, IsFailure, IsScriptLine, IsQuestion, IsTurn}
 use Rattle.text_lines.proofs.AddressLaws.{ip_field}
-use Rattle.text_lines.proofs.Binds.{bind_some, guard_some, some_is, chosen}
+use Rattle.text_lines.proofs.StepsThatFail.{bind_some, guard_some, some_is, chosen}
 use Rattle.text_lines.proofs.CodeLaws.{type_field, response_code_field, type_plain, response_code_plain}
 use Rattle.text_lines.proofs.PlainLaws.{AllBytes, AllPlain, pieces_take}
 use Rattle.text_lines.proofs.NumberLaws.{is_word_byte}

@@ -10,7 +10,7 @@ use Rattle.dns_core.specs.declared.name_text.NameError.TheVariants.{LongName}
 use Rattle.dns_core.specs.NameText.{pieces_from, is_allowed, label_fault, first_fault, wire_length, is_dotted, labels_of, checked, is_dot, name_of, dotted, text_of}
 use Rattle.dns_core.specs.NameText.{pieces as labels_in}
 use Rattle.text_lines.specs.Names.{relaxed_name}
-use Rattle.text_lines.proofs.Binds.{some_is}
+use Rattle.text_lines.proofs.StepsThatFail.{some_is}
 use Rattle.text_lines.proofs.PlainLaws.{AllBytes, append_plain, weaker}
 use Rattle.text_lines.proofs.NumberLaws.{is_word_byte}
 

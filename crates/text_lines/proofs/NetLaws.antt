@@ -16,8 +16,8 @@ use Rattle.text_lines.specs.Pieces.{pieces}
 use Rattle.text_lines.specs.Spelling.{net_text, nets_text, IsAddress, IsNet}
 use Rattle.text_lines.specs.Texts.{ip_text}
 use Rattle.text_lines.proofs.AddressLaws.{ip_field}
-use Rattle.text_lines.proofs.Binds.{bind_some, some_is, chosen}
-use Rattle.text_lines.proofs.Cuts.{split_cons}
+use Rattle.text_lines.proofs.StepsThatFail.{bind_some, some_is, chosen}
+use Rattle.text_lines.proofs.TextIsCut.{split_cons}
 use Rattle.text_lines.proofs.FieldLaws.{IsField, bytes_same}
 use Rattle.text_lines.proofs.NumberLaws.{is_word_byte, number_takes, number_again, decimal_bytes, decimal_plain, ipv4_bytes}
 use Rattle.text_lines.proofs.PlainLaws.{AllBytes, AllPlain, pieces_again, pieces_take, weaker, append_plain, joined_plain}

@@ -12,7 +12,7 @@ use Rattle.std.specs.Net.Addr.{ipv4_octets, IsIpv4Addr}
 use Rattle.std.specs.Net.Text.{ipv4_text}
 use Rattle.text_lines.specs.Pieces.{pieces}
 use Rattle.text_lines.specs.Numbers.{◌>>=◌, next_value, number_from, number_of, octets_of, ipv4_of}
-use Rattle.text_lines.proofs.Binds.{bind_some, guard_some, guard_not, some_is}
+use Rattle.text_lines.proofs.StepsThatFail.{bind_some, guard_some, guard_not, some_is}
 use Rattle.text_lines.proofs.PlainLaws.{AllBytes, AllPlain, pieces_again, pieces_take, weaker, joined_plain}
 
 -- a byte of a word: printing ASCII, and no space

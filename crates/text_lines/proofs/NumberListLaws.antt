@@ -9,8 +9,8 @@ use Rattle.text_lines.specs.NumberLists.{each_port, ports_of, each_delay, delays
 use Rattle.text_lines.specs.Numbers.{◌>>=◌, number_within}
 use Rattle.text_lines.specs.Pieces.{pieces}
 use Rattle.text_lines.specs.Spelling.{numbers_text, ArePorts, AreFirstDelays}
-use Rattle.text_lines.proofs.Binds.{bind_some, some_is, chosen}
-use Rattle.text_lines.proofs.Cuts.{split_cons}
+use Rattle.text_lines.proofs.StepsThatFail.{bind_some, some_is, chosen}
+use Rattle.text_lines.proofs.TextIsCut.{split_cons}
 use Rattle.text_lines.proofs.FieldLaws.{IsField, bytes_same, IsWithin, number_field}
 use Rattle.text_lines.proofs.NumberLaws.{is_word_byte, decimal_digits, decimal_plain}
 use Rattle.text_lines.proofs.PlainLaws.{AllBytes, AllPlain, pieces_again, pieces_take, joined_plain}

@@ -16,7 +16,7 @@ use Rattle.text_lines.specs.Numbers.{◌>>=◌, number_within}
 use Rattle.text_lines.specs.OptionForm.{size_field, limit_field, nets_field, ports_field, switches, switch_field, payload_field, delays_field, bounds_fields, response_cache_size_of, recursion_limit_of, ns_recursion_limit_of, allow_answers_of, deny_answers_of, allow_server_of, deny_server_of, avoid_local_udp_ports_of, positive_ttl_of, negative_ttl_of, case_randomization_of, edns_payload_len_of, first_delays_of, later_option_of, option_line_of}
 use Rattle.text_lines.specs.Spelling.{nets_text, numbers_text, IsNet, ArePorts, AreFirstDelays}
 use Rattle.text_lines.specs.LineSpelling.{bounds_words, named_words, IsBounds, IsOption, option_rank, RiseAbove, last_rank, standard_options, changed, changed_by, options_with}
-use Rattle.text_lines.proofs.Binds.{bind_some, guard_some, some_is, chosen}
+use Rattle.text_lines.proofs.StepsThatFail.{bind_some, guard_some, some_is, chosen}
 use Rattle.text_lines.proofs.FieldLaws.{IsField, IsSeq, one, whole_takes, whole_again, IsWithin, number_field, bytes_same, table_field}
 use Rattle.text_lines.proofs.NetLaws.{nets_are, nets_plain}
 use Rattle.text_lines.proofs.NumberLaws.{is_word_byte}

@@ -27,7 +27,7 @@ use Rattle.text_lines.specs.Texts.{hex_text, data_words, record_words}
 use Rattle.text_lines.specs.Spelling.{IsFullName, IsType, AreBytes, IsClass}
 use Rattle.text_lines.specs.LineSpelling.{record_text, IsData, IsRecord}
 use Rattle.text_lines.proofs.AddressLaws.{ipv6_field}
-use Rattle.text_lines.proofs.Binds.{bind_some, some_is, chosen}
+use Rattle.text_lines.proofs.StepsThatFail.{bind_some, some_is, chosen}
 use Rattle.text_lines.proofs.CodeLaws.{type_field, class_field, type_plain, class_plain}
 use Rattle.text_lines.proofs.FieldLaws.{IsSeq, one, pair_law, whole_takes, whole_again, IsWithin, ipv4_field}
 use Rattle.text_lines.proofs.HexLaws.{bytes_field, bytes_plain}

@@ -90,11 +90,11 @@ reply_words ip protocol name type delay m a b c = codes "reply" ∷ ip_text ip �
 
 -- an error that a connection or a question comes to
 abbrev pub error_words : NetError → List (List ℕ)
-error_words e = codes "error" ∷ error_word e ∷ []
+error_words error = codes "error" ∷ error_word error ∷ []
 
 -- a rule that tells an error
 abbrev pub failed_words : IpAddr → Protocol → DomainName → RecordType → ℕ → NetError → List (List ℕ)
-failed_words ip protocol name type delay e = codes "reply" ∷ ip_text ip ∷ protocol_text protocol ∷ name_text name ∷ type_text type ∷ decimal delay ∷ error_words e
+failed_words ip protocol name type delay error = codes "reply" ∷ ip_text ip ∷ protocol_text protocol ∷ name_text name ∷ type_text type ∷ decimal delay ∷ error_words error
 
 -- what a connection comes to: that it is there, or an error
 abbrev pub connected_words : Option NetError → List (List ℕ)
@@ -197,13 +197,13 @@ pub record IsRule (ip : IpAddr) (protocol : Protocol) (name : DomainName) (type 
   pub additionals : AllByRecursion IsRecord m.additionals
 
 -- a rule that tells an error
-pub record IsFailedRule (ip : IpAddr) (protocol : Protocol) (name : DomainName) (type : RecordType) (delay : ℕ) (e : NetError) : Type 0 where
+pub record IsFailedRule (ip : IpAddr) (protocol : Protocol) (name : DomainName) (type : RecordType) (delay : ℕ) (error : NetError) : Type 0 where
   pub address : IsAddress ip
   pub transport : IsTransport protocol
   pub named : IsFullName name
   pub typed : IsType type
   pub soon : delay ≤ most_delay
-  pub failure : IsFailure e
+  pub failure : IsFailure error
 
 -- what a connection comes to, which is its error or that it is there
 pub record IsConnect (ip : IpAddr) (protocol : Protocol) (delay : ℕ) (error : Option NetError) : Type 0 where

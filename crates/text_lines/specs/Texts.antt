@@ -59,11 +59,11 @@ error_word_of NoMemory = None
 
 -- it has one
 abbrev pub has_error_word : NetError → Bool
-has_error_word e = is_some (error_word_of e)
+has_error_word error = is_some (error_word_of error)
 
 -- the word, and nothing where there is none
 abbrev pub error_word : NetError → List ℕ
-error_word e = unwrap_or (error_word_of e) []
+error_word error = unwrap_or (error_word_of error) []
 
 -- the flags AA and TC of a message
 abbrev pub flags_text : Bool → Bool → List ℕ

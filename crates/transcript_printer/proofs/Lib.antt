@@ -1,2 +1,2 @@
-pub mod Appended
-pub mod Validity
+pub mod TextsAppended
+pub mod OneMoreValidity

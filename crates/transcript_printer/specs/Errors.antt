@@ -55,7 +55,7 @@ net_details net.NoMemory = []
 
 -- both in one row
 abbrev pub net_words : NetError → List (List ℕ)
-net_words e = net_kind e ∷ net_details e
+net_words error = net_kind error ∷ net_details error
 
 -- it is one that a reply carries
 abbrev pub has_net_words : NetError → Bool
@@ -114,7 +114,7 @@ error_details NoMemory = []
 
 -- the words of an error's line
 abbrev pub error_words : RecursorError → List (List ℕ)
-error_words e = error_kind e ∷ error_details e
+error_words error = error_kind error ∷ error_details error
 
 -- an NS record with how many addresses are known for its target, and their lines
 unfoldable pub forward_text : ForwardNsData → List ℕ
@@ -137,7 +137,7 @@ error_tail NoMemory = []
 
 -- an error, its line and those that follow
 unfoldable pub error_text : RecursorError → List ℕ
-error_text e = line_of (error_words e) ++ error_tail e
+error_text error = line_of (error_words error) ++ error_tail error
 
 -- the one that a reply carries
 abbrev pub is_not_qualified : MessageKind → Bool

@@ -51,7 +51,7 @@ entry_records (GaveUp of moment) = []
 
 -- an entry of a number, its line and those of its records
 unfoldable pub entry_text : ℕ → LogEntry → List ℕ
-entry_text n e = line_of (decimal n ∷ entry_words e) ++ record_lines (entry_records e)
+entry_text n entry = line_of (decimal n ∷ entry_words entry) ++ record_lines (entry_records entry)
 
 -- a log: how many entries, and each by its number from 1
 unfoldable pub log_text : List LogEntry → List ℕ

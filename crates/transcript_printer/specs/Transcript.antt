@@ -15,7 +15,7 @@ answer_text n m = line_of (codes "reply" ∷ decimal n ∷ message_words m) ++ r
 
 -- the error of the reply to a question
 unfoldable pub failure_text : ℕ → RecursorError → List ℕ
-failure_text n e = line_of (codes "reply" ∷ decimal n ∷ codes "error" ∷ error_words e) ++ error_tail e
+failure_text n error = line_of (codes "reply" ∷ decimal n ∷ codes "error" ∷ error_words error) ++ error_tail error
 
 -- either of the two
 abbrev pub outcome_text : ℕ → Result Message RecursorError → List ℕ

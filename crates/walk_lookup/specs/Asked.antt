@@ -8,13 +8,13 @@ use Rattle.dns_core.specs.declared.log.LogEntry.TheVariants.{Asked, Told}
 use Rattle.dns_core.specs.declared.log.ToldOutcome.{ToldOutcome}
 use Rattle.resolution.specs.Telling.{Logged}
 
--- Entry i was told of an ask for exactly this question, the case of its name included.
-pub record AskedAs (log : Log) (i : ℕ) (q : Query) : Type 0 where
+-- Entry `entry` was told of an ask for exactly this question, the case of its name included.
+pub record AskedAs (log : Log) (entry : ℕ) (query : Query) : Type 0 where
   pub ask : ℕ
   pub moment : ℕ
   pub outcome : ToldOutcome
   pub ip : IpAddr
   pub protocol : Protocol
   pub asked_at : ℕ
-  pub told : Logged log i (Told ask moment outcome)
-  pub question : Logged log ask (Asked ip protocol q asked_at None)
+  pub told : Logged log entry (Told ask moment outcome)
+  pub question : Logged log ask (Asked ip protocol query asked_at None)

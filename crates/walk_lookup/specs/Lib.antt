@@ -1,9 +1,9 @@
-pub mod View
+pub mod LogView
 pub mod Asked
 pub mod Order
 pub mod Tried
-pub mod Found
-pub mod Sought
+pub mod LookupResult
+pub mod PendingLookup
 pub mod Remembered
 pub mod Coming
 pub mod Asking

@@ -17,32 +17,32 @@ use Rattle.resolution.specs.Walking.{Walked}
 use Rattle.walk_response.specs.Kept.{kept_of, response_in}
 use Rattle.walk_response.specs.Shown.{IsShown}
 use Rattle.walk_lookup.specs.Asked.{AskedAs}
-use Rattle.walk_lookup.specs.View.{View}
+use Rattle.walk_lookup.specs.LogView.{LogView}
 
 -- ---- what holds of the cache
 
 -- The response under a question, as it was asked, shows the verdict of the entry that it names, told by a server of a zone to which a walk went down, and it
 -- expires no later than its life after the moment of the telling.
-pub record EntryHolds (seen : View) (e : Entry) : Type 0 where
+pub record EntryHolds (view : LogView) (e : Entry) : Type 0 where
   pub zone : DomainName
   pub told : ToldOutcome
   pub moment : ℕ
   pub whole : Verdict
-  pub early : e.source ≤ seen.greatest
-  pub heard : Heard seen.policy seen.log e.source e.query told moment zone
-  pub asked : AskedAs seen.log e.source e.query
-  pub counts : verdict seen.policy told e.query zone ≡ Some whole
-  pub walked : Walked seen.policy seen.log e.query zone
+  pub early : e.source ≤ view.greatest
+  pub heard : Heard view.policy view.log e.source e.query told moment zone
+  pub asked : AskedAs view.log e.source e.query
+  pub counts : verdict view.policy told e.query zone ≡ Some whole
+  pub walked : Walked view.policy view.log e.query zone
   pub shown : Verdict
   pub as_shown : IsShown e.query shown whole
   pub kept : kept_of shown ≡ Some e.response
-  pub expires : IsSomeAnd (life_in_seconds seen.policy e.query.query_type whole) (λ life. e.expiry ≤ moment + 1000000 * life)
+  pub expires : IsSomeAnd (life_in_seconds view.policy e.query.query_type whole) (λ life. e.expiry ≤ moment + 1000000 * life)
 
 -- Each response is so, there are no more than the policy allows, and each lives by its bounds.
-pub record CacheHolds (seen : View) (cache : Cached) : Type 0 where
-  pub size : cache.size ≡ seen.policy.response_cache_size
-  pub lives : cache.config ≡ seen.policy.ttl_bounds
-  pub entries : All (EntryHolds seen) cache.entries
+pub record CacheHolds (view : LogView) (cache : Cached) : Type 0 where
+  pub size : cache.size ≡ view.policy.response_cache_size
+  pub ttl_bounds : cache.config ≡ view.policy.ttl_bounds
+  pub entries : All (EntryHolds view) cache.entries
 
 -- ---- what is written
 
@@ -60,8 +60,8 @@ telling zone q entry at (Err error) = None
 
 -- the cache with the response to the question, where there is one, by the entry, since the moment
 abbrev pub with_response : Cached → Query → ℕ → ℕ → Option (Result Message NetError) → Cached
-with_response cache q entry at None = cache
-with_response cache q entry at (Some response) = upserted cache q response entry at (q.query_type.code == 2)
+with_response cache query entry at None = cache
+with_response cache query entry at (Some response) = upserted cache query response entry at (query.query_type.code == 2)
 
 abbrev pub written : Cached → Telling → Option (Result Message NetError) → Cached
 written cache t response = with_response cache t.query t.entry t.at response

@@ -10,28 +10,28 @@ use Rattle.dns_core.specs.declared.log.ToldOutcome.{ToldOutcome}
 use Rattle.resolution.specs.Telling.{Logged, moment_of}
 use Rattle.resolution.specs.Serving.{Heard}
 use Rattle.resolution.specs.Lookups.{Answered, End, class_of_answer}
-use Rattle.resolution.specs.Ending.{Known, EndSends, Rise, Finished}
+use Rattle.resolution.specs.Ending.{LookupTiming, EndSends, Rise, FinishedLookup}
 use Rattle.resolution.specs.Timing.{is_send}
 use Rattle.resolution.specs.declared.class.Class.{Class}
 use Rattle.resolution.specs.declared.class.Class.TheVariants.{Error, Code, Truncated, Negative, Foreign, Positive}
 use Rattle.walk_lookup.specs.Asked.{AskedAs}
-use Rattle.walk_lookup.specs.View.{View}
+use Rattle.walk_lookup.specs.LogView.{LogView}
 use Rattle.dns_core.specs.declared.log.ToldOutcome.TheVariants as told
 
 -- A send of the question to the server began at the moment, by an entry that is no later than this one.
-pub record BeganBy (log : Log) (q : Query) (server : IpAddr) (last start : ℕ) : Type 0 where
+pub record BeganBy (log : Log) (query : Query) (server : IpAddr) (last start : ℕ) : Type 0 where
   pub n : ℕ
   pub e : LogEntry
   pub begun : Logged log n e
-  pub is : IsTrue (is_send q server e)
+  pub is : IsTrue (is_send query server e)
   pub at : moment_of e ≡ Some start
   pub early : n ≤ last
 
 -- So began the send that ended first; or before there is one the first send, where it is known to which server that goes.
 abbrev pub Began : Log → Query → ℕ → Option IpAddr → List ℕ → List (End IpAddr) → ℕ → Type 0
-Began log q greatest first (n ∷ g) (e ∷ ends) start = BeganBy log q e.server n start
-Began log q greatest first [] ends start = IfSome first (λ ip. BeganBy log q ip greatest start)
-Began log q greatest first (n ∷ g) [] start = Unit {0}
+Began log query greatest first (n ∷ g) (e ∷ ends) start = BeganBy log query e.server n start
+Began log query greatest first [] ends start = IfSome first (λ ip. BeganBy log query ip greatest start)
+Began log query greatest first (n ∷ g) [] start = Unit {0}
 
 -- an answer or a denial
 abbrev pub is_response : Class → Bool
@@ -48,39 +48,39 @@ told_of (Ok m) = told.Message m
 told_of (Err e) = told.Error e
 
 -- Each end that is an answer or a denial was heard for the question as it was asked, from a server of the zone.
-abbrev pub AreHeard : View → DomainName → Query → List ℕ → List (End IpAddr) → List ℕ → Type 0
-AreHeard seen zone q (n ∷ g) (e ∷ ends) (m ∷ moments) =
-    (IsTrue (is_response (class_of_answer q e.outcome)) → Heard seen.policy seen.log n q (told_of e.outcome) m zone × AskedAs seen.log n q) × AreHeard seen zone q g ends moments
-AreHeard seen zone q _ _ _ = Unit {0}
+abbrev pub AreHeard : LogView → DomainName → Query → List ℕ → List (End IpAddr) → List ℕ → Type 0
+AreHeard view zone query (n ∷ g) (e ∷ ends) (m ∷ moments) =
+    (IsTrue (is_response (class_of_answer query e.outcome)) → Heard view.policy view.log n query (told_of e.outcome) m zone × AskedAs view.log n query) × AreHeard view zone query g ends moments
+AreHeard view zone query _ _ _ = Unit {0}
 
 -- These entries ended sends of the question to some of the addresses, one after the other, since the start; the last of them came at this moment.
-pub record Tried (seen : View) (zone : DomainName) (q : Query) (ips : List IpAddr) (start : ℕ) (first : Option IpAddr)
-    (g : List ℕ) (ends : List (End IpAddr)) (at : ℕ) : Type 0 where
+pub record Tried (view : LogView) (zone : DomainName) (query : Query) (ips : List IpAddr) (start : ℕ) (first : Option IpAddr)
+    (grounds : List ℕ) (ends : List (End IpAddr)) (at : ℕ) : Type 0 where
   pub moments : List ℕ
-  pub logged : EndSends seen.policy seen.log q ips g ends moments
-  pub heard : AreHeard seen zone q g ends moments
-  pub rises : Rise g
-  pub early : IsTrue (list_all (λ n. nat_le n seen.greatest) g)
-  pub began : Began seen.log q seen.greatest first g ends start
+  pub logged : EndSends view.policy view.log query ips grounds ends moments
+  pub heard : AreHeard view zone query grounds ends moments
+  pub rises : Rise grounds
+  pub early : IsTrue (list_all (λ n. nat_le n view.greatest) grounds)
+  pub began : Began view.log query view.greatest first grounds ends start
   pub since : IsTrue (list_all (nat_le start) moments)
-  pub till : IsTrue (list_all (λ m. nat_le m seen.moment) moments)
+  pub till : IsTrue (list_all (λ m. nat_le m view.moment) moments)
   pub last : (m : ℕ) → last_or None moments ≡ Some m → m ≡ at
 
 -- The lookup began with a send no earlier than the question, and was answered no later than the moment.
-pub record IsTimed (moment : ℕ) (log : Log) (t0 : ℕ) (q : Query) (g : List ℕ) (ends : List (End IpAddr)) (start now : ℕ) : Type 0 where
-  pub some : 0 < length g
-  pub began : Began log q 0 None g ends start
-  pub since : t0 ≤ start
+pub record IsTimed (moment : ℕ) (log : Log) (asked_at : ℕ) (query : Query) (grounds : List ℕ) (ends : List (End IpAddr)) (start now : ℕ) : Type 0 where
+  pub some : 0 < length grounds
+  pub began : Began log query 0 None grounds ends start
+  pub since : asked_at ≤ start
   pub answered : now ≤ moment
 
 -- what is known of the moments of a finished lookup, by a log and the moment of the question
 abbrev pub Timer : Type 1
-Timer = Log → ℕ → Known
+Timer = Log → ℕ → LookupTiming
 
 -- what the machine knows of the moments of a lookup, at a moment
 abbrev pub machine_timer : ℕ → Timer
 machine_timer moment log t0 = record { Timed = λ q ips g ends moments start now. IsTimed moment log t0 q g ends start now; exhausted = false }
 
 -- A lookup for the question at servers of the zone came to this by the entries, no later than the moment.
-abbrev pub Concluded : View → ℕ → DomainName → Query → List ℕ → Answered → Type 0
-Concluded seen t0 zone q g result = Finished seen.policy (machine_timer seen.moment seen.log t0) seen.log t0 q zone g result
+abbrev pub Concluded : LogView → ℕ → DomainName → Query → List ℕ → Answered → Type 0
+Concluded view asked_at zone query grounds result = FinishedLookup view.policy (machine_timer view.moment view.log asked_at) view.log asked_at query zone grounds result

@@ -1,8 +1,8 @@
 //! What a lookup comes to by what it was answered.
 ghost use Rattle.std.specs.Prelude.{◌≡◌};
-ghost use Rattle.walk_lookup.specs.Found.{last_of, class_of_failure, classified, ComesTo};
+ghost use Rattle.walk_lookup.specs.LookupResult.{last_of, class_of_failure, classified, ComesTo};
 
-use crate::found::Found;
+use crate::lookup_result::LookupResult;
 use dns_core::{DnsError, Message, Name, NetError, Query};
 use walk_response::verdict_of_class;
 
@@ -39,14 +39,14 @@ fn classified(told: Result<Message, NetError>) -> Result<Result<Message, DnsErro
 }
 
 /// What a lookup for a question at servers of a zone comes to that was answered so, by the entry.
-pub fn found_by(entry: u64, told: Result<Message, NetError>, query: &Query, zone: &Name) -> Found
+pub fn found_by(entry: u64, told: Result<Message, NetError>, query: &Query, zone: &Name) -> LookupResult
     ensures { ComesTo zone.now query.now entry (classified told) result }
 {
     match classified(told) {
-        Ok(class) => Found::Told {
+        Ok(class) => LookupResult::Told {
             entry,
             verdict: verdict_of_class(class, query, zone),
         },
-        Err(error) => Found::Error(error),
+        Err(error) => LookupResult::Error(error),
     }
 }

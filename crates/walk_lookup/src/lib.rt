@@ -3,18 +3,18 @@
 //! definitions and laws.
 #![tactic(auto)]
 
-mod aims;
+mod order_targets;
 mod answered;
-mod found;
+mod lookup_result;
 mod keeping;
 mod settings;
-mod sought;
+mod pending_lookup;
 mod threads;
 
-pub use aims::{aim_of, first_of, is_memory, polled_by};
+pub use order_targets::{aim_of, first_of, is_memory, polled_by};
 pub use answered::{found_by, last_of};
-pub use found::Found;
+pub use lookup_result::LookupResult;
 pub use keeping::write_verdict;
 pub use settings::asking::{connect_options, pool_context, request_options};
 pub use settings::delays::{FirstDelay, first_delay};
-pub use sought::{Aim, Given, Sought};
+pub use pending_lookup::{OrderTarget, OpenOrder, PendingLookup};

@@ -1,13 +1,13 @@
 //! Which types of this crate may go to another thread, and be shared among threads.
 
-use crate::found::Found;
-use crate::sought::{Aim, Given, Sought};
+use crate::lookup_result::LookupResult;
+use crate::pending_lookup::{OrderTarget, OpenOrder, PendingLookup};
 use dns_core::CrossesThreads;
 
-impl CrossesThreads for Aim {}
+impl CrossesThreads for OrderTarget {}
 
-impl CrossesThreads for Found {}
+impl CrossesThreads for LookupResult {}
 
-impl CrossesThreads for Given {}
+impl CrossesThreads for OpenOrder {}
 
-impl CrossesThreads for Sought {}
+impl CrossesThreads for PendingLookup {}

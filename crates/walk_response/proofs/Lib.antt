@@ -1,6 +1,6 @@
 pub mod Sections
-pub mod Allowing
+pub mod NothingIsDenied
 pub mod NotKept
-pub mod Lending
-pub mod Shown
-pub mod Runs
+pub mod GlueOfServers
+pub mod FilteredCounts
+pub mod RunsOfLookups

@@ -28,7 +28,7 @@ made_data q cause = record { query = q; soa = None; no_records_found = is_filter
 
 -- A negative that the recursor makes, where the filter or the zone leaves nothing of what was told.
 abbrev pub made_negative : Query → Cause → RecursorError
-made_negative q cause = Negative (made_data q cause)
+made_negative query cause = Negative (made_data query cause)
 
 -- A negative that was told, or a referral where it names servers.
 abbrev pub told_negative : NoRecords → RecursorError

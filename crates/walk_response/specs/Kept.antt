@@ -28,4 +28,4 @@ verdict_kept (Err e) = option_map Neg (negative_data e)
 
 -- as what a classified message that a server of the zone told for the question is kept
 abbrev pub response_in : DomainName → Query → Result Message DnsError → Option (Result Message NetError)
-response_in zone q class = option_and_then kept_of (verdict_of_told allows_all (Some (class_of_classified q class)) zone)
+response_in zone query class = option_and_then kept_of (verdict_of_told allows_all (Some (class_of_classified query class)) zone)

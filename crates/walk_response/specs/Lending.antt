@@ -12,12 +12,12 @@ abbrev pub SameElements : List IpAddr → List IpAddr → Type 0
 SameElements xs ys = (ip : IpAddr) → Contains xs ip ↔ Contains ys ip
 
 -- the address that a record holds under the name
-abbrev pub lent : DomainName → Record → Option IpAddr
-lent target r = if same_names r.name target then address r else None
+abbrev pub glue_of : DomainName → Record → Option IpAddr
+glue_of target r = if same_names r.name target then address r else None
 
 -- the addresses that the records hold under the name
 abbrev pub lent_by : DomainName → List Record → List IpAddr
-lent_by target rs = filter_map (lent target) rs
+lent_by target rs = filter_map (glue_of target) rs
 
 -- the addresses under the targets, one by one, of the NS records named at or below a zone
 abbrev pub lent_for : List Record → DomainName → List Record → List IpAddr

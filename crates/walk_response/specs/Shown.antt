@@ -19,21 +19,21 @@ nothing_left_for q = record { query = q; soa = None; ns = None; response_code = 
 
 -- what the filter of answers leaves of an answer
 abbrev pub left_of_answer : (IpAddr → Bool) → Query → Response → Result Response DnsError
-left_of_answer denied q m = if is_all_denied denied m then Err (dns.NoRecordsFound (nothing_left_for q)) else Ok (without_denied denied m)
+left_of_answer denied query m = if is_all_denied denied m then Err (dns.NoRecordsFound (nothing_left_for query)) else Ok (without_denied denied m)
 
 -- what it leaves of a response; of anything else there is nothing
 abbrev pub left_of_class : (IpAddr → Bool) → Query → Class → Option (Result Response DnsError)
-left_of_class denied q (Positive m) = Some (left_of_answer denied q m)
-left_of_class denied q (Negative n) = Some (Err (dns.NoRecordsFound n))
-left_of_class denied q (Error e) = None
-left_of_class denied q (Code c) = None
-left_of_class denied q Truncated = None
-left_of_class denied q (Foreign r) = None
+left_of_class denied query (Positive m) = Some (left_of_answer denied query m)
+left_of_class denied query (Negative n) = Some (Err (dns.NoRecordsFound n))
+left_of_class denied query (Error e) = None
+left_of_class denied query (Code c) = None
+left_of_class denied query Truncated = None
+left_of_class denied query (Foreign r) = None
 
 -- as what a verdict is shown: as it is, or as a negative where the filter of answers left nothing
 abbrev pub IsShown : Query → Verdict → Verdict → Type 0
-IsShown q (Pos a) (Pos b) = a ≡ b
-IsShown q (Neg a) (Neg b) = a ≡ b
-IsShown q (Neg a) (Made Filter) = a ≡ nothing_left_for q
-IsShown q (Made a) (Made b) = a ≡ b
-IsShown q _ _ = ⊥
+IsShown query (Pos a) (Pos b) = a ≡ b
+IsShown query (Neg a) (Neg b) = a ≡ b
+IsShown query (Neg a) (Made Filter) = a ≡ nothing_left_for query
+IsShown query (Made a) (Made b) = a ≡ b
+IsShown query _ _ = ⊥

@@ -8,7 +8,7 @@ ghost use Rattle.dns_core.specs.Name.{same_names};
 ghost use Rattle.resolution.specs.Records.{records};
 ghost use Rattle.resolution.specs.Serving.{allowed, glue, is_delegation, target_below};
 ghost use Rattle.resolver_settings.specs.Access.{denies};
-ghost use Rattle.walk_response.specs.Lending.{SameElements, lent, lent_by, lent_for};
+ghost use Rattle.walk_response.specs.Lending.{SameElements, glue_of, lent_by, lent_for};
 
 use dns_core::{Message, Name, NoMemory, RData, Record, is_subzone};
 use resolver_settings::AccessControlSet;
@@ -49,8 +49,8 @@ pub fn is_delegation(message: &Message, name: &Name) -> bool
 }
 
 /// The address that a record holds under the name of a server.
-fn lent(target: &Name, r: &Record) -> Option<IpAddr>
-    ensures { result ≡ lent target.now r.now }
+fn glue_of(target: &Name, r: &Record) -> Option<IpAddr>
+    ensures { result ≡ glue_of target.now r.now }
 {
     if r.name != *target {
         return None;
@@ -84,7 +84,7 @@ fn add_new(ips: &mut Vec<IpAddr>, start: usize, ip: IpAddr) -> Result<(), NoMemo
 fn add_lent(ips: &mut Vec<IpAddr>, start: usize, r: &Record, target: &Name) -> Result<(), NoMemory>
     ensures { IfOk result (λ _. SameElements ips.new.items (ips.old.items ++ lent_by target.now (r.now ∷ []))) }
 {
-    match lent(target, r) {
+    match glue_of(target, r) {
         Some(ip) => add_new(ips, start, ip),
         None => Ok(()),
     }
@@ -106,7 +106,7 @@ fn add_addresses(
 }
 
 /// A server lends its addresses, in the order of the sections, each once.
-fn lend(ips: &mut Vec<IpAddr>, message: &Message, target: &Name) -> Result<(), NoMemory>
+fn add_glue(ips: &mut Vec<IpAddr>, message: &Message, target: &Name) -> Result<(), NoMemory>
     ensures { IfOk result (λ _. SameElements ips.new.items (ips.old.items ++ lent_by target.now (records message.now))) }
 {
     let start = ips.len();
@@ -141,7 +141,7 @@ fn lend_named(
     ensures { IfOk result (λ _. SameElements ips.new.items (ips.old.items ++ lent_for (records message.now) base.now (r.now ∷ []))) }
 {
     match target_below(base, r) {
-        Some(target) => lend(ips, message, target),
+        Some(target) => add_glue(ips, message, target),
         None => Ok(()),
     }
 }
@@ -171,7 +171,7 @@ fn keep_allowed(ips: &mut Vec<IpAddr>, filter: &AccessControlSet)
 /// The addresses of the servers that a response names for the name, in the order of their NS
 /// records, without those that the filter denies. An address that two of these lend stands there
 /// twice.
-pub fn addresses(
+pub fn collect_glue(
     alloc: Global,
     message: &Message,
     name: &Name,

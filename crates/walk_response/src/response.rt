@@ -6,7 +6,7 @@ ghost use Rattle.resolution.specs.Verdict.{verdict_of_told};
 ghost use Rattle.walk_response.specs.Response.{error_of};
 
 use crate::class::class_of;
-use crate::verdict::{answer_within, negative_within};
+use crate::verdict::{scrub_answer, scrub_negative};
 use dns_core::{DnsError, Message, Name, NetError, Query, Record};
 use resolution::{Class, Verdict};
 
@@ -32,8 +32,8 @@ pub fn verdict_of_class(
     ensures error { IfErr result (λ e. error_of (class_of_classified query.now class) ≡ Some e) }
 {
     match class_of(class, query) {
-        Class::Positive(answer) => Ok(answer_within(answer, zone)),
-        Class::Negative(found) => Ok(Verdict::Neg(negative_within(found, zone))),
+        Class::Positive(answer) => Ok(scrub_answer(answer, zone)),
+        Class::Negative(found) => Ok(Verdict::Neg(scrub_negative(found, zone))),
         Class::Code(code) => Err(NetError::Dns(DnsError::ResponseCode(code))),
         Class::Truncated => Err(NetError::Truncated),
         Class::Foreign(r) => Err(foreign_class(r)),

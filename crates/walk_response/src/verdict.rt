@@ -2,25 +2,25 @@
 //! its zone are believed (RFC 2181 section 5.4.1, RFC 5452 section 6).
 ghost use Rattle.std.specs.Prelude.{◌≡◌, ◌&&◌, ◌||◌, filter};
 ghost use Rattle.resolution.specs.Verdict.{allows_all};
-ghost use Rattle.resolution.specs.Verdict.{in_zone, within, negative_within, verdict_of_message, if_in_zone};
+ghost use Rattle.resolution.specs.Verdict.{is_in_bailiwick, in_bailiwick, scrub_negative, verdict_of_message, if_in_bailiwick};
 
 use dns_core::{Boxed, Items, Message, Name, NoRecords, Record, Records, is_subzone};
 use resolution::{Cause, Verdict};
 
 fn is_in_zone(zone: &Name, r: &Record) -> bool
-    ensures { result ≡ in_zone zone.now r.now }
+    ensures { result ≡ is_in_bailiwick zone.now r.now }
 {
     zone.is_fqdn() && is_subzone(zone, &r.name)
 }
 
 fn keep(records: &mut Vec<Record>, zone: &Name)
-    ensures { records.new.items ≡ filter (in_zone zone.now) records.old.items }
+    ensures { records.new.items ≡ filter (is_in_bailiwick zone.now) records.old.items }
 {
     records.retain(|r| is_in_zone(zone, r));
 }
 
 fn kept_section(records: Records, zone: &Name) -> Records
-    ensures { result ≡ filter (in_zone zone.now) records }
+    ensures { result ≡ filter (is_in_bailiwick zone.now) records }
 {
     let mut items = records.into_vec();
     keep(&mut items, zone);
@@ -28,8 +28,8 @@ fn kept_section(records: Records, zone: &Name) -> Records
 }
 
 /// The records of a message that are inside the zone.
-fn within(message: Message, zone: &Name) -> Message
-    ensures { result ≡ within zone.now message }
+fn in_bailiwick(message: Message, zone: &Name) -> Message
+    ensures { result ≡ in_bailiwick zone.now message }
 {
     Message {
         query: message.query,
@@ -43,7 +43,7 @@ fn within(message: Message, zone: &Name) -> Message
 }
 
 fn soa_within(soa: Option<Boxed<Record>>, zone: &Name) -> Option<Boxed<Record>>
-    ensures { result ≡ if_in_zone zone.now soa }
+    ensures { result ≡ if_in_bailiwick zone.now soa }
 {
     match soa {
         Some(r) => {
@@ -58,8 +58,8 @@ fn soa_within(soa: Option<Boxed<Record>>, zone: &Name) -> Option<Boxed<Record>>
 }
 
 /// A negative response without an SOA and authorities outside the zone.
-pub fn negative_within(found: NoRecords, zone: &Name) -> NoRecords
-    ensures { result ≡ negative_within zone.now found }
+pub fn scrub_negative(found: NoRecords, zone: &Name) -> NoRecords
+    ensures { result ≡ scrub_negative zone.now found }
 {
     let NoRecords {
         query,
@@ -86,12 +86,12 @@ fn is_emptied(answered: bool, no_answers: bool, delegated: bool, no_authorities:
 
 /// What an answer counts for, as told by a server of the zone: the records inside the zone, or a
 /// denial where the zone leaves no answer, or no authority beside no answer.
-pub fn answer_within(message: Message, zone: &Name) -> Verdict
+pub fn scrub_answer(message: Message, zone: &Name) -> Verdict
     ensures { result ≡ verdict_of_message allows_all message zone.now }
 {
     let answered = !message.answers.is_empty();
     let delegated = !message.authorities.is_empty();
-    let kept = within(message, zone);
+    let kept = in_bailiwick(message, zone);
     let no_answers = kept.answers.is_empty();
     let no_authorities = kept.authorities.is_empty();
     if is_emptied(answered, no_answers, delegated, no_authorities) {

@@ -1,9 +1,9 @@
 pub mod Names
-pub mod Later
-pub mod Pooling
-pub mod Meeting
-pub mod Giving
-pub mod Outcomes
-pub mod Begun
-pub mod Taking
-pub mod Orders
+pub mod PoolsAdvance
+pub mod LookupsAfterStep
+pub mod ServersAddedBehind
+pub mod PoolsAfterStep
+pub mod PoolsAfterOutcome
+pub mod PoolsAfterBegin
+pub mod OutcomeInCache
+pub mod LookupOrders

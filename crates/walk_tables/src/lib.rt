@@ -6,5 +6,5 @@ mod lookup;
 mod pools;
 mod threads;
 
-pub use lookup::{Ask, Lookup, Want};
-pub use pools::{Answer, Pools, Stepped};
+pub use lookup::{Phase, Lookup, QueryStep};
+pub use pools::{Answer, Pools, PoolsStep};

@@ -6,18 +6,18 @@ ghost use Rattle.std.specs.declared.net.ip_addr.IpAddr.{IpAddr};
 ghost use Rattle.dns_core.specs.declared.message.Query.{Query};
 ghost use Rattle.server_core.specs.Servers.{IsFirstDelay};
 ghost use Rattle.walk_lookup.specs.Order.{HoldsOn};
-ghost use Rattle.walk_lookup.specs.View.{View, Later};
+ghost use Rattle.walk_lookup.specs.LogView.{LogView, Advances};
 ghost use Rattle.walk_lookup.specs.Asking.{context_of};
 ghost use Rattle.recursor_types.specs.declared.policy.Policy.{Policy};
 ghost use Rattle.walk_lookup.specs.Delays.{turn_at, delay_at};
 ghost use Rattle.walk_tables.specs.Pools.{number_of, sought_at, came_at, IfCame, ServersHold, PoolsHold, IsOutcomeOf, IsGrown, HasForgotten, HasNoted, HasKept, HasLeft, HasGone, StepGoes, IsGivenFor, NotesOutcome, Seeks, IsStepAt, given_so_far, GivesNext};
-ghost use Rattle.walk_lookup.specs.Sought.{first_delay_at, IsMet, with_came, aim_of, first_of, polled_by, AreFor, noted};
+ghost use Rattle.walk_lookup.specs.PendingLookup.{first_delay_at, IsServerOf, with_came, aim_of, first_of, polled_by, ServersForQuery, noted};
 ghost use Rattle.walk_tables.specs.Lookup.{AnswerHolds};
 ghost use Rattle.walk_lookup.specs.Remembered.{remembered};
 ghost use Rattle.walk_lookup.specs.Coming.{answer_at, with_sought};
 ghost use Rattle.walk_tables.specs.Taking.{telling_at, Took, Takes, Comes, TablesHold, is_open_at, awaited_in, IfAwaits};
 ghost use Rattle.server_pool.specs.Orders.{open_at};
-ghost use Rattle.walk_lookup.specs.declared.sought.Given.{Given};
+ghost use Rattle.walk_lookup.specs.declared.pending_lookup.OpenOrder.{OpenOrder};
 
 use dns_core::{
     Boxed, Delays, DnsRequest, Message, Name, NetError, NoMemory, Numbers, Query, TryClone,
@@ -25,27 +25,27 @@ use dns_core::{
 use recursor_types::Policy;
 use resolver_cache::ResponseCache;
 use resolver_settings::NameServerConfig;
-use server_core::{After, NameServer, Order, Outcome, Sent, Tick};
+use server_core::{After, NameServer, Order, Outcome, SentBy, Tick};
 use server_pool::{NameServerPool, PoolLookup, PoolShared, PoolStep};
 use std::alloc::Global;
 use std::collections::BTreeMap;
 use std::mem;
 use std::net::IpAddr;
 use walk_lookup::{
-    FirstDelay, Found, Given, Sought, aim_of, first_delay, first_of, found_by, is_memory, last_of,
+    FirstDelay, LookupResult, OpenOrder, PendingLookup, aim_of, first_delay, first_of, found_by, is_memory, last_of,
     polled_by, pool_context, write_verdict,
 };
 
 /// What a lookup came to, and the entries of its ends.
 #[derive(Drop)]
 pub struct Answer {
-    pub came: Boxed<Found>,
+    pub came: Boxed<LookupResult>,
     pub ends: Numbers,
 }
 
 /// What a lookup has next: an order with its number, one that it waits for, or its answer.
 #[derive(Drop)]
-pub enum Stepped {
+pub enum PoolsStep {
     Order { number: u64, order: Order },
     Waiting { number: u64 },
     Done,
@@ -59,7 +59,7 @@ pub struct Pools {
     numbers: BTreeMap<IpAddr, u32>,
     first_delays: Delays,
     turn: usize,
-    sought: BTreeMap<u64, Boxed<Sought>>,
+    sought: BTreeMap<u64, Boxed<PendingLookup>>,
 }
 
 impl Drop for Pools {
@@ -84,7 +84,7 @@ fn copy_of(alloc: Global, numbers: &[u64]) -> Result<Numbers, NoMemory>
 impl Pools {
     /// Without servers. The first of them begins with the first of the delays.
     pub fn new(alloc: Global, policy: &Policy) -> Result<Pools, NoMemory>
-        ensures holds { (seen : View) → seen.policy ≡ policy.now → 0 < policy.now.timeout → IfOk result (PoolsHold seen) }
+        ensures holds { (view : LogView) → view.policy ≡ policy.now → 0 < policy.now.timeout → IfOk result (PoolsHold view) }
         ensures context { IfOk result (λ pools. pools.shared.context ≡ context_of policy.now) }
         ensures delays { IfOk result (λ pools. (pools.first_delays ≡ policy.now.first_delays) × (pools.turn ≡ 0)) }
     {
@@ -116,7 +116,7 @@ impl Pools {
         requires { number_of self.old ip ≡ None }
         ensures grown { IsGrown self.old self.new }
         ensures servers { (policy : Policy) → ServersHold policy self.old → ServersHold policy self.new }
-        ensures met { IfOk result (λ number. IsMet self.new.shared.table ip number) }
+        ensures met { IfOk result (λ number. IsServerOf self.new.shared.table ip number) }
         ensures delay { IfOk result (λ number. first_delay_at self.new.shared.table number ≡ Some (delay_at self.old.first_delays (turn_at (length self.old.first_delays) self.old.turn))) }
     {
         let config = NameServerConfig::udp_and_tcp(alloc, ip)?;
@@ -129,10 +129,10 @@ impl Pools {
     }
 
     /// The number of the server of an address, which is a new one where it was not met.
-    fn meet(&mut self, alloc: Global, ip: IpAddr) -> Result<u32, NoMemory>
+    fn server_for(&mut self, alloc: Global, ip: IpAddr) -> Result<u32, NoMemory>
         ensures grown { IsGrown self.old self.new }
         ensures servers { (policy : Policy) → ServersHold policy self.old → ServersHold policy self.new }
-        ensures met { (policy : Policy) → ServersHold policy self.old → IfOk result (λ number. IsMet self.new.shared.table ip number) }
+        ensures met { (policy : Policy) → ServersHold policy self.old → IfOk result (λ number. IsServerOf self.new.shared.table ip number) }
     {
         match self.numbers.get(&ip) {
             Some(number) => Ok(*number),
@@ -141,14 +141,14 @@ impl Pools {
     }
 
     /// The numbers of the servers of these addresses, in their order.
-    fn meet_all(&mut self, alloc: Global, ips: &[IpAddr]) -> Result<Vec<u32>, NoMemory>
+    fn servers_for(&mut self, alloc: Global, ips: &[IpAddr]) -> Result<Vec<u32>, NoMemory>
         ensures grown { IsGrown self.old self.new }
         ensures servers { (policy : Policy) → ServersHold policy self.old → ServersHold policy self.new }
-        ensures met { (policy : Policy) → ServersHold policy self.old → IfOk result (λ numbers. AllZip (IsMet self.new.shared.table) ips.now numbers.items) }
+        ensures met { (policy : Policy) → ServersHold policy self.old → IfOk result (λ numbers. AllZip (IsServerOf self.new.shared.table) ips.now numbers.items) }
     {
         let mut servers = Vec::with_capacity(alloc, ips.len())?;
         for ip in ips {
-            let number = self.meet(alloc, *ip)?;
+            let number = self.server_for(alloc, *ip)?;
             servers.push(number)?;
         }
         Ok(servers)
@@ -161,14 +161,14 @@ fn sought_from(
     query: &Query,
     zone: &Name,
     now: u64,
-) -> Result<Boxed<Sought>, NoMemory>
+) -> Result<Boxed<PendingLookup>, NoMemory>
     ensures { IfOk result (λ sought. sought ≡ record { query = query.now; zone = zone.now; start = now; given = None; first = None; at = now; came = None }) }
 {
     let query = query.try_clone(alloc)?;
     let zone = zone.try_clone(alloc)?;
     Boxed::new(
         alloc,
-        Sought {
+        PendingLookup {
             query,
             zone,
             start: now,
@@ -182,7 +182,7 @@ fn sought_from(
 
 impl Pools {
     /// Keeps what is sought by a lookup, which is left where memory is wanting.
-    fn keep(&mut self, lookup: PoolLookup, sought: Boxed<Sought>) -> Result<PoolLookup, NoMemory>
+    fn keep(&mut self, lookup: PoolLookup, sought: Boxed<PendingLookup>) -> Result<PoolLookup, NoMemory>
         ensures ok { IfOk result (λ kept. HasKept lookup.number sought self.old self.new × (kept ≡ lookup)) }
         ensures err { OnErr result (HasLeft lookup.number self.old self.new) }
     {
@@ -204,11 +204,11 @@ impl Pools {
         request: DnsRequest,
         tick: Tick,
     ) -> Result<PoolLookup, NoMemory>
-        ensures holds { (seen : View) → tick.now ≡ seen.moment → AreFor seen request.query zone.now ips.now → PoolsHold seen self.old → PoolsHold seen self.new }
+        ensures holds { (view : LogView) → tick.now ≡ view.moment → ServersForQuery view request.query zone.now ips.now → PoolsHold view self.old → PoolsHold view self.new }
         ensures given { given_so_far self.new ≡ given_so_far self.old }
     {
         let sought = sought_from(alloc, &request.query, zone, tick.now)?;
-        let servers = self.meet_all(alloc, ips)?;
+        let servers = self.servers_for(alloc, ips)?;
         let pool = NameServerPool::from_nameservers(alloc, servers, &mut self.shared)?;
         let lookup = pool.into_lookup(alloc, &mut self.shared, request, tick)?;
         self.keep(lookup, sought)
@@ -223,7 +223,7 @@ impl Pools {
 
     /// Keeps which order of a lookup is open, to which address its first send goes, where that was not
     /// known, and when its last end came, where it is another. What it comes to is not known then.
-    fn note(&mut self, lookup: u64, given: Option<Given>, first: Option<IpAddr>, at: Option<u64>)
+    fn note(&mut self, lookup: u64, given: Option<OpenOrder>, first: Option<IpAddr>, at: Option<u64>)
         ensures { HasNoted lookup (noted given first at) self.old self.new }
     {
         match self.sought.get_mut(&lookup) {
@@ -280,9 +280,9 @@ impl Pools {
         lookup: &mut PoolLookup,
         since: u64,
         tick: Tick,
-    ) -> Result<Stepped, NoMemory>
-        ensures holds { (seen : View) → IsStepAt seen since tick → PoolsHold seen self.old → PoolsHold seen self.new }
-        ensures goes { (seen : View) → IsStepAt seen since tick → PoolsHold seen self.old → IfOk result (StepGoes seen) }
+    ) -> Result<PoolsStep, NoMemory>
+        ensures holds { (view : LogView) → IsStepAt view since tick → PoolsHold view self.old → PoolsHold view self.new }
+        ensures goes { (view : LogView) → IsStepAt view since tick → PoolsHold view self.old → IfOk result (StepGoes view) }
         ensures waits { IfOk result (IfAwaits (awaited_in self.new lookup.old.number)) }
         ensures given { GivesNext (given_so_far self.old) (given_so_far self.new) result }
         ensures came { IfOk result (IfCame (came_at self.new lookup.old.number)) }
@@ -290,10 +290,10 @@ impl Pools {
     {
         let n = lookup.number();
         if self.has_come(n) {
-            return Ok(Stepped::Done);
+            return Ok(PoolsStep::Done);
         }
         match self.awaited(n) {
-            Some(number) => Ok(Stepped::Waiting { number }),
+            Some(number) => Ok(PoolsStep::Waiting { number }),
             None => self.step(alloc, lookup, since, tick),
         }
     }
@@ -305,9 +305,9 @@ impl Pools {
         lookup: &mut PoolLookup,
         since: u64,
         tick: Tick,
-    ) -> Result<Stepped, NoMemory>
-        ensures holds { (seen : View) → IsStepAt seen since tick → PoolsHold seen self.old → PoolsHold seen self.new }
-        ensures goes { (seen : View) → IsStepAt seen since tick → PoolsHold seen self.old → IfOk result (StepGoes seen) }
+    ) -> Result<PoolsStep, NoMemory>
+        ensures holds { (view : LogView) → IsStepAt view since tick → PoolsHold view self.old → PoolsHold view self.new }
+        ensures goes { (view : LogView) → IsStepAt view since tick → PoolsHold view self.old → IfOk result (StepGoes view) }
         ensures waits { IfOk result (IfAwaits (awaited_in self.new lookup.old.number)) }
         ensures given { GivesNext (given_so_far self.old) (given_so_far self.new) result }
         ensures came { IfOk result (IfCame (came_at self.new lookup.old.number)) }
@@ -320,19 +320,19 @@ impl Pools {
         match lookup.next(alloc, &mut self.shared, tick) {
             Ok(PoolStep::Order { number, order }) => {
                 let aim = aim_of(&order);
-                let given = Given {
+                let given = OpenOrder {
                     number,
                     aim,
                     since,
                     polled: None,
                 };
                 self.note(n, Some(given), None, None);
-                Ok(Stepped::Order { number, order })
+                Ok(PoolsStep::Order { number, order })
             }
             Ok(PoolStep::Done(told)) => {
                 self.note(n, None, None, None);
                 self.decide(alloc, n, told)?;
-                Ok(Stepped::Done)
+                Ok(PoolsStep::Done)
             }
             Ok(PoolStep::Waiting) => {
                 self.forget(n);
@@ -351,10 +351,10 @@ impl Pools {
         lookup: u64,
         number: u64,
         outcome: &Outcome,
-        waits: Option<&Sent>,
-    ) -> Option<Given>
+        waits: Option<&SentBy>,
+    ) -> Option<OpenOrder>
         ensures some { IfSome result (λ g. (g.number ≡ number) × IsGivenFor self.now lookup (option_copied waits.entry) outcome.now g) }
-        ensures none { result ≡ None → (g : Given) → g.number ≡ number → IsGivenFor self.now lookup (option_copied waits.entry) outcome.now g → ⊥ }
+        ensures none { result ≡ None → (g : OpenOrder) → g.number ≡ number → IsGivenFor self.now lookup (option_copied waits.entry) outcome.now g → ⊥ }
     {
         let ended = !self.shared.ends(lookup).is_empty();
         let sought = self.sought.get(&lookup)?.get();
@@ -370,7 +370,7 @@ impl Pools {
     fn note_outcome(
         &mut self,
         lookup: u64,
-        given: Given,
+        given: OpenOrder,
         first: Option<IpAddr>,
         before: usize,
         after: After,
@@ -392,19 +392,19 @@ impl Pools {
         &mut self,
         alloc: Global,
         lookup: u64,
-        given: Given,
+        given: OpenOrder,
         outcome: Outcome,
-        waits: Option<&Sent>,
+        waits: Option<&SentBy>,
         tick: Tick,
     ) -> Result<After, NoMemory>
         requires open { open_at given.number self.old.shared ≡ Some lookup }
         requires given { IsGivenFor self.old lookup (option_copied waits) outcome given }
         ensures took { IfOk result (Took self.old self.new lookup given.number outcome tick) }
         ensures given { given_so_far self.new ≡ given_so_far self.old }
-        ensures holds { HoldsOn tick (option_copied waits.entry) outcome result (λ seen. PoolsHold seen self.old) (λ seen. PoolsHold seen self.new) }
+        ensures holds { HoldsOn tick (option_copied waits.entry) outcome result (λ view. PoolsHold view self.old) (λ view. PoolsHold view self.new) }
     {
         let first = first_of(&given, &outcome, waits);
-        let given = Given {
+        let given = OpenOrder {
             polled: polled_by(&outcome),
             ..given
         };
@@ -427,7 +427,7 @@ impl Pools {
         alloc: Global,
         lookup: u64,
         told: Result<Message, NetError>,
-    ) -> Result<Option<Boxed<Found>>, NoMemory>
+    ) -> Result<Option<Boxed<LookupResult>>, NoMemory>
         ensures comes { answer_at self.now.shared lookup ≡ Some told → IfOk result (Comes self.now lookup) }
         ensures sought { IfOk result (λ came. IsSome came → IsSome (sought_at self.now lookup)) }
     {
@@ -446,7 +446,7 @@ impl Pools {
     }
 
     /// What a lookup came to by its answer, where it was answered.
-    fn comes(&self, alloc: Global, lookup: u64) -> Result<Option<Boxed<Found>>, NoMemory>
+    fn comes(&self, alloc: Global, lookup: u64) -> Result<Option<Boxed<LookupResult>>, NoMemory>
         ensures { IfOk result (Comes self.now lookup) }
     {
         match self.shared.answer(alloc, lookup)? {
@@ -461,7 +461,7 @@ impl Pools {
         alloc: Global,
         cache: &mut ResponseCache,
         lookup: u64,
-        came: &Option<Boxed<Found>>,
+        came: &Option<Boxed<LookupResult>>,
     ) -> Result<(), NoMemory>
         ensures ok { OnOk result (cache.new ≡ with_sought cache.old (sought_at self.now lookup) came.now) }
         ensures err { OnErr result (cache.new ≡ cache.old) }
@@ -474,15 +474,15 @@ impl Pools {
         };
         let sought = sought.get();
         match came.get() {
-            Found::Told {
+            LookupResult::Told {
                 entry,
                 verdict: Ok(verdict),
             } => write_verdict(alloc, cache, &sought.query, *entry, sought.at, verdict),
-            Found::Told {
+            LookupResult::Told {
                 verdict: Err(_),
                 ..
             } => Ok(()),
-            Found::Error(_) => Ok(()),
+            LookupResult::Error(_) => Ok(()),
         }
     }
 
@@ -493,7 +493,7 @@ impl Pools {
         alloc: Global,
         cache: &mut ResponseCache,
         lookup: u64,
-    ) -> Result<Option<Boxed<Found>>, NoMemory>
+    ) -> Result<Option<Boxed<LookupResult>>, NoMemory>
         ensures ok { OnOk result (cache.new ≡ remembered cache.old (telling_at self.now lookup)) }
         ensures comes { IfOk result (Comes self.now lookup) }
         ensures err { OnErr result (cache.new ≡ cache.old) }
@@ -504,7 +504,7 @@ impl Pools {
     }
 
     /// Keeps what a lookup came to, or that nothing is known of it.
-    fn keep_came(&mut self, lookup: u64, came: Option<Boxed<Found>>)
+    fn keep_came(&mut self, lookup: u64, came: Option<Boxed<LookupResult>>)
         ensures { HasNoted lookup (with_came came) self.old self.new }
     {
         match self.sought.get_mut(&lookup) {
@@ -522,7 +522,7 @@ impl Pools {
         told: Result<Message, NetError>,
     ) -> Result<(), NoMemory>
         ensures came { OnOk result (IsSome (came_at self.new lookup)) }
-        ensures holds { (seen : View) → answer_at self.old.shared lookup ≡ Some told → PoolsHold seen self.old → PoolsHold seen self.new }
+        ensures holds { (view : LogView) → answer_at self.old.shared lookup ≡ Some told → PoolsHold view self.old → PoolsHold view self.new }
         ensures given { given_so_far self.new ≡ given_so_far self.old }
     {
         match self.found(alloc, lookup, told) {
@@ -548,14 +548,14 @@ impl Pools {
         cache: &mut ResponseCache,
         number: u64,
         outcome: Outcome,
-        waits: Option<&Sent>,
+        waits: Option<&SentBy>,
         tick: Tick,
     ) -> Result<After, NoMemory>
         ensures takes { IfOk result (Takes cache.old cache.new self.old self.new number outcome tick) }
         ensures late { (result ≡ Ok After.Late) ↔ (IsOutcomeOf self.old number (option_copied waits.entry) outcome → ⊥) }
         ensures err { OnErr result (cache.new ≡ cache.old) }
         ensures given { given_so_far self.new ≡ given_so_far self.old }
-        ensures holds { HoldsOn tick (option_copied waits.entry) outcome result (λ seen. TablesHold seen cache.old self.old) (λ seen. TablesHold seen cache.new self.new) }
+        ensures holds { HoldsOn tick (option_copied waits.entry) outcome result (λ view. TablesHold view cache.old self.old) (λ view. TablesHold view cache.new self.new) }
     {
         let Some(lookup) = self.shared.open_at(number) else {
             drop(outcome);
@@ -583,7 +583,7 @@ impl Pools {
     }
 
     /// Takes what is kept of what a lookup came to.
-    fn take_kept(&mut self, lookup: u64) -> Option<Boxed<Found>>
+    fn take_kept(&mut self, lookup: u64) -> Option<Boxed<LookupResult>>
         ensures noted { HasNoted lookup (with_came None) self.old self.new }
         ensures kept { result ≡ came_at self.old lookup }
     {
@@ -603,10 +603,10 @@ impl Pools {
         zone: &Name,
         begun: u64,
     ) -> Result<Option<Answer>, NoMemory>
-        ensures answer { (seen : View) → PoolsHold seen self.old
-            → IfOk result (λ answer. IfSome answer (AnswerHolds seen begun zone.now query.now)) }
+        ensures answer { (view : LogView) → PoolsHold view self.old
+            → IfOk result (λ answer. IfSome answer (AnswerHolds view begun zone.now query.now)) }
         ensures some { IsSome (came_at self.old lookup.now.number) → IfOk result IsSome }
-        ensures holds { (seen : View) → PoolsHold seen self.old → PoolsHold seen self.new }
+        ensures holds { (view : LogView) → PoolsHold view self.old → PoolsHold view self.new }
         ensures given { given_so_far self.new ≡ given_so_far self.old }
     {
         let n = lookup.number();
@@ -622,7 +622,7 @@ impl Pools {
 
     /// Ends the interest in a lookup.
     pub fn leave(&mut self, lookup: PoolLookup)
-        ensures holds { (seen : View) → PoolsHold seen self.old → PoolsHold seen self.new }
+        ensures holds { (view : LogView) → PoolsHold view self.old → PoolsHold view self.new }
         ensures gone { HasGone lookup.number self.old self.new }
         ensures given { given_so_far self.new ≡ given_so_far self.old }
     {
@@ -632,7 +632,7 @@ impl Pools {
 
     /// Ends the interest in all lookups.
     pub fn clear(&mut self)
-        ensures holds { (seen later : View) → Later seen later → PoolsHold seen self.old → PoolsHold later self.new }
+        ensures holds { (view later : LogView) → Advances view later → PoolsHold view self.old → PoolsHold later self.new }
         ensures gone { (n : ℕ) → sought_at self.new n ≡ None }
         ensures given { given_so_far self.new ≡ given_so_far self.old }
     {

@@ -1,17 +1,17 @@
 //! Which types of this crate may go to another thread, and be shared among threads.
 
-use crate::lookup::{Ask, Lookup, Want};
-use crate::pools::{Answer, Pools, Stepped};
+use crate::lookup::{Phase, Lookup, QueryStep};
+use crate::pools::{Answer, Pools, PoolsStep};
 use dns_core::CrossesThreads;
 
 impl CrossesThreads for Answer {}
 
-impl CrossesThreads for Ask {}
+impl CrossesThreads for Phase {}
 
 impl CrossesThreads for Lookup {}
 
 impl CrossesThreads for Pools {}
 
-impl CrossesThreads for Stepped {}
+impl CrossesThreads for PoolsStep {}
 
-impl CrossesThreads for Want {}
+impl CrossesThreads for QueryStep {}

@@ -1,3 +1,3 @@
 pub mod LowestClause
-pub mod Cuts
-pub mod Served
+pub mod NoZoneOnTheWay
+pub mod ServedByRecords

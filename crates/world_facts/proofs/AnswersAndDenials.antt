@@ -11,7 +11,7 @@ use Rattle.resolution.specs.Records.{records}
 use Rattle.resolution.specs.Class.{has_no_data_for, is_foreign, class_of_message}
 use Rattle.resolution.specs.declared.class.Class.{Class}
 use Rattle.resolution.specs.declared.class.Class.TheVariants.{Code, Truncated, Negative, Foreign, Positive}
-use Rattle.resolution.proofs.Members.{Has}
+use Rattle.resolution.proofs.ElementsFiltered.{Has}
 use Rattle.zone_rules.specs.declared.world.Zone.{Zone}
 use Rattle.zone_rules.specs.declared.world.World.{World}
 use Rattle.zone_worlds.specs.Telling.{zone_asked, Replies, Tells}

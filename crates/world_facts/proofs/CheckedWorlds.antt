@@ -8,7 +8,7 @@ use Rattle.dns_core.specs.declared.record.Record.{Record}
 use Rattle.resolver_settings.specs.Access.{denies}
 use Rattle.resolution.specs.Records.{address}
 use Rattle.recursor_types.specs.declared.policy.Policy.{Policy}
-use Rattle.resolution.proofs.Members.{Has, Has-from_Contains}
+use Rattle.resolution.proofs.ElementsFiltered.{Has, Has-from_Contains}
 use Rattle.zone_rules.specs.declared.world.Zone.{Zone}
 use Rattle.zone_rules.specs.declared.world.World.{World}
 use Rattle.world_check.specs.Clauses.{clauses, first_failing}
@@ -18,7 +18,7 @@ use Rattle.world_check.specs.declared.filters.WorldFilters.{WorldFilters}
 use Rattle.world_check.specs.declared.verdict.Verdict.TheVariants.{Yes}
 use Rattle.world_facts.specs.Served.{IsServed}
 use Rattle.world_facts.specs.Checked.{IsGiven, IsOfScenario}
-use Rattle.world_facts.proofs.Passing.{halves, all_Has}
+use Rattle.world_facts.proofs.ElementsThatPass.{halves, all_Has}
 
 -- where none fails, each holds
 each_holds : (n : ℕ) (bs : List Bool) → first_failing n bs ≡ Yes → (b : Bool) → Has bs b → b ≡ true

@@ -30,19 +30,19 @@ use Rattle.resolution.specs.Class.{has_no_data_for, class_of_message}
 use Rattle.resolver_settings.specs.Access.{denies as access_denies}
 use Rattle.recursor_types.specs.declared.policy.Policy.{Policy}
 use Rattle.resolution.specs.Telling.{Tells as LogTells}
-use Rattle.resolution.specs.Verdict.{holds_denied, without_denied, in_zone, within, emptied, verdict, verdict_of_told, verdict_of_message}
+use Rattle.resolution.specs.Verdict.{holds_denied, without_denied, is_in_bailiwick, in_bailiwick, is_emptied, verdict, verdict_of_told, verdict_of_message}
 use Rattle.resolution.specs.Serving.{Serves, is_delegation}
 use Rattle.resolution.specs.Serving.Heard.{heard}
-use Rattle.resolution.specs.Walking.{at_any_time, is_cut, NoCut}
+use Rattle.resolution.specs.Walking.{at_any_time, is_cut, NoCutSeen}
 use Rattle.resolution.specs.Walking.NoCut.{told_otherwise, not_told}
 use Rattle.resolution.specs.declared.class.Class.{Class}
 use Rattle.resolution.specs.declared.class.Class.TheVariants.{Positive}
 use Rattle.resolution.specs.declared.verdict.Verdict.{Verdict}
 use Rattle.resolution.specs.declared.verdict.Verdict.TheVariants.{Pos, Made}
 use Rattle.resolution.specs.declared.verdict.Cause.TheVariants.{Filter, Zone as OutsideZone}
-use Rattle.resolution.proofs.Above.{pointwise-drop, is_above-refl}
+use Rattle.resolution.proofs.AboveIsAnOrder.{pointwise-drop, is_above-refl}
 use Rattle.resolution.proofs.Caseless.{both, flags, labels_same, length-same, names_same, types_same, is_above-same, walk-same}
-use Rattle.resolution.proofs.Members.{Has, Has-append_left, Has-append_right, any_Has, Has_any}
+use Rattle.resolution.proofs.ElementsFiltered.{Has, Has-append_left, Has-append_right, any_Has, Has_any}
 use Rattle.zone_rules.specs.Tree.{qualified, exists_in}
 use Rattle.zone_rules.specs.Choosing.{is_of, is_alias, alias_in, owned}
 use Rattle.zone_rules.specs.declared.world.Zone.{Zone}
@@ -50,13 +50,13 @@ use Rattle.zone_rules.specs.declared.world.World.{World}
 use Rattle.zone_worlds.specs.Telling.{child_of, Replies, Tells}
 use Rattle.zone_worlds.specs.Telling.Replies.{denies as denies_name, by_alias, gives, lacks}
 use Rattle.zone_worlds.specs.Telling.Tells.{refuses, refers, answers}
-use Rattle.zone_worlds.proofs.Listed.{find_passes, length_filter-lt}
+use Rattle.zone_worlds.proofs.FoundInLists.{find_passes, length_filter-lt}
 use Rattle.zone_worlds.proofs.ZonesFound.{alias_in_Has}
 use Rattle.world_layout.specs.Layout.{is_in_place, has_authority}
 use Rattle.world_layout.specs.Naming.{owns_one, has_star, is_soundly_held, is_soundly_named}
 use Rattle.world_facts.specs.Told.{TellsLog}
 use Rattle.world_facts.specs.Served.{IsServed, IsServerOf}
-use Rattle.world_facts.proofs.Passing.{halves, all_Has, through, turned, filter_Has, clash, some_left}
+use Rattle.world_facts.proofs.ElementsThatPass.{halves, all_Has, through, turned, filter_Has, clash, some_left}
 use Rattle.world_facts.proofs.ToldRecords.{told_from, is_held, child_Has, zone_asked_Has, alias_no_ns}
 use Rattle.world_facts.proofs.ServersOfZones.{was_told, serves-world}
 use Rattle.world_facts.proofs.ZonesAsked.{IsAsked, asks, asked_labels, one_asked, IsCutAt, cut_is, no_cut_below, apex_is, none_at}
@@ -302,7 +302,7 @@ module _ (policy : Policy) (w : World) (ok : IsServed policy w) where
   left p m r e (referred n h) = referred (ap (filter p) n) (filter_Has p m.authorities r h e)
 
   -- and nothing is emptied
-  unemptied : (p : Record → Bool) (m : Message) (r : Record) → p r ≡ true → IsShown m r → emptied m (only p m) ≡ false
+  unemptied : (p : Record → Bool) (m : Message) (r : Record) → p r ≡ true → IsShown m r → is_emptied m (only p m) ≡ false
   unemptied p m r e (answered h) = answers_left (length m.answers == 0) (length (filter p m.answers) == 0) (length m.authorities == 0) (length (filter p m.authorities) == 0)
       (some_left (filter p m.answers) r (filter_Has p m.answers r h e))
     where
@@ -326,25 +326,25 @@ module _ (policy : Policy) (w : World) (ok : IsServed policy w) where
     allowed_left r = not (holds_denied (access_denies policy.answer_filter) r)
 
     abbrev kept_of : Message
-    kept_of = within z (without_denied (access_denies policy.answer_filter) m)
+    kept_of = in_bailiwick z (without_denied (access_denies policy.answer_filter) m)
 
     undenied : not (holds_denied (access_denies policy.answer_filter) s.ns) ≡ true
     undenied = ap not (ns_no_address (access_denies policy.answer_filter) s.ns s.is)
 
-    inside : in_zone z s.ns ≡ true
+    inside : is_in_bailiwick z s.ns ≡ true
     inside = is_above-same z s.ns.name c s.named ∙ above
 
     shown_left : IsShown (without_denied (access_denies policy.answer_filter) m) s.ns
     shown_left = left (λ (r : Record). not (holds_denied (access_denies policy.answer_filter) r)) m s.ns undenied s.shown
 
     shown_within : IsShown kept_of s.ns
-    shown_within = left (in_zone z) (without_denied (access_denies policy.answer_filter) m) s.ns inside shown_left
+    shown_within = left (is_in_bailiwick z) (without_denied (access_denies policy.answer_filter) m) s.ns inside shown_left
 
     pub counts_whole : verdict_of_message (access_denies policy.answer_filter) m z ≡ Pos kept_of
     counts_whole =
-        ap (λ (b : Bool). if b then Made Filter else (if emptied (without_denied (access_denies policy.answer_filter) m) kept_of then Made OutsideZone else Pos kept_of))
+        ap (λ (b : Bool). if b then Made Filter else (if is_emptied (without_denied (access_denies policy.answer_filter) m) kept_of then Made OutsideZone else Pos kept_of))
         (unemptied (λ (r : Record). not (holds_denied (access_denies policy.answer_filter) r)) m s.ns undenied s.shown)
-        ∙ ap (λ (b : Bool). if b then Made OutsideZone else Pos kept_of) (unemptied (in_zone z) (without_denied (access_denies policy.answer_filter) m) s.ns inside shown_left)
+        ∙ ap (λ (b : Bool). if b then Made OutsideZone else Pos kept_of) (unemptied (is_in_bailiwick z) (without_denied (access_denies policy.answer_filter) m) s.ns inside shown_left)
 
     pub delegates_left : is_delegation kept_of c ≡ true
     delegates_left = any_Has (λ (r : Record). is_ns r && same_names r.name c) (records kept_of) s.ns (in_records kept_of s.ns shown_within) (both (is_ns s.ns) (same_names s.ns.name c) s.is s.named)
@@ -389,7 +389,7 @@ module _ (policy : Policy) (w : World) (log : Log) (ok : IsServed policy w) (by 
       answer m cut (positive n k) = k
       answer m cut (negative n k) = absurd (clash (has_no_data_for (question c 2) m) n (has_data policy w ok m c z cut above))
 
-  pub no_cut : {c : DomainName} → NoCut policy log c → (y : Zone) → Has w.zones y → same_names y.apex c ≡ true → ⊥
+  pub no_cut : {c : DomainName} → NoCutSeen policy log c → (y : Zone) → Has w.zones y → same_names y.apex c ≡ true → ⊥
   no_cut (told_otherwise {c = c} {i = i} {moment = moment} {o = o} {z = z} {v = v} (heard {ask = ask} {teller = teller} t s a) e n below) y h same =
       clash (is_cut v c) (told_cut i ask moment o teller z c v y t s a e h same (λ x k low high other is. no_cut (below low high other) x k is)) n
   no_cut (not_told {c = c} {z = z} {g = g} {e = e} f n below) y h same =

@@ -12,9 +12,9 @@ use Rattle.dns_core.specs.declared.message.Query.{Query}
 use Rattle.dns_core.specs.declared.message.Message.{Message}
 use Rattle.resolution.specs.Names.{is_above, walk, last_name}
 use Rattle.recursor_types.specs.declared.policy.Policy.{Policy}
-use Rattle.resolution.proofs.Above.{labels_equiv}
+use Rattle.resolution.proofs.AboveIsAnOrder.{labels_equiv}
 use Rattle.resolution.proofs.Caseless.{both}
-use Rattle.resolution.proofs.Members.{Has, Contains-from_Has}
+use Rattle.resolution.proofs.ElementsFiltered.{Has, Contains-from_Has}
 use Rattle.zone_rules.specs.Tree.{qualified, zone_at, nearest, zone_of}
 use Rattle.zone_rules.specs.declared.world.Zone.{Zone}
 use Rattle.zone_rules.specs.declared.world.World.{World}
@@ -23,7 +23,7 @@ use Rattle.zone_worlds.specs.Telling.Tells.{refuses, refers, answers}
 use Rattle.world_facts.specs.Told.{TellsLog}
 use Rattle.world_facts.specs.Served.{IsServed, IsServerOf}
 use Rattle.world_facts.specs.Deepest.{PassedAll, IsFromDeepest}
-use Rattle.world_facts.proofs.Passing.{through, turned}
+use Rattle.world_facts.proofs.ElementsThatPass.{through, turned}
 use Rattle.world_facts.proofs.ToldRecords.{child_Has, zone_asked_Has, zone_at_Has}
 use Rattle.world_facts.proofs.ZonesAsked.{IsAsked, asks, asked_labels, one_asked, IsCutAt, cut_is, no_cut_below, apex_is, none_at, walk_flag}
 use Rattle.world_facts.proofs.CutsShown.{no_cut}

@@ -10,14 +10,14 @@ use Rattle.dns_core.specs.declared.net_error.NetError.TheVariants as net
 use Rattle.dns_core.specs.declared.net_error.DnsError.TheVariants as dns
 use Rattle.resolution.specs.Names.{walk, candidates, last_name, question}
 use Rattle.recursor_types.specs.declared.policy.Policy.{Policy}
-use Rattle.resolution.specs.Ending.{Known}
-use Rattle.resolution.proofs.Members.{Has, Has-from_Contains}
+use Rattle.resolution.specs.Ending.{LookupTiming}
+use Rattle.resolution.proofs.ElementsFiltered.{Has, Has-from_Contains}
 use Rattle.resolution.proofs.WayDown.{last-length}
 use Rattle.recursor_types.specs.declared.error.RecursorError.{RecursorError}
 use Rattle.recursor_types.specs.declared.error.RecursorError.TheVariants as error
 use Rattle.recursor_types.specs.declared.error.WalkCause.{WalkCause}
 use Rattle.recursor_types.specs.declared.error.WalkCause.TheVariants as why
-use Rattle.walk_lookup.specs.Found.{is_lookup_error}
+use Rattle.walk_lookup.specs.LookupResult.{is_lookup_error}
 use Rattle.recursor_walk.specs.Causes.{ErrorHolds, HasNoServer}
 use Rattle.zone_rules.specs.declared.world.World.{World}
 use Rattle.world_facts.specs.Told.{TellsLog}
@@ -32,7 +32,7 @@ labelled n c a zero low high h = elim h [ ]
 labelled n c a (suc m) low high (inl e) = subst (λ (x : DomainName). 0 < length x.labels) e (let count = last-length n a (omega (arith, high)) in omega (arith, count, low))
 labelled n c a (suc m) low high (inr h) = labelled n c (a + 1) m (omega (arith, low)) (omega (arith, high)) h
 
-module _ (policy : Policy) (w : World) (log : Log) (ok : IsServed policy w) (by_world : TellsLog w log) (known : Known) (t0 : ℕ) (q : Query) (g : List ℕ) (in_class : q.query_class.code ≡ 1) (qualified : q.name.fqdn ≡ true) where
+module _ (policy : Policy) (w : World) (log : Log) (ok : IsServed policy w) (by_world : TellsLog w log) (known : LookupTiming) (t0 : ℕ) (q : Query) (g : List ℕ) (in_class : q.query_class.code ≡ 1) (qualified : q.name.fqdn ≡ true) where
   -- no server is missing
   no_cause : (cause : WalkCause) → HasNoServer policy known log t0 q cause → ⊥
   no_cause why.NoAddress h = no_glueless policy w log ok by_world t0 h.candidate h.told

@@ -19,25 +19,25 @@ use Rattle.resolution.specs.Names.{is_above, is_root, base, question, same_query
 use Rattle.resolution.specs.Records.{address, ns_target, records, only}
 use Rattle.resolver_settings.specs.Access.{denies as access_denies}
 use Rattle.recursor_types.specs.declared.policy.Policy.{Policy}
-use Rattle.resolution.specs.Verdict.{holds_denied, without_denied, in_zone, within}
+use Rattle.resolution.specs.Verdict.{holds_denied, without_denied, is_in_bailiwick, in_bailiwick}
 use Rattle.resolution.specs.Serving.{Heard, target_below, targets, glue, address_under, allowed}
 use Rattle.resolution.specs.Serving.Heard.{heard}
 use Rattle.resolution.specs.Failing.{Glueless}
-use Rattle.resolution.proofs.Above.{is_above-trans}
+use Rattle.resolution.proofs.AboveIsAnOrder.{is_above-trans}
 use Rattle.resolution.proofs.WayDown.{last-above}
 use Rattle.resolution.proofs.Caseless.{both, names_same, types_same, is_above-same, length-same, labels_same}
 use Rattle.std.specs.Cmp.Lexicographic.{pointwise}
 use Rattle.dns_core.specs.Letters.{same_letter}
 use Rattle.std.proofs.lemmas.Bool.Decides.{Decides-eqb}
 use Rattle.resolution.proofs.ZoneCase.{above-same}
-use Rattle.resolution.proofs.Invented.{CountsOf, verdict-pos, Has-counted}
-use Rattle.resolution.proofs.Members.{Has, Contains-from_Has, Has-append_left, Has-append_right, Has-append_cases, Has-filter, Has-passes, filter_map-Has, any_Has, Has_any}
+use Rattle.resolution.proofs.NoAddressIsInvented.{CountsOf, verdict-pos, Has-counted}
+use Rattle.resolution.proofs.ElementsFiltered.{Has, Contains-from_Has, Has-append_left, Has-append_right, Has-append_cases, Has-filter, Has-passes, filter_map-Has, any_Has, Has_any}
 use Rattle.zone_rules.specs.Choosing.{is_of, owned, soa_of, servers, names_server, server_addresses, alias_in}
 use Rattle.zone_rules.specs.declared.world.Zone.{Zone}
 use Rattle.zone_rules.specs.declared.world.World.{World}
 use Rattle.zone_worlds.specs.Telling.{referral, positive, AnswersByAlias, Tells}
 use Rattle.zone_worlds.specs.Telling.AnswersByAlias.{alone, chained}
-use Rattle.zone_worlds.proofs.Listed.{find_passes}
+use Rattle.zone_worlds.proofs.FoundInLists.{find_passes}
 use Rattle.zone_worlds.proofs.ZonesFound.{alias_in_Has}
 use Rattle.zone_worlds.specs.Telling.IsByAlias.{is_by_alias}
 use Rattle.zone_worlds.specs.Telling.Replies.{denies, by_alias, gives, lacks}
@@ -45,7 +45,7 @@ use Rattle.zone_worlds.specs.Telling.Tells.{refuses, refers, answers}
 use Rattle.world_check.specs.Serving.{is_own_server, has_own_server, is_served_as_named, is_served_at}
 use Rattle.world_facts.specs.Told.{TellsLog}
 use Rattle.world_facts.specs.Served.{IsHeld, IsServed}
-use Rattle.world_facts.proofs.Passing.{halves, all_Has, in_parts, through, turned, filter_Has}
+use Rattle.world_facts.proofs.ElementsThatPass.{halves, all_Has, in_parts, through, turned, filter_Has}
 use Rattle.world_facts.proofs.ToldRecords.{child_Has, zone_asked_Has, address_no_ns, soa_no_ns, follows_are}
 use Rattle.world_facts.proofs.ServersOfZones.{was_told, one_message, ns_is, served_as}
 use Rattle.world_facts.proofs.CutsShown.{ns_typed, ns_no_address, no_alias}
@@ -281,8 +281,8 @@ module _ (policy : Policy) (w : World) (log : Log) (ok : IsServed policy w) (by_
           let ip : (ip : IpAddr) × (address x.held ≡ Some ip) = address_of x.held x.an_address in
           let free : (access_denies policy.server_filter ip.0 ≡ false) × (access_denies policy.answer_filter ip.0 ≡ false) = ok.allowed x.held ip.0 x.of_world ip.1 in
           let kept : (r : Record) → Has (records told.message) r → holds_denied (access_denies policy.answer_filter) r ≡ false → is_above g.z r.name ≡ true → Has (records k) r =
-          λ r h n a. subst (λ (m : Message). Has (records m) r) (sym (counts.kept ∙ ap (λ (m : Message). within g.z (without_denied (access_denies policy.answer_filter) m)) (sym same)))
-          (only_Has (in_zone g.z) (without_denied (access_denies policy.answer_filter) told.message) r (only_Has (λ (r : Record). not (holds_denied (access_denies policy.answer_filter) r)) told.message r h (ap not n)) a) in
+          λ r h n a. subst (λ (m : Message). Has (records m) r) (sym (counts.kept ∙ ap (λ (m : Message). in_bailiwick g.z (without_denied (access_denies policy.answer_filter) m)) (sym same)))
+          (only_Has (is_in_bailiwick g.z) (without_denied (access_denies policy.answer_filter) told.message) r (only_Has (λ (r : Record). not (holds_denied (access_denies policy.answer_filter) r)) told.message r h (ap not n)) a) in
           let ns = kept x.ns x.ns_in (ns_no_address (access_denies policy.answer_filter) x.ns (ns_is x.ns x.target x.is)) (is_above-same g.z x.ns.name c x.named ∙ above) in
           let at : holds_denied (access_denies policy.answer_filter) x.held ≡ false = ap (λ (o : Option IpAddr). elim o [ None ↦ false | Some i ↦ access_denies policy.answer_filter i ]) ip.1 ∙ free.1 in
           let held = kept x.held x.held_in at (is_above-trans g.z c x.held.name above x.below) in

@@ -1,4 +1,4 @@
-mod Passing
+mod ElementsThatPass
 mod ToldRecords
 mod ServersOfZones
 mod ZonesAsked

@@ -17,22 +17,22 @@ use Rattle.resolution.specs.Class.{has_no_data_for}
 use Rattle.recursor_types.specs.declared.policy.Policy.{Policy}
 use Rattle.resolution.specs.Serving.{Serves}
 use Rattle.resolution.specs.Serving.Serves.{of_root as by_root}
-use Rattle.resolution.specs.Lookups.{End, PoolRun, class_of_answer, answer_of, turns, retries, none_is_final, is_turn, is_retryable, all_were_tried}
+use Rattle.resolution.specs.Lookups.{End, PoolRun, class_of_answer, answer_of, falls_back, retries, none_is_final, is_tcp_fallback, is_retryable, all_were_tried}
 use Rattle.resolution.specs.Lookups.PoolRun.{decided, spent, late}
-use Rattle.resolution.specs.Ending.{Known, by_address, waits, EndsSend, EndSends, Listed, Ended}
+use Rattle.resolution.specs.Ending.{LookupTiming, by_address, waits, EndsSend, EndSends, Listed, Ended}
 use Rattle.resolution.specs.Ending.EndsSend.{open_refused, ask_refused, open_failed, ask_failed, answered, given_up}
 use Rattle.resolution.specs.Ending.EndSends.{no_send, and_send}
 use Rattle.resolution.specs.Ending.Listed.{of_roots, of_told}
 use Rattle.resolution.specs.declared.class.Class.{Class}
 use Rattle.resolution.specs.declared.class.Class.TheVariants.{Negative, Positive}
-use Rattle.resolution.proofs.Members.{Has, Has-from_Contains, Contains-from_Has, Has-append_right}
+use Rattle.resolution.proofs.ElementsFiltered.{Has, Has-from_Contains, Contains-from_Has, Has-append_right}
 use Rattle.resolution.proofs.Caseless.{walk-same}
 use Rattle.zone_rules.specs.declared.world.World.{World}
 use Rattle.zone_worlds.specs.Telling.{Tells}
 use Rattle.world_upstream.specs.Giving.{IsTold}
 use Rattle.world_facts.specs.Told.{TellsLog}
 use Rattle.world_facts.specs.Served.{IsServed, IsServerOf}
-use Rattle.world_facts.proofs.Passing.{halves, clash}
+use Rattle.world_facts.proofs.ElementsThatPass.{halves, clash}
 use Rattle.world_facts.proofs.ToldRecords.{told_from, is_held}
 use Rattle.world_facts.proofs.ServersOfZones.{serves-world}
 use Rattle.world_facts.proofs.ZonesAsked.{asks}
@@ -118,10 +118,10 @@ module _ (policy : Policy) (w : World) (log : Log) (ok : IsServed policy w) (by 
 
   -- an end is final: it is no turn, and no other server is asked after it
   final : (q : Query) (e : End IpAddr) (a : IsAnswered w q e) → IsResponse a.message q
-      → (turns (by_address policy.timeout) (class_of_answer q) e ≡ false) × (retries (by_address policy.timeout) (class_of_answer q) e ≡ false)
-  final q e a r = (ap (λ (c : Class). is_turn c) (class q e a r).1 ∙ (class q e a r).2, ap (λ (c : Class). is_retryable true c) (class q e a r).1 ∙ (class q e a r).3)
+      → (falls_back (by_address policy.timeout) (class_of_answer q) e ≡ false) × (retries (by_address policy.timeout) (class_of_answer q) e ≡ false)
+  final q e a r = (ap (λ (c : Class). is_tcp_fallback c) (class q e a r).1 ∙ (class q e a r).2, ap (λ (c : Class). is_retryable true c) (class q e a r).1 ∙ (class q e a r).3)
     where
-      class : (q : Query) (e : End IpAddr) (a : IsAnswered w q e) → IsResponse a.message q → (c : Class) × (class_of_answer q e.outcome ≡ c) × (is_turn c ≡ false) × (is_retryable true c ≡ false)
+      class : (q : Query) (e : End IpAddr) (a : IsAnswered w q e) → IsResponse a.message q → (c : Class) × (class_of_answer q e.outcome ≡ c) × (is_tcp_fallback c ≡ false) × (is_retryable true c ≡ false)
       class q e a (positive n h) = (Positive a.message, ap (class_of_answer q) a.is ∙ h, refl, refl)
       class q e a (negative n h) = (Negative (no_records a.message), ap (class_of_answer q) a.is ∙ h, refl, kept (a.message.response_code.code == 3))
         where
@@ -130,12 +130,12 @@ module _ (policy : Policy) (w : World) (log : Log) (ok : IsServed policy w) (by 
           kept false = refl
 
   -- where none of the ends is final there is none
-  nothing_ended : (q : Query) (ends : List (End IpAddr)) → ((e : End IpAddr) → Has ends e → (turns (by_address policy.timeout) (class_of_answer q) e ≡ false) × (retries (by_address policy.timeout) (class_of_answer q) e ≡ false))
+  nothing_ended : (q : Query) (ends : List (End IpAddr)) → ((e : End IpAddr) → Has ends e → (falls_back (by_address policy.timeout) (class_of_answer q) e ≡ false) × (retries (by_address policy.timeout) (class_of_answer q) e ≡ false))
       → none_is_final (by_address policy.timeout) (class_of_answer q) ends ≡ true → ends ≡ []
   nothing_ended q [] each h = refl
-  nothing_ended q (e ∷ ends) each h = let f = each e (inl refl) in absurd (first_final (turns (by_address policy.timeout) (class_of_answer q)) (retries (by_address policy.timeout) (class_of_answer q)) e ends f.0 f.1 h)
+  nothing_ended q (e ∷ ends) each h = let f = each e (inl refl) in absurd (first_final (falls_back (by_address policy.timeout) (class_of_answer q)) (retries (by_address policy.timeout) (class_of_answer q)) e ends f.0 f.1 h)
 
-  pub ended-denied : (known : Known) (t0 : ℕ) (q : Query) (z : DomainName) (g : List ℕ) (e : NetError) → q.query_class.code ≡ 1 → Ended policy known log t0 q z g e → IsDenial q z e
+  pub ended-denied : (known : LookupTiming) (t0 : ℕ) (q : Query) (z : DomainName) (g : List ℕ) (e : NetError) → q.query_class.code ≡ 1 → Ended policy known log t0 q z g e → IsDenial q z e
   ended-denied known t0 q z g e in_class f = at_run f.run
     where
       serve : (0 < length f.ips) × ((ip : IpAddr) → Has f.ips ip → IsServerOf w ip z)
@@ -147,7 +147,7 @@ module _ (policy : Policy) (w : World) (log : Log) (ok : IsServed policy w) (by 
           let s = serve.1 x.server a.0 in
           (a.1, s, is-response q z x in_class f.above s a.1)
 
-      finals : (x : End IpAddr) → Has f.ends x → (turns (by_address policy.timeout) (class_of_answer q) x ≡ false) × (retries (by_address policy.timeout) (class_of_answer q) x ≡ false)
+      finals : (x : End IpAddr) → Has f.ends x → (falls_back (by_address policy.timeout) (class_of_answer q) x ≡ false) × (retries (by_address policy.timeout) (class_of_answer q) x ≡ false)
       finals x h = let r = responses x h in final q x r.0 r.2
 
       at_run : PoolRun (by_address policy.timeout) (class_of_answer q) f.ips f.ends (Err e) f.start f.now → IsDenial q z e

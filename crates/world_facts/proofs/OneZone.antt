@@ -4,8 +4,8 @@ use Rattle.dns_core.specs.declared.record.Record.{Record}
 use Rattle.dns_core.specs.declared.log.LogEntry.{LogEntry}
 use Rattle.resolution.specs.Telling.{Logged}
 use Rattle.resolution.specs.Ending.{waits}
-use Rattle.resolution.proofs.Members.{Has, Has-from_Contains}
-use Rattle.resolution.proofs.Numbered.{Has-from_Logged}
+use Rattle.resolution.proofs.ElementsFiltered.{Has, Has-from_Contains}
+use Rattle.resolution.proofs.EntriesNumbered.{Has-from_Logged}
 use Rattle.zone_rules.specs.declared.world.Zone.{Zone}
 use Rattle.world_facts.specs.Told.{TellsLog}
 use Rattle.world_facts.specs.Served.{IsServed}

@@ -22,8 +22,8 @@ use Rattle.resolution.specs.Serving.{Serves, Delegates, Heard, IsAddressQuestion
 use Rattle.resolution.specs.Serving.Serves.{of_root, of_glue, of_target, of_answer}
 use Rattle.resolution.specs.Serving.Delegates.{delegates}
 use Rattle.resolution.specs.Serving.Heard.{heard}
-use Rattle.resolution.proofs.Members.{Has, Has-from_Contains, Contains-from_Has, Has-append_left, Has-filter_map, any_Has, Has_any}
-use Rattle.resolution.proofs.Invented.{verdict-pos, Has-counted, class_of-positive, of_address}
+use Rattle.resolution.proofs.ElementsFiltered.{Has, Has-from_Contains, Contains-from_Has, Has-append_left, Has-filter_map, any_Has, Has_any}
+use Rattle.resolution.proofs.NoAddressIsInvented.{verdict-pos, Has-counted, class_of-positive, of_address}
 use Rattle.resolution.proofs.Caseless.{names_same}
 use Rattle.zone_rules.specs.Tree.{serves}
 use Rattle.zone_rules.specs.Choosing.{is_alias, alias_in}
@@ -33,13 +33,13 @@ use Rattle.zone_worlds.specs.Telling.{Tells as WorldTells}
 use Rattle.zone_worlds.specs.Telling.Replies.{denies, by_alias, gives, lacks}
 use Rattle.zone_worlds.specs.Telling.Tells.{refuses, refers, answers}
 use Rattle.zone_worlds.proofs.ZonesFound.{alias_in_Has}
-use Rattle.zone_worlds.proofs.Listed.{find_passes}
+use Rattle.zone_worlds.proofs.FoundInLists.{find_passes}
 use Rattle.world_layout.specs.Naming.{is_aliased, has_star, is_soundly_held, is_soundly_named}
 use Rattle.world_check.specs.Serving.{is_served_by, is_served_at, is_served_as_named}
 use Rattle.world_upstream.specs.Giving.{IsTold}
 use Rattle.world_facts.specs.Told.{TellsLog}
 use Rattle.world_facts.specs.Served.{IsHeld, IsServed, IsServerOf}
-use Rattle.world_facts.proofs.Passing.{halves, all_Has, through, turned, empty}
+use Rattle.world_facts.proofs.ElementsThatPass.{halves, all_Has, through, turned, empty}
 use Rattle.world_facts.proofs.ToldRecords.{IsFrom, told_from, is_held, owned_is, zone_asked_Has}
 
 -- ---- what the clauses say of an NS record

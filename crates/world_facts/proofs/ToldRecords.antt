@@ -13,8 +13,8 @@ use Rattle.dns_core.specs.declared.record.RData.{RData}
 use Rattle.dns_core.specs.declared.record.RData.TheVariants.{A, AAAA, NS, CNAME, SOA, RRSIG, Opaque}
 use Rattle.resolution.specs.Names.{root, is_above, walk}
 use Rattle.resolution.specs.Records.{records, cname_target}
-use Rattle.resolution.proofs.Members.{Has, Contains-from_Has, Has-append_cases, Has-filter, Has-passes}
-use Rattle.resolution.proofs.Numbered.{Has-from_slice_get}
+use Rattle.resolution.proofs.ElementsFiltered.{Has, Contains-from_Has, Has-append_cases, Has-filter, Has-passes}
+use Rattle.resolution.proofs.EntriesNumbered.{Has-from_slice_get}
 use Rattle.zone_rules.specs.Tree.{qualified, zone_at, nearest, first_cut, host_of, numbered, has_apex, zone_among}
 use Rattle.zone_rules.specs.Choosing.{is_of, owned, is_alias, alias_in, soa_of, servers, names_server, server_addresses}
 use Rattle.zone_rules.specs.Aliases.{next_alias}
@@ -27,10 +27,10 @@ use Rattle.zone_worlds.specs.Telling.AnswersByAlias.{alone, chained}
 use Rattle.zone_worlds.specs.Telling.IsByAlias.{is_by_alias}
 use Rattle.zone_worlds.specs.Telling.Replies.{denies, by_alias, gives, lacks}
 use Rattle.zone_worlds.specs.Telling.Tells.{refuses, refers, answers}
-use Rattle.zone_worlds.proofs.Listed.{find_Has, find_passes}
+use Rattle.zone_worlds.proofs.FoundInLists.{find_Has, find_passes}
 use Rattle.zone_worlds.proofs.ZonesFound.{alias_in_Has}
 use Rattle.world_facts.specs.Served.{IsHeld}
-use Rattle.world_facts.proofs.Passing.{halves, in_parts, either}
+use Rattle.world_facts.proofs.ElementsThatPass.{halves, in_parts, either}
 
 -- ---- zones that are found are those of the world
 

@@ -16,19 +16,19 @@ use Rattle.resolution.specs.Names.{root, is_above, walk}
 use Rattle.resolution.specs.Records.{address, records, only}
 use Rattle.resolver_settings.specs.Access.{denies as access_denies}
 use Rattle.recursor_types.specs.declared.policy.Policy.{Policy}
-use Rattle.resolution.specs.Verdict.{holds_denied, without_denied, in_zone, within, emptied, negative_within, verdict, verdict_of_told, verdict_of_message}
+use Rattle.resolution.specs.Verdict.{holds_denied, without_denied, is_in_bailiwick, in_bailiwick, is_emptied, scrub_negative, verdict, verdict_of_told, verdict_of_message}
 use Rattle.resolution.specs.Serving.{Heard}
 use Rattle.resolution.specs.Serving.Heard.{heard}
 use Rattle.resolution.specs.declared.class.Class.{Class}
 use Rattle.resolution.specs.declared.verdict.Verdict.{Verdict}
 use Rattle.resolution.specs.declared.verdict.Verdict.TheVariants.{Pos, Neg, Made}
 use Rattle.resolution.specs.declared.verdict.Cause.TheVariants.{Filter, Zone as OutsideZone}
-use Rattle.resolution.proofs.Above.{is_above-trans}
+use Rattle.resolution.proofs.AboveIsAnOrder.{is_above-trans}
 use Rattle.resolution.proofs.WayDown.{above-last}
 use Rattle.resolution.proofs.Caseless.{is_above-same, walk-same}
 use Rattle.std.proofs.lemmas.List.{length-drop}
 use Rattle.std.proofs.lemmas.Option.{same_Some}
-use Rattle.resolution.proofs.Members.{Has, Has-append_left, Has-append_right, Has-filter}
+use Rattle.resolution.proofs.ElementsFiltered.{Has, Has-append_left, Has-append_right, Has-filter}
 use Rattle.zone_rules.specs.Tree.{qualified}
 use Rattle.zone_rules.specs.Choosing.{is_of, owned, soa_of, servers, server_addresses}
 use Rattle.zone_rules.specs.declared.world.Zone.{Zone}
@@ -42,7 +42,7 @@ use Rattle.world_facts.specs.Told.{TellsLog}
 use Rattle.world_facts.specs.Served.{IsHeld, IsServed, IsServerOf}
 use Rattle.world_facts.specs.Counting.{CountsWhole}
 use Rattle.world_facts.specs.Counting.CountsWhole.{as_answer, as_denial}
-use Rattle.world_facts.proofs.Passing.{halves, all_Has, in_parts}
+use Rattle.world_facts.proofs.ElementsThatPass.{halves, all_Has, in_parts}
 use Rattle.world_facts.proofs.ToldRecords.{told_from, is_held, child_Has, zone_asked_Has, soa_is, servers_of, addresses_of}
 use Rattle.world_facts.proofs.ServersOfZones.{was_told, serves-world}
 use Rattle.world_facts.proofs.ZonesAsked.{IsAsked, asks, asked_labels, one_asked, cut_is, apex_is}
@@ -63,7 +63,7 @@ only_all p m each i =
       additionals = filter_all p m.additionals (λ r h. each r (Has-append_right (m.answers ++ m.authorities) m.additionals r h)) i;
     }
 
-unemptied : (m : Message) → emptied m m ≡ false
+unemptied : (m : Message) → is_emptied m m ≡ false
 unemptied m = at_flags (length m.answers == 0) (length m.authorities == 0)
   where
     at_flags : (a b : Bool) → ((not a && a) || (a && not b && b)) ≡ false
@@ -136,10 +136,10 @@ module _ (policy : Policy) (w : World) (log : Log) (ok : IsServed policy w) (by_
       at_address None e = refl
       at_address (Some ip) e = let free : (access_denies policy.server_filter ip ≡ false) × (access_denies policy.answer_filter ip ≡ false) = ok.allowed r ip held e in ap not free.1
 
-  whole_verdict : (m : Message) (z : DomainName) → without_denied (access_denies policy.answer_filter) m ≡ m → within z m ≡ m → verdict_of_message (access_denies policy.answer_filter) m z ≡ Pos m
+  whole_verdict : (m : Message) (z : DomainName) → without_denied (access_denies policy.answer_filter) m ≡ m → in_bailiwick z m ≡ m → verdict_of_message (access_denies policy.answer_filter) m z ≡ Pos m
   whole_verdict m z a b =
-      ap (λ (x : Message). if emptied m x then Made Filter else (if emptied x (within z x) then Made OutsideZone else Pos (within z x))) a
-      ∙ ap (λ (x : Message). if emptied m m then Made Filter else (if emptied m x then Made OutsideZone else Pos x)) b
+      ap (λ (x : Message). if is_emptied m x then Made Filter else (if is_emptied x (in_bailiwick z x) then Made OutsideZone else Pos (in_bailiwick z x))) a
+      ∙ ap (λ (x : Message). if is_emptied m m then Made Filter else (if is_emptied m x then Made OutsideZone else Pos x)) b
       ∙ ap (λ (f : Bool). if f then Made Filter else (if f then Made OutsideZone else Pos m)) (unemptied m)
 
   pub counts : (q : Query) (o : ToldOutcome) (z : DomainName) (v : Verdict) → q.query_class.code ≡ 1 → {i moment : ℕ} → Heard policy log i q o moment z → verdict policy o q z ≡ Some v → CountsWhole q z o v
@@ -151,9 +151,9 @@ module _ (policy : Policy) (w : World) (log : Log) (ok : IsServed policy w) (by_
       let held : (r : Record) → Has (records told.message) r → IsHeld w r = λ r h. is_held w told.message r (told_from w teller told.asked told.message r told.tells h) h in
       let response = is_response told.message q (told_whole w teller told.asked told.message asked.zone asked.is told.tells) (λ r h. ok.internet r (held r h) ∙ sym in_class) in
       let all_allowed = only_all (λ (r : Record). not (holds_denied (access_denies policy.answer_filter) r)) told.message (λ r h. undenied r (held r h)) in
-      let all_inside = only_all (in_zone z) told.message (λ r h. told_below teller told.asked told.message z r server there told.tells h) in
+      let all_inside = only_all (is_in_bailiwick z) told.message (λ r h. told_below teller told.asked told.message z r server there told.tells h) in
       by_response told.message told.is all_allowed all_inside response
     where
-      by_response : (m : Message) → o ≡ outcome.Message m → without_denied (access_denies policy.answer_filter) m ≡ m → within z m ≡ m → IsResponse m q → CountsWhole q z o v
+      by_response : (m : Message) → o ≡ outcome.Message m → without_denied (access_denies policy.answer_filter) m ≡ m → in_bailiwick z m ≡ m → IsResponse m q → CountsWhole q z o v
       by_response m is a b (positive n k) = as_answer is n (same_Some v (Pos m) (sym e ∙ ap (λ (x : ToldOutcome). verdict policy x q z) is ∙ ap (λ (c : Class). verdict_of_told (access_denies policy.answer_filter) (Some c) z) k ∙ ap (λ (x : Verdict). Some x) (whole_verdict m z a b)))
-      by_response m is a b (negative n k) = as_denial is n (same_Some v (Neg (negative_within z (no_records m))) (sym e ∙ ap (λ (x : ToldOutcome). verdict policy x q z) is ∙ ap (λ (c : Class). verdict_of_told (access_denies policy.answer_filter) (Some c) z) k))
+      by_response m is a b (negative n k) = as_denial is n (same_Some v (Neg (scrub_negative z (no_records m))) (sym e ∙ ap (λ (x : ToldOutcome). verdict policy x q z) is ∙ ap (λ (c : Class). verdict_of_told (access_denies policy.answer_filter) (Some c) z) k))

@@ -15,12 +15,12 @@ use Rattle.dns_core.specs.declared.net_error.NoRecords.{NoRecords}
 use Rattle.dns_core.specs.declared.log.ToldOutcome.{ToldOutcome}
 use Rattle.resolution.specs.Names.{is_above, walk, same_query}
 use Rattle.recursor_types.specs.declared.policy.Policy.{Policy}
-use Rattle.resolution.specs.Verdict.{negative_within, verdict}
+use Rattle.resolution.specs.Verdict.{scrub_negative, verdict}
 use Rattle.resolution.specs.Serving.{Heard}
 use Rattle.resolution.specs.Serving.Heard.{heard}
 use Rattle.resolution.specs.declared.verdict.Verdict.TheVariants.{Neg}
 use Rattle.resolution.proofs.Caseless.{both, is_above-same, types_same, walk-same}
-use Rattle.resolution.proofs.Members.{Has}
+use Rattle.resolution.proofs.ElementsFiltered.{Has}
 use Rattle.zone_rules.specs.Tree.{zone_of}
 use Rattle.zone_rules.specs.Choosing.{owned, alias_in, servers, server_addresses}
 use Rattle.zone_rules.specs.declared.world.Zone.{Zone}
@@ -38,7 +38,7 @@ use Rattle.world_facts.specs.Counting.{CountsWhole}
 use Rattle.world_facts.specs.Counting.CountsWhole.{as_answer, as_denial}
 use Rattle.world_facts.specs.Denials.{DeniesAsWorld}
 use Rattle.world_facts.specs.Denials.DeniesAsWorld.{of_name, of_type}
-use Rattle.world_facts.proofs.Passing.{clash, empty, filter_Has, some_left}
+use Rattle.world_facts.proofs.ElementsThatPass.{clash, empty, filter_Has, some_left}
 use Rattle.world_facts.proofs.ToldRecords.{child_Has, zone_asked_Has}
 use Rattle.world_facts.proofs.ServersOfZones.{WasTold, was_told, one_message, serves-world}
 use Rattle.world_facts.proofs.ZonesAsked.{IsAsked, asks, one_asked}
@@ -76,7 +76,7 @@ module _ (policy : Policy) (w : World) (log : Log) (ok : IsServed policy w) (by_
 
   -- the zone that is asked denies as the world does
   of_zone : (z : Zone) (p : Query) (m : Message) (zone : DomainName) → Has w.zones z → zone_of w p ≡ Some z → (p.query_type.code == 255) ≡ false
-      → Replies w z p m → (length m.answers == 0) ≡ true → DeniesAsWorld w p (negative_within zone (no_records m))
+      → Replies w z p m → (length m.answers == 0) ≡ true → DeniesAsWorld w p (scrub_negative zone (no_records m))
   of_zone z p m zone h d other (denies e) none = of_name refl e
   of_zone z p m zone h d other (lacks e a o) none = of_type refl e (sym (alias_is w p z d other) ∙ a) d (empty (owned z p.name p.query_type) o)
   of_zone z p m zone h d other (gives e a o) none = absurd (clash (length (owned z p.name p.query_type) == 0) none o)
@@ -88,13 +88,13 @@ module _ (policy : Policy) (w : World) (log : Log) (ok : IsServed policy w) (by_
 
   -- what a server tells denies as the world does
   of_told : (teller : IpAddr) (p : Query) (m : Message) (zone : DomainName) → IsServerOf w teller zone → is_above zone (walk p) ≡ true → (p.query_type.code == 255) ≡ false
-      → Tells w teller p m → (length m.answers == 0) ≡ true → (no_records m).ns ≡ None → DeniesAsWorld w p (negative_within zone (no_records m))
+      → Tells w teller p m → (length m.answers == 0) ≡ true → (no_records m).ns ≡ None → DeniesAsWorld w p (scrub_negative zone (no_records m))
   of_told teller p m zone server above other tells none no_ns = by tells none no_ns
     where
       asked : IsAsked w teller p zone
       asked = asks w teller p zone server above
 
-      by : {m : Message} → Tells w teller p m → (length m.answers == 0) ≡ true → (no_records m).ns ≡ None → DeniesAsWorld w p (negative_within zone (no_records m))
+      by : {m : Message} → Tells w teller p m → (length m.answers == 0) ≡ true → (no_records m).ns ≡ None → DeniesAsWorld w p (scrub_negative zone (no_records m))
       by (refuses e) none no_ns = let nothing : None ≡ Some asked.zone = sym e ∙ asked.is in cc
       by (refers {z = z} {child = child} e f) none no_ns = absurd (refers_on child (server_addresses child child.apex) (child_Has w z p child f) no_ns)
       by (answers {z = z} {m = n} e f r) none no_ns =
@@ -114,10 +114,10 @@ module _ (policy : Policy) (w : World) (log : Log) (ok : IsServed policy w) (by_
       by (as_answer is d v) = cc
       by (as_denial {m = m} is d v) =
           let same = one_message o told.message m told.is is in
-          let are : negative_within z (no_records m) ≡ n = cc in
+          let are : scrub_negative z (no_records m) ≡ n = cc in
           let none = first_so (length m.answers == 0) _ (first_so (length m.answers == 0 && not (list_any (is_asked q) m.authorities)) _ d) in
           let kind = ap (λ (t : RecordType). t.code == 255) (types_same told.asked q told.same) ∙ other in
           subst (λ (x : NoRecords). DeniesAsWorld w q x) are
-          (in_any_case w told.asked q (negative_within z (no_records m)) told.same
+          (in_any_case w told.asked q (scrub_negative z (no_records m)) told.same
           (of_told teller told.asked m z (serves-world policy w log ok by_world s) (walk-same told.asked q told.same z ∙ above) kind
           (subst (λ (x : Message). Tells w teller told.asked x) same told.tells) none (ap (λ (x : NoRecords). x.ns) are ∙ no_ns)))

@@ -13,17 +13,17 @@ use Rattle.dns_core.specs.Name.{DomainName, same_names, same_labels}
 use Rattle.dns_core.specs.NameLaws.{same_names_equiv}
 use Rattle.dns_core.specs.declared.message.Query.{Query}
 use Rattle.resolution.specs.Names.{is_above, base, walk}
-use Rattle.resolution.proofs.Above.{labels_equiv}
+use Rattle.resolution.proofs.AboveIsAnOrder.{labels_equiv}
 use Rattle.resolution.proofs.Caseless.{alike, both, labels_same, length-same}
-use Rattle.resolution.proofs.Members.{Has}
+use Rattle.resolution.proofs.ElementsFiltered.{Has}
 use Rattle.zone_rules.specs.Tree.{qualified, zone_at, nearest, first_cut, host_of, numbered, has_apex, zone_among}
 use Rattle.zone_rules.specs.declared.world.Zone.{Zone}
 use Rattle.zone_rules.specs.declared.world.Host.{Host}
 use Rattle.zone_rules.specs.declared.world.World.{World}
 use Rattle.zone_worlds.specs.Telling.{zone_asked}
-use Rattle.zone_worlds.proofs.Listed.{find_passes}
+use Rattle.zone_worlds.proofs.FoundInLists.{find_passes}
 use Rattle.world_facts.specs.Served.{IsServerOf}
-use Rattle.world_facts.proofs.Passing.{either}
+use Rattle.world_facts.proofs.ElementsThatPass.{either}
 
 -- ---- the nearest zone
 

@@ -7,7 +7,7 @@ use Rattle.zone_rules.specs.declared.world.WorldAnswer.TheVariants.{Records, NxD
 use Rattle.zone_worlds.specs.Answer.{Answers}
 
 -- The message says what the world answers: its records, or that there are none, or that the name is not there.
-pub data TellsAnswer (w : World) (q : Query) (m : Message) : Type 0 where
-  data_there : Answers w q (Some (Records m.answers)) → TellsAnswer w q m
-  no_data : Answers w q (Some NoData) → m.response_code.code ≡ 0 → m.answers ≡ [] → TellsAnswer w q m
-  no_name : Answers w q (Some NxDomain) → m.response_code.code ≡ 3 → m.answers ≡ [] → TellsAnswer w q m
+pub data TellsAnswer (w : World) (query : Query) (m : Message) : Type 0 where
+  data_there : Answers w query (Some (Records m.answers)) → TellsAnswer w query m
+  no_data : Answers w query (Some NoData) → m.response_code.code ≡ 0 → m.answers ≡ [] → TellsAnswer w query m
+  no_name : Answers w query (Some NxDomain) → m.response_code.code ≡ 3 → m.answers ≡ [] → TellsAnswer w query m

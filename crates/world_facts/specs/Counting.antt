@@ -7,11 +7,11 @@ use Rattle.dns_core.specs.declared.message.Message.{Message as Response}
 use Rattle.dns_core.specs.declared.log.ToldOutcome.{ToldOutcome}
 use Rattle.dns_core.specs.declared.log.ToldOutcome.TheVariants.{Message}
 use Rattle.resolution.specs.Class.{has_no_data_for}
-use Rattle.resolution.specs.Verdict.{negative_within}
+use Rattle.resolution.specs.Verdict.{scrub_negative}
 use Rattle.resolution.specs.declared.verdict.Verdict.{Verdict}
 use Rattle.resolution.specs.declared.verdict.Verdict.TheVariants.{Pos, Neg}
 
 -- A message with data for the question counts as it is, and one without as the denial that it is.
-pub data CountsWhole (q : Query) (z : DomainName) (o : ToldOutcome) (v : Verdict) : Type 0 where
-  as_answer : {m : Response} → o ≡ Message m → has_no_data_for q m ≡ false → v ≡ Pos m → CountsWhole q z o v
-  as_denial : {m : Response} → o ≡ Message m → has_no_data_for q m ≡ true → v ≡ Neg (negative_within z (no_records m)) → CountsWhole q z o v
+pub data CountsWhole (query : Query) (zone : DomainName) (outcome : ToldOutcome) (verdict : Verdict) : Type 0 where
+  as_answer : {m : Response} → outcome ≡ Message m → has_no_data_for query m ≡ false → verdict ≡ Pos m → CountsWhole query zone outcome verdict
+  as_denial : {m : Response} → outcome ≡ Message m → has_no_data_for query m ≡ true → verdict ≡ Neg (scrub_negative zone (no_records m)) → CountsWhole query zone outcome verdict

@@ -9,7 +9,7 @@ use Rattle.zone_rules.specs.declared.world.World.{World}
 use Rattle.zone_worlds.specs.Answer.{alias_for}
 
 -- A denial is the world's: NXDOMAIN of a name that does not exist; or NOERROR of one that exists and has no alias, and of which the deepest zone owns nothing of the type.
-pub data DeniesAsWorld (w : World) (q : Query) (n : NoRecords) : Type 0 where
-  of_name : n.response_code.code ≡ 3 → exists_in w q.name ≡ false → DeniesAsWorld w q n
-  of_type : {zone : Zone} → n.response_code.code ≡ 0 → exists_in w q.name ≡ true → alias_for w q ≡ None
-      → zone_of w q ≡ Some zone → owned zone q.name q.query_type ≡ [] → DeniesAsWorld w q n
+pub data DeniesAsWorld (w : World) (query : Query) (n : NoRecords) : Type 0 where
+  of_name : n.response_code.code ≡ 3 → exists_in w query.name ≡ false → DeniesAsWorld w query n
+  of_type : {zone : Zone} → n.response_code.code ≡ 0 → exists_in w query.name ≡ true → alias_for w query ≡ None
+      → zone_of w query ≡ Some zone → owned zone query.name query.query_type ≡ [] → DeniesAsWorld w query n

@@ -34,8 +34,8 @@ pub record IsServed (policy : Policy) (w : World) : Type 0 where
   pub apart : (a b : Zone) → Contains w.zones a → Contains w.zones b → same_names a.apex b.apex ≡ true → a ≡ b
 
 -- The address is a host that serves the zone of the world with this apex.
-pub record IsServerOf (w : World) (ip : IpAddr) (c : DomainName) : Type 0 where
+pub record IsServerOf (w : World) (ip : IpAddr) (cut : DomainName) : Type 0 where
   pub zone : Zone
   pub has : Contains w.zones zone
-  pub apex : same_names zone.apex c ≡ true
+  pub apex : same_names zone.apex cut ≡ true
   pub by : serves w ip zone.apex.labels ≡ true

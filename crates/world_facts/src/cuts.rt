@@ -7,10 +7,10 @@ ghost use Rattle.zone_rules.specs.declared.world.World.{World};
 ghost use Rattle.zone_rules.specs.declared.world.Zone.{Zone};
 ghost use Rattle.world_facts.specs.Told.{TellsLog};
 ghost use Rattle.world_facts.specs.Served.{IsServed};
-ghost use Rattle.resolution.specs.Walking.{NoCut};
+ghost use Rattle.resolution.specs.Walking.{NoCutSeen};
 
 /// Law: where the log that a well served world tells shows no cut at a name, no zone has that apex.
 pub fn where_no_cut_is_shown_there_is_none()
     ensures { (policy : Policy) (world : World) (log : Log) (c : DomainName) (zone : Zone) →
-        IsServed policy world → TellsLog world log → NoCut policy log c → Contains world.zones zone → same_names zone.apex c ≡ true → ⊥ }
+        IsServed policy world → TellsLog world log → NoCutSeen policy log c → Contains world.zones zone → same_names zone.apex c ≡ true → ⊥ }
 {}

@@ -1,3 +1,3 @@
-pub mod Logs
-pub mod Keeping
+pub mod LogStaysTrue
+pub mod OpenStaysTrue
 pub mod ToldNames

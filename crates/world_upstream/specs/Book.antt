@@ -8,15 +8,15 @@ use Rattle.dns_core.specs.declared.log.ToldOutcome.{ToldOutcome}
 use Rattle.script_upstream.specs.Giving.{waits, HasNoEnd}
 use Rattle.world_upstream.specs.Giving.{Gives, ComesTo, delay}
 use Rattle.world_upstream.specs.Qualified.{is_qualified_world}
-use Rattle.world_upstream.specs.declared.book.Book.{Book}
+use Rattle.world_upstream.specs.declared.book.WorldLog.{WorldLog}
 use Rattle.zone_rules.specs.declared.world.World.{World}
 
 -- the whole log: what found memory, and what waits for it
-abbrev pub told : Book → List LogEntry
+abbrev pub told : WorldLog → List LogEntry
 told b = b.log ++ b.late
 
 -- how many polls of the entry of a number find nothing yet, where it is open
-abbrev pub open_at : Book → ℕ → Option ℕ
+abbrev pub open_at : WorldLog → ℕ → Option ℕ
 open_at b n = get nat_eq b.open n
 
 -- no entry ended it, and so many polls are left of its delay, after what was waited
@@ -29,7 +29,7 @@ pub record IsKept (w : World) (es : List LogEntry) (open_of : ℕ → Option ℕ
   pub gives : Gives w es
   pub awaited : (n polls : ℕ) → open_of n ≡ Some polls → Awaits w es n polls
 
-pub record Holds (b : Book) : Type 0 where
+pub record Holds (b : WorldLog) : Type 0 where
   pub keeps : IsKept b.world (told b) (open_at b)
   pub qualified : IsTrue (is_qualified_world b.world)
 
@@ -46,6 +46,6 @@ abbrev pub Waits : Option ℕ → Type 0
 Waits left = IsSomeAnd left (λ polls. 0 < polls)
 
 -- the entry of a number, where it is open and nothing is left to be waited, comes to this outcome
-pub record IsDue (b : Book) (n : ℕ) (outcome : ToldOutcome) : Type 0 where
+pub record IsDue (b : WorldLog) (n : ℕ) (outcome : ToldOutcome) : Type 0 where
   pub due : open_at b n ≡ Some 0
   pub comes : IsSomeAnd (numbered (told b) n) (ComesTo b.world outcome)

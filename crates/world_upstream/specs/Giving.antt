@@ -21,9 +21,9 @@ delay w (GaveUp of moment) = 0
 
 -- the message that the address tells for the question
 abbrev pub IsTold : World → IpAddr → Query → ToldOutcome → Type 0
-IsTold w ip q Connected = ⊥
-IsTold w ip q (Message m) = Tells w ip q m
-IsTold w ip q (Error e) = ⊥
+IsTold w ip query Connected = ⊥
+IsTold w ip query (Message m) = Tells w ip query m
+IsTold w ip query (Error e) = ⊥
 
 -- what an entry comes to: a connection is connected, and a question is told what the world tells
 abbrev pub ComesTo : World → ToldOutcome → LogEntry → Type 0

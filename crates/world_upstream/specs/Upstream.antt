@@ -23,9 +23,9 @@ abbrev pub told_by : Upstream → List LogEntry
 told_by u = u.noted ++ u.late
 
 -- the upstream noted an entry, and nothing else changed
-pub record Notes (old new : Upstream) (e : LogEntry) : Type 0 where
+pub record Notes (old new : Upstream) (entry : LogEntry) : Type 0 where
   pub world : new.world ≡ old.world
-  pub log : told_by new ≡ told_by old ++ e ∷ []
+  pub log : told_by new ≡ told_by old ++ entry ∷ []
   pub pendings : new.pendings ≡ old.pendings
 
 -- the upstream noted nothing
@@ -36,6 +36,6 @@ pub record NotesNothing (old new : Upstream) : Type 0 where
 
 -- a poll of a question that noted what it found: a message tells this question, with fully qualified names alone
 abbrev pub Polls : Query → Upstream → Upstream → ℕ → ℕ → Poll (Result Response NoMemory) → Type 0
-Polls q old new number moment Pending = Notes old new (Waited number)
-Polls q old new number moment (Ready (Ok m)) = Notes old new (Told number moment (Message m)) × (m.query ≡ q) × IsTrue (is_qualified_message m)
-Polls q old new number moment (Ready (Err e)) = NotesNothing old new
+Polls query old new number moment Pending = Notes old new (Waited number)
+Polls query old new number moment (Ready (Ok m)) = Notes old new (Told number moment (Message m)) × (m.query ≡ query) × IsTrue (is_qualified_message m)
+Polls query old new number moment (Ready (Err e)) = NotesNothing old new

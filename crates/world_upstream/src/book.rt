@@ -7,22 +7,22 @@ ghost use Rattle.dns_core.specs.declared.log.LogEntry.TheVariants.{Waited, Told,
 ghost use Rattle.dns_core.specs.declared.log.ToldOutcome.TheVariants.{Connected, Message as Answered};
 
 use dns_core::{Items, Log, LogEntry, Message, NoMemory, Query, ToldOutcome, TryClone};
-use script_upstream::{Late, Room, push_or_back};
+use script_upstream::{UnrecordedEntries, Room, push_or_back};
 use std::alloc::Global;
 use std::collections::HashMap;
 use zone_worlds::IndexedWorld;
 
 /// A world, how many polls of each open entry find nothing yet, and the log.
-pub struct Book {
+pub struct WorldLog {
     pub world: IndexedWorld,
     pub open: HashMap<u64, u32>,
     pub log: Log,
-    pub late: Late,
+    pub late: UnrecordedEntries,
 }
 
-impl Drop for Book {
+impl Drop for WorldLog {
     fn drop(self) {
-        let Book {
+        let WorldLog {
             world: _,
             open: _,
             log: _,
@@ -31,23 +31,23 @@ impl Drop for Book {
     }
 }
 
-impl Book {
+impl WorldLog {
     ghost use Rattle.world_upstream.specs.Book.{told, open_at, Holds, Begins, Waits, IsDue};
     ghost use Rattle.world_upstream.specs.Giving.{delay, ComesTo};
     ghost use Rattle.world_upstream.specs.Qualified.{is_qualified_world};
 
-    pub fn new(alloc: Global, world: IndexedWorld) -> Book
+    pub fn new(alloc: Global, world: IndexedWorld) -> WorldLog
         requires { IsTrue (is_qualified_world world) }
         ensures holds { Holds result }
         ensures world { result.world ≡ world }
         ensures log { result.log ≡ [] }
         ensures late { result.late ≡ [] }
     {
-        Book {
+        WorldLog {
             world,
             open: HashMap::new(alloc),
             log: Items::empty(alloc),
-            late: Late::new(),
+            late: UnrecordedEntries::new(),
         }
     }
 

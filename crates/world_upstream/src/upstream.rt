@@ -4,7 +4,7 @@ ghost use Rattle.dns_core.specs.Faults.{Rose};
 ghost use Rattle.dns_core.specs.declared.log.ToldOutcome.TheVariants.{Connected};
 ghost use Rattle.dns_core.specs.declared.log.LogEntry.TheVariants.{Opened, Asked, Told, GaveUp};
 
-use crate::book::Book;
+use crate::book::WorldLog;
 use dns_core::{Log, LogEntry, Message, NoMemory, Poll, Query, TryClone};
 use script_upstream::{Endpoint, Room};
 use std::alloc::Global;
@@ -15,7 +15,7 @@ use zone_worlds::{IndexedWorld, World};
 /// wait for memory, and how many polls found nothing yet.
 pub struct WorldUpstream {
     pub(crate) alloc: Global,
-    pub(crate) book: Book,
+    pub(crate) book: WorldLog,
     pub(crate) pendings: u64,
 }
 
@@ -53,7 +53,7 @@ impl WorldUpstream {
         let world = IndexedWorld::new(alloc, world)?;
         Ok(WorldUpstream {
             alloc,
-            book: Book::new(alloc, world),
+            book: WorldLog::new(alloc, world),
             pendings: 0,
         })
     }

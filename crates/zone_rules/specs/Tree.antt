@@ -31,7 +31,7 @@ first_cut zones apex (l ∷ ls) = if nat_le (length (l ∷ ls)) apex then None e
 
 -- the deepest zone of the world at or above the name to which a question is walked
 abbrev pub zone_of : World → Query → Option Zone
-zone_of w q = if (q.name).fqdn then nearest (λ labels. zone_at w.zones labels) (walk q).labels else None
+zone_of w query = if (query.name).fqdn then nearest (λ labels. zone_at w.zones labels) (walk query).labels else None
 
 -- the host with the address
 abbrev pub host_of : World → IpAddr → Option Host

@@ -1,9 +1,9 @@
-pub mod Indexing
-pub mod Listed
-pub mod Held
+pub mod IndexOfOneMore
+pub mod FoundInLists
+pub mod RecordsUnderNames
 pub mod MetNames
 pub mod ZonesFound
-pub mod Ways
+pub mod WayOfAliases
 pub mod AliasAnswers
 pub mod OneTold
 pub mod OneAnswer

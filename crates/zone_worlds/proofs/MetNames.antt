@@ -6,8 +6,8 @@ use Rattle.std.proofs.lemmas.List.Folds.{list_any-append}
 use Rattle.dns_core.specs.Name.{DomainName, same_names}
 use Rattle.dns_core.specs.NameLaws.{same_names_equiv}
 use Rattle.dns_core.specs.declared.record.Record.{Record}
-use Rattle.resolution.proofs.Members.{Has}
-use Rattle.zone_worlds.proofs.Listed.{length_filter-lt}
+use Rattle.resolution.proofs.ElementsFiltered.{Has}
+use Rattle.zone_worlds.proofs.FoundInLists.{length_filter-lt}
 
 abbrev pub unmet : List DomainName → Record → Bool
 unmet met r = not (list_any (same_names r.name) met)

@@ -9,13 +9,13 @@ use Rattle.dns_core.specs.declared.message.Query.{Query}
 use Rattle.dns_core.specs.declared.record.Record.{Record}
 use Rattle.resolution.specs.Names.{walk}
 use Rattle.resolution.specs.Records.{cname_target}
-use Rattle.resolution.proofs.Members.{Has, flat_map-Has}
+use Rattle.resolution.proofs.ElementsFiltered.{Has, flat_map-Has}
 use Rattle.zone_rules.specs.Tree.{qualified, zone_at, nearest, zone_of}
 use Rattle.zone_rules.specs.Choosing.{is_alias, alias_in}
 use Rattle.zone_worlds.specs.Answer.{alias_for}
 use Rattle.zone_rules.specs.declared.world.Zone.{Zone}
 use Rattle.zone_rules.specs.declared.world.World.{World}
-use Rattle.zone_worlds.proofs.Listed.{find_Has, find_passes}
+use Rattle.zone_worlds.proofs.FoundInLists.{find_Has, find_passes}
 
 one_of : {X : Type 0} (o p : Option X) (x : X) → option_or o p ≡ Some x → (o ≡ Some x) ⊎ (p ≡ Some x)
 one_of None p x e = inr e

@@ -1,13 +1,13 @@
 //! Which types of this crate may go to another thread, and be shared among threads.
 
-use crate::in_flight::runner::{Runner, Running};
+use crate::in_flight::runner::{InFlight, InFlightOrder};
 use dns_core::{ConnectionProvider, CrossesThreads};
 
-impl<P: ConnectionProvider + Send + Sync> CrossesThreads for Runner<P>
+impl<P: ConnectionProvider + Send + Sync> CrossesThreads for InFlight<P>
 where
     P::Conn: Send + Sync,
     P::FutureConn: Send + Sync,
     P::Exchange: Send + Sync,
 {}
 
-impl CrossesThreads for Running {}
+impl CrossesThreads for InFlightOrder {}

@@ -16,10 +16,10 @@ ghost use Rattle.recursor_core.specs.Machine.{TellsTo, resolution_at, need_at, o
 
 use crate::machine::policy_with_context::PolicyWithContext;
 use dns_core::{ConnectOptions, NoMemory, Question, TryClone, in_box};
-use recursor_question::{Need, Resolution, Step};
+use recursor_question::{NextStep, Resolution, Step};
 use recursor_types::{MessageKind, Policy, RecursorError, RecursorOptions};
 use resolver_cache::ResponseCache;
-use server_core::{After, Outcome, PoolContext, Sent, Tick};
+use server_core::{After, Outcome, PoolContext, SentBy, Tick};
 use std::alloc::Global;
 use std::collections::BTreeSet;
 use std::mem;
@@ -54,7 +54,7 @@ fn cache_of(alloc: Global, policy: &Policy) -> Result<ResponseCache, NoMemory>
 
 /// The entry by which an order ends that is given up after an outcome: where it still waits for what was
 /// sent, that is the next one.
-fn closing_of(outcome: &Outcome, waits: Option<&Sent>) -> u64
+fn closing_of(outcome: &Outcome, waits: Option<&SentBy>) -> u64
     ensures { result ≡ closing_of (option_copied waits.entry) outcome.now }
 {
     match (outcome, waits) {
@@ -202,24 +202,24 @@ impl RecursorCore {
         }
     }
 
-    fn need(&self, r: usize) -> Need
+    fn need(&self, r: usize) -> NextStep
         ensures { result ≡ need_at self.now r }
     {
         match self.resolution(r) {
             Some(resolution) => resolution.need(),
-            None => Need::Nothing,
+            None => NextStep::Nothing,
         }
     }
 
     /// Whether nothing is needed at a place.
     fn has_ended(&self, r: usize) -> bool
-        ensures { IsTrue result ↔ (need_at self.now r ≡ Need.Nothing) }
+        ensures { IsTrue result ↔ (need_at self.now r ≡ NextStep.Nothing) }
     {
         match self.need(r) {
-            Need::Nothing => true,
-            Need::SetOut => false,
-            Need::Send(_) => false,
-            Need::Reply => false,
+            NextStep::Nothing => true,
+            NextStep::SetOut => false,
+            NextStep::Send(_) => false,
+            NextStep::Reply => false,
         }
     }
 
@@ -257,7 +257,7 @@ impl RecursorCore {
 
     /// Keeps nothing of a resolution that has ended.
     fn forget(&mut self, r: usize)
-        ensures ended { need_at self.new r ≡ Need.Nothing → resolution_at self.new r ≡ None }
+        ensures ended { need_at self.new r ≡ NextStep.Nothing → resolution_at self.new r ≡ None }
         ensures need { need_at self.new r ≡ need_at self.old r }
         ensures waits { open_at self.new r ≡ open_at self.old r }
         ensures given { given_by self.new ≡ given_by self.old }
@@ -273,7 +273,7 @@ impl RecursorCore {
     /// that has ended nothing is kept.
     pub fn next(&mut self, alloc: Global, r: usize) -> Result<Step, NoMemory>
         ensures steps { Steps self.old self.new r result }
-        ensures ended { OnOk result (need_at self.new r ≡ Need.Nothing → resolution_at self.new r ≡ None) }
+        ensures ended { OnOk result (need_at self.new r ≡ NextStep.Nothing → resolution_at self.new r ≡ None) }
         ensures gives { (log : Log) → Derived self.old log → Derived self.new log × IfOk result (StepGives self.old log r) }
         ensures same { SameCore r self.old self.new }
     {
@@ -304,7 +304,7 @@ impl RecursorCore {
         alloc: Global,
         number: u64,
         outcome: Outcome,
-        waits: Option<&Sent>,
+        waits: Option<&SentBy>,
         tick: Tick,
     ) -> Result<After, NoMemory>
         ensures given { given_by self.new ≡ given_by self.old }

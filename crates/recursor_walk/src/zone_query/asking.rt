@@ -1,17 +1,17 @@
 //! A question at the servers of a zone: what the cache has for it comes first, then it is asked at all of
 //! them.
 ghost use Rattle.std.specs.Prelude.{◌≡◌, ◌<◌, ℕ, Err, IfOk, IsSome, OnOk, OnErr};
-ghost use Rattle.walk_lookup.specs.View.{View};
+ghost use Rattle.walk_lookup.specs.LogView.{LogView};
 ghost use Rattle.walk_tables.specs.Lookup.{want_of, want_after};
 ghost use Rattle.walk_tables.specs.Taking.{awaited_by, IfAwaits};
-ghost use Rattle.walk_lookup.specs.Sought.{AreFor};
+ghost use Rattle.walk_lookup.specs.PendingLookup.{ServersForQuery};
 ghost use Rattle.walk_tables.specs.Pools.{PoolsHold, StepGoes, IsStepAt, given_so_far, GivesNext};
-ghost use Rattle.recursor_walk.specs.Asking.{AskingHolds, LastHolds, LastComes, HasFound, SameSite, steps, LeavesFewer};
-ghost use Rattle.recursor_walk.specs.Counted.{Answers, ReadsAt, recalled, answerable};
+ghost use Rattle.recursor_walk.specs.ZoneQuery.{ZoneQueryHolds, LastHolds, LastComes, HasFound, SameSite, steps, LeavesFewer};
+ghost use Rattle.recursor_walk.specs.SourcedVerdict.{Answers, ReadsAt, from_cache, answerable};
 ghost use Rattle.recursor_walk.specs.Replies.{RepliesSo, RepliesWith, reply_with};
-ghost use Rattle.walk_tables.specs.declared.lookup.Want.TheVariants as want;
+ghost use Rattle.walk_tables.specs.declared.lookup.QueryStep.TheVariants as want;
 
-use crate::zone_query::counted::{Counted, answerable, recalled};
+use crate::zone_query::sourced_verdict::{SourcedVerdict, answerable, from_cache};
 use dns_core::{DnsRequest, Ips, Name, NetError, NoMemory, Numbers, Query, Question, in_box};
 use recursor_types::{RecursorError, Reply};
 use resolution::Verdict;
@@ -19,13 +19,13 @@ use resolver_cache::ResponseCache;
 use server_core::Tick;
 use std::alloc::Global;
 use std::mem;
-use walk_lookup::Found;
+use walk_lookup::LookupResult;
 use walk_response::{outcome_of, reply_by};
-use walk_tables::{Lookup, Pools, Stepped};
+use walk_tables::{Lookup, Pools, PoolsStep};
 
 /// A lookup at the servers of a zone.
 #[derive(Drop)]
-pub struct Asking {
+pub struct ZoneQuery {
     pub zone: Name,
     pub servers: Ips,
     pub lookup: Lookup,
@@ -35,25 +35,25 @@ pub struct Asking {
 pub fn answer_with(
     alloc: Global,
     question: &Question,
-    counted: Counted,
+    counted: SourcedVerdict,
 ) -> Result<Box<Reply>, NoMemory>
     ensures gives { IfOk result (λ reply. reply.value ≡ reply_with question.now counted) }
-    ensures holds { (seen : View) (t0 : ℕ) → Answers seen t0 question.now.query counted.entry counted.verdict
-        → RepliesSo seen t0 question.now result }
+    ensures holds { (view : LogView) (asked_at : ℕ) → Answers view asked_at question.now.query counted.entry counted.verdict
+        → RepliesSo view asked_at question.now result }
 {
-    let Counted { entry, verdict } = counted;
+    let SourcedVerdict { entry, verdict } = counted;
     let outcome = outcome_of(alloc, question, verdict)?;
     reply_by(alloc, entry, outcome)
 }
 
-impl Asking {
+impl ZoneQuery {
     /// A question at these servers of a zone, in the cache first.
-    pub fn new(alloc: Global, zone: Name, servers: Ips, query: Query) -> Asking
+    pub fn new(alloc: Global, zone: Name, servers: Ips, query: Query) -> ZoneQuery
         ensures steps { steps result ≡ 6 }
         ensures is { (result.zone ≡ zone) × (result.servers ≡ servers) × (result.lookup.query ≡ query) }
-        ensures holds { (seen : View) (t0 : ℕ) → AreFor seen query zone servers → AskingHolds seen t0 result }
+        ensures holds { (view : LogView) (asked_at : ℕ) → ServersForQuery view query zone servers → ZoneQueryHolds view asked_at result }
     {
-        Asking {
+        ZoneQuery {
             zone,
             servers,
             lookup: Lookup::new(alloc, query),
@@ -74,8 +74,8 @@ impl Asking {
         ensures err { OnErr result (self.new ≡ self.old) }
         ensures given { given_so_far pools.new ≡ given_so_far pools.old }
         ensures same { SameSite self.old self.new }
-        ensures holds { (seen : View) (t0 : ℕ) → tick.now ≡ seen.moment → PoolsHold seen pools.old
-            → AskingHolds seen t0 self.old → AskingHolds seen t0 self.new × PoolsHold seen pools.new }
+        ensures holds { (view : LogView) (asked_at : ℕ) → tick.now ≡ view.moment → PoolsHold view pools.old
+            → ZoneQueryHolds view asked_at self.old → ZoneQueryHolds view asked_at self.new × PoolsHold view pools.new }
     {
         let ips = self.servers.items();
         self.lookup
@@ -90,14 +90,14 @@ impl Asking {
         begun: u64,
         since: u64,
         tick: Tick,
-    ) -> Result<Stepped, NoMemory>
+    ) -> Result<PoolsStep, NoMemory>
         requires { want_of self.old.lookup.ask ≡ want.Step }
         ensures wants { IfOk result (λ stepped. want_of self.new.lookup.ask ≡ want_after stepped) }
         ensures given { GivesNext (given_so_far pools.old) (given_so_far pools.new) result }
         ensures same { SameSite self.old self.new }
-        ensures holds { (seen : View) → IsStepAt seen since tick → PoolsHold seen pools.old
-            → AskingHolds seen begun self.old → AskingHolds seen begun self.new × PoolsHold seen pools.new }
-        ensures goes { (seen : View) → IsStepAt seen since tick → PoolsHold seen pools.old → IfOk result (StepGoes seen) }
+        ensures holds { (view : LogView) → IsStepAt view since tick → PoolsHold view pools.old
+            → ZoneQueryHolds view begun self.old → ZoneQueryHolds view begun self.new × PoolsHold view pools.new }
+        ensures goes { (view : LogView) → IsStepAt view since tick → PoolsHold view pools.old → IfOk result (StepGoes view) }
         ensures waits { IfOk result (IfAwaits (awaited_by pools.new self.new.lookup)) }
     {
         self.lookup
@@ -115,11 +115,11 @@ impl Asking {
     ) -> Result<Option<Box<Reply>>, NoMemory>
         requires { want_of self.old.lookup.ask ≡ want.Recall }
         ensures falls { IfOk result (LeavesFewer self.old self.new) }
-        ensures holds { (seen : View) (t0 : ℕ) → ReadsAt seen t0 now cache.now
-            → LastHolds seen t0 question.now.query self.old → IfOk result (LastComes seen t0 question.now self.new) }
-        ensures answers { IfOk result (RepliesWith question.now (answerable (recalled cache.now self.old.lookup.query now))) }
+        ensures holds { (view : LogView) (asked_at : ℕ) → ReadsAt view asked_at now cache.now
+            → LastHolds view asked_at question.now.query self.old → IfOk result (LastComes view asked_at question.now self.new) }
+        ensures answers { IfOk result (RepliesWith question.now (answerable (from_cache cache.now self.old.lookup.query now))) }
     {
-        let counted = recalled(alloc, cache, &self.lookup.query, now)?;
+        let counted = from_cache(alloc, cache, &self.lookup.query, now)?;
         match answerable(counted) {
             Some(counted) => Ok(Some(answer_with(alloc, question, counted)?)),
             None => {
@@ -136,7 +136,7 @@ impl Asking {
         question: &Question,
     ) -> Result<Option<Box<Reply>>, NoMemory>
         requires { want_of self.old.lookup.ask ≡ want.Hear }
-        ensures holds { (seen : View) (t0 : ℕ) → LastHolds seen t0 question.now.query self.old → IfOk result (LastComes seen t0 question.now self.new) }
+        ensures holds { (view : LogView) (asked_at : ℕ) → LastHolds view asked_at question.now.query self.old → IfOk result (LastComes view asked_at question.now self.new) }
         ensures answers { IfOk result IsSome }
     {
         let found = self.lookup.hear();
@@ -148,13 +148,13 @@ impl Asking {
         &mut self,
         alloc: Global,
         question: &Question,
-        found: Found,
+        found: LookupResult,
     ) -> Result<Box<Reply>, NoMemory>
-        ensures { (seen : View) (t0 : ℕ) → HasFound seen t0 question.now.query self.old found → RepliesSo seen t0 question.now result }
+        ensures { (view : LogView) (asked_at : ℕ) → HasFound view asked_at question.now.query self.old found → RepliesSo view asked_at question.now result }
     {
         match found {
-            Found::Told { entry, verdict } => self.answer(alloc, question, entry, verdict),
-            Found::Error(error) => self.failed(alloc, error),
+            LookupResult::Told { entry, verdict } => self.answer(alloc, question, entry, verdict),
+            LookupResult::Error(error) => self.failed(alloc, error),
         }
     }
 
@@ -166,10 +166,10 @@ impl Asking {
         entry: u64,
         verdict: Result<Verdict, NetError>,
     ) -> Result<Box<Reply>, NoMemory>
-        ensures { (seen : View) (t0 : ℕ) → HasFound seen t0 question.now.query self.old (Found.Told entry verdict) → RepliesSo seen t0 question.now result }
+        ensures { (view : LogView) (asked_at : ℕ) → HasFound view asked_at question.now.query self.old (LookupResult.Told entry verdict) → RepliesSo view asked_at question.now result }
     {
         match verdict {
-            Ok(verdict) => answer_with(alloc, question, Counted { entry, verdict }),
+            Ok(verdict) => answer_with(alloc, question, SourcedVerdict { entry, verdict }),
             Err(error) => self.failed(alloc, error),
         }
     }

@@ -1,9 +1,9 @@
 //! Which types of this crate may go to another thread, and be shared among threads.
 
-use crate::zone_query::asking::Asking;
-use crate::zone_query::counted::Counted;
+use crate::zone_query::asking::ZoneQuery;
+use crate::zone_query::sourced_verdict::SourcedVerdict;
 use dns_core::CrossesThreads;
 
-impl CrossesThreads for Asking {}
+impl CrossesThreads for ZoneQuery {}
 
-impl CrossesThreads for Counted {}
+impl CrossesThreads for SourcedVerdict {}

@@ -11,7 +11,7 @@ ghost use Rattle.resolution.specs.Verdict.{holds_denied};
 ghost use Rattle.resolution.specs.Life.{least_ttl};
 ghost use Rattle.resolution.specs.Serving.{is_delegation};
 ghost use Rattle.resolution.specs.Ending.{same_ip};
-ghost use Rattle.resolution_reference.specs.Plain.{apex, asks, among, holds, passes, kept, counts, names_target, holds_for, answers_with, is_answer, is_emptied, lesser};
+ghost use Rattle.resolution_reference.specs.Plain.{apex, asks, among, holds, passes, kept, counts, names_target, holds_for, answers_with, is_answer, nothing_is_left, lesser};
 
 use dns_core::{Label, Message, Name, RData, Record};
 use resolver_settings::AccessControlSet;
@@ -124,7 +124,7 @@ pub fn base_of(labels: &[Label]) -> &[Label]
 }
 
 fn is_emptied(answers: bool, answers_left: bool, authorities: bool, authorities_left: bool) -> bool
-    ensures { result ≡ is_emptied answers answers_left authorities authorities_left }
+    ensures { result ≡ nothing_is_left answers answers_left authorities authorities_left }
 {
     (answers && !answers_left) || (!answers_left && authorities && !authorities_left)
 }

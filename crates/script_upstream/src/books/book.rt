@@ -1,8 +1,8 @@
 //! The book of a script: its log, and what each open entry still comes to.
 ghost use Rattle.std.specs.Option.{option_map, option_copied};
 ghost use Rattle.std.specs.HashMap.{get};
-ghost use Rattle.script_upstream.specs.declared.courses.course.Course.{Course as Known};
-ghost use Rattle.script_upstream.specs.declared.courses.course.Course.TheVariants.{Never};
+ghost use Rattle.script_upstream.specs.declared.courses.course.ScriptedReply.{ScriptedReply as Known};
+ghost use Rattle.script_upstream.specs.declared.courses.course.ScriptedReply.TheVariants.{Never};
 ghost use Rattle.script_upstream.specs.Course.{reply_course, is_qualified_course};
 ghost use Rattle.script_upstream.specs.Script.{is_qualified_script};
 ghost use Rattle.dns_core.specs.declared.net_error.NetError.TheVariants.{Io};
@@ -10,26 +10,26 @@ ghost use Rattle.dns_core.specs.declared.net_error.IoKind.TheVariants.{Refused};
 ghost use Rattle.dns_core.specs.declared.log.LogEntry.TheVariants.{Opened, Asked, Waited, Told, GaveUp};
 ghost use Rattle.std.specs.Prelude.{◌≡◌, ℕ, ◌+◌, find, slice_get, unwrap_or, option_and_then, true, IfSome, nat_eq, is_some, if◌then◌else◌, [], ◌∷◌, ◌++◌, Some, None, IfOk, IfErr, OnOk, OnErr, IsTrue, length};
 
-use crate::courses::course::{Course, Stage};
+use crate::courses::course::{ScriptedReply, Stage};
 use crate::courses::index::{Asking, Endpoint, Index};
-use crate::script::late::{Late, Room, push_or_back};
+use crate::script::late::{UnrecordedEntries, Room, push_or_back};
 use crate::script::script::{Script, ScriptLine};
 use dns_core::{IoKind, Items, Log, LogEntry, NetError, NoMemory, Query, ToldOutcome, TryClone};
 use std::alloc::Global;
 use std::collections::HashMap;
 
 /// A script, where its lines are, what each open entry still comes to, and the log.
-pub struct Book {
+pub struct ScriptLog {
     pub script: Script,
     pub index: Index,
-    pub open: HashMap<u64, Course>,
+    pub open: HashMap<u64, ScriptedReply>,
     pub log: Log,
-    pub late: Late,
+    pub late: UnrecordedEntries,
 }
 
-impl Drop for Book {
+impl Drop for ScriptLog {
     fn drop(self) {
-        let Book {
+        let ScriptLog {
             script: _,
             index: _,
             open: _,
@@ -41,10 +41,10 @@ impl Drop for Book {
 
 /// Knows what the entry of a number comes to that opened or asked, and notes it, or does neither.
 fn begin(
-    open: &mut HashMap<u64, Course>,
+    open: &mut HashMap<u64, ScriptedReply>,
     log: &mut Log,
     number: u64,
-    course: Course,
+    course: ScriptedReply,
     entry: LogEntry,
 ) -> Result<(), NoMemory>
     ensures known { OnOk result ((n : ℕ) → get nat_eq open.new n ≡ (if nat_eq number n then Some course else get nat_eq open.old n)) }
@@ -86,29 +86,29 @@ fn question_course(
     script: &Script,
     place: Option<usize>,
     query: &Query,
-) -> Result<Course, NoMemory>
+) -> Result<ScriptedReply, NoMemory>
     requires { IsTrue (is_qualified_script script.now) }
     ensures course { IfOk result (λ c. c ≡ unwrap_or (option_map (reply_course query.now) (option_and_then (slice_get script.now.lines) place)) Never) }
     ensures qualified { IfOk result (λ c. IsTrue (is_qualified_course c)) }
 {
     let Some(place) = place else {
-        return Ok(Course::Never);
+        return Ok(ScriptedReply::Never);
     };
     match script.lines.items().get(place) {
-        Some(line) => Course::of_question(alloc, query, line),
-        None => Ok(Course::Never),
+        Some(line) => ScriptedReply::of_question(alloc, query, line),
+        None => Ok(ScriptedReply::Never),
     }
 }
 
-impl Book {
+impl ScriptLog {
     ghost use Rattle.script_upstream.specs.Book.{told, open_at, Holds, SameScript, IsStage, IsDue, IsDueAs, Waits};
     ghost use Rattle.script_upstream.specs.Stage.{TellsConnection, TellsQuestion};
-    ghost use Rattle.script_upstream.specs.declared.courses.course.Course.TheVariants.{After};
+    ghost use Rattle.script_upstream.specs.declared.courses.course.ScriptedReply.TheVariants.{After};
     ghost use Rattle.script_upstream.specs.Script.{is_qualified_line};
     ghost use Rattle.script_upstream.specs.Giving.{connects, refusal, connection_course};
     ghost use Rattle.script_upstream.specs.Course.{is_qualified_told, shortened};
 
-    pub fn new(alloc: Global, script: Script) -> Result<Book, NoMemory>
+    pub fn new(alloc: Global, script: Script) -> Result<ScriptLog, NoMemory>
         requires { IsTrue (is_qualified_script script) }
         ensures holds { IfOk result Holds }
         ensures script { IfOk result (λ book. book.script ≡ script) }
@@ -116,12 +116,12 @@ impl Book {
         ensures late { IfOk result (λ book. book.late ≡ []) }
     {
         let index = Index::of(alloc, script.lines.items())?;
-        Ok(Book {
+        Ok(ScriptLog {
             script,
             index,
             open: HashMap::new(alloc),
             log: Items::empty(alloc),
-            late: Late::new(),
+            late: UnrecordedEntries::new(),
         })
     }
 
@@ -179,14 +179,14 @@ impl Book {
     }
 
     /// What a connection comes to.
-    fn connection(&self, alloc: Global, endpoint: &Endpoint) -> Result<Course, NoMemory>
+    fn connection(&self, alloc: Global, endpoint: &Endpoint) -> Result<ScriptedReply, NoMemory>
         requires { Holds self.now }
         ensures course { IfOk result (λ c. c ≡ connection_course self.now.script endpoint.now) }
         ensures qualified { IfOk result (λ c. IsTrue (is_qualified_course c)) }
     {
         match self.connection_line(endpoint) {
-            Some(line) => Course::of_connection(alloc, line),
-            None => Ok(Course::After {
+            Some(line) => ScriptedReply::of_connection(alloc, line),
+            None => Ok(ScriptedReply::After {
                 polls: 0,
                 outcome: ToldOutcome::Connected,
             }),
@@ -262,7 +262,7 @@ impl Book {
             }
             None => {
                 let entry = asked_entry(endpoint, asked, now);
-                begin(&mut self.open, &mut self.log, number, Course::Never, entry)?;
+                begin(&mut self.open, &mut self.log, number, ScriptedReply::Never, entry)?;
                 Ok(number)
             }
         }
@@ -339,7 +339,7 @@ impl Book {
         ensures { IfOk result (λ o. IsDueAs o (open_at self.now number)) }
     {
         match self.open.get(&number) {
-            Some(Course::After { outcome, .. }) => outcome.try_clone(alloc),
+            Some(ScriptedReply::After { outcome, .. }) => outcome.try_clone(alloc),
             _ => Err(NoMemory),
         }
     }
@@ -351,7 +351,7 @@ impl Book {
         ensures same { self.new ≡ record self.old { «open» = self.new.open } }
     {
         match self.open.remove(&number) {
-            Some(Course::After { outcome, .. }) => outcome,
+            Some(ScriptedReply::After { outcome, .. }) => outcome,
             _ => unreachable!(),
         }
     }

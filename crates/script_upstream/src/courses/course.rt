@@ -11,7 +11,7 @@ use std::mem;
 /// What a connection or a question comes to: it is told an outcome after some polls, or waits for
 /// ever.
 #[derive(Drop)]
-pub enum Course {
+pub enum ScriptedReply {
     Never,
     After { polls: u32, outcome: ToldOutcome },
 }
@@ -25,12 +25,12 @@ pub enum Stage {
     Due,
 }
 
-impl Course {
+impl ScriptedReply {
     ghost use Rattle.script_upstream.specs.Course.{shortened, IsWaiting, connect_course, reply_course};
     ghost use Rattle.script_upstream.specs.Stage.{IsStageOf, OutcomeIs, TellsConnection, TellsQuestion};
 
     /// What a connect line says.
-    pub fn of_connection(alloc: Global, line: &ScriptLine) -> Result<Course, NoMemory>
+    pub fn of_connection(alloc: Global, line: &ScriptLine) -> Result<ScriptedReply, NoMemory>
         ensures { IfOk result (λ course. course ≡ connect_course line.now) }
     {
         match line {
@@ -39,28 +39,28 @@ impl Course {
                     None => ToldOutcome::Connected,
                     Some(error) => ToldOutcome::Error(error.try_clone(alloc)?),
                 };
-                Ok(Course::After {
+                Ok(ScriptedReply::After {
                     polls: *delay,
                     outcome,
                 })
             }
-            ScriptLine::Refuse { .. } | ScriptLine::Reply { .. } => Ok(Course::Never),
+            ScriptLine::Refuse { .. } | ScriptLine::Reply { .. } => Ok(ScriptedReply::Never),
         }
     }
 
     /// What a reply line says of a question.
-    pub fn of_question(alloc: Global, query: &Query, line: &ScriptLine) -> Result<Course, NoMemory>
+    pub fn of_question(alloc: Global, query: &Query, line: &ScriptLine) -> Result<ScriptedReply, NoMemory>
         ensures { IfOk result (λ course. course ≡ reply_course query.now line.now) }
     {
         match line {
             ScriptLine::Reply { delay, outcome, .. } => {
                 let outcome = answered(alloc, query, outcome)?;
-                Ok(Course::After {
+                Ok(ScriptedReply::After {
                     polls: *delay,
                     outcome,
                 })
             }
-            ScriptLine::Connect { .. } | ScriptLine::Refuse { .. } => Ok(Course::Never),
+            ScriptLine::Connect { .. } | ScriptLine::Refuse { .. } => Ok(ScriptedReply::Never),
         }
     }
 
@@ -69,8 +69,8 @@ impl Course {
         ensures { IsStageOf (IsTrue fits) result self.now }
     {
         match self {
-            Course::Never => Stage::Waits,
-            Course::After { polls, .. } => {
+            ScriptedReply::Never => Stage::Waits,
+            ScriptedReply::After { polls, .. } => {
                 if *polls > 0 {
                     Stage::Waits
                 } else if fits {
@@ -87,8 +87,8 @@ impl Course {
         ensures { IsTrue result → OutcomeIs TellsConnection self.now }
     {
         match self {
-            Course::Never => false,
-            Course::After { outcome, .. } => match outcome {
+            ScriptedReply::Never => false,
+            ScriptedReply::After { outcome, .. } => match outcome {
                 ToldOutcome::Connected => true,
                 ToldOutcome::Message(_) => false,
                 ToldOutcome::Error(error) => !error.is_memory() && !error.is_no_records_found(),
@@ -101,8 +101,8 @@ impl Course {
         ensures { IsTrue result → OutcomeIs (TellsQuestion query.now) self.now }
     {
         match self {
-            Course::Never => false,
-            Course::After { outcome, .. } => match outcome {
+            ScriptedReply::Never => false,
+            ScriptedReply::After { outcome, .. } => match outcome {
                 ToldOutcome::Connected => false,
                 ToldOutcome::Message(message) => is_same_query(&message.query, query),
                 ToldOutcome::Error(error) => !error.is_memory() && is_error_about(error, query),
@@ -115,7 +115,7 @@ impl Course {
         requires { IsWaiting self.old }
         ensures { self.new ≡ shortened self.old }
     {
-        if let Course::After { polls, .. } = self {
+        if let ScriptedReply::After { polls, .. } = self {
             *polls -= 1;
         }
     }

@@ -81,17 +81,17 @@ impl Room {
 }
 
 /// Entries that wait for memory, which contracts see as a list, the oldest first.
-pub struct Late {
+pub struct UnrecordedEntries {
     chain: Chain,
 }
 
-impl Drop for Late {
+impl Drop for UnrecordedEntries {
     fn drop(self) {
-        let Late { chain: _ } = self;
+        let UnrecordedEntries { chain: _ } = self;
     }
 }
 
-impl Model for Late {
+impl Model for UnrecordedEntries {
     ghost use Rattle.std.specs.Prelude.{List, reverse};
     ghost use Rattle.dns_core.specs.declared.log.LogEntry.{LogEntry};
     ghost use Rattle.script_upstream.specs.Late.{chained};
@@ -101,11 +101,11 @@ impl Model for Late {
     ghost view = { λ a. reverse (chained a.chain) };
 }
 
-impl Late {
-    pub fn new() -> Late
+impl UnrecordedEntries {
+    pub fn new() -> UnrecordedEntries
         ensures { result ≡ [] }
     {
-        Late { chain: Chain::End }
+        UnrecordedEntries { chain: Chain::End }
     }
 
     /// Adds an entry in the room that it brings.

@@ -1,10 +1,10 @@
 //! Which types of this crate may go to another thread, and be shared among threads.
 
-use crate::script::late::{Late, Room};
+use crate::script::late::{UnrecordedEntries, Room};
 use crate::script::script::{Script, ScriptLine};
 use dns_core::CrossesThreads;
 
-impl CrossesThreads for Late {}
+impl CrossesThreads for UnrecordedEntries {}
 
 impl CrossesThreads for Room {}
 

@@ -1,13 +1,13 @@
 //! Copies of what was sent and of outcomes, which may want memory.
 
-use crate::orders::order::{Outcome, Sent};
+use crate::orders::order::{Outcome, SentBy};
 use dns_core::{NoMemory, TryClone};
 use std::alloc::Global;
 
-impl TryClone for Sent {
+impl TryClone for SentBy {
     fn try_clone(&self, alloc: Global) -> Result<Self, NoMemory> {
         let query = self.query.try_clone(alloc)?;
-        Ok(Sent {
+        Ok(SentBy {
             of: self.of,
             ip: self.ip,
             moment: self.moment,

@@ -112,7 +112,7 @@ impl TryClone for Order {
 /// What was sent to an address: the number of the log entry that says so, the moment, and the question,
 /// where it was one. Without one a connection was to be opened.
 #[derive(Drop, Debug)]
-pub struct Sent {
+pub struct SentBy {
     pub of: u64,
     pub ip: IpAddr,
     pub moment: u64,
@@ -130,16 +130,16 @@ pub enum Outcome {
     },
     Connected {
         entry: u64,
-        sent: Sent,
+        sent: SentBy,
     },
     Told {
         entry: u64,
-        sent: Sent,
+        sent: SentBy,
         message: Message,
     },
     Failed {
         entry: u64,
-        sent: Sent,
+        sent: SentBy,
         refused: bool,
         error: NetError,
     },

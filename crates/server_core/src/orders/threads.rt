@@ -1,13 +1,13 @@
 //! Which types of this crate may go to another thread, and be shared among threads.
 
-use crate::orders::order::{After, Order, Outcome, Sent, Tick};
+use crate::orders::order::{After, Order, Outcome, SentBy, Tick};
 use dns_core::CrossesThreads;
 
 impl CrossesThreads for Tick {}
 
 impl CrossesThreads for Order {}
 
-impl CrossesThreads for Sent {}
+impl CrossesThreads for SentBy {}
 
 impl CrossesThreads for Outcome {}
 

@@ -1,10 +1,10 @@
 //! The servers of a pool that can be asked, as a lookup sees them.
 ghost use Rattle.std.specs.Prelude.{◌≡◌, IfOk, filter, map, true, false, option_map};
 ghost use Rattle.server_core.specs.Servers.{server_of};
-ghost use Rattle.server_pool.specs.UsableServers.{candidate_of, candidates, is_reached, is_trusted};
+ghost use Rattle.server_pool.specs.UsableServers.{candidate_of, usable_servers, is_reached, is_trusted};
 
 use dns_core::NoMemory;
-use pool_rules::Candidate;
+use pool_rules::PoolServer;
 use server_core::{ConnectionPolicy, NameServer, ServerTable};
 use std::alloc::Global;
 
@@ -38,10 +38,10 @@ fn is_trusted(table: &ServerTable, number: u32) -> bool
     }
 }
 
-fn candidate_of(table: &ServerTable, number: u32) -> Candidate
+fn candidate_of(table: &ServerTable, number: u32) -> PoolServer
     ensures { result ≡ candidate_of table.now number }
 {
-    Candidate {
+    PoolServer {
         server: number,
         beyond_udp: is_reached(table, ConnectionPolicy { disable_udp: true }, number),
         trusted: is_trusted(table, number),
@@ -60,7 +60,7 @@ fn all_candidates(
     alloc: Global,
     table: &ServerTable,
     servers: &[u32],
-) -> Result<Vec<Candidate>, NoMemory>
+) -> Result<Vec<PoolServer>, NoMemory>
     ensures { IfOk result (λ found. found.items ≡ map (candidate_of table.now) servers.now) }
 {
     let mut found = Vec::with_capacity(alloc, servers.len())?;
@@ -71,12 +71,12 @@ fn all_candidates(
 }
 
 /// The servers of these numbers that can be reached at all, in their order.
-pub fn candidates(
+pub fn usable_servers(
     alloc: Global,
     table: &ServerTable,
     mut servers: Vec<u32>,
-) -> Result<Vec<Candidate>, NoMemory>
-    ensures { IfOk result (λ found. found.items ≡ candidates table.now servers.items) }
+) -> Result<Vec<PoolServer>, NoMemory>
+    ensures { IfOk result (λ found. found.items ≡ usable_servers table.now servers.items) }
 {
     keep_reached(table, &mut servers);
     all_candidates(alloc, table, servers.as_slice())

@@ -10,7 +10,7 @@ use tests_samples::{
     Machine, Sight, answer, comes_to, domain, filter, ip, is_wanted, query, query_of, referral,
     runs, seen, v4,
 };
-use walk_response::addresses;
+use walk_response::collect_glue;
 
 /// How a response is written: for as long as it says, no longer than the one that it repeats, or so
 /// and by the log entry of a number.
@@ -191,7 +191,7 @@ fn without(alloc: Global, denied: u8) -> Result<AccessControlSet, Fail> {
 fn lent(alloc: Global, filter: &AccessControlSet) -> Result<Vec<IpAddr>, NameError> {
     let name = domain(alloc, "example.com.")?;
     let message = referral(alloc, "example.com.", "ns.example.com.", v4(2))?;
-    Ok(addresses(alloc, &message, &name, filter)?)
+    Ok(collect_glue(alloc, &message, &name, filter)?)
 }
 
 /// Whether it lends this address alone, where another is denied.

@@ -1,4 +1,4 @@
-use Rattle.order_carrier.proofs.Calls.{asks-over, ask-sent, open-sent}
+use Rattle.order_carrier.proofs.CallByProvider.{asks-over, ask-sent, open-sent}
 use Rattle.order_carrier.proofs.calling.call.Goals as goal
 
 pub call_open-requires : goal.call_open-requires

@@ -1,4 +1,4 @@
-use Rattle.order_carrier.proofs.Calls.{asked-called, asked-refused}
+use Rattle.order_carrier.proofs.CallByProvider.{asked-called, asked-refused}
 use Rattle.order_carrier.proofs.calling.call_ask.Goals as goal
 
 pub returns-in-Ok-clause-called : goal.returns-in-Ok-clause-called

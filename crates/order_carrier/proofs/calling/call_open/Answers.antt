@@ -2,7 +2,7 @@ use Rattle.std.proofs.Common.{refl}
 use Rattle.dns_core.specs.Connection.{protocol_of}
 use Rattle.dns_core.specs.declared.log.LogEntry.TheVariants.{Opened}
 use Rattle.server_core.specs.declared.orders.order.Order.TheVariants.{Open}
-use Rattle.order_carrier.proofs.Calls.{opened-called, refused-called}
+use Rattle.order_carrier.proofs.CallByProvider.{opened-called, refused-called}
 use Rattle.order_carrier.proofs.calling.call_open.Goals as goal
 
 pub returns-in-Ok-clause-called : goal.returns-in-Ok-clause-called

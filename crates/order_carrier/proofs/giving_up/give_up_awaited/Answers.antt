@@ -1,6 +1,6 @@
 use Rattle.std.proofs.Common.{ℕ, ◌∙◌}
 use Rattle.dns_core.specs.declared.log.LogEntry.TheVariants.{GaveUp}
-use Rattle.order_carrier.proofs.Polls.{added-named}
+use Rattle.order_carrier.proofs.ProviderTellsPolls.{added-named}
 use Rattle.order_carrier.proofs.giving_up.give_up_awaited.Goals as goal
 
 pub returns-in-Connection-clause-log : goal.returns-in-Connection-clause-log

@@ -1,5 +1,5 @@
 use Rattle.std.proofs.Common.{◌∙◌, sym, refl}
-use Rattle.order_carrier.proofs.Polls.{polled-waiting, polled-memory, polled-error, polled-answered}
+use Rattle.order_carrier.proofs.ProviderTellsPolls.{polled-waiting, polled-memory, polled-error, polled-answered}
 use Rattle.order_carrier.proofs.polling.poll_answer.Goals as goal
 
 pub returns-in-Pending-clause-polled : goal.returns-in-Pending-clause-polled

@@ -1,4 +1,4 @@
-use Rattle.order_carrier.proofs.Polls.{rests-asleep, goes-for}
+use Rattle.order_carrier.proofs.ProviderTellsPolls.{rests-asleep, goes-for}
 use Rattle.order_carrier.proofs.polling.poll_awaited.Goals as goal
 
 pub poll_connection-requires-clause-goes : goal.poll_connection-requires-clause-goes

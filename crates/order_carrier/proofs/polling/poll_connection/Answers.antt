@@ -1,6 +1,6 @@
 use Rattle.std.proofs.Common.{◌∙◌, sym, ap, refl}
 use Rattle.order_carrier.specs.Awaited.Aim.{Reaches}
-use Rattle.order_carrier.proofs.Polls.{polled-waiting, polled-memory, polled-error, polled-connected}
+use Rattle.order_carrier.proofs.ProviderTellsPolls.{polled-waiting, polled-memory, polled-error, polled-connected}
 use Rattle.order_carrier.proofs.polling.poll_connection.Goals as goal
 
 pub returns-in-Pending-clause-polled : goal.returns-in-Pending-clause-polled

@@ -2,7 +2,7 @@ use Rattle.std.proofs.Common.{◌≡◌, subst}
 use Rattle.server_core.specs.Hearing.{changed_at}
 use Rattle.server_core.specs.Sending.{after_next}
 use Rattle.pool_lookup.specs.declared.attempt.Attempt.{Attempt}
-use Rattle.pool_lookup.proofs.Written.{read_at, same_at, put_back, given_at}
+use Rattle.pool_lookup.proofs.AttemptIsWritten.{read_at, same_at, put_back, given_at}
 use Rattle.pool_lookup.proofs.attempt.give_at.Goals as goal
 
 pub give-requires : goal.give-requires

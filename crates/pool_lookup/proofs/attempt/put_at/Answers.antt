@@ -2,7 +2,7 @@ use Rattle.std.proofs.Common.{◌≡◌, subst}
 use Rattle.std.specs.Prelude.{MatchResult}
 use Rattle.pool_lookup.specs.Cancelling.{heard_table}
 use Rattle.pool_lookup.specs.declared.attempt.Attempt.{Attempt}
-use Rattle.pool_lookup.proofs.Written.{read_at, same_at, put_back, put_there}
+use Rattle.pool_lookup.proofs.AttemptIsWritten.{read_at, same_at, put_back, put_there}
 use Rattle.pool_lookup.proofs.attempt.put_at.Goals as goal
 
 pub put-requires : goal.put-requires

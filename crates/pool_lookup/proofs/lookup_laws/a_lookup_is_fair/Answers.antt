@@ -1,4 +1,4 @@
-use Rattle.pool_lookup.proofs.Fair.{is_fair}
+use Rattle.pool_lookup.proofs.FewSends.{is_fair}
 use Rattle.pool_lookup.proofs.lookup_laws.a_lookup_is_fair.Goals as goal
 
 pub returns : goal.returns

@@ -1,4 +1,4 @@
-use Rattle.pool_lookup.proofs.Waits.{waits_for}
+use Rattle.pool_lookup.proofs.WaitsForOpenOrders.{waits_for}
 use Rattle.pool_lookup.proofs.lookup_laws.a_lookup_waits_for_an_order.Goals as goal
 
 pub returns : goal.returns

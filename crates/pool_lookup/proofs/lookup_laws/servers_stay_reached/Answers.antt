@@ -1,4 +1,4 @@
-use Rattle.pool_lookup.proofs.Reached.{changed_configs, stepped_configs, halted_configs, heard_configs, are_reached, more_reached}
+use Rattle.pool_lookup.proofs.ReachedAsBefore.{changed_configs, stepped_configs, halted_configs, heard_configs, are_reached, more_reached}
 use Rattle.pool_lookup.proofs.lookup_laws.servers_stay_reached.Goals as goal
 
 pub returns-clause-changed : goal.returns-clause-changed

@@ -1,9 +1,9 @@
-use Rattle.pool_lookup.proofs.Laws.{holds_begun, holds_started, holds_outcome, holds_out_of_memory}
-use Rattle.pool_lookup.proofs.Next.{holds_next}
+use Rattle.pool_lookup.proofs.LookupHoldsOn.{holds_begun, holds_started, holds_outcome, holds_out_of_memory}
+use Rattle.pool_lookup.proofs.HoldsWhereItGives.{holds_next}
 use Rattle.pool_lookup.proofs.lookup_laws.what_holds_stays.Goals as goal
 
 pub returns-clause-begun : goal.returns-clause-begun
-returns-clause-begun c = λ denied request servers together timeout now some. holds_begun denied request servers together timeout now some
+returns-clause-begun c = λ denied request servers concurrency timeout now some. holds_begun denied request servers concurrency timeout now some
 
 pub returns-clause-started : goal.returns-clause-started
 returns-clause-started c = λ denied now l h. holds_started denied now l h

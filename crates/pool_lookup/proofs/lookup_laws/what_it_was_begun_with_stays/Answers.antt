@@ -1,4 +1,4 @@
-use Rattle.pool_lookup.proofs.Begun.{round_same, started_same, next_same, outcome_same, out_of_memory_same}
+use Rattle.pool_lookup.proofs.BegunStays.{round_same, started_same, next_same, outcome_same, out_of_memory_same}
 use Rattle.pool_lookup.proofs.lookup_laws.what_it_was_begun_with_stays.Goals as goal
 
 pub returns-clause-begun : goal.returns-clause-begun

@@ -1,6 +1,6 @@
 use Rattle.std.proofs.Common.{◌≡◌, ◌+◌, ◌≤◌, length}
 use Rattle.std.specs.VecDeque.{deque_capacity}
-use Rattle.pool_lookup.proofs.Deals.{IsDealing}
+use Rattle.pool_lookup.proofs.RoundIsDealt.{IsDealing}
 use Rattle.pool_lookup.proofs.rounds.deal.Given as goal
 
 abbrev pub invariant-dealing : goal.invariant-dealing

@@ -1,4 +1,4 @@
-use Rattle.pool_lookup.proofs.Moments.{next_moment, outcome_moment, out_of_memory_moment}
+use Rattle.pool_lookup.proofs.DecidedAtItsStep.{next_moment, outcome_moment, out_of_memory_moment}
 use Rattle.pool_lookup.proofs.running_laws.a_lookup_is_decided_by_a_step.Goals as goal
 
 pub returns-clause-next : goal.returns-clause-next

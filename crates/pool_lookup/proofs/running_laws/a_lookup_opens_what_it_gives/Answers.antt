@@ -1,8 +1,8 @@
-use Rattle.pool_lookup.proofs.Opens.{opens_begun, opens_order, opens_outcome, opens_out_of_memory, opens_started, opens_has}
+use Rattle.pool_lookup.proofs.OneOpenOrder.{opens_begun, opens_order, opens_outcome, opens_out_of_memory, opens_started, opens_has}
 use Rattle.pool_lookup.proofs.running_laws.a_lookup_opens_what_it_gives.Goals as goal
 
 pub returns-clause-begun : goal.returns-clause-begun
-returns-clause-begun c = λ k request servers together timeout now. opens_begun k request servers together timeout now
+returns-clause-begun c = λ k request servers concurrency timeout now. opens_begun k request servers concurrency timeout now
 
 pub returns-clause-order : goal.returns-clause-order
 returns-clause-order c = λ k number table l order new g. opens_order k number g.0 table l order new g.1

@@ -1,4 +1,4 @@
-use Rattle.pool_lookup.proofs.Sent.{order_sent}
+use Rattle.pool_lookup.proofs.WhereOrdersGo.{order_sent}
 use Rattle.pool_lookup.proofs.running_laws.a_lookup_sends_to_its_servers.Goals as goal
 
 pub returns : goal.returns

@@ -1,5 +1,5 @@
-use Rattle.pool_lookup.proofs.Laws.{outcome_by, out_of_memory_by}
-use Rattle.pool_lookup.proofs.Next.{next_by}
+use Rattle.pool_lookup.proofs.LookupHoldsOn.{outcome_by, out_of_memory_by}
+use Rattle.pool_lookup.proofs.HoldsWhereItGives.{next_by}
 use Rattle.pool_lookup.proofs.running_laws.a_lookup_stands_by_its_ends.Goals as goal
 
 pub returns-clause-next : goal.returns-clause-next

@@ -1,4 +1,4 @@
-use Rattle.pool_lookup.proofs.Taken.{order_kept}
+use Rattle.pool_lookup.proofs.OutcomeIsTaken.{order_kept}
 use Rattle.pool_lookup.proofs.running_laws.an_order_that_is_kept_stays_open.Goals as goal
 
 pub returns : goal.returns

@@ -1,7 +1,7 @@
 use Rattle.std.proofs.Common.{◌∙◌}
 use Rattle.std.specs.Prelude.{find}
 use Rattle.resolution.specs.Class.{is_foreign}
-use Rattle.pool_rules.proofs.Foreign.{find_records, third_is}
+use Rattle.pool_rules.proofs.FirstForeignRecord.{find_records, third_is}
 use Rattle.pool_rules.proofs.answer_filter.are_of_class.Goals as goal
 
 pub returns : goal.returns

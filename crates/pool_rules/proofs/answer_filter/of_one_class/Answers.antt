@@ -2,7 +2,7 @@ use Rattle.std.proofs.Common.{◌∙◌}
 use Rattle.std.specs.Prelude.{find}
 use Rattle.std.proofs.lemmas.Result.{err_from_is_err_and}
 use Rattle.resolution.specs.Class.{is_foreign}
-use Rattle.pool_rules.proofs.Foreign.{find_records, first_is, second_is, third_is}
+use Rattle.pool_rules.proofs.FirstForeignRecord.{find_records, first_is, second_is, third_is}
 use Rattle.pool_rules.proofs.answer_filter.of_one_class.Goals as goal
 
 pub returns-in_err-answers-clause-err : goal.returns-in_err-answers-clause-err

@@ -1,7 +1,7 @@
 use Rattle.std.proofs.Common.{◌≡◌, ◌∙◌, ap, sym, None, Some}
 use Rattle.std.specs.List.{position}
 use Rattle.resolution.specs.Class.{is_foreign}
-use Rattle.pool_rules.proofs.Foreign.{placed, placed_nowhere}
+use Rattle.pool_rules.proofs.FirstForeignRecord.{placed, placed_nowhere}
 use Rattle.pool_rules.proofs.answer_filter.one_class.Goals as goal
 
 pub returns-in-Some-clause-err : goal.returns-in-Some-clause-err

@@ -1,4 +1,4 @@
-use Rattle.recursor_command.proofs.Checked.{has_output, script_fault, short_script, some_line}
+use Rattle.recursor_command.proofs.CheckSays.{has_output, script_fault, short_script, some_line}
 use Rattle.recursor_command.proofs.checking.checked.Goals as goal
 
 pub told_line-requires-clause-short : goal.told_line-requires-clause-short

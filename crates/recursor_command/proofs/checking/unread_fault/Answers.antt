@@ -1,7 +1,7 @@
 use Rattle.std.proofs.Common.{◌≡◌, true, ℕ, Option, sym, ap, subst, ◌∙◌}
 use Rattle.recursor_command.specs.Checking.{is_at_line, earlier_fault}
 use Rattle.recursor_command.specs.Command.{IsUnchecked}
-use Rattle.recursor_command.proofs.Unread.{fails_at_line, fails_early, fails_elsewhere}
+use Rattle.recursor_command.proofs.UnreadTextIsTold.{fails_at_line, fails_early, fails_elsewhere}
 use Rattle.recursor_command.proofs.checking.unread_fault.Goals as goal
 
 pub returns-then-not-is_at_line : goal.returns-then-not-is_at_line

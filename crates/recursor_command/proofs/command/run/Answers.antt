@@ -2,7 +2,7 @@ use Rattle.std.proofs.Common.{ℕ, List, Err, inl, inr, refl, sym, ap, ◌∙◌
 use Rattle.recursor_command.specs.Faults.{fault_text}
 use Rattle.recursor_command.specs.declared.faults.Fault.TheVariants.{Memory, Read, Words}
 use Rattle.recursor_command.specs.Command.{HasRefused, IsTextFor}
-use Rattle.recursor_command.proofs.Held.{refused_held, text_held, memory_fits, of_command, part_fits, text_of_run, text_of_refusal, nothing_taken}
+use Rattle.recursor_command.proofs.WholeSourceRead.{refused_held, text_held, memory_fits, of_command, part_fits, text_of_run, text_of_refusal, nothing_taken}
 use Rattle.recursor_command.proofs.command.run.Goals as goal
 
 pub returns-in-Ok-clause-scenario : goal.returns-in-Ok-clause-scenario

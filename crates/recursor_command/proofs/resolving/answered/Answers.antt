@@ -1,4 +1,4 @@
-use Rattle.recursor_command.proofs.Runnable.{runnable}
+use Rattle.recursor_command.proofs.ReadCanBeRun.{runnable}
 use Rattle.recursor_command.proofs.resolving.answered.Goals as goal
 
 pub resolved-requires : goal.resolved-requires

@@ -1,4 +1,4 @@
-use Rattle.recursor_command.proofs.Qualified.{upstream_script, upstream_world}
+use Rattle.recursor_command.proofs.NamesAreQualified.{upstream_script, upstream_world}
 use Rattle.recursor_command.proofs.resolving.ran.Goals as goal
 
 pub ran_script-requires-clause-qualified : goal.ran_script-requires-clause-qualified

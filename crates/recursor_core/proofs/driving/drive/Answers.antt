@@ -1,7 +1,7 @@
-use Rattle.recursor_core.proofs.Names.{◌∙◌, ℕ, min, IfOk, sym, subst, TellsThat, IsPast, Standing, run_terms, run_moments, RepliesHold, rises_over, with_patience, Policy}
-use Rattle.recursor_core.proofs.Later.{walks-on}
+use Rattle.recursor_core.proofs.Names.{◌∙◌, ℕ, min, IfOk, sym, subst, TellsThat, IsPast, RecursorState, policy_of_run, run_moments, RepliesHold, rises_over, with_patience, Policy}
+use Rattle.recursor_core.proofs.MachineAdvances.{walks-on}
 use Rattle.recursor_walk.specs.Way.{CanWalk}
-use Rattle.recursor_core.proofs.Standing.{rests_holds, holds_rests}
+use Rattle.recursor_core.proofs.MachineHoldsOn.{rests_holds, holds_rests}
 use Rattle.recursor_core.proofs.driving.drive.Goals as goal
 
 pub answer-requires : goal.answer-requires
@@ -34,8 +34,8 @@ returns-clause-replies g c =
     let by_moment = subst (λ (m : ℕ). IfOk c.answer.result (λ replies. TellsThat told (λ log.
     RepliesHold (with_patience (min was.policy.patience patience) was.policy) log m c.args.turns.now c.args.questions.now replies.items))) c.clear.ensures.same.1
     by_setting in
-    subst (λ (s : Standing _). IfOk c.answer.result (λ replies. TellsThat told (λ log.
-    RepliesHold (run_terms patience s) log s.moment c.args.turns.now c.args.questions.now replies.items))) c.recursor.view_is
+    subst (λ (s : RecursorState _). IfOk c.answer.result (λ replies. TellsThat told (λ log.
+    RepliesHold (policy_of_run patience s) log s.moment c.args.turns.now c.args.questions.now replies.items))) c.recursor.view_is
     by_moment
 
 pub returns-clause-rises : goal.returns-clause-rises

@@ -1,4 +1,4 @@
-use Rattle.recursor_core.proofs.Playing.{last_is}
+use Rattle.recursor_core.proofs.QuestionsArePlayed.{last_is}
 use Rattle.recursor_core.proofs.run.last_moment.Goals as goal
 
 pub returns-in-Some : goal.returns-in-Some

@@ -1,7 +1,7 @@
 use Rattle.std.proofs.Common.{rules}
 use Rattle.recursor_core.proofs.Names.{arith}
-use Rattle.recursor_core.proofs.Due.{due_later}
-use Rattle.recursor_core.proofs.Standing.{goes_core, goes_run, goes_trans}
+use Rattle.recursor_core.proofs.WorkLeft.{due_later}
+use Rattle.recursor_core.proofs.MachineHoldsOn.{goes_core, goes_run, goes_trans}
 use Rattle.recursor_core.proofs.turns.abandon.Goals as goal
 
 pub returns-in-Some-clause-goes : goal.returns-in-Some-clause-goes

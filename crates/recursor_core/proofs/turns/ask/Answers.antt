@@ -1,7 +1,7 @@
 use Rattle.recursor_core.proofs.Names.{max, ℕ, inl, subst, arith, begun_at, given_by, ReplyTold, polls_left}
-use Rattle.recursor_core.proofs.Due.{due_later}
-use Rattle.recursor_core.proofs.Standing.{goes_core, goes_trans, step_goes, step_replies, told_before}
-use Rattle.recursor_core.specs.declared.turns.Turned.TheVariants as turned
+use Rattle.recursor_core.proofs.WorkLeft.{due_later}
+use Rattle.recursor_core.proofs.MachineHoldsOn.{goes_core, goes_trans, step_goes, step_replies, told_before}
+use Rattle.recursor_core.specs.declared.turns.TurnResult.TheVariants as turned
 use Rattle.recursor_core.proofs.turns.ask.Goals as goal
 
 pub returns-in_err-number-clause-goes : goal.returns-in_err-number-clause-goes

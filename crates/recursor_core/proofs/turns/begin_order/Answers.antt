@@ -1,7 +1,7 @@
 use Rattle.std.proofs.Common.{rules}
 use Rattle.recursor_core.proofs.Names.{max, arith, polls_left, given_by}
-use Rattle.recursor_core.proofs.Due.{due_order}
-use Rattle.recursor_core.proofs.Standing.{goes_nowhere}
+use Rattle.recursor_core.proofs.WorkLeft.{due_order}
+use Rattle.recursor_core.proofs.MachineHoldsOn.{goes_nowhere}
 use Rattle.recursor_core.proofs.turns.begin_order.Goals as goal
 
 pub returns-in_err-insert-clause-goes : goal.returns-in_err-insert-clause-goes

@@ -1,5 +1,5 @@
 use Rattle.recursor_core.proofs.Names.{arith}
-use Rattle.recursor_core.proofs.Standing.{goes_trans}
+use Rattle.recursor_core.proofs.MachineHoldsOn.{goes_trans}
 use Rattle.recursor_core.proofs.turns.poll_rest.Goals as goal
 
 pub returns-in_err-poll_order-clause-goes : goal.returns-in_err-poll_order-clause-goes

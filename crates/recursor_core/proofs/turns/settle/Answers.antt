@@ -1,6 +1,6 @@
 use Rattle.recursor_core.proofs.Names.{Ok, Err, refl, ap, arith}
-use Rattle.recursor_core.proofs.Due.{due_later}
-use Rattle.recursor_core.proofs.Standing.{goes_nowhere, goes_closed, goes_run, goes_settled}
+use Rattle.recursor_core.proofs.WorkLeft.{due_later}
+use Rattle.recursor_core.proofs.MachineHoldsOn.{goes_nowhere, goes_closed, goes_run, goes_settled}
 use Rattle.server_core.specs.declared.orders.order.After.TheVariants as after
 use Rattle.recursor_core.proofs.turns.settle.Goals as goal
 

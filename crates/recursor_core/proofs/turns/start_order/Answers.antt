@@ -1,6 +1,6 @@
 use Rattle.recursor_core.proofs.Names.{◌+◌, max, arith, polls_left, given_by}
-use Rattle.recursor_core.proofs.Due.{due_more}
-use Rattle.recursor_core.proofs.Standing.{goes_run, goes_trans}
+use Rattle.recursor_core.proofs.WorkLeft.{due_more}
+use Rattle.recursor_core.proofs.MachineHoldsOn.{goes_run, goes_trans}
 use Rattle.recursor_core.proofs.turns.start_order.Goals as goal
 
 pub returns-in_err-outcome-clause-goes : goal.returns-in_err-outcome-clause-goes

@@ -1,7 +1,7 @@
 use Rattle.recursor_core.proofs.Names.{◌<◌, ⊎_elim, inl, arith, open_at, due}
-use Rattle.recursor_core.proofs.Due.{was_some, was_none, polled_all}
-use Rattle.recursor_core.proofs.Standing.{goes_trans, told_before}
-use Rattle.recursor_core.specs.declared.turns.Turned.TheVariants as turned
+use Rattle.recursor_core.proofs.WorkLeft.{was_some, was_none, polled_all}
+use Rattle.recursor_core.proofs.MachineHoldsOn.{goes_trans, told_before}
+use Rattle.recursor_core.specs.declared.turns.TurnResult.TheVariants as turned
 use Rattle.recursor_core.proofs.turns.turn.Goals as goal
 
 pub returns-in_err-ask-clause-goes : goal.returns-in_err-ask-clause-goes

@@ -1,5 +1,5 @@
 use Rattle.resolution.specs.Timing.{known_to_drive}
-use Rattle.resolution.proofs.Members.{Contains-from_Has}
+use Rattle.resolution.proofs.ElementsFiltered.{Contains-from_Has}
 use Rattle.resolution.proofs.RootsTried.{roots_tried}
 use Rattle.resolution.proofs.failing.no_root_is_left_out.Goals as goal
 

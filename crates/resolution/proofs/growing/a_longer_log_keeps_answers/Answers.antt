@@ -1,4 +1,4 @@
-use Rattle.resolution.proofs.Keeping.{Serves-extend, Base-extend}
+use Rattle.resolution.proofs.LongerLogs.{Serves-extend, Base-extend}
 use Rattle.resolution.proofs.AnswersKept.{Answer-extend}
 use Rattle.resolution.proofs.growing.a_longer_log_keeps_answers.Goals as goal
 

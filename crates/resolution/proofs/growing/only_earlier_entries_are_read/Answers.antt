@@ -1,5 +1,5 @@
 use Rattle.std.proofs.Common.{arith}
-use Rattle.resolution.proofs.Keeping.{Serves-keep, Serves-later}
+use Rattle.resolution.proofs.LongerLogs.{Serves-keep, Serves-later}
 use Rattle.resolution.proofs.growing.only_earlier_entries_are_read.Goals as goal
 
 pub returns-clause-below : goal.returns-clause-below

@@ -1,6 +1,6 @@
 use Rattle.std.proofs.Common.{refl, arith}
 use Rattle.dns_core.specs.Log.{Log, Extends}
-use Rattle.resolution.proofs.Keeping.{Serves-extend, Base-extend}
+use Rattle.resolution.proofs.LongerLogs.{Serves-extend, Base-extend}
 use Rattle.resolution.proofs.growing.patience_is_not_read.Goals as goal
 
 itself : (log : Log) → Extends log log

@@ -1,4 +1,4 @@
-use Rattle.resolution.proofs.Invented.{no_invention}
+use Rattle.resolution.proofs.NoAddressIsInvented.{no_invention}
 use Rattle.resolution.proofs.inventing.no_address_is_invented.Goals as goal
 
 pub returns : goal.returns

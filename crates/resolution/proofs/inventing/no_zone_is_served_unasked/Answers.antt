@@ -1,4 +1,4 @@
-use Rattle.resolution.proofs.Invented.{served_was_asked}
+use Rattle.resolution.proofs.NoAddressIsInvented.{served_was_asked}
 use Rattle.resolution.proofs.inventing.no_zone_is_served_unasked.Goals as goal
 
 pub returns : goal.returns

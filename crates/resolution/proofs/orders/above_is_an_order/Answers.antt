@@ -1,4 +1,4 @@
-use Rattle.resolution.proofs.Above.{is_above-refl, is_above-trans, is_in_zone-above}
+use Rattle.resolution.proofs.AboveIsAnOrder.{is_above-refl, is_above-trans, is_in_zone-above}
 use Rattle.resolution.proofs.orders.above_is_an_order.Goals as goal
 
 pub returns-clause-itself : goal.returns-clause-itself

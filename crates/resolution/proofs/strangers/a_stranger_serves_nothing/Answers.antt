@@ -10,9 +10,9 @@ use Rattle.dns_core.specs.declared.log.ToldOutcome.{ToldOutcome}
 use Rattle.dns_core.specs.declared.log.ToldOutcome.TheVariants as outcome
 use Rattle.resolution.specs.Records.{address, records}
 use Rattle.resolution.specs.BaseScript as script
-use Rattle.resolution.proofs.Members.{Has-from_Contains, flat_map-Has}
-use Rattle.resolution.proofs.Numbered.{Has-from_Logged, none_passes}
-use Rattle.resolution.proofs.Invented.{no_invention}
+use Rattle.resolution.proofs.ElementsFiltered.{Has-from_Contains, flat_map-Has}
+use Rattle.resolution.proofs.EntriesNumbered.{Has-from_Logged, none_passes}
+use Rattle.resolution.proofs.NoAddressIsInvented.{no_invention}
 use Rattle.resolution.proofs.strangers.a_stranger_serves_nothing.Goals as goal
 
 abbrev is_stranger : IpAddr → Bool

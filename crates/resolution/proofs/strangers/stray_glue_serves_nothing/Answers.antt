@@ -21,12 +21,12 @@ use Rattle.resolution.specs.Serving.Delegates.{delegates}
 use Rattle.resolution.specs.Serving.Heard.{heard}
 use Rattle.resolution.specs.BaseScript as script
 use Rattle.resolution.specs.declared.verdict.Verdict.TheVariants.{Pos}
-use Rattle.resolution.proofs.Members.{Has, Has-from_Contains, Has-filter_map}
-use Rattle.resolution.proofs.Numbered.{none_passes}
+use Rattle.resolution.proofs.ElementsFiltered.{Has, Has-from_Contains, Has-filter_map}
+use Rattle.resolution.proofs.EntriesNumbered.{none_passes}
 use Rattle.dns_core.specs.declared.codes.RecordType.{RecordType}
 use Rattle.resolution.proofs.Caseless.{types_same, names_same}
 use Rattle.resolution.proofs.ZoneCase.{above-same}
-use Rattle.resolution.proofs.Invented.{verdict-pos, Has-counted, in_zone-counted, of_address, served_was_asked}
+use Rattle.resolution.proofs.NoAddressIsInvented.{verdict-pos, Has-counted, in_zone-counted, of_address, served_was_asked}
 use Rattle.resolution.proofs.strangers.stray_glue_serves_nothing.Goals as goal
 
 abbrev is_at : List ℕ → IpAddr → Bool

@@ -14,7 +14,7 @@ returns c =
     let q = c.args.query.now in
     let full : (q.name).fqdn ≡ true = let a = c.if-not-is_fqdn.false in let b = c.is_fqdn.ensures in cc in
     let zoned : (c.args.zone.now).fqdn ≡ true = let a = c.if-not-is_fqdn-2.false in let b = c.is_fqdn-2.ensures in cc in
-    let F : Query → DomainName → Type 0 = λ x z. IsBase s.policy.now (log_in s) c.args.t0 x c.args.entry z in
+    let F : Query → DomainName → Type 0 = λ x z. IsBase s.policy.now (log_in s) c.args.asked_at x c.args.entry z in
     let asked : asks c.labels.result.now (q.query_type).code (q.query_class).code ≡ q = ap (λ (ls : List (List ℕ)). asks ls (q.query_type).code (q.query_class).code) c.labels.ensures.labels ∙ as_query q full in
     let at : apex c.labels-2.result.now ≡ c.args.zone.now = ap apex c.labels-2.ensures.labels ∙ apex-labels c.args.zone.now zoned in (
       (λ e. subst (F q) at (subst (λ (x : Query). F x (apex c.labels-2.result.now)) asked (c.base_at.ensures.0 e))),

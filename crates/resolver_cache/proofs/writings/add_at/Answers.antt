@@ -1,7 +1,7 @@
 use Rattle.std.proofs.Common.{ℕ, true, List, subst, sym}
 use Rattle.kept_responses.specs.declared.entry.Entry.{Entry}
 use Rattle.resolver_cache.specs.Writings.{AreDated}
-use Rattle.resolver_cache.proofs.Dated.{none_under, said_of_same, dated_added, dated_undone}
+use Rattle.resolver_cache.proofs.ExpiriesStay.{none_under, said_of_same, dated_added, dated_undone}
 use Rattle.resolver_cache.proofs.writings.add_at.Goals as goal
 
 pub returns-in-Ok-clause-kept : goal.returns-in-Ok-clause-kept

@@ -1,5 +1,5 @@
 use Rattle.std.proofs.Common.{◌∙◌}
-use Rattle.resolver_cache.proofs.Dated.{inserted_last}
+use Rattle.resolver_cache.proofs.ExpiriesStay.{inserted_last}
 use Rattle.resolver_cache.proofs.writings.add_entry.Goals as goal
 
 pub returns-clause-ok : goal.returns-clause-ok

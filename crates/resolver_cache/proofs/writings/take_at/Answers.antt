@@ -1,5 +1,5 @@
 use Rattle.std.proofs.Common.{false, sym}
-use Rattle.resolver_cache.proofs.Dated.{said_of_same, dated_taken}
+use Rattle.resolver_cache.proofs.ExpiriesStay.{said_of_same, dated_taken}
 use Rattle.resolver_cache.proofs.writings.take_at.Goals as goal
 
 pub returns-in-Some-clause-kept : goal.returns-in-Some-clause-kept

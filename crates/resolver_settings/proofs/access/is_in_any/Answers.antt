@@ -1,4 +1,4 @@
-use Rattle.resolver_settings.proofs.Spans.{any_contained}
+use Rattle.resolver_settings.proofs.FirstBitsSpan.{any_contained}
 use Rattle.resolver_settings.proofs.access.is_in_any.Goals as goal
 
 pub returns : goal.returns

@@ -1,5 +1,5 @@
 use Rattle.std.proofs.Common.{◌∙◌}
-use Rattle.resolver_settings.proofs.Spans.{ones_left}
+use Rattle.resolver_settings.proofs.FirstBitsSpan.{ones_left}
 use Rattle.resolver_settings.proofs.net.last_ones.Goals as goal
 
 pub returns : goal.returns

@@ -1,6 +1,6 @@
 use Rattle.std.proofs.Common.{◌≤◌, ◌<◌, ◌+◌, ◌^◌, arith}
 use Rattle.resolver_settings.specs.Net.{width_of}
-use Rattle.resolver_settings.proofs.Spans.{fits_below}
+use Rattle.resolver_settings.proofs.FirstBitsSpan.{fits_below}
 use Rattle.resolver_settings.proofs.net.net_of.Goals as goal
 
 pub overflow_add-highest : goal.overflow_add-highest

@@ -1,6 +1,6 @@
 use Rattle.std.proofs.Common.{sym}
 use Rattle.std.proofs.Common.{◌==◌}
-use Rattle.resolver_settings.proofs.Cuts.{split_none, split_some}
+use Rattle.resolver_settings.proofs.TextIsCut.{split_none, split_some}
 use Rattle.resolver_settings.proofs.text_lines.first_line.Goals as goal
 
 pub returns-in-None : goal.returns-in-None

@@ -1,6 +1,6 @@
 use Rattle.std.proofs.Common.{sym}
 use Rattle.resolver_settings.specs.TextLines.{is_blank}
-use Rattle.resolver_settings.proofs.Cuts.{split_none, split_some}
+use Rattle.resolver_settings.proofs.TextIsCut.{split_none, split_some}
 use Rattle.resolver_settings.proofs.text_lines.first_piece.Goals as goal
 
 pub returns-in-None-clause-parts : goal.returns-in-None-clause-parts

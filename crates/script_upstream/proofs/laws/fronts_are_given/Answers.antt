@@ -1,4 +1,4 @@
-use Rattle.script_upstream.proofs.Keeping.{gives_front}
+use Rattle.script_upstream.proofs.LogStaysTrue.{gives_front}
 use Rattle.script_upstream.proofs.laws.fronts_are_given.Goals as goal
 
 pub returns : goal.returns

@@ -7,7 +7,7 @@ use Rattle.server_pool.specs.declared.open_lookups.open_lookup.OpenLookup.{OpenL
 use Rattle.server_pool.specs.Shared.{Shared}
 use Rattle.server_pool.specs.Stepping.{HasPut}
 use Rattle.server_pool.specs.TableLaws.{RunsByOutcome}
-use Rattle.server_pool.proofs.Running.{next_runs, put_runs, out_runs}
+use Rattle.server_pool.proofs.LookupsRun.{next_runs, put_runs, out_runs}
 use Rattle.server_pool.proofs.table_laws.a_lookup_runs_by_its_ends.Goals as goal
 
 runs : (number n : ℕ) (l : OpenLookup) (o : Outcome) (tick : Tick) (old new : Shared) (r : Result After NoMemory) → HasPut number n l o tick old r new → RunsByOutcome number n l o tick old r new

@@ -1,4 +1,4 @@
-use Rattle.server_pool.proofs.Running.{next_rest, put_rest}
+use Rattle.server_pool.proofs.LookupsRun.{next_rest, put_rest}
 use Rattle.server_pool.proofs.table_laws.a_step_changes_one_lookup.Goals as goal
 
 pub returns-clause-next : goal.returns-clause-next

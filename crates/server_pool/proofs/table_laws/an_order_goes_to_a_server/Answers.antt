@@ -1,4 +1,4 @@
-use Rattle.server_pool.proofs.Running.{order_goes}
+use Rattle.server_pool.proofs.LookupsRun.{order_goes}
 use Rattle.server_pool.proofs.table_laws.an_order_goes_to_a_server.Goals as goal
 
 pub returns : goal.returns

@@ -1,5 +1,5 @@
 use Rattle.std.proofs.Common.{◌∙◌, ap, length}
-use Rattle.server_core.proofs.Changing.{changed_length}
+use Rattle.server_core.proofs.TableChanged.{changed_length}
 use Rattle.tests_pools.proofs.send_samples.next_of.Goals as goal
 
 pub returns-in_err-next-clause-table : goal.returns-in_err-next-clause-table

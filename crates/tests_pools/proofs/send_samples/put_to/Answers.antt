@@ -1,7 +1,7 @@
 use Rattle.std.proofs.Common.{◌∙◌, ap, length}
 use Rattle.server_core.specs.declared.sends.server_send.ServerSend.{ServerSend}
-use Rattle.server_core.proofs.Changing.{changed_length}
-use Rattle.server_core.proofs.Coming.{come_same}
+use Rattle.server_core.proofs.TableChanged.{changed_length}
+use Rattle.server_core.proofs.SendComesTo.{come_same}
 use Rattle.tests_pools.proofs.send_samples.put_to.Goals as goal
 
 pub returns-clause-table : goal.returns-clause-table

@@ -1,5 +1,5 @@
 use Rattle.std.proofs.Common.{◌==◌, refl}
-use Rattle.text_lines.proofs.Cuts.{split_cons}
+use Rattle.text_lines.proofs.TextIsCut.{split_cons}
 use Rattle.text_lines.proofs.networks.net.Goals as goal
 
 pub returns-in-Some-more : goal.returns-in-Some-more

@@ -1,7 +1,7 @@
 use Rattle.std.proofs.Common.{◌≡◌, length}
 use Rattle.text_lines.specs.Pieces.{pieces}
 use Rattle.text_lines.specs.NumberLists.{each_delay}
-use Rattle.text_lines.proofs.Binds.{behind}
+use Rattle.text_lines.proofs.StepsThatFail.{behind}
 use Rattle.text_lines.proofs.number_lists.delays.Given as goal
 
 abbrev pub invariant-items : goal.invariant-items

@@ -1,5 +1,5 @@
 use Rattle.std.proofs.Common.{sym, ◌==◌}
-use Rattle.text_lines.proofs.Cuts.{split_none, split_some}
+use Rattle.text_lines.proofs.TextIsCut.{split_none, split_some}
 use Rattle.text_lines.proofs.pieces.cut.Goals as goal
 
 pub returns-in-None-clause-parts : goal.returns-in-None-clause-parts

@@ -2,7 +2,7 @@ use Rattle.std.proofs.Common.{◌+◌, take, arith}
 use Rattle.std.proofs.lemmas.Result.{err_from_is_err_and}
 use Rattle.transcript_printer.specs.Log.{numbered_text}
 use Rattle.transcript_printer.specs.Transcript.{reply_text}
-use Rattle.transcript_printer.proofs.Appended.{appended_twice, extends_then, numbered_none, numbered_next}
+use Rattle.transcript_printer.proofs.TextsAppended.{appended_twice, extends_then, numbered_none, numbered_next}
 use Rattle.transcript_printer.proofs.replies.put_replies.Goals as goal
 
 pub loop-i-init : goal.loop-i-init

@@ -1,7 +1,7 @@
 use Rattle.std.proofs.Common.{◌+◌, ◌/◌, ◌%◌, ◌^◌, ◌<◌, ◌≤◌, [], ◌∷◌, arith}
 use Rattle.std.specs.Prelude.{decimal}
 use Rattle.std.proofs.lemmas.Fmt.{decimal_step}
-use Rattle.transcript_printer.proofs.Appended.{appended_twice}
+use Rattle.transcript_printer.proofs.TextsAppended.{appended_twice}
 use Rattle.transcript_printer.proofs.words.+put_number.Goals as goal
 
 pub returns : goal.returns

@@ -1,5 +1,5 @@
 use Rattle.std.proofs.lemmas.Result.{err_from_is_err_and}
-use Rattle.transcript_printer.proofs.Appended.{extends_none}
+use Rattle.transcript_printer.proofs.TextsAppended.{extends_none}
 use Rattle.transcript_printer.proofs.words.put_ipv6.Goals as goal
 
 pub returns-in_err-text : goal.returns-in_err-text

@@ -1,5 +1,5 @@
 use Rattle.walk_lookup.proofs.Names.{refl, sym, ◌∙◌}
-use Rattle.walk_lookup.proofs.Counting.{counts-as}
+use Rattle.walk_lookup.proofs.ResponseCounts.{counts-as}
 use Rattle.walk_lookup.proofs.answered.found_by.Goals as goal
 
 pub returns-in-Ok : goal.returns-in-Ok

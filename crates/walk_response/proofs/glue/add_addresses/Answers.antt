@@ -1,5 +1,5 @@
 use Rattle.walk_response.specs.Lending.{lent_by}
-use Rattle.walk_response.proofs.Lending.{same-next, same-last, lent_by-append}
+use Rattle.walk_response.proofs.GlueOfServers.{same-next, same-last, lent_by-append}
 use Rattle.walk_response.proofs.glue.add_addresses.Goals as goal
 
 pub loop-r-preserved : goal.loop-r-preserved

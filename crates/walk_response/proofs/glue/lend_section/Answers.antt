@@ -1,6 +1,6 @@
 use Rattle.resolution.specs.Records.{records}
 use Rattle.walk_response.specs.Lending.{lent_for}
-use Rattle.walk_response.proofs.Lending.{same-next, same-last, lent_for-append}
+use Rattle.walk_response.proofs.GlueOfServers.{same-next, same-last, lent_for-append}
 use Rattle.walk_response.proofs.glue.lend_section.Goals as goal
 
 pub loop-r-preserved : goal.loop-r-preserved

@@ -2,7 +2,7 @@ use Rattle.std.proofs.Common.{◌≡◌, length, None, ap, sym, ◌∙◌}
 use Rattle.std.specs.Option.{option_copied}
 use Rattle.zone_rules.specs.Tree.{first_cut}
 use Rattle.world_layout.specs.Layout.{left_name}
-use Rattle.world_check.proofs.Cuts.{left_by_all}
+use Rattle.world_check.proofs.NoZoneOnTheWay.{left_by_all}
 use Rattle.world_check.proofs.looked_up.is_left.Goals as goal
 
 pub returns-in-None : goal.returns-in-None

@@ -2,7 +2,7 @@ use Rattle.std.proofs.Common.{List, ap, ◌∙◌}
 use Rattle.std.specs.List.{list_all}
 use Rattle.dns_core.specs.declared.record.Record.{Record}
 use Rattle.world_check.specs.Serving.{is_served_by}
-use Rattle.world_check.proofs.Served.{served_named}
+use Rattle.world_check.proofs.ServedByRecords.{served_named}
 use Rattle.world_check.proofs.serving.is_served_by_named.Goals as goal
 
 pub returns : goal.returns

@@ -2,7 +2,7 @@ use Rattle.std.proofs.Common.{List, ap, ◌∙◌}
 use Rattle.std.specs.List.{list_any}
 use Rattle.dns_core.specs.declared.record.Record.{Record}
 use Rattle.zone_rules.specs.Choosing.{is_alias}
-use Rattle.world_layout.proofs.Named.{aliased_named}
+use Rattle.world_layout.proofs.NameByRecords.{aliased_named}
 use Rattle.world_layout.proofs.naming.is_aliased_by.Goals as goal
 
 pub returns : goal.returns

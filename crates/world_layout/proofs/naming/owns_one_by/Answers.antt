@@ -3,7 +3,7 @@ use Rattle.std.specs.Prelude.{filter, ◌==◌}
 use Rattle.dns_core.specs.Name.{same_names}
 use Rattle.dns_core.specs.declared.record.Record.{Record}
 use Rattle.zone_worlds.specs.Index.{all_records}
-use Rattle.world_layout.proofs.Named.{one_owner}
+use Rattle.world_layout.proofs.NameByRecords.{one_owner}
 use Rattle.world_layout.proofs.naming.owns_one_by.Goals as goal
 
 pub returns-then-is_single : goal.returns-then-is_single

@@ -1,4 +1,4 @@
-use Rattle.world_upstream.proofs.Logs.{gives_front}
+use Rattle.world_upstream.proofs.LogStaysTrue.{gives_front}
 use Rattle.world_upstream.proofs.laws.fronts_are_given.Goals as goal
 
 pub returns : goal.returns

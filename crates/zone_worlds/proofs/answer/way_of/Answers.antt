@@ -6,7 +6,7 @@ use Rattle.dns_core.specs.declared.record.Record.{Record}
 use Rattle.resolution.specs.Records.{cname_target}
 use Rattle.zone_worlds.specs.Answer.{next_alias_for, Leads}
 use Rattle.zone_rules.specs.declared.choosing.Alias.{Alias}
-use Rattle.zone_worlds.proofs.Ways.{path-begins, path-kept, path-falls, path-repeats, path-ends}
+use Rattle.zone_worlds.proofs.WayOfAliases.{path-begins, path-kept, path-falls, path-repeats, path-ends}
 use Rattle.zone_worlds.proofs.answer.way_of.Goals as goal
 
 pub way-init : goal.way-init

@@ -1,7 +1,7 @@
 use Rattle.std.specs.Prelude.{filter, length}
 use Rattle.zone_worlds.proofs.MetNames.{unmet}
 use Rattle.zone_worlds.proofs.ZonesFound.{all_records}
-use Rattle.zone_worlds.proofs.Ways.{Reached}
+use Rattle.zone_worlds.proofs.WayOfAliases.{Reached}
 use Rattle.zone_worlds.proofs.answer.way_of.Given as goal
 
 -- what leads on from the name at hand leads on from the question's, and where nothing does nothing did

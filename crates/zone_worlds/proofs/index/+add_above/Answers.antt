@@ -3,7 +3,7 @@ use Rattle.std.specs.Prelude.{◌==◌, ◌||◌}
 use Rattle.std.specs.HashSet.{contains}
 use Rattle.dns_core.specs.Name.{same_names}
 use Rattle.resolution.specs.Names.{is_above}
-use Rattle.zone_worlds.proofs.Indexing.{put_base, on_ok}
+use Rattle.zone_worlds.proofs.IndexOfOneMore.{put_base, on_ok}
 use Rattle.zone_worlds.proofs.index.+add_above.Goals as goal
 
 pub returns : goal.returns

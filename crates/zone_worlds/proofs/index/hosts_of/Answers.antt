@@ -1,7 +1,7 @@
 use Rattle.std.proofs.Common.{refl}
 use Rattle.std.proofs.lemmas.List.{take_more}
 use Rattle.std.proofs.lemmas.Option.{slice_get_read}
-use Rattle.zone_worlds.proofs.Indexing.{hosts_more}
+use Rattle.zone_worlds.proofs.IndexOfOneMore.{hosts_more}
 use Rattle.zone_worlds.proofs.index.hosts_of.Goals as goal
 
 pub loop-place-preserved : goal.loop-place-preserved

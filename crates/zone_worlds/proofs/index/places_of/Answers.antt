@@ -4,7 +4,7 @@ use Rattle.std.specs.HashMap.{get}
 use Rattle.std.proofs.lemmas.List.{take_more}
 use Rattle.std.proofs.lemmas.Option.{slice_get_read}
 use Rattle.dns_core.specs.Name.{same_names}
-use Rattle.zone_worlds.proofs.Indexing.{zones_more}
+use Rattle.zone_worlds.proofs.IndexOfOneMore.{zones_more}
 use Rattle.zone_worlds.proofs.index.places_of.Goals as goal
 
 pub loop-place-preserved : goal.loop-place-preserved

@@ -1,7 +1,7 @@
 use Rattle.std.specs.HashMap.{get}
 use Rattle.dns_core.specs.Name.{same_names}
 use Rattle.dns_core.specs.NameLaws.{same_names_equiv}
-use Rattle.zone_worlds.proofs.Indexing.{put_new, put_known, absent, present}
+use Rattle.zone_worlds.proofs.IndexOfOneMore.{put_new, put_known, absent, present}
 use Rattle.zone_worlds.proofs.index.put_first.Goals as goal
 
 pub returns-in_ok-insert : goal.returns-in_ok-insert

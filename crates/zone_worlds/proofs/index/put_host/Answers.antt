@@ -1,7 +1,7 @@
 use Rattle.std.specs.HashMap.{get}
 use Rattle.std.specs.contracts.net.ip_addr.IpAddrPartialEq.TheImpl as address
 use Rattle.std.specs.contracts.net.ip_addr.IpAddrEq.TheImpl.Laws as address_eq
-use Rattle.zone_worlds.proofs.Indexing.{put_new, put_known, absent, present}
+use Rattle.zone_worlds.proofs.IndexOfOneMore.{put_new, put_known, absent, present}
 use Rattle.zone_worlds.proofs.index.put_host.Goals as goal
 
 pub returns-in_ok-insert : goal.returns-in_ok-insert

@@ -1,7 +1,7 @@
 use Rattle.std.proofs.Common.{[], ◌∷◌, ◌++◌, ap, ◌∙◌}
 use Rattle.std.specs.HashMap.{get}
 use Rattle.dns_core.specs.Name.{same_names}
-use Rattle.zone_worlds.proofs.Held.{same_held, put_last}
+use Rattle.zone_worlds.proofs.RecordsUnderNames.{same_held, put_last}
 use Rattle.zone_worlds.proofs.records.add_record.Goals as goal
 
 pub returns : goal.returns

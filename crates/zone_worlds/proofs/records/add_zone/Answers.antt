@@ -2,7 +2,7 @@ use Rattle.std.proofs.Common.{List, sym, subst, arith}
 use Rattle.std.proofs.lemmas.List.{append-nil}
 use Rattle.dns_core.specs.declared.record.Record.{Record}
 use Rattle.zone_worlds.specs.Index.{FindsRecords}
-use Rattle.zone_worlds.proofs.Held.{records_next}
+use Rattle.zone_worlds.proofs.RecordsUnderNames.{records_next}
 use Rattle.zone_worlds.proofs.records.add_zone.Goals as goal
 
 pub loop-r-init : goal.loop-r-init

@@ -1,7 +1,7 @@
 use Rattle.std.proofs.Common.{List, sym, subst, arith}
 use Rattle.dns_core.specs.declared.record.Record.{Record}
 use Rattle.zone_worlds.specs.Index.{FindsRecords}
-use Rattle.zone_worlds.proofs.Held.{zones_next}
+use Rattle.zone_worlds.proofs.RecordsUnderNames.{zones_next}
 use Rattle.zone_worlds.proofs.records.held_by.Goals as goal
 
 pub loop-zone-preserved : goal.loop-zone-preserved

@@ -1,7 +1,7 @@
 use Rattle.std.proofs.Common.{◌≡◌, List, Some, None, subst}
 use Rattle.dns_core.specs.Name.{DomainName}
 use Rattle.zone_rules.specs.Aliases.{next_alias}
-use Rattle.zone_worlds.proofs.Ways.{way-begins, way-kept, way-falls, way-ends}
+use Rattle.zone_worlds.proofs.WayOfAliases.{way-begins, way-kept, way-falls, way-ends}
 use Rattle.zone_worlds.proofs.telling.follow.Goals as goal
 
 pub chain-init : goal.chain-init

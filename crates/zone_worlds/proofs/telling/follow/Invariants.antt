@@ -1,6 +1,6 @@
 use Rattle.std.specs.Prelude.{filter, length}
 use Rattle.zone_worlds.proofs.MetNames.{unmet}
-use Rattle.zone_worlds.proofs.Ways.{OnWay}
+use Rattle.zone_worlds.proofs.WayOfAliases.{OnWay}
 use Rattle.zone_worlds.proofs.telling.follow.Given as goal
 
 -- what follows from the name at hand follows from the first

@@ -1,6 +1,6 @@
 use Rattle.order_carrier.specs.Stand.{stand_at}
-use Rattle.order_carrier.proofs.Steps.{not-ready}
-use Rattle.order_carrier.proofs.Taking.{carries-barred, carries-holds}
+use Rattle.order_carrier.proofs.CallByItsParts.{not-ready}
+use Rattle.order_carrier.proofs.OrderByCallParts.{carries-barred, carries-holds}
 use Rattle.order_carrier.proofs.carrier.Carrier.carry.Goals as goal
 
 pub returns-then-is_unseen-clause-carries : goal.returns-then-is_unseen-clause-carries

@@ -6,7 +6,7 @@ use Rattle.order_carrier.specs.GivingUp.{open_key, GivesUp}
 use Rattle.order_carrier.specs.Stand.{stand_at}
 use Rattle.order_carrier.specs.declared.key.Form.TheVariants as form
 use Rattle.order_carrier.specs.declared.key.OrderKey.{OrderKey}
-use Rattle.order_carrier.proofs.Taking.{gives-up-holds}
+use Rattle.order_carrier.proofs.OrderByCallParts.{gives-up-holds}
 use Rattle.order_carrier.proofs.carrier.Carrier.give_up.Goals as goal
 
 -- the first of two under which one is under way

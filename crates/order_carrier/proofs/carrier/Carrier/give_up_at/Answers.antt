@@ -1,7 +1,7 @@
 use Rattle.std.proofs.Common.{subst}
 use Rattle.order_carrier.specs.Stand.{slot_at, IsSlotNamed}
 use Rattle.order_carrier.proofs.Slots.{taken-is, not-taken}
-use Rattle.order_carrier.proofs.Taking.{gives-up}
+use Rattle.order_carrier.proofs.OrderByCallParts.{gives-up}
 use Rattle.order_carrier.proofs.carrier.Carrier.give_up_at.Goals as goal
 
 pub give_up_awaited-requires : goal.give_up_awaited-requires

@@ -1,5 +1,5 @@
 use Rattle.std.proofs.Common.{refl}
-use Rattle.order_carrier.proofs.Taking.{begins-holds}
+use Rattle.order_carrier.proofs.OrderByCallParts.{begins-holds}
 use Rattle.order_carrier.proofs.carrier.Carrier.new.Goals as goal
 
 pub returns-clause-holds : goal.returns-clause-holds

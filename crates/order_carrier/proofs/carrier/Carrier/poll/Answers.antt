@@ -1,6 +1,6 @@
 use Rattle.std.specs.Result.{result_ok}
 use Rattle.order_carrier.specs.Awaited.{sent_of}
-use Rattle.order_carrier.proofs.Taking.{heard-there}
+use Rattle.order_carrier.proofs.OrderByCallParts.{heard-there}
 use Rattle.order_carrier.proofs.carrier.Carrier.poll.Goals as goal
 
 pub returns-clause-hears : goal.returns-clause-hears

@@ -3,9 +3,9 @@ use Rattle.std.specs.Result.{result_ok}
 use Rattle.server_core.specs.declared.orders.order.Order.{Order}
 use Rattle.order_carrier.specs.Awaited.{aim_of, IsSentFor, sent_of}
 use Rattle.order_carrier.specs.Carrying.{Hears}
-use Rattle.order_carrier.proofs.Calls.{numbered-next}
-use Rattle.order_carrier.proofs.Steps.{none-of_err, counted-few}
-use Rattle.order_carrier.proofs.Taking.{carries-lacking, carries-wanting, carries-refused_memory, carries-refused, carries-started}
+use Rattle.order_carrier.proofs.CallByProvider.{numbered-next}
+use Rattle.order_carrier.proofs.CallByItsParts.{none-of_err, counted-few}
+use Rattle.order_carrier.proofs.OrderByCallParts.{carries-lacking, carries-wanting, carries-refused_memory, carries-refused, carries-started}
 use Rattle.order_carrier.proofs.carrier.Carrier.start.Goals as goal
 
 pub returns-in_default-clause-carries : goal.returns-in_default-clause-carries

@@ -1,4 +1,4 @@
-use Rattle.pool_lookup.proofs.Steps.{can_within, given_order}
+use Rattle.pool_lookup.proofs.StepsCanBeTaken.{can_within, given_order}
 use Rattle.pool_lookup.proofs.attempt.Attempt.give.Goals as goal
 
 pub next-requires : goal.next-requires

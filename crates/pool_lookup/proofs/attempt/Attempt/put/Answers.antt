@@ -4,7 +4,7 @@ use Rattle.server_core.specs.Sending.{end_of, after_end, after_put, takes_memory
 use Rattle.server_core.specs.declared.sends.server_send.ServerSend.{ServerSend}
 use Rattle.pool_lookup.specs.declared.attempt.Attempt.{Attempt}
 use Rattle.pool_lookup.specs.declared.attempt.Put.{Put}
-use Rattle.pool_lookup.proofs.Written.{on_error, was_taken}
+use Rattle.pool_lookup.proofs.AttemptIsWritten.{on_error, was_taken}
 use Rattle.pool_lookup.proofs.attempt.Attempt.put.Goals as goal
 
 pub returns-in_err-after-clause-after : goal.returns-in_err-after-clause-after

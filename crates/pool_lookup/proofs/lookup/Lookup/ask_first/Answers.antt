@@ -1,14 +1,14 @@
 use Rattle.std.proofs.Common.{◌≡◌, ◌∙◌, List, length, refl, ap, sym, subst, arith, inl, inr}
 use Rattle.server_core.specs.Hearing.{changed_at}
 use Rattle.server_core.specs.Sending.{after_step, after_want}
-use Rattle.pool_rules.specs.declared.candidate.Candidate.{Candidate}
+use Rattle.pool_rules.specs.declared.pool_server.PoolServer.{PoolServer}
 use Rattle.pool_lookup.specs.declared.attempt.Attempt.{Attempt}
 use Rattle.pool_lookup.specs.Attempts.{CanGive}
 use Rattle.pool_lookup.specs.Giving.{Orders, ordered}
 use Rattle.pool_lookup.specs.Lookup.{LookupState}
-use Rattle.pool_lookup.proofs.Steps.{begin_asks, can_ask_first}
-use Rattle.pool_lookup.proofs.Doing.{begun, made_first, moved_on, stepped_begin}
-use Rattle.pool_lookup.proofs.Written.{on_err_always}
+use Rattle.pool_lookup.proofs.StepsCanBeTaken.{begin_asks, can_ask_first}
+use Rattle.pool_lookup.proofs.NextStepGives.{begun, made_first, moved_on, stepped_begin}
+use Rattle.pool_lookup.proofs.AttemptIsWritten.{on_err_always}
 use Rattle.pool_lookup.proofs.lookup.Lookup.ask_first.Goals as goal
 
 pub returns-in_err-request-clause-halted : goal.returns-in_err-request-clause-halted
@@ -24,7 +24,7 @@ give-requires c =
 pub push_reserved-requires : goal.push_reserved-requires
 push_reserved-requires c =
     let l = c.args.self.now in
-    let some = ap (λ (cs : List Candidate). length cs) (begin_asks l c.args.candidate c.requires.want).1.1 in
+    let some = ap (λ (cs : List PoolServer). length cs) (begin_asks l c.args.candidate c.requires.want).1.1 in
     let round = c.requires.can.0.1.1.keeps.round in
     let begun = ap (λ (s : LookupState). length s.attempts) c.self.view_is in
     let all = ap (λ (s : LookupState). length s.servers) c.self.view_is in

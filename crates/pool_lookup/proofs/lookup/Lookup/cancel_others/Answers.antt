@@ -2,7 +2,7 @@ use Rattle.std.proofs.Common.{◌≡◌, ◌∙◌, ◌+◌, ◌-◌, ◌≤◌,
 use Rattle.std.proofs.lemmas.Option.{slice_get-get_or}
 use Rattle.pool_lookup.specs.Cancelling.{others_of}
 use Rattle.pool_lookup.specs.Lookup.{LookupState}
-use Rattle.pool_lookup.proofs.Cancelled.{cancelled_from, cancelled_all, cancelled_none, cancelled_on, cancelled_rest}
+use Rattle.pool_lookup.proofs.LosersRecorded.{cancelled_from, cancelled_all, cancelled_none, cancelled_on, cancelled_rest}
 use Rattle.pool_lookup.proofs.lookup.Lookup.cancel_others.Goals as goal
 
 pub others-init : goal.others-init

@@ -1,6 +1,6 @@
 use Rattle.std.proofs.Common.{◌≡◌, [], take, drop}
 use Rattle.pool_lookup.specs.Cancelling.{others_of}
-use Rattle.pool_lookup.proofs.Cancelled.{cancelled_from}
+use Rattle.pool_lookup.proofs.LosersRecorded.{cancelled_from}
 use Rattle.pool_lookup.proofs.lookup.Lookup.cancel_others.Given as goal
 
 -- the rest of the servers give the same table

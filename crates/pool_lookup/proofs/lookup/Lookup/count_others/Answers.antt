@@ -1,6 +1,6 @@
 use Rattle.std.proofs.Common.{ap, length, arith}
 use Rattle.pool_lookup.specs.Lookup.{LookupState}
-use Rattle.pool_lookup.proofs.Cancelled.{others_length}
+use Rattle.pool_lookup.proofs.LosersRecorded.{others_length}
 use Rattle.pool_lookup.proofs.lookup.Lookup.count_others.Goals as goal
 
 pub returns : goal.returns

@@ -1,13 +1,13 @@
 use Rattle.std.proofs.Common.{◌∙◌, ap, sym, subst}
 use Rattle.dns_core.specs.declared.request.DnsRequest.{DnsRequest}
-use Rattle.pool_rules.specs.Agenda.{HasRoom}
+use Rattle.pool_rules.specs.RetryQueue.{HasRoom}
 use Rattle.pool_rules.specs.AnswerFilter.{denied_by}
 use Rattle.pool_lookup.specs.declared.attempt.Attempt.{Attempt}
 use Rattle.pool_lookup.specs.Hearing.{heard, after_end}
 use Rattle.pool_lookup.specs.Lookup.{LookupState, question_of}
 use Rattle.pool_lookup.specs.Rounds.{CanBegin, settled}
-use Rattle.pool_lookup.proofs.Heard.{heard_begins}
-use Rattle.pool_lookup.proofs.Steps.{some_same}
+use Rattle.pool_lookup.proofs.OutcomeIsPut.{heard_begins}
+use Rattle.pool_lookup.proofs.StepsCanBeTaken.{some_same}
 use Rattle.pool_lookup.proofs.lookup.Lookup.end_attempt.Goals as goal
 
 pub hear-requires-clause-room : goal.hear-requires-clause-room

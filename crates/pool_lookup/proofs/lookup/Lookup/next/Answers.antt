@@ -1,8 +1,8 @@
 use Rattle.std.proofs.Common.{◌≡◌, subst, IfOk, OnOk, OnErr}
 use Rattle.pool_lookup.specs.Giving.{Gives, Halts, stepped_table}
 use Rattle.pool_lookup.specs.Lookup.{LookupState}
-use Rattle.pool_lookup.proofs.Steps.{can_begin}
-use Rattle.pool_lookup.proofs.Doing.{sound_started, reached_started}
+use Rattle.pool_lookup.proofs.StepsCanBeTaken.{can_begin}
+use Rattle.pool_lookup.proofs.NextStepGives.{sound_started, reached_started}
 use Rattle.pool_lookup.proofs.lookup.Lookup.next.Goals as goal
 
 pub start-requires : goal.start-requires

@@ -1,8 +1,8 @@
 use Rattle.std.proofs.Common.{◌≡◌, ◌∙◌, ◌+◌, ◌-◌, ◌<◌, List, length, slice_get, ap, sym, arith}
 use Rattle.pool_lookup.specs.declared.attempt.Attempt.{Attempt}
 use Rattle.pool_lookup.specs.Lookup.{LookupState}
-use Rattle.pool_lookup.proofs.Cancelled.{others_length, other_begun, other_ready}
-use Rattle.pool_lookup.proofs.Written.{read_at}
+use Rattle.pool_lookup.proofs.LosersRecorded.{others_length, other_begun, other_ready}
+use Rattle.pool_lookup.proofs.AttemptIsWritten.{read_at}
 use Rattle.pool_lookup.proofs.lookup.Lookup.other_at.Goals as goal
 
 pub returns-then-place-begun : goal.returns-then-place-begun

@@ -4,8 +4,8 @@ use Rattle.pool_rules.specs.AnswerFilter.{denied_by}
 use Rattle.pool_lookup.specs.declared.attempt.Attempt.{Attempt}
 use Rattle.pool_lookup.specs.Hearing.{IsPutAt, run_out, after_attempt}
 use Rattle.pool_lookup.specs.Lookup.{LookupState}
-use Rattle.pool_lookup.proofs.Facts.{some_at}
-use Rattle.pool_lookup.proofs.Heard.{with_attempts, put_can, put_lookup, put_table, out_lookup}
+use Rattle.pool_lookup.proofs.ListFacts.{some_at}
+use Rattle.pool_lookup.proofs.OutcomeIsPut.{with_attempts, put_can, put_lookup, put_table, out_lookup}
 use Rattle.pool_lookup.proofs.lookup.Lookup.put_attempt.Goals as goal
 
 pub put_at-requires-clause-place : goal.put_at-requires-clause-place

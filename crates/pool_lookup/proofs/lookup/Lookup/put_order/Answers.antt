@@ -1,8 +1,8 @@
 use Rattle.std.proofs.Common.{Some, None, sym, refl}
 use Rattle.pool_rules.specs.AnswerFilter.{denied_by}
 use Rattle.pool_lookup.specs.Attempts.{is_open_at}
-use Rattle.pool_lookup.proofs.Heard.{at_number, at_no_number, out_at_number, table_at, done_at, put_all, found_none, of_results}
-use Rattle.pool_lookup.proofs.Steps.{can_end, can_put, found_at}
+use Rattle.pool_lookup.proofs.OutcomeIsPut.{at_number, at_no_number, out_at_number, table_at, done_at, put_all, found_none, of_results}
+use Rattle.pool_lookup.proofs.StepsCanBeTaken.{can_end, can_put, found_at}
 use Rattle.pool_lookup.proofs.lookup.Lookup.put_order.Goals as goal
 
 pub put_attempt-requires-clause-can : goal.put_attempt-requires-clause-can

@@ -3,9 +3,9 @@ use Rattle.std.proofs.lemmas.Option.{slice_get_within}
 use Rattle.pool_lookup.specs.declared.attempt.Attempt.{Attempt}
 use Rattle.pool_lookup.specs.Giving.{IsGivenAt}
 use Rattle.pool_lookup.specs.Lookup.{LookupState}
-use Rattle.pool_lookup.proofs.Steps.{can_resume}
-use Rattle.pool_lookup.proofs.Doing.{place_there, resumed, stepped_resume}
-use Rattle.pool_lookup.proofs.Written.{on_err_always}
+use Rattle.pool_lookup.proofs.StepsCanBeTaken.{can_resume}
+use Rattle.pool_lookup.proofs.NextStepGives.{place_there, resumed, stepped_resume}
+use Rattle.pool_lookup.proofs.AttemptIsWritten.{on_err_always}
 use Rattle.pool_lookup.proofs.lookup.Lookup.resume.Goals as goal
 
 pub give_at-requires-clause-place : goal.give_at-requires-clause-place

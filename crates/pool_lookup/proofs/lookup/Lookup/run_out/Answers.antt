@@ -3,7 +3,7 @@ use Rattle.dns_core.specs.declared.net_error.NetError.TheVariants.{NoMemory}
 use Rattle.pool_lookup.specs.declared.attempt.Attempt.{Attempt}
 use Rattle.pool_lookup.specs.Hearing.{run_out}
 use Rattle.pool_lookup.specs.Lookup.{decided}
-use Rattle.pool_lookup.proofs.Steps.{some_same}
+use Rattle.pool_lookup.proofs.StepsCanBeTaken.{some_same}
 use Rattle.pool_lookup.proofs.lookup.Lookup.run_out.Goals as goal
 
 pub returns : goal.returns

@@ -1,5 +1,5 @@
 use Rattle.std.proofs.Common.{◌∙◌, sym}
-use Rattle.pool_lookup.proofs.Steps.{over_ready, spent_over}
+use Rattle.pool_lookup.proofs.StepsCanBeTaken.{over_ready, spent_over}
 use Rattle.pool_lookup.proofs.lookup.Lookup.settle.Goals as goal
 
 pub begin_round-requires-clause-can : goal.begin_round-requires-clause-can

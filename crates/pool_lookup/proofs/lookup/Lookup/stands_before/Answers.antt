@@ -2,7 +2,7 @@ use Rattle.std.proofs.Common.{◌≡◌, ◌∙◌, ◌==◌, suc, ◌+◌, ℕ,
 use Rattle.std.specs.List.{list_any}
 use Rattle.pool_lookup.specs.Cancelling.{others_of}
 use Rattle.std.proofs.lemmas.Bool.{eq-eqb, ne_eqb}
-use Rattle.pool_lookup.proofs.Cancelled.{stands_on, found_before}
+use Rattle.pool_lookup.proofs.LosersRecorded.{stands_on, found_before}
 use Rattle.pool_lookup.proofs.lookup.Lookup.stands_before.Goals as goal
 
 pub earlier-init : goal.earlier-init

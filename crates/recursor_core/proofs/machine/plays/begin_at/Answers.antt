@@ -1,6 +1,6 @@
 use Rattle.recursor_core.proofs.MachineWords.{◌≡◌, ◌<◌, length, Some, slice_get, refl, sym, ◌∙◌, arith, same_Some, slice_get_read}
-use Rattle.recursor_core.proofs.Places.{slice_get-set_other}
-use Rattle.recursor_core.proofs.Begins.{begins_waiting, begins_else}
+use Rattle.recursor_core.proofs.OnePlaceIsSet.{slice_get-set_other}
+use Rattle.recursor_core.proofs.QuestionBegins.{begins_waiting, begins_else}
 use Rattle.recursor_core.proofs.machine.plays.begin_at.Goals.{in-Waiting, in_default}
 use Rattle.recursor_core.proofs.machine.plays.begin_at.Goals as goal
 

@@ -1,4 +1,4 @@
-use Rattle.recursor_core.proofs.Answered.{unanswered_falls}
+use Rattle.recursor_core.proofs.AnsweredIsOver.{unanswered_falls}
 use Rattle.recursor_core.proofs.machine.plays.leave_unanswered.Goals as goal
 
 pub returns-clause-falls : goal.returns-clause-falls

@@ -1,4 +1,4 @@
-use Rattle.recursor_core.proofs.Answered.{answered_falls}
+use Rattle.recursor_core.proofs.AnsweredIsOver.{answered_falls}
 use Rattle.recursor_core.proofs.machine.plays.put_answer.Goals as goal
 
 pub returns-clause-falls : goal.returns-clause-falls

@@ -1,5 +1,5 @@
-use Rattle.recursor_core.proofs.MachineWords.{◌≡◌, ◌∙◌, ℕ, Option, length, arith, subst, slice_get, ReplyOf, Reply, Played}
-use Rattle.recursor_core.proofs.Begins.{each_push}
+use Rattle.recursor_core.proofs.MachineWords.{◌≡◌, ◌∙◌, ℕ, Option, length, arith, subst, slice_get, ReplyOf, Reply, QuestionState}
+use Rattle.recursor_core.proofs.QuestionBegins.{each_push}
 use Rattle.recursor_core.proofs.machine.plays.replies.Goals as goal
 
 pub loop-place-preserved : goal.loop-place-preserved
@@ -9,7 +9,7 @@ loop-place-preserved c =
     let given = c.take_reply-reply.result in
     let replied : length c.loop-place.replies.items ≡ c.loop-place.place = omega (arith, i.replied, c.loop-place.replies.ok.0) in
     let was = c.args.plays.now.items in
-    let here : ReplyOf (slice_get was c.loop-place.place) given = subst (λ (p : Option Played). ReplyOf p given) (i.left c.loop-place.place (omega arith)) t.reply in
+    let here : ReplyOf (slice_get was c.loop-place.place) given = subst (λ (p : Option QuestionState). ReplyOf p given) (i.left c.loop-place.place (omega arith)) t.reply in
     record {
       replied = omega (arith, i.replied, c.in_ok-push.ensures.len);
       count = t.count ∙ i.count;

@@ -1,5 +1,5 @@
 use Rattle.recursor_core.proofs.MachineWords.{◌≡◌, All, vec_len}
-use Rattle.recursor_core.specs.declared.machine.plays.Played.TheVariants as played
+use Rattle.recursor_core.specs.declared.machine.plays.QuestionState.TheVariants as played
 use Rattle.recursor_core.proofs.machine.plays.waiting.Given as goal
 
 abbrev pub invariant-loop-question : goal.invariant-loop-question

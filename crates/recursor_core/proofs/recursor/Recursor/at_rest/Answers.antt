@@ -1,6 +1,6 @@
 use Rattle.recursor_core.proofs.Names.{◌≡◌, ◌<◌, Some, List, [], ◌∷◌, length, refl, arith, LogEntry}
 use Rattle.std.proofs.Common.{◌≢◌}
-use Rattle.recursor_core.proofs.Standing.{new_rests}
+use Rattle.recursor_core.proofs.MachineHoldsOn.{new_rests}
 use Rattle.recursor_core.proofs.recursor.Recursor.at_rest.Goals as goal
 
 -- a list that is not empty has something

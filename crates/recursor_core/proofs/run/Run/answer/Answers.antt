@@ -1,6 +1,6 @@
 use Rattle.recursor_core.proofs.Names.{[], subst, IfOk-weaker, TellsThat, Policy, RepliesHold, run_moments}
-use Rattle.recursor_core.proofs.Leading.{leads_refl}
-use Rattle.recursor_core.proofs.Playing.{plays_wait, replies_hold}
+use Rattle.recursor_core.proofs.StepsLeadOn.{leads_refl}
+use Rattle.recursor_core.proofs.QuestionsArePlayed.{plays_wait, replies_hold}
 use Rattle.recursor_core.proofs.Timed.{run_first}
 use Rattle.recursor_core.proofs.run.Run.answer.Goals as goal
 

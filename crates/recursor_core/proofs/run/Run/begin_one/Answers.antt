@@ -1,5 +1,5 @@
-use Rattle.recursor_core.proofs.Leading.{leads_begun}
-use Rattle.recursor_core.proofs.Playing.{begins_hold}
+use Rattle.recursor_core.proofs.StepsLeadOn.{leads_begun}
+use Rattle.recursor_core.proofs.QuestionsArePlayed.{begins_hold}
 use Rattle.recursor_core.proofs.run.Run.begin_one.Goals as goal
 
 pub returns-clause-leads : goal.returns-clause-leads

@@ -1,5 +1,5 @@
 use Rattle.recursor_core.proofs.Names.{◌∷◌, ◌∙◌, [], refl}
-use Rattle.recursor_core.proofs.Leading.{leads_refl, leads_then, none_later, second_of}
+use Rattle.recursor_core.proofs.StepsLeadOn.{leads_refl, leads_then, none_later, second_of}
 use Rattle.recursor_core.proofs.Timed.{contains_first}
 use Rattle.recursor_core.proofs.run.Run.finish.Goals as goal
 

@@ -1,5 +1,5 @@
 use Rattle.recursor_core.proofs.Names.{◌≡◌, ◌≤◌, ℕ, List, [], Contains, arith, subst, max, Turn, last_moment, run_moments, IsOver}
-use Rattle.recursor_core.proofs.Leading.{leads_then, none_later}
+use Rattle.recursor_core.proofs.StepsLeadOn.{leads_then, none_later}
 use Rattle.recursor_core.proofs.Timed.{run_last, contains_max}
 use Rattle.recursor_core.proofs.run.Run.play_all.Goals as goal
 

@@ -1,5 +1,5 @@
 use Rattle.recursor_core.proofs.Names.{◌∷◌, ◌∙◌, [], refl}
-use Rattle.recursor_core.proofs.Leading.{leads_refl, leads_then, none_later, second_of}
+use Rattle.recursor_core.proofs.StepsLeadOn.{leads_refl, leads_then, none_later, second_of}
 use Rattle.recursor_core.proofs.Timed.{contains_first}
 use Rattle.recursor_core.proofs.run.Run.play_rest.Goals as goal
 
@@ -12,14 +12,14 @@ loop-q-init g c =
       count = refl;
     }
 
-pub play_one-requires-clause-moment : goal.play_one-requires-clause-moment
-play_one-requires-clause-moment g c = none_later c.args.self.now.core.moment c.args.now c.loop-q.self.core.moment c.requires.moment c.loop-q.invariant.leads.timely
+pub resolve_question-requires-clause-moment : goal.resolve_question-requires-clause-moment
+resolve_question-requires-clause-moment g c = none_later c.args.self.now.core.moment c.args.now c.loop-q.self.core.moment c.requires.moment c.loop-q.invariant.leads.timely
 
 pub loop-q-preserved : goal.loop-q-preserved
 loop-q-preserved g c =
     let start = c.args.self.now.core.moment in
     let i = c.loop-q.invariant in
-    let e = c.play_one.ensures in
+    let e = c.resolve_question.ensures in
     record {
       leads = leads_then g.P.ConnectionProvider (start ∷ c.args.now ∷ []) c.args.now _ _ _ _ _ _ _ _ _ (second_of start c.args.now) i.leads e.leads;
       plays = λ start turns over h. e.plays start turns over (i.plays start turns over h);

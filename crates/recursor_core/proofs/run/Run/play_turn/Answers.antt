@@ -1,6 +1,6 @@
 use Rattle.recursor_core.proofs.Names.{◌≡◌, ◌≤◌, ◌+◌, ◌-◌, ◌∷◌, [], ℕ, Contains, arith, max, subst, run_moments}
-use Rattle.recursor_core.proofs.Leading.{leads_wider, leads_then, one_of, none_later, turn_due}
-use Rattle.recursor_core.proofs.Playing.{plays_skip}
+use Rattle.recursor_core.proofs.StepsLeadOn.{leads_wider, leads_then, one_of, none_later, turn_due}
+use Rattle.recursor_core.proofs.QuestionsArePlayed.{plays_skip}
 use Rattle.recursor_core.proofs.Timed.{contains_first, contains_later, contains_max}
 use Rattle.recursor_core.proofs.run.Run.play_turn.Goals as goal
 
@@ -14,7 +14,7 @@ begin_one-requires-clause-moment g c = omega (arith, c.max-now.ensures, c.moment
 
 pub play-played-requires-clause-moment : goal.play-played-requires-clause-moment
 play-played-requires-clause-moment g c =
-    let way = c.make_way-next.new.self.core.moment in
+    let way = c.finish_current-next.new.self.core.moment in
     let come : way ≤ c.max-now.result = omega (arith, c.max-now.ensures, c.moment.ensures) in
     none_later way c.max-now.result c.begin_one.new.self.core.moment come c.begin_one.ensures.leads.timely
 
@@ -25,10 +25,10 @@ returns-clause-leads g c =
     let t = c.args.turn.now.moment in
     let moments = start ∷ t ∷ [] in
     let first : Contains moments start = contains_first start (t ∷ []) in
-    let way = leads_wider p (start ∷ []) moments _ _ _ _ _ _ (λ k. one_of moments start k first) c.make_way-next.ensures.leads in
-    let is : max t c.make_way-next.new.self.core.moment ≡ c.max-now.result = omega (arith, c.max-now.ensures, c.moment.ensures) in
+    let way = leads_wider p (start ∷ []) moments _ _ _ _ _ _ (λ k. one_of moments start k first) c.finish_current-next.ensures.leads in
+    let is : max t c.finish_current-next.new.self.core.moment ≡ c.max-now.result = omega (arith, c.max-now.ensures, c.moment.ensures) in
     let now : Contains moments c.max-now.result = subst (Contains moments) is
-    (contains_max moments t c.make_way-next.new.self.core.moment (contains_later start t (t ∷ []) (contains_first t [])) way.timely) in
+    (contains_max moments t c.finish_current-next.new.self.core.moment (contains_later start t (t ∷ []) (contains_first t [])) way.timely) in
     leads_then p moments c.max-now.result _ _ _ _ _ _ _ _ _ now
     (leads_then p moments c.max-now.result _ _ _ _ _ _ _ _ _ now way c.begin_one.ensures.leads) c.play-played.ensures.leads
 
@@ -37,14 +37,14 @@ returns-clause-plays g c start turns rest comes h =
     let after = comes.after in
     let t = c.args.turn.now in
     let q : ℕ = t.question - 1 in
-    let way = c.make_way-next.new.self.core.moment in
+    let way = c.finish_current-next.new.self.core.moment in
     let moments = run_moments start turns in
     let names : t.question ≡ q + 1 = omega (arith, c.if-turn-eq0.false) in
     let due : t.moment ≤ c.max-now.result = omega (arith, c.max-now.ensures) in
-    let come : start ≤ c.max-now.result = omega (arith, c.max-now.ensures, c.moment.ensures, c.make_way-next.ensures.leads.later, after) in
+    let come : start ≤ c.max-now.result = omega (arith, c.max-now.ensures, c.moment.ensures, c.finish_current-next.ensures.leads.later, after) in
     let is : max t.moment way ≡ c.max-now.result = omega (arith, c.max-now.ensures, c.moment.ensures) in
     let now : Contains moments c.max-now.result = subst (Contains moments) is
-    (contains_max moments t.moment way comes.is_in (one_of moments c.args.self.now.core.moment way comes.was_in c.make_way-next.ensures.leads.timely)) in
+    (contains_max moments t.moment way comes.is_in (one_of moments c.args.self.now.core.moment way comes.was_in c.finish_current-next.ensures.leads.timely)) in
     c.play-played.ensures.plays start turns rest c.args.questions.now now
     (c.begin_one.ensures.plays start turns (t ∷ rest) rest (turn_due start turns rest t q c.max-now.result names come due)
-    (c.make_way-next.ensures.plays start turns (t ∷ rest) c.args.questions.now comes.was_in h))
+    (c.finish_current-next.ensures.plays start turns (t ∷ rest) c.args.questions.now comes.was_in h))

@@ -1,5 +1,5 @@
 use Rattle.recursor_core.proofs.Names.{◌<◌, ◌≤◌, ◌+◌, ◌∙◌, List, length, drop, refl, arith, subst, drop_of_length-le, drop_more, Turn, Plays, run_moments}
-use Rattle.recursor_core.proofs.Leading.{leads_refl, leads_then}
+use Rattle.recursor_core.proofs.StepsLeadOn.{leads_refl, leads_then}
 use Rattle.recursor_core.proofs.Timed.{run_first, run_turns}
 use Rattle.recursor_core.proofs.run.Run.play_turns.Goals as goal
 

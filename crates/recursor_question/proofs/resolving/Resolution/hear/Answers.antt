@@ -1,5 +1,5 @@
 use Rattle.recursor_question.proofs.Words.{verdict_heard, Walking}
-use Rattle.recursor_question.proofs.Resolved.{follow-falls, follow-hears, falls-from, holds-on}
+use Rattle.recursor_question.proofs.ResolutionAfterStep.{follow-falls, follow-hears, falls-from, holds-on}
 use Rattle.recursor_question.proofs.resolving.Resolution.hear.Goals as goal
 
 pub returns-in-Walking-clause-falls : goal.returns-in-Walking-clause-falls
@@ -11,18 +11,18 @@ returns-in-Walking-clause-falls c =
     (rw c.deref_mut.ensures.value at c.hear-came.ensures.falls))
 
 pub returns-in-Walking-clause-holds : goal.returns-in-Walking-clause-holds
-returns-in-Walking-clause-holds c seen filtered h =
+returns-in-Walking-clause-holds c view filtered h =
     let r = c.args.self.now in
-    holds-on seen r c.follow.new.self c.follow.ensures.begun h.begun
-    (c.follow.ensures.holds seen r.begun
-    (c.hear-came.ensures.holds seen r.begun r.question filtered (rw c.deref_mut.ensures.value (rw c.in-Walking.is at h.state))))
+    holds-on view r c.follow.new.self c.follow.ensures.begun h.begun
+    (c.follow.ensures.holds view r.begun
+    (c.hear-came.ensures.holds view r.begun r.question filtered (rw c.deref_mut.ensures.value (rw c.in-Walking.is at h.state))))
 
 pub returns-in-Asking-clause-holds : goal.returns-in-Asking-clause-holds
-returns-in-Asking-clause-holds c seen filtered h =
+returns-in-Asking-clause-holds c view filtered h =
     let r = c.args.self.now in
-    holds-on seen r c.settle.new.self c.settle.ensures.begun h.begun
-    (c.settle.ensures.holds seen r.begun
-    (c.hear-came-in-Asking.ensures.holds seen r.begun (rw c.deref_mut-in-Asking.ensures.value (rw c.in-Asking.is at h.state))))
+    holds-on view r c.settle.new.self c.settle.ensures.begun h.begun
+    (c.settle.ensures.holds view r.begun
+    (c.hear-came-in-Asking.ensures.holds view r.begun (rw c.deref_mut-in-Asking.ensures.value (rw c.in-Asking.is at h.state))))
 
 pub returns-in-Asking-clause-ended : goal.returns-in-Asking-clause-ended
 returns-in-Asking-clause-ended c = c.settle.ensures.ended tt

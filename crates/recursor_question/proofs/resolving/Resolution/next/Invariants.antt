@@ -1,10 +1,10 @@
-use Rattle.recursor_question.proofs.Words.{◌≡◌, View, Reply, IsDoneWith, recalled, answerable, SameBegun, IsOpen, steps, ResolutionHolds}
+use Rattle.recursor_question.proofs.Words.{◌≡◌, LogView, Reply, IsDoneWith, from_cache, answerable, SameBegun, IsOpen, steps, ResolutionHolds}
 use Rattle.std.specs.Prelude.{◌⊎◌}
 use Rattle.walk_tables.specs.Pools.{PoolsHold, given_so_far}
 use Rattle.recursor_question.specs.Steps.{SteppedBy}
 use Rattle.recursor_question.specs.Resolving.{want_of}
-use Rattle.recursor_question.proofs.Stepping.{AnswersSoFar}
-use Rattle.recursor_question.specs.declared.resolving.Need.TheVariants as need
+use Rattle.recursor_question.proofs.QuestionHasNext.{AnswersSoFar}
+use Rattle.recursor_question.specs.declared.resolving.NextStep.TheVariants as need
 use Rattle.recursor_question.proofs.resolving.Resolution.next.Given as goal
 
 abbrev pub invariant-steps : goal.invariant-steps
@@ -12,10 +12,10 @@ invariant-steps l = record {
   given : given_so_far l.pools ≡ given_so_far l.fn.pools;
   from : (l.self ≡ l.fn.self) ⊎ IsOpen l.self.state;
   begun : SameBegun l.fn.self l.self;
-  holds : (seen : View) → SteppedBy seen l.policy l.cache l.since l.tick → PoolsHold seen l.fn.pools → ResolutionHolds seen l.fn.self
-      → ResolutionHolds seen l.self × PoolsHold seen l.pools;
+  holds : (view : LogView) → SteppedBy view l.policy l.cache l.since l.tick → PoolsHold view l.fn.pools → ResolutionHolds view l.fn.self
+      → ResolutionHolds view l.self × PoolsHold view l.pools;
   recalls : want_of l.fn.self ≡ need.SetOut
-      → AnswersSoFar l.fn.self.question (answerable (recalled l.cache l.fn.self.question.query l.tick.now)) l.fn.self l.self;
+      → AnswersSoFar l.fn.self.question (answerable (from_cache l.cache l.fn.self.question.query l.tick.now)) l.fn.self l.self;
   replies : (reply : Reply) → IsDoneWith reply l.fn.self.state → IsDoneWith reply l.self.state;
 }
 

@@ -1,5 +1,5 @@
 use Rattle.std.proofs.Common.{◌≡◌, ◌≤◌, length}
-use Rattle.text_lines.proofs.Binds.{behind}
+use Rattle.text_lines.proofs.StepsThatFail.{behind}
 use Rattle.recursor_text.specs.Lines.{zone_numbers}
 use Rattle.recursor_text.proofs.world_reading.lines.zone_numbers.Given as goal
 

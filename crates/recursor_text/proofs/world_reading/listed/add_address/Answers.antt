@@ -1,4 +1,4 @@
-use Rattle.recursor_text.proofs.Keys.{address_added}
+use Rattle.recursor_text.proofs.KeySet.{address_added}
 use Rattle.recursor_text.proofs.world_reading.listed.add_address.Goals as goal
 
 pub returns-clause-ok : goal.returns-clause-ok

@@ -1,4 +1,4 @@
-use Rattle.recursor_text.proofs.Keys.{name_added}
+use Rattle.recursor_text.proofs.KeySet.{name_added}
 use Rattle.recursor_text.proofs.world_reading.listed.add_apex.Goals as goal
 
 pub returns-clause-ok : goal.returns-clause-ok

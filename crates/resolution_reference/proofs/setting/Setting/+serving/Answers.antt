@@ -13,7 +13,7 @@ use Rattle.resolution_reference.specs.Plain.{apex, asks, among, kept, holds_for,
 use Rattle.resolution_reference.specs.PlainServing.{log_in, ListedFrom, ListedBy, GivenFrom, AnswerGives, ServerGives, TargetGives}
 use Rattle.resolution_reference.specs.PlainServing.TargetGives.{gives}
 use Rattle.resolution_reference.specs.PlainServing.Lists.{beside}
-use Rattle.resolution.proofs.Members.{Has, Has-from_Contains, Contains-from_Has}
+use Rattle.resolution.proofs.ElementsFiltered.{Has, Has-from_Contains, Contains-from_Has}
 use Rattle.resolution_reference.proofs.PlainServed.{none_listed, listed_from, from_listed, to_serves, of_serves, root_serves, none_given, given_from, from_given, among-Contains, Contains-among, under-test, from_server, lists_by, is_given, is_qualified, as_question, is_empty_list, target_found, last_or_below, get_or-in_range, clash}
 use Rattle.resolution_reference.proofs.PlainServed.ListsBy.{by_glue, by_record}
 use Rattle.resolution_reference.proofs.setting.Setting.+serving.Goals as goal

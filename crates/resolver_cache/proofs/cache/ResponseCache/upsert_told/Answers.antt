@@ -1,5 +1,5 @@
 use Rattle.std.specs.Map.{values_of}
-use Rattle.resolver_cache.proofs.Kept.{kept_by_put}
+use Rattle.resolver_cache.proofs.CacheWithinSize.{kept_by_put}
 use Rattle.resolver_cache.proofs.cache.ResponseCache.upsert_told.Goals as goal
 
 pub invariant_of-self : goal.invariant_of-self

@@ -3,7 +3,7 @@ use Rattle.std.specs.BTreeMap.{is_at}
 use Rattle.std.specs.Map.{remove_entry}
 use Rattle.std.specs.Ordering.{nat_cmp}
 use Rattle.kept_responses.specs.declared.entry.Entry.{Entry}
-use Rattle.resolver_cache.proofs.Dated.{last_taken}
+use Rattle.resolver_cache.proofs.ExpiriesStay.{last_taken}
 use Rattle.resolver_cache.proofs.index.Index.add.Goals as goal
 
 pub returns-in-Err-clause-err : goal.returns-in-Err-clause-err

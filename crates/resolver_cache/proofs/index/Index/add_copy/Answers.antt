@@ -2,7 +2,7 @@ use Rattle.std.proofs.Common.{◌≡◌, ◌∙◌, None, sym, subst}
 use Rattle.kept_responses.specs.declared.entry.Entry.{Entry}
 use Rattle.kept_responses.specs.Entry.{is_for}
 use Rattle.resolver_cache.specs.Writings.{number_of}
-use Rattle.resolver_cache.proofs.Placed.{added_placed}
+use Rattle.resolver_cache.proofs.EntriesUnderQuestions.{added_placed}
 use Rattle.resolver_cache.proofs.index.Index.add_copy.Goals as goal
 
 pub returns-clause-placed : goal.returns-clause-placed

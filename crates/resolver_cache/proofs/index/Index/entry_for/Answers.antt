@@ -1,5 +1,5 @@
 use Rattle.std.proofs.Common.{◌∙◌, sym}
-use Rattle.resolver_cache.proofs.Placed.{found_by, found_none}
+use Rattle.resolver_cache.proofs.EntriesUnderQuestions.{found_by, found_none}
 use Rattle.resolver_cache.proofs.index.Index.entry_for.Goals as goal
 
 pub returns-in-Some : goal.returns-in-Some

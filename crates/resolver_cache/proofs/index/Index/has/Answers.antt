@@ -1,5 +1,5 @@
 use Rattle.std.proofs.Common.{◌∙◌}
-use Rattle.resolver_cache.proofs.Placed.{has_one}
+use Rattle.resolver_cache.proofs.EntriesUnderQuestions.{has_one}
 use Rattle.resolver_cache.proofs.index.Index.has.Goals as goal
 
 pub returns : goal.returns

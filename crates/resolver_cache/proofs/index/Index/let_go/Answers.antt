@@ -4,7 +4,7 @@ use Rattle.kept_responses.specs.declared.entry.Entry.{Entry}
 use Rattle.kept_responses.specs.Entry.{is_same_question}
 use Rattle.resolver_cache.specs.Index.{number_at, ArePlaced}
 use Rattle.resolver_cache.proofs.ByNumber.{none_gone}
-use Rattle.resolver_cache.proofs.Placed.{placed_gone, placed_still}
+use Rattle.resolver_cache.proofs.EntriesUnderQuestions.{placed_gone, placed_still}
 use Rattle.resolver_cache.proofs.index.Index.let_go.Goals as goal
 
 pub returns-in-Some-clause-placed : goal.returns-in-Some-clause-placed

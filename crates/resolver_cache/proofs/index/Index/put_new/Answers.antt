@@ -1,5 +1,5 @@
 use Rattle.std.proofs.Common.{◌∙◌, sym}
-use Rattle.resolver_cache.proofs.Placed.{added_placed, single_added, new_values, room_values, placed_still}
+use Rattle.resolver_cache.proofs.EntriesUnderQuestions.{added_placed, single_added, new_values, room_values, placed_still}
 use Rattle.resolver_cache.proofs.index.Index.put_new.Goals as goal
 
 pub let_go-requires : goal.let_go-requires

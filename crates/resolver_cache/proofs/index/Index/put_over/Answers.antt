@@ -1,5 +1,5 @@
 use Rattle.kept_responses.specs.Entry.{is_for}
-use Rattle.resolver_cache.proofs.Placed.{over_list, over_placed, placed_still}
+use Rattle.resolver_cache.proofs.EntriesUnderQuestions.{over_list, over_placed, placed_still}
 use Rattle.resolver_cache.proofs.index.Index.put_over.Goals as goal
 
 pub returns-clause-ok : goal.returns-clause-ok

@@ -3,7 +3,7 @@ use Rattle.std.specs.Map.{values_of}
 use Rattle.dns_core.specs.declared.message.Query.{Query}
 use Rattle.kept_responses.specs.Entry.{is_for}
 use Rattle.resolver_cache.specs.Writings.{number_of}
-use Rattle.resolver_cache.proofs.Placed.{values_over}
+use Rattle.resolver_cache.proofs.EntriesUnderQuestions.{values_over}
 use Rattle.resolver_cache.proofs.index.Index.put_under.Goals as goal
 
 pub returns-in_ok-put_over-in-Some-clause-ok : goal.returns-in_ok-put_over-in-Some-clause-ok

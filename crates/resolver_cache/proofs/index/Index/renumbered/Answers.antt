@@ -1,7 +1,7 @@
 use Rattle.std.proofs.Common.{◌∙◌, arith}
 use Rattle.std.specs.Map.Iter.{deref}
 use Rattle.std.proofs.lemmas.Map.Iter.{rest_more, rest_all}
-use Rattle.resolver_cache.proofs.Renumbered.{begun_same, begun_above, begun_few, all_moved, counted_on, number_fits, next_above, new_here, moved_on}
+use Rattle.resolver_cache.proofs.CopiesRenumbered.{begun_same, begun_above, begun_few, all_moved, counted_on, number_fits, next_above, new_here, moved_on}
 use Rattle.resolver_cache.proofs.index.Index.renumbered.Goals as goal
 
 pub loop-entry-init : goal.loop-entry-init

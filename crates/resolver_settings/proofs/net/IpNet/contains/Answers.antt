@@ -1,6 +1,6 @@
 use Rattle.std.proofs.Common.{◌<◌, ◌^◌, subst}
 use Rattle.resolver_settings.proofs.SharedBits.{shares_as_told}
-use Rattle.resolver_settings.proofs.Spans.{contained}
+use Rattle.resolver_settings.proofs.FirstBitsSpan.{contained}
 use Rattle.resolver_settings.specs.Net.{width_of}
 use Rattle.resolver_settings.proofs.net.IpNet.contains.Goals as goal
 

@@ -1,7 +1,7 @@
 use Rattle.std.proofs.Common.{◌≡◌, true, subst}
 use Rattle.std.specs.Bool.{beq}
 use Rattle.std.specs.Net.Addr.{is_ipv4}
-use Rattle.resolver_settings.proofs.Spans.{held_between}
+use Rattle.resolver_settings.proofs.FirstBitsSpan.{held_between}
 use Rattle.resolver_settings.proofs.net.IpNet.holds.Goals as goal
 
 pub returns-then-is_ipv4-clause-held : goal.returns-then-is_ipv4-clause-held

@@ -1,5 +1,5 @@
 use Rattle.server_core.specs.Hearing.{without_dead}
-use Rattle.server_core.proofs.Lending.{set_changed}
+use Rattle.server_core.proofs.ServerIsLent.{set_changed}
 use Rattle.server_core.proofs.server_table.ServerTable.drop_dead.Goals as goal
 
 pub returns : goal.returns

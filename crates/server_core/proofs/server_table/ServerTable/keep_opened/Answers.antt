@@ -1,6 +1,6 @@
 use Rattle.std.proofs.lemmas.Result.{on_ok_weaker, on_err_weaker}
 use Rattle.server_core.specs.Hearing.{with_opened}
-use Rattle.server_core.proofs.Lending.{set_changed, set_same}
+use Rattle.server_core.proofs.ServerIsLent.{set_changed, set_same}
 use Rattle.server_core.proofs.server_table.ServerTable.keep_opened.Goals as goal
 
 pub returns-clause-ok : goal.returns-clause-ok

@@ -3,7 +3,7 @@ use Rattle.std.proofs.Common.{subst}
 use Rattle.pool_lookup.specs.Hearing.{IsAfter, after_outcome, after_out_of_memory}
 use Rattle.pool_lookup.specs.Lookup.{LookupState}
 use Rattle.server_pool.specs.OpenLookups.{moved_to}
-use Rattle.server_pool.proofs.Changed.{put_there}
+use Rattle.server_pool.proofs.OneLookupChanged.{put_there}
 use Rattle.server_pool.proofs.open_lookups.open_lookup.put_at.Goals as goal
 
 pub returns-in-Some-clause-lookups : goal.returns-in-Some-clause-lookups

@@ -3,7 +3,7 @@ use Rattle.pool_lookup.specs.Giving.{Halts}
 use Rattle.pool_lookup.specs.Lookup.{LookupState}
 use Rattle.pool_lookup.specs.Rounds.{started}
 use Rattle.server_pool.specs.OpenLookups.{moved_to}
-use Rattle.server_pool.proofs.Changed.{halted_there}
+use Rattle.server_pool.proofs.OneLookupChanged.{halted_there}
 use Rattle.server_pool.proofs.open_lookups.open_lookup.step_at.Goals as goal
 
 pub returns-in-Some-clause-err : goal.returns-in-Some-clause-err

@@ -3,7 +3,7 @@ use Rattle.pool_rules.specs.AnswerFilter.{denied_by}
 use Rattle.server_core.specs.Servers.{Server}
 use Rattle.server_pool.specs.Holds.{SharedHolds}
 use Rattle.server_pool.specs.Shared.{Shared}
-use Rattle.server_pool.proofs.Reaching.{added_holds}
+use Rattle.server_pool.proofs.ServersAreReached.{added_holds}
 use Rattle.server_pool.proofs.pool_shared.PoolShared.add.Goals as goal
 
 pub invariant_of-self-2 : goal.invariant_of-self-2

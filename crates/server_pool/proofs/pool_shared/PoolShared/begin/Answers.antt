@@ -3,8 +3,8 @@ use Rattle.pool_rules.specs.AnswerFilter.{denied_by}
 use Rattle.server_pool.specs.declared.open_lookups.open_lookup.OpenLookup.{OpenLookup}
 use Rattle.server_pool.specs.Sending.{Begins}
 use Rattle.server_pool.specs.Shared.{Shared}
-use Rattle.server_pool.proofs.Kept.{begun_holds}
-use Rattle.server_pool.proofs.Reaching.{begun_lookup, begun_idle}
+use Rattle.server_pool.proofs.PoolsHoldOn.{begun_holds}
+use Rattle.server_pool.proofs.ServersAreReached.{begun_lookup, begun_idle}
 use Rattle.server_pool.proofs.pool_shared.PoolShared.begin.Goals as goal
 
 pub add_begun-requires-clause-fresh : goal.add_begun-requires-clause-fresh

@@ -1,7 +1,7 @@
 use Rattle.std.proofs.Common.{◌≡◌, Some, sym, subst}
 use Rattle.pool_rules.specs.AnswerFilter.{denied_by}
 use Rattle.server_pool.specs.Shared.{Shared, lookup_at}
-use Rattle.server_pool.proofs.Promised.{fairly}
+use Rattle.server_pool.proofs.LookupsPromised.{fairly}
 use Rattle.server_pool.proofs.pool_shared.PoolShared.ends.Goals as goal
 
 pub returns-in-Some-clause-fair : goal.returns-in-Some-clause-fair

@@ -1,4 +1,4 @@
-use Rattle.server_pool.proofs.Listed.{open_of, open_nowhere}
+use Rattle.server_pool.proofs.OpenOrdersListed.{open_of, open_nowhere}
 use Rattle.server_pool.proofs.pool_shared.PoolShared.has_order.Goals as goal
 
 pub returns-in-Some : goal.returns-in-Some

@@ -1,6 +1,6 @@
 use Rattle.std.proofs.Common.{arith}
 use Rattle.pool_rules.specs.AnswerFilter.{denied_by}
-use Rattle.server_pool.proofs.Kept.{joined_holds}
+use Rattle.server_pool.proofs.PoolsHoldOn.{joined_holds}
 use Rattle.server_pool.proofs.pool_shared.PoolShared.join.Goals as goal
 
 pub join_at-requires : goal.join_at-requires

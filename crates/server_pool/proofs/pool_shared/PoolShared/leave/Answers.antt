@@ -2,8 +2,8 @@ use Rattle.std.proofs.Common.{ℕ, List, sym, subst}
 use Rattle.pool_rules.specs.AnswerFilter.{denied_by}
 use Rattle.server_pool.specs.declared.open_lookups.open_lookup.OpenLookup.{OpenLookup}
 use Rattle.server_pool.specs.Holds.{SharedHolds}
-use Rattle.server_pool.proofs.Kept.{left_holds, removed_holds}
-use Rattle.server_pool.proofs.Reaching.{many_wait}
+use Rattle.server_pool.proofs.PoolsHoldOn.{left_holds, removed_holds}
+use Rattle.server_pool.proofs.ServersAreReached.{many_wait}
 use Rattle.server_pool.proofs.pool_shared.PoolShared.leave.Goals as goal
 
 pub invariant_of-self : goal.invariant_of-self

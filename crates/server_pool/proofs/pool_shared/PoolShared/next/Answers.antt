@@ -11,8 +11,8 @@ use Rattle.server_pool.specs.Shared.{Shared, lookup_at, denied_in}
 use Rattle.server_pool.specs.Stepping.{told_by, with_rest, HasStepped, HasHalted}
 use Rattle.server_pool.specs.contracts.pool_shared.PoolShared.{the_view}
 use Rattle.server_pool.specs.declared.pool_shared.PoolStep.TheVariants as gives
-use Rattle.server_pool.proofs.Calls.{IsNext, kept_orders, same_length, next_configs, next_holds, next_steps, next_halts, next_gone, next_fair, next_answer, next_waits}
-use Rattle.server_pool.proofs.Promised.{fairly}
+use Rattle.server_pool.proofs.NextStepLeaves.{IsNext, kept_orders, same_length, next_configs, next_holds, next_steps, next_halts, next_gone, next_fair, next_answer, next_waits}
+use Rattle.server_pool.proofs.LookupsPromised.{fairly}
 use Rattle.server_pool.proofs.pool_shared.PoolShared.next.Goals as goal
 
 -- what is shared afterwards

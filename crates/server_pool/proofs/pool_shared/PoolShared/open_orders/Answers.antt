@@ -10,8 +10,8 @@ use Rattle.std.proofs.lemmas.Map.Keys.{IsStrictlyIncreasing-from_sorted}
 use Rattle.server_pool.specs.declared.open_lookups.open_lookup.OpenLookup.{OpenLookup}
 use Rattle.server_pool.specs.Shared.{Shared, lookup_of}
 use Rattle.server_pool.specs.Orders.{IsOpenOrder}
-use Rattle.server_pool.proofs.Listed.{AreThose, IsLeftOf, one_more, no_more, none_those, among_keys, last_stays, last_goes, left_rises}
-use Rattle.server_pool.proofs.Listed.IsLeftOf.{nothing}
+use Rattle.server_pool.proofs.OpenOrdersListed.{AreThose, IsLeftOf, one_more, no_more, none_those, among_keys, last_stays, last_goes, left_rises}
+use Rattle.server_pool.proofs.OpenOrdersListed.IsLeftOf.{nothing}
 use Rattle.server_pool.proofs.pool_shared.PoolShared.open_orders.Goals as goal
 
 pub orders-init : goal.orders-init

@@ -2,7 +2,7 @@ use Rattle.std.proofs.Common.{map}
 use Rattle.std.specs.Map.Iter.{deref}
 use Rattle.server_pool.specs.declared.open_lookups.open_lookup.OpenLookup.{OpenLookup}
 use Rattle.server_pool.specs.Orders.{IsOpenOrder}
-use Rattle.server_pool.proofs.Listed.{AreThose, IsLeftOf}
+use Rattle.server_pool.proofs.OpenOrdersListed.{AreThose, IsLeftOf}
 use Rattle.server_pool.proofs.pool_shared.PoolShared.open_orders.Given as goal
 
 abbrev pub invariant-orders : goal.invariant-orders

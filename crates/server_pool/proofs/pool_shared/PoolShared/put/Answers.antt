@@ -5,8 +5,8 @@ use Rattle.server_pool.specs.Orders.{IsOpenOrder, open_at}
 use Rattle.server_pool.specs.Shared.{Shared}
 use Rattle.server_pool.specs.Stepping.{HasPut}
 use Rattle.server_pool.specs.contracts.pool_shared.PoolShared.{the_view}
-use Rattle.server_pool.proofs.Calls.{same_length}
-use Rattle.server_pool.proofs.Outcomes.{IsPut, put_puts, put_stays, put_configs, put_nowhere}
+use Rattle.server_pool.proofs.NextStepLeaves.{same_length}
+use Rattle.server_pool.proofs.OutcomeLeaves.{IsPut, put_puts, put_stays, put_configs, put_nowhere}
 use Rattle.server_pool.proofs.pool_shared.PoolShared.put.Goals as goal
 
 -- what is shared afterwards

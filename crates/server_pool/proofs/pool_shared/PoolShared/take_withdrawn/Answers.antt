@@ -4,8 +4,8 @@ use Rattle.server_pool.specs.Holds.{SharedHolds}
 use Rattle.server_pool.specs.Orders.{first_withdrawn}
 use Rattle.server_pool.specs.Shared.{Shared}
 use Rattle.server_pool.specs.contracts.pool_shared.PoolShared.{the_view}
-use Rattle.server_pool.proofs.Kept.{withdrawn_holds}
-use Rattle.server_pool.proofs.Listed.{first_shut, withdrawn_shut}
+use Rattle.server_pool.proofs.PoolsHoldOn.{withdrawn_holds}
+use Rattle.server_pool.proofs.OpenOrdersListed.{first_shut, withdrawn_shut}
 use Rattle.server_pool.proofs.pool_shared.PoolShared.take_withdrawn.Goals as goal
 
 pub invariant_of-self : goal.invariant_of-self

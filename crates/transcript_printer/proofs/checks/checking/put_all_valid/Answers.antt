@@ -1,8 +1,8 @@
 use Rattle.std.proofs.Common.{false, take, arith}
 use Rattle.transcript_printer.specs.Log.{numbered_text}
-use Rattle.transcript_printer.proofs.Appended.{appended_twice, numbered_none, numbered_next}
+use Rattle.transcript_printer.proofs.TextsAppended.{appended_twice, numbered_none, numbered_next}
 use Rattle.transcript_printer.specs.Checking.{valid_text}
-use Rattle.transcript_printer.proofs.Validity.{same_item}
+use Rattle.transcript_printer.proofs.OneMoreValidity.{same_item}
 use Rattle.transcript_printer.proofs.checks.checking.put_all_valid.Goals as goal
 
 pub loop-i-init : goal.loop-i-init

@@ -1,6 +1,6 @@
 use Rattle.std.proofs.Common.{◌+◌, Bool, List, take, sym, subst, arith}
 use Rattle.transcript_printer.specs.Checking.{AreValid}
-use Rattle.transcript_printer.proofs.Validity.{valid_next}
+use Rattle.transcript_printer.proofs.OneMoreValidity.{valid_next}
 use Rattle.transcript_printer.proofs.checks.checking.valid_questions.Goals as goal
 
 pub loop-question-preserved : goal.loop-question-preserved

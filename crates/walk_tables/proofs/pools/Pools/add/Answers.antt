@@ -1,7 +1,7 @@
 use Rattle.walk_tables.proofs.Names.{◌∙◌, ◌+◌, ◌++◌, ◌∷◌, [], ℕ, List, Some, cond, length, ap, lookup, IpAddr, Server, Shared, config_at, config-before, met-last, delayed-last}
 use Rattle.std.specs.BTreeMap.{BTreeMap}
-use Rattle.walk_tables.proofs.Pooling.{servers-by, servers-same}
-use Rattle.walk_tables.proofs.Meeting.{servers-added}
+use Rattle.walk_tables.proofs.LookupsAfterStep.{servers-by, servers-same}
+use Rattle.walk_tables.proofs.ServersAddedBehind.{servers-added}
 use Rattle.std.specs.BTreeMap as tree
 use Rattle.std.specs.contracts.net.ip_addr.IpAddrOrd.TheImpl as address
 use Rattle.walk_tables.proofs.pools.Pools.add.Goals as goal

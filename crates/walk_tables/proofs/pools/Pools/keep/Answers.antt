@@ -1,4 +1,4 @@
-use Rattle.walk_tables.proofs.Names.{ℕ, List, refl, ap, lookup, nat_cmp, Sought}
+use Rattle.walk_tables.proofs.Names.{ℕ, List, refl, ap, lookup, nat_cmp, PendingLookup}
 use Rattle.std.specs.BTreeMap as tree
 use Rattle.walk_tables.proofs.pools.Pools.keep.Goals as goal
 
@@ -8,5 +8,5 @@ returns-clause-err c = record {
   last = c.leave.ensures.last;
   numbers = refl;
   delays = refl;
-  sought = λ m. ap (λ (es : List (ℕ × Sought)). lookup (tree.is_at (nat_cmp m)) es) c.in-Err.ensures.err;
+  sought = λ m. ap (λ (es : List (ℕ × PendingLookup)). lookup (tree.is_at (nat_cmp m)) es) c.in-Err.ensures.err;
 }

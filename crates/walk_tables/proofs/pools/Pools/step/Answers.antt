@@ -1,64 +1,64 @@
-use Rattle.walk_tables.proofs.Names.{◌≡◌, ℕ, true, refl, sym, ap, ◌∙◌, Some, None, Result, Ok, Err, is_err, NoMemory, Shared, HasNoted, GivesNext, aim_of, noted, Given, step-count}
-use Rattle.walk_tables.specs.declared.pools.Stepped.{Stepped}
-use Rattle.walk_tables.proofs.Giving.{pools-ordered, pools-done, pools-answer, pools-go, pools-waits}
-use Rattle.walk_tables.proofs.Orders.{awaits-order}
+use Rattle.walk_tables.proofs.Names.{◌≡◌, ℕ, true, refl, sym, ap, ◌∙◌, Some, None, Result, Ok, Err, is_err, NoMemory, Shared, HasNoted, GivesNext, aim_of, noted, OpenOrder, step-count}
+use Rattle.walk_tables.specs.declared.pools.PoolsStep.{PoolsStep}
+use Rattle.walk_tables.proofs.PoolsAfterStep.{pools-ordered, pools-done, pools-answer, pools-go, pools-waits}
+use Rattle.walk_tables.proofs.LookupOrders.{awaits-order}
 use Rattle.walk_tables.proofs.pools.Pools.step.Goals as goal
 
 pub returns-in-Ok-Order-clause-holds : goal.returns-in-Ok-Order-clause-holds
-returns-in-Ok-Order-clause-holds c seen step h =
+returns-in-Ok-Order-clause-holds c view step h =
     let old = c.args.self.now in
     let n = c.args.lookup.now.number in
-    let note : HasNoted n (noted (Some (record { number = c.in-Ok-Order.number; aim = aim_of c.in-Ok-Order.order; since = seen.greatest; polled = None })) None None) (record old { shared = c.next.new.shared }) c.note.new.self =
+    let note : HasNoted n (noted (Some (record { number = c.in-Ok-Order.number; aim = aim_of c.in-Ok-Order.order; since = view.greatest; polled = None })) None None) (record old { shared = c.next.new.shared }) c.note.new.self =
     rw (c.number-n.ensures, c.aim_of-aim.ensures, step.since_is) at c.note.ensures in
-    pools-ordered seen n old c.note.new.self c.next.new.shared h
+    pools-ordered view n old c.note.new.self c.next.new.shared h
     (rw c.number-n.ensures at (sym c.contains_key.ensures ∙ c.if-not-contains_key.false)) c.in-Ok-Order.field-0 (rw step.now_is at c.in-Ok-Order.ensures.steps) c.in-Ok-Order.number c.in-Ok-Order.order c.in-Ok-Order.field-0-is note
 
 pub returns-in-Ok-Order-clause-goes : goal.returns-in-Ok-Order-clause-goes
-returns-in-Ok-Order-clause-goes c seen step h =
+returns-in-Ok-Order-clause-goes c view step h =
     let old = c.args.self.now in
     let n = c.args.lookup.now.number in
-    pools-go seen n old c.note.new.self c.next.new.shared h
+    pools-go view n old c.note.new.self c.next.new.shared h
     (rw c.number-n.ensures at (sym c.contains_key.ensures ∙ c.if-not-contains_key.false)) c.in-Ok-Order.field-0 (rw step.now_is at c.in-Ok-Order.ensures.steps) c.in-Ok-Order.number c.in-Ok-Order.order c.in-Ok-Order.field-0-is
 
 pub returns-in_err-decide-in-Ok-Done-clause-holds : goal.returns-in_err-decide-in-Ok-Done-clause-holds
-returns-in_err-decide-in-Ok-Done-clause-holds c seen step h =
+returns-in_err-decide-in-Ok-Done-clause-holds c view step h =
     let old = c.args.self.now in
     let shared = c.next.new.shared in
     let there = rw c.number-n.ensures at (sym c.contains_key.ensures ∙ c.if-not-contains_key.false) in
     let steps = rw step.now_is at c.in-Ok-Done.ensures.steps in
     let note = rw c.number-n.ensures at c.note-in-Ok-Done.ensures in
-    c.decide.ensures.holds seen (rw c.number-n.ensures (pools-answer seen _ old _ shared h there c.in-Ok-Done.field-0 steps c.in-Ok-Done.told c.in-Ok-Done.field-0-is note))
-    (pools-done seen _ old _ shared h there c.in-Ok-Done.field-0 steps note)
+    c.decide.ensures.holds view (rw c.number-n.ensures (pools-answer view _ old _ shared h there c.in-Ok-Done.field-0 steps c.in-Ok-Done.told c.in-Ok-Done.field-0-is note))
+    (pools-done view _ old _ shared h there c.in-Ok-Done.field-0 steps note)
 
 pub returns-in_ok-decide-in-Ok-Done-clause-holds : goal.returns-in_ok-decide-in-Ok-Done-clause-holds
-returns-in_ok-decide-in-Ok-Done-clause-holds c seen step h =
+returns-in_ok-decide-in-Ok-Done-clause-holds c view step h =
     let old = c.args.self.now in
     let shared = c.next.new.shared in
     let there = rw c.number-n.ensures at (sym c.contains_key.ensures ∙ c.if-not-contains_key.false) in
     let steps = rw step.now_is at c.in-Ok-Done.ensures.steps in
     let note = rw c.number-n.ensures at c.note-in-Ok-Done.ensures in
-    c.decide.ensures.holds seen (rw c.number-n.ensures (pools-answer seen _ old _ shared h there c.in-Ok-Done.field-0 steps c.in-Ok-Done.told c.in-Ok-Done.field-0-is note))
-    (pools-done seen _ old _ shared h there c.in-Ok-Done.field-0 steps note)
+    c.decide.ensures.holds view (rw c.number-n.ensures (pools-answer view _ old _ shared h there c.in-Ok-Done.field-0 steps c.in-Ok-Done.told c.in-Ok-Done.field-0-is note))
+    (pools-done view _ old _ shared h there c.in-Ok-Done.field-0 steps note)
 
 -- where memory is wanting, or it waits, it is forgotten
 pub returns-in-Ok-Waiting-clause-holds : goal.returns-in-Ok-Waiting-clause-holds
-returns-in-Ok-Waiting-clause-holds c seen step h =
+returns-in-Ok-Waiting-clause-holds c view step h =
     let old = c.args.self.now in
     let n = c.args.lookup.now.number in
-    pools-waits seen n old c.forget.new.self c.next.new.shared h (rw c.number-n.ensures at (sym c.contains_key.ensures ∙ c.if-not-contains_key.false)) (Ok c.in-Ok-Waiting.field-0)
+    pools-waits view n old c.forget.new.self c.next.new.shared h (rw c.number-n.ensures at (sym c.contains_key.ensures ∙ c.if-not-contains_key.false)) (Ok c.in-Ok-Waiting.field-0)
     (rw step.now_is at c.in-Ok-Waiting.ensures.steps) c.in-Ok-Waiting.ensures.halts (rw c.number-n.ensures at c.forget.ensures)
 
 pub returns-in-Err-clause-holds : goal.returns-in-Err-clause-holds
-returns-in-Err-clause-holds c seen step h =
+returns-in-Err-clause-holds c view step h =
     let old = c.args.self.now in
     let n = c.args.lookup.now.number in
     let none = c.in-Err.ensures in
-    pools-waits seen n old c.forget-in-Err.new.self c.next.new.shared h (rw c.number-n.ensures at (sym c.contains_key.ensures ∙ c.if-not-contains_key.false)) (Err c.in-Err.field-0)
+    pools-waits view n old c.forget-in-Err.new.self c.next.new.shared h (rw c.number-n.ensures at (sym c.contains_key.ensures ∙ c.if-not-contains_key.false)) (Err c.in-Err.field-0)
     none.steps (rw step.now_is at none.halts) (rw c.number-n.ensures at c.forget-in-Err.ensures)
 
 -- ---- how many orders were given
 
-gives-none : (old new : ℕ) (r : Result Stepped NoMemory) → is_err r ≡ true → new ≡ old → GivesNext old new r
+gives-none : (old new : ℕ) (r : Result PoolsStep NoMemory) → is_err r ≡ true → new ≡ old → GivesNext old new r
 gives-none old new (Err e) is same = same
 gives-none old new (Ok s) is same = cc
 
@@ -99,7 +99,7 @@ returns-in-Ok-Order-clause-waits c =
     let n = c.args.lookup.now.number in
     let mid = record old { shared = c.next.new.shared } in
     let first = c.in-Ok-Order.ensures in
-    let given : Given = record { number = c.in-Ok-Order.number; aim = aim_of c.in-Ok-Order.order; since = c.args.since; polled = None } in
+    let given : OpenOrder = record { number = c.in-Ok-Order.number; aim = aim_of c.in-Ok-Order.order; since = c.args.since; polled = None } in
     let note : HasNoted n (noted (Some given) None None) mid c.note.new.self = rw (c.number-n.ensures, c.aim_of-aim.ensures) at c.note.ensures in
     awaits-order n c.args.tick.now old c.note.new.self c.next.new.shared c.in-Ok-Order.field-0 c.in-Ok-Order.number c.in-Ok-Order.order given c.in-Ok-Order.field-0-is first.steps (λ none. (first.gone none).0)
     (rw c.number-n.ensures at (sym c.contains_key.ensures ∙ c.if-not-contains_key.false)) refl note

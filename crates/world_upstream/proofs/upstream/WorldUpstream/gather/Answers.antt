@@ -1,4 +1,4 @@
-use Rattle.world_upstream.proofs.Keeping.{hold_still}
+use Rattle.world_upstream.proofs.OpenStaysTrue.{hold_still}
 use Rattle.world_upstream.proofs.upstream.WorldUpstream.gather.Goals as goal
 
 pub invariant_of-self : goal.invariant_of-self

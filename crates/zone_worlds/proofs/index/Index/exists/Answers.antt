@@ -1,5 +1,5 @@
 use Rattle.std.proofs.Common.{sym, ◌∙◌}
-use Rattle.zone_worlds.proofs.Indexing.{none_exist}
+use Rattle.zone_worlds.proofs.IndexOfOneMore.{none_exist}
 use Rattle.zone_worlds.proofs.index.Index.exists.Goals as goal
 
 pub returns-else-is_fqdn : goal.returns-else-is_fqdn

@@ -1,5 +1,5 @@
-use Rattle.recursor_core.proofs.MachineWords.{◌≡◌, ◌∙◌, sym, ap, arith, ℕ, Extends-refl, Policy, Later, seen_by}
-use Rattle.recursor_core.proofs.Later.{derived-later}
+use Rattle.recursor_core.proofs.MachineWords.{◌≡◌, ◌∙◌, sym, ap, arith, ℕ, Extends-refl, Policy, Advances, seen_by}
+use Rattle.recursor_core.proofs.MachineAdvances.{derived-later}
 use Rattle.recursor_core.proofs.machine.resolutions.RecursorCore.begin.Goals as goal
 
 pub returns-in-Ok-clause-derived : goal.returns-in-Ok-clause-derived
@@ -15,7 +15,7 @@ returns-in-Err-clause-derived c log later d =
     let new = c.begin_resolution.new.self in
     let same = c.begin_resolution.ensures.same in
     let fewer = ap (λ (s : Policy). s.patience) same.0 in
-    let on : Later (seen_by core log) (seen_by new log) = record {
+    let on : Advances (seen_by core log) (seen_by new log) = record {
       policy = same.0 ∙ ap (λ (n : ℕ). record core.policy { patience = n }) (sym fewer);
       patience = omega (arith, fewer);
       greatest = omega (arith, same.2);

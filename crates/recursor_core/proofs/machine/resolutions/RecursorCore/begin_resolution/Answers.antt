@@ -1,6 +1,6 @@
 use Rattle.recursor_core.proofs.MachineWords.{◌≡◌, arith, ℕ, List, Option, Some, length, ap, ◌∙◌, slice_get, option_map, Box, Question, Begun, begun_of, kept_in, Resolution, All-push, seen_by, KeptHolds, seen_at, cache-later, later-by, pools-later, Extends-refl, length_push}
-use Rattle.recursor_core.proofs.Later.{resolutions-later}
-use Rattle.recursor_core.proofs.Cores.{begun-push, begun-last}
+use Rattle.recursor_core.proofs.MachineAdvances.{resolutions-later}
+use Rattle.recursor_core.proofs.MachineAfterStep.{begun-push, begun-last}
 use Rattle.recursor_core.proofs.machine.resolutions.RecursorCore.begin_resolution.Goals as goal
 
 pub returns-clause-derived : goal.returns-clause-derived

@@ -1,5 +1,5 @@
 use Rattle.recursor_core.proofs.MachineWords.{◌≤◌, length, None, ap, refl, arith, set, slice_get_read, seen_by}
-use Rattle.recursor_core.proofs.Cores.{ended-at, gone-ended, gone-past, derived-at}
+use Rattle.recursor_core.proofs.MachineAfterStep.{ended-at, gone-ended, gone-past, derived-at}
 use Rattle.recursor_core.proofs.machine.resolutions.RecursorCore.cancel.Goals as goal
 
 pub returns-in-Some-clause-derived : goal.returns-in-Some-clause-derived

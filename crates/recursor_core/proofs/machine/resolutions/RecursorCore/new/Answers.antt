@@ -14,5 +14,5 @@ returns c =
       moment = refl;
       greatest = refl;
       resolutions = c.new-4.ensures.items;
-      pools = λ seen same. c.in_ok-pools.ensures.holds seen (same ∙ sym c.in_ok-policy.ensures) (subst (λ (held : Policy). 0 < held.timeout) (sym c.in_ok-policy.ensures) (omega arith));
+      pools = λ view same. c.in_ok-pools.ensures.holds view (same ∙ sym c.in_ok-policy.ensures) (subst (λ (held : Policy). 0 < held.timeout) (sym c.in_ok-policy.ensures) (omega arith));
     }

@@ -1,5 +1,5 @@
 use Rattle.recursor_core.proofs.MachineWords.{IfOk-from_err}
-use Rattle.recursor_core.proofs.Cores.{same-trans, step-kept}
+use Rattle.recursor_core.proofs.MachineAfterStep.{same-trans, step-kept}
 use Rattle.recursor_core.proofs.machine.resolutions.RecursorCore.next.Goals as goal
 
 pub returns-clause-steps : goal.returns-clause-steps

@@ -1,7 +1,7 @@
 use Rattle.recursor_core.proofs.MachineWords.{◌≡◌, Bool, true, false, max, refl, sym, subst, Result, Ok, arith, option_copied, IsTrue, NoMemory, After, IsNext, IsPut, last_entry, seen_with, seen_by}
 use Rattle.server_core.specs.Order.{entry_of}
-use Rattle.walk_lookup.proofs.Puts.{kept-extends, last-chosen, last-within, later-put}
-use Rattle.recursor_core.proofs.Later.{Derived-extends, resolutions-later}
+use Rattle.walk_lookup.proofs.LogAfterPut.{kept-extends, last-chosen, last-within, later-put}
+use Rattle.recursor_core.proofs.MachineAdvances.{Derived-extends, resolutions-later}
 use Rattle.server_core.specs.declared.orders.order.After.TheVariants as after
 use Rattle.recursor_core.proofs.machine.resolutions.RecursorCore.put.Goals as goal
 
@@ -31,21 +31,21 @@ returns-then-not-is_next-clause-derived c log longer d tells =
 pub returns-clause-derived : goal.returns-clause-derived
 returns-clause-derived c log longer d tells =
     let core = c.args.self.now in
-    let seen = seen_by core log in
+    let view = seen_by core log in
     let waits = option_copied c.args.waits in
     let o = c.args.outcome in
     let result = c.put-after.result in
     let next : IsNext core.greatest (entry_of o) = rw c.entry-entry.ensures at c.is_next.ensures.0 c.if-not-is_next.false in
-    let put : IsPut seen c.args.tick waits o result longer = record { patient = tells.patient; bound = d.bound; next = next; on = tells.on } in
-    let after = seen_with seen c.args.tick waits o result longer in
-    let tables = c.put-after.ensures.holds seen longer put (record { cache = d.cache; pools = d.pools }) in
+    let put : IsPut view c.args.tick waits o result longer = record { patient = tells.patient; bound = d.bound; next = next; on = tells.on } in
+    let after = seen_with view c.args.tick waits o result longer in
+    let tables = c.put-after.ensures.holds view longer put (record { cache = d.cache; pools = d.pools }) in
     let last = last-chosen result waits o c.last_entry-last.result c.entry-entry.result c.closing_of-closing.result c.last_entry-last.ensures c.entry-entry.ensures c.closing_of-closing.ensures in
     let greatest : c.max-self.result ≡ max core.greatest (last_entry result waits o) = omega (arith, c.max-self.ensures, last) in
     let moment : c.max-self-2.result ≡ c.args.tick.now = omega (arith, c.max-self-2.ensures, tells.on.tells.later) in
     rw (greatest, moment) (record {
-      bound = last-within seen c.args.tick waits o result longer put;
+      bound = last-within view c.args.tick waits o result longer put;
       walks = d.walks;
       cache = tables.cache;
       pools = tables.pools;
-      resolutions = resolutions-later seen after (later-put seen c.args.tick waits o result longer put) core.resolutions.items d.resolutions;
+      resolutions = resolutions-later view after (later-put view c.args.tick waits o result longer put) core.resolutions.items d.resolutions;
     })

@@ -1,5 +1,5 @@
 use Rattle.recursor_core.proofs.MachineWords.{◌≤◌, arith, refl, later-by, Extends-refl}
-use Rattle.recursor_core.proofs.Later.{derived-later}
+use Rattle.recursor_core.proofs.MachineAdvances.{derived-later}
 use Rattle.recursor_core.proofs.machine.resolutions.RecursorCore.reach.Goals as goal
 
 pub returns-clause-derived : goal.returns-clause-derived

@@ -1,7 +1,7 @@
 use Rattle.recursor_core.proofs.MachineWords.{refl, IfOk-weaker, Some, seen_by, IsStepAt, KeptHolds}
 use Rattle.recursor_question.specs.Steps.{SteppedBy}
-use Rattle.recursor_core.proofs.Places.{kept_at}
-use Rattle.recursor_core.proofs.Cores.{held-at, same-at, steps-at, gives-at, derived-at}
+use Rattle.recursor_core.proofs.OnePlaceIsSet.{kept_at}
+use Rattle.recursor_core.proofs.MachineAfterStep.{held-at, same-at, steps-at, gives-at, derived-at}
 use Rattle.recursor_core.proofs.machine.resolutions.RecursorCore.step.Goals as goal
 
 pub returns-clause-steps : goal.returns-clause-steps
@@ -17,11 +17,11 @@ returns-clause-gives c log d =
     let xs = core.resolutions.items in
     let b = c.in-Some.resolution in
     let at = kept_at xs c.args.r c.index_mut.result.now b c.requires c.index_mut.ensures.value c.in-Some.is in
-    let seen = seen_by core log in
-    let step : IsStepAt seen core.greatest c.tick-tick.result = record { since_is = refl; now_is = c.tick-tick.ensures } in
-    let stepped : SteppedBy seen core.policy core.cache core.greatest c.tick-tick.result = record { are = refl; walks = d.walks; at = step; keeps = d.cache } in
-    let held = held-at (KeptHolds seen) xs c.args.r (Some b) at d.resolutions in
-    let well = c.next.ensures.holds seen (rw c.policy.ensures stepped) d.pools (rw c.deref_mut.ensures.value held) in (
+    let view = seen_by core log in
+    let step : IsStepAt view core.greatest c.tick-tick.result = record { since_is = refl; now_is = c.tick-tick.ensures } in
+    let stepped : SteppedBy view core.policy core.cache core.greatest c.tick-tick.result = record { are = refl; walks = d.walks; at = step; keeps = d.cache } in
+    let held = held-at (KeptHolds view) xs c.args.r (Some b) at d.resolutions in
+    let well = c.next.ensures.holds view (rw c.policy.ensures stepped) d.pools (rw c.deref_mut.ensures.value held) in (
       derived-at core _ log c.args.r _ _ at refl refl d (λ h. (well.holds, well.tables)),
       IfOk-weaker c.next.result _ _ (λ s h. gives-at core log c.args.r b s at (rw c.deref_mut.ensures.value at h)) well.gives,
     )

@@ -4,7 +4,7 @@ use Rattle.std.specs.Option.{option_or, option_map_or}
 use Rattle.std.specs.HashMap.{get}
 use Rattle.script_upstream.specs.Keys.{same_endpoint}
 use Rattle.script_upstream.specs.declared.courses.index.Route.{Route}
-use Rattle.script_upstream.proofs.Putting.{same_route, put_same, put_first}
+use Rattle.script_upstream.proofs.MapAfterPut.{same_route, put_same, put_first}
 use Rattle.script_upstream.proofs.courses.index.Index.add_connection.Goals as goal
 
 pub returns-clause-refused : goal.returns-clause-refused

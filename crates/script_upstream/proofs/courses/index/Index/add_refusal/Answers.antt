@@ -3,7 +3,7 @@ use Rattle.std.specs.Prelude.{option_and_then}
 use Rattle.std.specs.HashMap.{get}
 use Rattle.script_upstream.specs.Keys.{same_endpoint}
 use Rattle.script_upstream.specs.declared.courses.index.Route.{Route}
-use Rattle.script_upstream.proofs.Putting.{same_route, put_same}
+use Rattle.script_upstream.proofs.MapAfterPut.{same_route, put_same}
 use Rattle.script_upstream.proofs.courses.index.Index.add_refusal.Goals as goal
 
 pub returns-clause-place : goal.returns-clause-place

@@ -1,7 +1,7 @@
 use Rattle.std.proofs.Common.{[], ◌∷◌, ◌++◌, ap, ◌∙◌}
 use Rattle.std.specs.HashMap.{get}
 use Rattle.script_upstream.specs.Keys.{same_asking}
-use Rattle.script_upstream.proofs.Putting.{places_of, used_of, same_turns, put, put_same}
+use Rattle.script_upstream.proofs.MapAfterPut.{places_of, used_of, same_turns, put, put_same}
 use Rattle.script_upstream.proofs.courses.index.Index.add_reply.Goals as goal
 
 pub returns-clause-places : goal.returns-clause-places

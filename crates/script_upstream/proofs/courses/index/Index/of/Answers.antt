@@ -1,7 +1,7 @@
 use Rattle.std.proofs.Common.{refl, ◌∙◌}
 use Rattle.std.proofs.lemmas.List.{take_more}
 use Rattle.std.proofs.lemmas.Option.{slice_get_read}
-use Rattle.script_upstream.proofs.Indexing.{indexed_more}
+use Rattle.script_upstream.proofs.IndexOfOneMore.{indexed_more}
 use Rattle.script_upstream.proofs.courses.index.Index.of.Goals as goal
 
 pub loop-place-preserved : goal.loop-place-preserved

@@ -2,7 +2,7 @@ use Rattle.std.proofs.Common.{IfOk, subst}
 use Rattle.server_core.specs.Servers.{Server, place_of}
 use Rattle.server_core.specs.Hearing.{without_dead}
 use Rattle.server_core.specs.Sending.{Begins}
-use Rattle.server_core.proofs.Steps.{live_changed, read_changed}
+use Rattle.server_core.proofs.SendSteps.{live_changed, read_changed}
 use Rattle.server_core.proofs.sends.server_send.ServerSend.begin.Goals as goal
 
 pub get-requires : goal.get-requires

@@ -1,7 +1,7 @@
 use Rattle.std.proofs.Common.{◌∙◌, sym}
 use Rattle.dns_core.specs.declared.net_error.IoKind.TheVariants.{Other}
 use Rattle.dns_core.specs.declared.net_error.NetError.TheVariants.{Io}
-use Rattle.server_core.proofs.Putting.{lost_nothing, opening_asks}
+use Rattle.server_core.proofs.OutcomeInTable.{lost_nothing, opening_asks}
 use Rattle.server_core.proofs.sends.server_send.ServerSend.connect.Goals as goal
 
 pub returns-in-Some-clause-table : goal.returns-in-Some-clause-table

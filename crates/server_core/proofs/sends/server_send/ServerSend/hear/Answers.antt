@@ -1,5 +1,5 @@
 use Rattle.std.proofs.Common.{◌∙◌, sym}
-use Rattle.server_core.proofs.Putting.{told_nothing}
+use Rattle.server_core.proofs.OutcomeInTable.{told_nothing}
 use Rattle.server_core.proofs.sends.server_send.ServerSend.hear.Goals as goal
 
 pub returns-in-None-clause-table : goal.returns-in-None-clause-table

@@ -1,5 +1,5 @@
 use Rattle.std.proofs.Common.{◌∙◌, sym}
-use Rattle.server_core.proofs.Putting.{lost_nothing}
+use Rattle.server_core.proofs.OutcomeInTable.{lost_nothing}
 use Rattle.server_core.proofs.sends.server_send.ServerSend.lose.Goals as goal
 
 pub returns-in-None-clause-table : goal.returns-in-None-clause-table

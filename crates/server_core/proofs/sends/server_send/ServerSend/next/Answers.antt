@@ -1,8 +1,8 @@
 use Rattle.std.proofs.Common.{◌∙◌, sym, ap}
 use Rattle.server_core.specs.Hearing.{without_dead}
 use Rattle.server_core.specs.declared.sends.server_send.ServerSend.{ServerSend}
-use Rattle.server_core.proofs.Stages.{ready_of, opened_of, table_waits, table_tells}
-use Rattle.server_core.proofs.Steps.{there_is, step_begins, step_asks, table_begins, table_asks, asks_begun, asks_asked}
+use Rattle.server_core.proofs.SendStages.{ready_of, opened_of, table_waits, table_tells}
+use Rattle.server_core.proofs.SendSteps.{there_is, step_begins, step_asks, table_begins, table_asks, asks_begun, asks_asked}
 use Rattle.server_core.proofs.sends.server_send.ServerSend.next.Goals as goal
 
 pub returns-in-Begin-clause-table : goal.returns-in-Begin-clause-table

@@ -1,4 +1,4 @@
-use Rattle.server_core.proofs.Steps.{opens_selected}
+use Rattle.server_core.proofs.SendSteps.{opens_selected}
 use Rattle.server_core.proofs.sends.server_send.ServerSend.open_selected.Goals as goal
 
 pub returns-in-Some-clause-step : goal.returns-in-Some-clause-step

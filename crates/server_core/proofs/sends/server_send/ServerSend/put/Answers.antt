@@ -1,5 +1,5 @@
 use Rattle.std.proofs.Common.{◌∙◌, sym}
-use Rattle.server_core.proofs.Putting.{heard_late, polled_change, lost_asks, connected_asks, polled_asks}
+use Rattle.server_core.proofs.OutcomeInTable.{heard_late, polled_change, lost_asks, connected_asks, polled_asks}
 use Rattle.server_core.proofs.sends.server_send.ServerSend.put.Goals as goal
 
 pub returns-then-not-is_open-clause-table : goal.returns-then-not-is_open-clause-table

@@ -1,4 +1,4 @@
-use Rattle.server_core.proofs.Steps.{begins_again}
+use Rattle.server_core.proofs.SendSteps.{begins_again}
 use Rattle.server_core.proofs.sends.server_send.ServerSend.select.Goals as goal
 
 pub returns-in-Some-clause-step : goal.returns-in-Some-clause-step

@@ -1,5 +1,0 @@
-use Rattle.std.proofs.Common.{rules}
-use Rattle.order_carrier.proofs.in_flight.runner.Runner.awaited.Goals as goal
-
-pub returns-in-Pending : goal.returns-in-Pending
-returns-in-Pending g c = search rules

@@ -1,5 +1,0 @@
-use Rattle.order_carrier.proofs.Sums.{left-taken}
-use Rattle.order_carrier.proofs.in_flight.runner.Runner.close.Goals as goal
-
-pub returns-clause-polls : goal.returns-clause-polls
-returns-clause-polls g c patience = left-taken patience c.args.number c.args.self.now (record c.args.self.now { held = c.remove.new.self }) c.remove.ensures.entries

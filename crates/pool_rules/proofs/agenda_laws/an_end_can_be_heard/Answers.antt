@@ -1,5 +1,0 @@
-use Rattle.pool_rules.proofs.Plans.{room_to_hear}
-use Rattle.pool_rules.proofs.agenda_laws.an_end_can_be_heard.Goals as goal
-
-pub returns : goal.returns
-returns c = λ q timeout pool ends candidate under p st places. room_to_hear q timeout pool ends candidate under p st places

@@ -1,0 +1,16 @@
+use Rattle.std.proofs.Common.{◌∷◌, ◌++◌, [], nat_eq, refl, ◌∙◌, ap}
+use Rattle.std.specs.HashMap.{get}
+use Rattle.dns_core.specs.declared.log.LogEntry.TheVariants.{GaveUp}
+use Rattle.script_upstream.specs.Book.{told, open_at}
+use Rattle.script_upstream.proofs.LogStaysTrue.{kept_ended}
+use Rattle.script_upstream.proofs.LogHoldsOn.{hold, counts_more}
+use Rattle.script_upstream.proofs.books.book.ScriptLog.give_up.Goals as goal
+
+pub returns-clause-holds : goal.returns-clause-holds
+returns-clause-holds c =
+    let b = c.args.self.now in
+    let e = GaveUp c.args.number c.args.now in
+    let same = c.forget.ensures.same in
+    let late = c.note_late.ensures in
+    hold _ b.script (told b ++ e ∷ []) b.index (late.same.script ∙ ap (λ x. x.script) same) (late.same.index ∙ ap (λ x. x.index) same) (late.told ∙ ap (λ x. told x ++ e ∷ []) same)
+    (kept_ended b.script (told b) e (open_at b) (open_at c.note_late.new.self) c.args.number c.requires.holds.keeps (λ n. ap (λ m. get nat_eq m n) late.opened ∙ c.forget.ensures.fewer n) tt (λ n. (refl, refl))) (counts_more b.script (told b) e b.index c.requires.holds.counts (λ a. refl)) c.requires.holds.knows

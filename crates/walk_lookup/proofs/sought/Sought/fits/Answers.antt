@@ -1,4 +1,0 @@
-use Rattle.walk_lookup.proofs.sought.Sought.fits.Goals as goal
-
-pub returns-in-Pending : goal.returns-in-Pending
-returns-in-Pending c = rw c.in-Pending.is c.is_polled.ensures

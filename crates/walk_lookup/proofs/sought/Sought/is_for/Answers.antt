@@ -1,5 +1,0 @@
-use Rattle.std.proofs.Common.{rules}
-use Rattle.walk_lookup.proofs.sought.Sought.is_for.Goals as goal
-
-pub returns-then-is_identical : goal.returns-then-is_identical
-returns-then-is_identical c = search rules
