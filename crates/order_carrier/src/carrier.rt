@@ -12,8 +12,8 @@ ghost use Rattle.order_carrier.specs.declared.key.OrderKey.{OrderKey as Key};
 
 use crate::awaited::Awaited;
 use crate::key::OrderKey;
-use crate::polling::{Heard, Polled, poll_awaited};
 use crate::order_state::OrderState;
+use crate::polling::{Heard, Polled, poll_awaited};
 use crate::under_way::UnderWay;
 use dns_core::{ConnectOptions, ConnectionProvider, NoMemory};
 use server_core::{Order, Outcome};
@@ -156,7 +156,8 @@ impl<P: ConnectionProvider> Carrier<P> {
     {
         match self.slots.get(&key) {
             Some(OrderState::InFlight(under_way)) => under_way.order.identical(order),
-            None | Some(OrderState::Reserved | OrderState::Connected(_) | OrderState::Done) => false,
+            None | Some(OrderState::Reserved | OrderState::Connected(_) | OrderState::Done) =>
+                false,
         }
     }
 

@@ -40,7 +40,8 @@ impl<P: ConnectionProvider> Carrier<P> {
     {
         match self.slots.get(&key) {
             Some(OrderState::InFlight(_)) => true,
-            None | Some(OrderState::Reserved | OrderState::Connected(_) | OrderState::Done) => false,
+            None | Some(OrderState::Reserved | OrderState::Connected(_) | OrderState::Done) =>
+                false,
         }
     }
 

@@ -37,7 +37,9 @@ impl Attempt {
     pub(crate) fn first(candidate: PoolServer, request: DnsRequest, udp_off: bool) -> Attempt
         ensures { result ≡ first_attempt request udp_off candidate }
     {
-        let policy = ConnectionPolicy { disable_udp: udp_off };
+        let policy = ConnectionPolicy {
+            disable_udp: udp_off,
+        };
         Attempt {
             candidate,
             order: 0,

@@ -11,10 +11,10 @@ ghost use Rattle.pool_lookup.specs.Lookup.{question_of};
 
 use crate::attempt::{Attempt, Put, put_at};
 use crate::backoff::{after_backoff, is_order};
-use crate::losers::ends_by_message;
 use crate::lookup::{Lookup, State};
+use crate::losers::ends_by_message;
 use dns_core::{Message, NetError, NoMemory, Query};
-use pool_rules::{PoolServer, Heard, filtered};
+use pool_rules::{Heard, PoolServer, filtered};
 use server_core::{After, Outcome, PoolContext, ServerTable, Tick};
 use std::alloc::Global;
 

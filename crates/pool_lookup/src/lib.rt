@@ -8,11 +8,11 @@
 mod asked;
 mod attempt;
 mod backoff;
-mod losers;
 mod giving;
 mod hearing;
 mod lookup;
 mod lookup_laws;
+mod losers;
 mod rounds;
 mod running_laws;
 mod threads;

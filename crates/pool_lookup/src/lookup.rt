@@ -10,7 +10,7 @@ ghost use Rattle.pool_lookup.specs.Rounds.{begun};
 
 use crate::attempt::Attempt;
 use dns_core::{Boxed, DnsRequest, Message, NetError, NoMemory, Query};
-use pool_rules::{RetryQueue, PoolServer};
+use pool_rules::{PoolServer, RetryQueue};
 use std::alloc::Global;
 use std::collections::VecDeque;
 use std::marker::Model;

@@ -6,7 +6,7 @@ ghost use Rattle.pool_lookup.specs.Rounds.{CanBegin, dealt, without_dealt, with_
 
 use crate::lookup::{Lookup, State};
 use dns_core::NetError;
-use pool_rules::{RetryQueue, PoolServer};
+use pool_rules::{PoolServer, RetryQueue};
 use std::collections::VecDeque;
 
 /// Deals the first servers that the policy allows to a round, which has room for them.

@@ -11,8 +11,8 @@ ghost use Rattle.pool_rules.specs.declared.pool_server.PoolServer.{PoolServer};
 ghost use Rattle.pool_rules.specs.RetryQueue.{HasRoom, may_ask, class_of_sent, ending_of, hearing_of, after_end, StandsAfter, sleep_time, may_sleep, rules_of, end_at, QueueStands};
 
 use crate::answer_filter::{foreign_class, of_one_class};
-use crate::pool_server::{PoolServer, OnError, Heard};
 use crate::kept_error::most_specific;
+use crate::pool_server::{Heard, OnError, PoolServer};
 use dns_core::{Message, NetError, NoMemory, Query, TryClone};
 use server_core::ConnectionPolicy;
 use std::alloc::Global;

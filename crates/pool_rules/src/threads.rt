@@ -1,7 +1,7 @@
 //! Which types of this crate may go to another thread, and be shared among threads.
 
+use crate::pool_server::{Heard, OnError, PoolServer};
 use crate::retry_queue::RetryQueue;
-use crate::pool_server::{PoolServer, OnError, Heard};
 use dns_core::CrossesThreads;
 
 impl CrossesThreads for PoolServer {}

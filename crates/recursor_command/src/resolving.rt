@@ -210,7 +210,7 @@ fn answered(alloc: Global, bytes: &[u8], scenario: Scenario) -> Result<Vec<u8>, 
 }
 
 /// What `resolve` writes for the bytes of a scenario, or the fault that ends the run.
-#[tactic(auto, using(crate::proofs::Unread::fault_fits))]
+#[tactic(auto, using(crate::proofs::UnreadTextIsTold::fault_fits))]
 pub fn transcript_for(alloc: Global, bytes: &[u8]) -> Result<Vec<u8>, Fault>
     ensures ok { IfOk result (λ text. HasOutput Command.Resolve bytes.now text.items) }
     ensures err { IfErr result (IsFaultOf Command.Resolve bytes.now) }

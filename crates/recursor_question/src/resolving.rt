@@ -14,7 +14,7 @@ ghost use Rattle.walk_tables.specs.declared.lookup.QueryStep.TheVariants as want
 use crate::short_way::cached_answer;
 use dns_core::{DnsRequest, Ips, Name, NoMemory, Question, TryClone, in_box};
 use recursor_types::Reply;
-use recursor_walk::{ZoneQuery, WalkOutcome, Walk, answer_with, answerable, from_cache};
+use recursor_walk::{Walk, WalkOutcome, ZoneQuery, answer_with, answerable, from_cache};
 use resolver_cache::ResponseCache;
 use resolver_settings::AccessControlSet;
 use server_core::Tick;

@@ -10,7 +10,7 @@ use Rattle.dns_core.specs.declared.message.Message.{Message}
 use Rattle.resolution.specs.Serving.{is_delegation, glue, allowed}
 use Rattle.std.proofs.lemmas.Result.{IfOk-weaker}
 use Rattle.resolver_settings.specs.Access.{denies}
-use Rattle.resolution.specs.Walking.NoCut.{told_otherwise, not_told}
+use Rattle.resolution.specs.Walking.NoCutSeen.{told_otherwise, not_told}
 use Rattle.walk_response.specs.Candidate.{candidate_query}
 use Rattle.walk_lookup.specs.PendingLookup.{ZoneServers, ServersForQuery}
 use Rattle.recursor_walk.specs.declared.zone_query.asking.ZoneQuery.{ZoneQuery}

@@ -7,6 +7,6 @@ mod threads;
 mod walk;
 mod zone_query;
 
-pub use walk::{WalkOutcome, Walk};
+pub use walk::{Walk, WalkOutcome};
 pub use zone_query::asking::{ZoneQuery, answer_with};
 pub use zone_query::sourced_verdict::{SourcedVerdict, answerable, from_cache};

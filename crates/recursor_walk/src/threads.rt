@@ -1,6 +1,6 @@
 //! Which types of this crate may go to another thread, and be shared among threads.
 
-use crate::walk::{WalkOutcome, Walk};
+use crate::walk::{Walk, WalkOutcome};
 use dns_core::CrossesThreads;
 
 impl CrossesThreads for WalkOutcome {}

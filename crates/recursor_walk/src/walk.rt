@@ -25,7 +25,7 @@ use resolver_settings::AccessControlSet;
 use std::alloc::Global;
 use walk_lookup::LookupResult;
 use walk_response::{
-    collect_glue, candidate_query, ends_walk, is_delegation, made_negative, reply_by, told_negative,
+    candidate_query, collect_glue, ends_walk, is_delegation, made_negative, reply_by, told_negative,
 };
 use walk_tables::Lookup;
 
@@ -90,7 +90,11 @@ impl Walk {
     }
 
     /// Hears what was told to the lookup of the present candidate.
-    pub fn hear(&mut self, alloc: Global, filter: &AccessControlSet) -> Result<WalkOutcome, NoMemory>
+    pub fn hear(
+        &mut self,
+        alloc: Global,
+        filter: &AccessControlSet,
+    ) -> Result<WalkOutcome, NoMemory>
         requires { want_of self.old.asking.lookup.ask ≡ want.Hear }
         ensures falls { Goes self.old self.new result }
         ensures ends { EndsIf (verdict_heard self.old) result }
@@ -174,7 +178,12 @@ impl Walk {
     }
 
     /// A negative response ends the walk where it says that the name is not there.
-    fn apply_negative(&mut self, alloc: Global, entry: u64, found: NoRecords) -> Result<WalkOutcome, NoMemory>
+    fn apply_negative(
+        &mut self,
+        alloc: Global,
+        entry: u64,
+        found: NoRecords,
+    ) -> Result<WalkOutcome, NoMemory>
         ensures falls { Passes self.old self.new result }
         ensures ends { Ends (Verdict.Neg found) result }
         ensures holds { (view : LogView) (asked_at : ℕ) (asked : Question) → HasHeard view asked_at asked.query self.old entry (Verdict.Neg found)

@@ -18,7 +18,7 @@ use Rattle.resolution.specs.Ending.EndSends.{no_send, and_send}
 use Rattle.resolution.specs.Ending.Listed.{of_roots, of_told}
 use Rattle.resolution.specs.Walking.{at_any_time, NoCutSeen, Walked, candidates_below}
 use Rattle.resolution.specs.Answering.{Chain}
-use Rattle.resolution.specs.Walking.NoCut.{told_otherwise, not_told}
+use Rattle.resolution.specs.Walking.NoCutSeen.{told_otherwise, not_told}
 use Rattle.resolution.specs.Answering.Chain.{last, then_alias}
 use Rattle.resolution.specs.Failing.{Glueless, NoAddress, TriedFor, Tried, Lookups, Spent, Tour, Detours, Tours, Worn, Barren, Dry, WalkFail}
 use Rattle.resolution.specs.Failing.NoAddress.{none_in_answer, no_answer}

@@ -14,7 +14,7 @@ use Rattle.dns_core.specs.declared.message.Query.{Query}
 use Rattle.resolution.specs.Names.{is_above, base, walk, question, same_query}
 use Rattle.recursor_types.specs.declared.policy.Policy.{Policy}
 use Rattle.resolution.specs.Walking.{at_any_time, is_cut, NoCutSeen, Walked}
-use Rattle.resolution.specs.Walking.NoCut.{told_otherwise, not_told}
+use Rattle.resolution.specs.Walking.NoCutSeen.{told_otherwise, not_told}
 use Rattle.resolution.specs.declared.verdict.Verdict.{Verdict}
 use Rattle.resolution.specs.declared.verdict.Verdict.TheVariants.{Pos, Neg, Made}
 use Rattle.resolution.proofs.AboveIsAnOrder.{pointwise-drop}

@@ -18,6 +18,6 @@ pub use courses::course::{ScriptedReply, Stage};
 pub use courses::index::{Asking, Endpoint, Index, Route, Turns};
 pub use laws::fronts_are_given;
 pub use provider::{ScriptExchange, ScriptOpening};
-pub use script::late::{UnrecordedEntries, Room, push_or_back};
+pub use script::late::{Room, UnrecordedEntries, push_or_back};
 pub use script::script::{Script, ScriptLine};
 pub use upstream::ScriptUpstream;

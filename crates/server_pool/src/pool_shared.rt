@@ -21,7 +21,7 @@ use crate::open_lookups::orders::{drop_closed, keep_order, take_out};
 use crate::open_lookups::reached::usable_servers;
 use dns_core::{Boxed, DnsRequest, Message, NetError, NoMemory, Numbers, TryClone};
 use pool_lookup::{Lookup, LookupStep};
-use pool_rules::{ordered, concurrency_of};
+use pool_rules::{concurrency_of, ordered};
 use server_core::{After, NameServer, Order, Outcome, PoolContext, ServerTable, Tick};
 use std::alloc::Global;
 use std::collections::BTreeMap;
@@ -218,7 +218,14 @@ impl PoolShared {
             return Err(NoMemory);
         }
         let concurrency = concurrency_of(options);
-        Lookup::begin(alloc, request, found, concurrency, options.timeout, tick.now)
+        Lookup::begin(
+            alloc,
+            request,
+            found,
+            concurrency,
+            options.timeout,
+            tick.now,
+        )
     }
 
     /// Begins a lookup of a request at the servers of the pool of a number. Where memory is wanting,

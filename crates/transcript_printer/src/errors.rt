@@ -208,7 +208,7 @@ fn put_error_tail(alloc: Global, error: &RecursorError, out: &mut Vec<u8>) -> Re
     }
 }
 
-#[tactic(auto, using(crate::proofs::Appended::line_of_words))]
+#[tactic(auto, using(crate::proofs::TextsAppended::line_of_words))]
 fn put_error_line(error: &RecursorError, out: &mut Vec<u8>) -> Result<(), NoMemory>
     ensures { Appends result out.old.items out.new.items (line_of (error_words error.now)) }
 {

@@ -154,7 +154,7 @@ fn put_entry_words(alloc: Global, entry: &LogEntry, out: &mut Vec<u8>) -> Result
     }
 }
 
-#[tactic(auto, using(crate::proofs::Appended::line_of_words))]
+#[tactic(auto, using(crate::proofs::TextsAppended::line_of_words))]
 fn put_entry_line(
     alloc: Global,
     number: u64,

@@ -112,7 +112,7 @@ fn put_record_details(alloc: Global, entry: &Record, out: &mut Vec<u8>) -> Resul
     put_data(alloc, &entry.rdata, out)
 }
 
-#[tactic(auto, unfolding(text_lines::specs::Texts::record_line), using(crate::proofs::Appended::line_of_words))]
+#[tactic(auto, unfolding(text_lines::specs::Texts::record_line), using(crate::proofs::TextsAppended::line_of_words))]
 pub fn put_record(alloc: Global, entry: &Record, out: &mut Vec<u8>) -> Result<(), NoMemory>
     ensures { Appends result out.old.items out.new.items (record_line entry.now) }
 {
@@ -161,7 +161,7 @@ pub fn put_message_details(m: &Message, out: &mut Vec<u8>) -> Result<(), NoMemor
     put_section_counts(m, out)
 }
 
-#[tactic(auto, using(crate::proofs::Appended::sections))]
+#[tactic(auto, using(crate::proofs::TextsAppended::sections))]
 pub fn put_sections(alloc: Global, m: &Message, out: &mut Vec<u8>) -> Result<(), NoMemory>
     ensures { Appends result out.old.items out.new.items (record_lines (message_records m.now)) }
 {
@@ -170,7 +170,7 @@ pub fn put_sections(alloc: Global, m: &Message, out: &mut Vec<u8>) -> Result<(),
     put_records(alloc, m.additionals.items(), out)
 }
 
-#[tactic(auto, using(crate::proofs::Appended::line_of_words))]
+#[tactic(auto, using(crate::proofs::TextsAppended::line_of_words))]
 fn put_message_line(m: &Message, out: &mut Vec<u8>) -> Result<(), NoMemory>
     ensures { Appends result out.old.items out.new.items (line_of (message_words m.now)) }
 {

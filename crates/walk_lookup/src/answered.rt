@@ -39,7 +39,12 @@ fn classified(told: Result<Message, NetError>) -> Result<Result<Message, DnsErro
 }
 
 /// What a lookup for a question at servers of a zone comes to that was answered so, by the entry.
-pub fn found_by(entry: u64, told: Result<Message, NetError>, query: &Query, zone: &Name) -> LookupResult
+pub fn found_by(
+    entry: u64,
+    told: Result<Message, NetError>,
+    query: &Query,
+    zone: &Name,
+) -> LookupResult
     ensures { ComesTo zone.now query.now entry (classified told) result }
 {
     match classified(told) {

@@ -3,18 +3,18 @@
 //! definitions and laws.
 #![tactic(auto)]
 
-mod order_targets;
 mod answered;
-mod lookup_result;
 mod keeping;
-mod settings;
+mod lookup_result;
+mod order_targets;
 mod pending_lookup;
+mod settings;
 mod threads;
 
-pub use order_targets::{aim_of, first_of, is_memory, polled_by};
 pub use answered::{found_by, last_of};
-pub use lookup_result::LookupResult;
 pub use keeping::write_verdict;
+pub use lookup_result::LookupResult;
+pub use order_targets::{aim_of, first_of, is_memory, polled_by};
+pub use pending_lookup::{OpenOrder, OrderTarget, PendingLookup};
 pub use settings::asking::{connect_options, pool_context, request_options};
 pub use settings::delays::{FirstDelay, first_delay};
-pub use pending_lookup::{OrderTarget, OpenOrder, PendingLookup};

@@ -3,7 +3,7 @@ ghost use Rattle.std.specs.Prelude.{◌≡◌, ◌↔◌, IsTrue, option_copied}
 ghost use Rattle.pool_lookup.specs.Holds.{out_of_memory};
 ghost use Rattle.walk_lookup.specs.PendingLookup.{IsStill, is_denial, aim_of, sent_to, first_of, polled_by};
 
-use crate::pending_lookup::{OrderTarget, OpenOrder};
+use crate::pending_lookup::{OpenOrder, OrderTarget};
 use dns_core::{DnsError, Message, NetError, Query};
 use server_core::{Order, Outcome, SentBy};
 use std::net::IpAddr;

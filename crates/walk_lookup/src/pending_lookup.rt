@@ -2,8 +2,8 @@
 ghost use Rattle.std.specs.Prelude.{◌≡◌, ◌↔◌, ◌≤◌, IsTrue, option_copied};
 ghost use Rattle.walk_lookup.specs.PendingLookup.{IsSentOver, IsFirst, IsOf, MayWait, MayTake, MayTakeBy};
 
-use crate::order_targets::{is_denial, is_identical, is_still};
 use crate::lookup_result::LookupResult;
+use crate::order_targets::{is_denial, is_identical, is_still};
 use dns_core::{Boxed, Name, Query};
 use server_core::{Outcome, SentBy, same_address};
 use std::net::IpAddr;

@@ -1,7 +1,7 @@
 //! Which types of this crate may go to another thread, and be shared among threads.
 
 use crate::lookup_result::LookupResult;
-use crate::pending_lookup::{OrderTarget, OpenOrder, PendingLookup};
+use crate::pending_lookup::{OpenOrder, OrderTarget, PendingLookup};
 use dns_core::CrossesThreads;
 
 impl CrossesThreads for OrderTarget {}

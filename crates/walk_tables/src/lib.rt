@@ -6,5 +6,5 @@ mod lookup;
 mod pools;
 mod threads;
 
-pub use lookup::{Phase, Lookup, QueryStep};
+pub use lookup::{Lookup, Phase, QueryStep};
 pub use pools::{Answer, Pools, PoolsStep};

@@ -32,8 +32,8 @@ use std::collections::BTreeMap;
 use std::mem;
 use std::net::IpAddr;
 use walk_lookup::{
-    FirstDelay, LookupResult, OpenOrder, PendingLookup, aim_of, first_delay, first_of, found_by, is_memory, last_of,
-    polled_by, pool_context, write_verdict,
+    FirstDelay, LookupResult, OpenOrder, PendingLookup, aim_of, first_delay, first_of, found_by,
+    is_memory, last_of, polled_by, pool_context, write_verdict,
 };
 
 /// What a lookup came to, and the entries of its ends.
@@ -182,7 +182,11 @@ fn sought_from(
 
 impl Pools {
     /// Keeps what is sought by a lookup, which is left where memory is wanting.
-    fn keep(&mut self, lookup: PoolLookup, sought: Boxed<PendingLookup>) -> Result<PoolLookup, NoMemory>
+    fn keep(
+        &mut self,
+        lookup: PoolLookup,
+        sought: Boxed<PendingLookup>,
+    ) -> Result<PoolLookup, NoMemory>
         ensures ok { IfOk result (λ kept. HasKept lookup.number sought self.old self.new × (kept ≡ lookup)) }
         ensures err { OnErr result (HasLeft lookup.number self.old self.new) }
     {
@@ -223,7 +227,13 @@ impl Pools {
 
     /// Keeps which order of a lookup is open, to which address its first send goes, where that was not
     /// known, and when its last end came, where it is another. What it comes to is not known then.
-    fn note(&mut self, lookup: u64, given: Option<OpenOrder>, first: Option<IpAddr>, at: Option<u64>)
+    fn note(
+        &mut self,
+        lookup: u64,
+        given: Option<OpenOrder>,
+        first: Option<IpAddr>,
+        at: Option<u64>,
+    )
         ensures { HasNoted lookup (noted given first at) self.old self.new }
     {
         match self.sought.get_mut(&lookup) {

@@ -1,6 +1,6 @@
 //! Which types of this crate may go to another thread, and be shared among threads.
 
-use crate::lookup::{Phase, Lookup, QueryStep};
+use crate::lookup::{Lookup, Phase, QueryStep};
 use crate::pools::{Answer, Pools, PoolsStep};
 use dns_core::CrossesThreads;
 

@@ -34,7 +34,7 @@ use Rattle.resolution.specs.Verdict.{holds_denied, without_denied, is_in_bailiwi
 use Rattle.resolution.specs.Serving.{Serves, is_delegation}
 use Rattle.resolution.specs.Serving.Heard.{heard}
 use Rattle.resolution.specs.Walking.{at_any_time, is_cut, NoCutSeen}
-use Rattle.resolution.specs.Walking.NoCut.{told_otherwise, not_told}
+use Rattle.resolution.specs.Walking.NoCutSeen.{told_otherwise, not_told}
 use Rattle.resolution.specs.declared.class.Class.{Class}
 use Rattle.resolution.specs.declared.class.Class.TheVariants.{Positive}
 use Rattle.resolution.specs.declared.verdict.Verdict.{Verdict}

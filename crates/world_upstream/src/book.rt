@@ -7,7 +7,7 @@ ghost use Rattle.dns_core.specs.declared.log.LogEntry.TheVariants.{Waited, Told,
 ghost use Rattle.dns_core.specs.declared.log.ToldOutcome.TheVariants.{Connected, Message as Answered};
 
 use dns_core::{Items, Log, LogEntry, Message, NoMemory, Query, ToldOutcome, TryClone};
-use script_upstream::{UnrecordedEntries, Room, push_or_back};
+use script_upstream::{Room, UnrecordedEntries, push_or_back};
 use std::alloc::Global;
 use std::collections::HashMap;
 use zone_worlds::IndexedWorld;

@@ -118,7 +118,8 @@ impl<P: ConnectionProvider> InFlight<P> {
         if !self.carrier.is_free(number) {
             return Err(NoMemory);
         }
-        self.orders.insert(number, InFlightOrder { order, polls: 0 })?;
+        self.orders
+            .insert(number, InFlightOrder { order, polls: 0 })?;
         self.carry(number, tick)
     }
 

@@ -12,7 +12,7 @@ ghost use Rattle.std.specs.Prelude.{◌≡◌, ℕ, ◌+◌, find, slice_get, un
 
 use crate::courses::course::{ScriptedReply, Stage};
 use crate::courses::index::{Asking, Endpoint, Index};
-use crate::script::late::{UnrecordedEntries, Room, push_or_back};
+use crate::script::late::{Room, UnrecordedEntries, push_or_back};
 use crate::script::script::{Script, ScriptLine};
 use dns_core::{IoKind, Items, Log, LogEntry, NetError, NoMemory, Query, ToldOutcome, TryClone};
 use std::alloc::Global;
@@ -262,7 +262,13 @@ impl ScriptLog {
             }
             None => {
                 let entry = asked_entry(endpoint, asked, now);
-                begin(&mut self.open, &mut self.log, number, ScriptedReply::Never, entry)?;
+                begin(
+                    &mut self.open,
+                    &mut self.log,
+                    number,
+                    ScriptedReply::Never,
+                    entry,
+                )?;
                 Ok(number)
             }
         }

@@ -49,7 +49,11 @@ impl ScriptedReply {
     }
 
     /// What a reply line says of a question.
-    pub fn of_question(alloc: Global, query: &Query, line: &ScriptLine) -> Result<ScriptedReply, NoMemory>
+    pub fn of_question(
+        alloc: Global,
+        query: &Query,
+        line: &ScriptLine,
+    ) -> Result<ScriptedReply, NoMemory>
         ensures { IfOk result (λ course. course ≡ reply_course query.now line.now) }
     {
         match line {

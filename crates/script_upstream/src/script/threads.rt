@@ -1,6 +1,6 @@
 //! Which types of this crate may go to another thread, and be shared among threads.
 
-use crate::script::late::{UnrecordedEntries, Room};
+use crate::script::late::{Room, UnrecordedEntries};
 use crate::script::script::{Script, ScriptLine};
 use dns_core::CrossesThreads;
 

@@ -3,7 +3,7 @@ use Rattle.order_carrier.proofs.StartedInFlight.{start-can, start-moves, start-g
 use Rattle.order_carrier.proofs.in_flight.runner.InFlight.start.Goals as goal
 
 pub returns-then-not-is_free-clause-polls : goal.returns-then-not-is_free-clause-polls
-returns-then-not-is_free-clause-polls g c = same-grows g.P.ConnectionProvider c.args.number c.args.self.now c.args.order c.args.self.now.held refl c.args.tick.patience
+returns-then-not-is_free-clause-polls g c = same-grows g.P.ConnectionProvider c.args.number c.args.self.now c.args.order c.args.self.now.orders refl c.args.tick.patience
 
 pub returns-in_err-insert-clause-polls : goal.returns-in_err-insert-clause-polls
 returns-in_err-insert-clause-polls g c = same-grows g.P.ConnectionProvider c.args.number c.args.self.now c.args.order c.insert.new.self c.in_err-insert.ensures.err c.args.tick.patience
