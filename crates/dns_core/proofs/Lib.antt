@@ -1,5 +1,6 @@
 pub mod Dotted
 pub mod WireLength
+pub mod LabelsFit
 pub mod TextsRead
 pub mod ZonesOrdered
 pub mod NamesTied

@@ -4,6 +4,7 @@ pub mod Codes
 pub mod Connection
 pub mod ErrorTexts
 pub mod Faults
+pub mod Labels
 pub mod Letters
 pub mod Log
 pub mod MemoryStreams

@@ -1,6 +1,7 @@
 //! Domain names (RFC 1034 section 3.1), and which of them lie in a zone.
 ghost use Rattle.std.specs.Prelude.{◌≡◌, ◌↔◌, ◌≤◌, [], true, false, refl, length, drop, IfOk, IsTrue};
 ghost use Rattle.std.specs.Ordering.{as_partial_cmp};
+ghost use Rattle.dns_core.specs.Labels.{AreLabels};
 ghost use Rattle.dns_core.specs.Name.{DomainName, same_names, names_cmp, names_fed, is_suffix, last_labels, is_in_zone};
 ghost use Rattle.dns_core.specs.NameLaws.{same_names_per, same_names_equiv, names_total, names_tie, names_po, names_alike};
 
@@ -27,11 +28,12 @@ impl Model for Name {
     ghost Value = { DomainName };
 
     ghost use Rattle.std.specs.Prelude.{◌≤◌, length, drop};
+    ghost use Rattle.dns_core.specs.Labels.{AreLabels};
     ghost use Rattle.dns_core.specs.SharedLabels.{labels_in};
 
     ghost view = { λ a. record { labels = drop a.skipped (labels_in a.shared); fqdn = a.fqdn } };
 
-    ghost invariant = { λ a. (a.skipped ≤ length (labels_in a.shared)) × (length (labels_in a.shared) ≤ 254) };
+    ghost invariant = { λ a. (a.skipped ≤ length (labels_in a.shared)) × AreLabels (labels_in a.shared) };
 }
 
 impl Name {
@@ -57,8 +59,9 @@ impl Name {
         }
     }
 
-    pub(crate) fn of(alloc: Global, labels: Vec<Label>, fqdn: bool) -> Result<Name, NoMemory>
-        requires { length labels.items ≤ 254 }
+    /// The name of these labels, the one farthest from the root first.
+    pub fn from_labels(alloc: Global, labels: Vec<Label>, fqdn: bool) -> Result<Name, NoMemory>
+        requires { AreLabels labels.items }
         ensures { IfOk result (λ name. name ≡ record { labels = labels.items; fqdn = fqdn }) }
     {
         let shared = Arc::new(alloc, labels)?;
@@ -78,6 +81,7 @@ impl Name {
     /// The labels, the one farthest from the root first.
     pub fn labels(&self) -> &[Label]
         ensures labels { result.now ≡ self.now.labels }
+        ensures fit { AreLabels result.now }
         ensures few { length result.now ≤ 254 }
     {
         match &self.shared {

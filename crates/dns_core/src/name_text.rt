@@ -144,7 +144,7 @@ fn read_name(alloc: Global, bytes: &[u8], strict: bool) -> Result<Name, NameErro
     if is_long(&labels) {
         return Err(NameError::LongName);
     }
-    Ok(Name::of(alloc, labels, fqdn)?)
+    Ok(Name::from_labels(alloc, labels, fqdn)?)
 }
 
 impl Name {

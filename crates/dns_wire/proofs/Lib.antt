@@ -1,0 +1,5 @@
+pub mod FlagLaws
+pub mod Lists
+pub mod MessageLaws
+pub mod SpelledMessages
+pub mod WritableMessages

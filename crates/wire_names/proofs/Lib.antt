@@ -1,0 +1,9 @@
+pub mod Answering
+pub mod Binds
+pub mod KeptLaws
+pub mod Loops
+pub mod NameLaws
+pub mod Pointers
+pub mod Rests
+pub mod RunLaws
+pub mod WrittenNames

@@ -1,0 +1,12 @@
+pub mod DataLaws
+pub mod ExtraLaws
+pub mod Following
+pub mod Joined
+pub mod NumberLaws
+pub mod QuestionLaws
+pub mod RecordLaws
+pub mod RoomLaws
+pub mod SectionLaws
+pub mod SpelledLaws
+pub mod Turns
+pub mod TypedLaws
