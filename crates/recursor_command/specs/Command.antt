@@ -8,14 +8,12 @@ use Rattle.script_upstream.specs.Giving.{Gives as ScriptGives}
 use Rattle.world_upstream.specs.Giving.{Gives as WorldGives}
 use Rattle.dns_core.specs.Log.{Log, log_of}
 use Rattle.dns_core.specs.declared.log.LogEntry.{LogEntry}
-use Rattle.resolution.specs.Telling.{Logged, moment_of, MomentsRise}
-use Rattle.resolution.specs.Ending.{waits}
-use Rattle.resolution.specs.Asking.{AsksServers}
 use Rattle.recursor_types.specs.Policy.{policy_of, with_patience}
 use Rattle.recursor_types.specs.declared.policy.Policy.{Policy}
 use Rattle.resolver_settings.specs.Ttl.{has_reversed}
 use Rattle.recursor_types.specs.Options.{has_bad_first_delays}
-use Rattle.recursor_core.specs.RecursorState.{RecursorState, RepliesHold, run_moments}
+use Rattle.recursor_core.specs.Playing.{IsRun}
+use Rattle.recursor_core.specs.RecursorState.{RecursorState, RepliesHold}
 use Rattle.recursor_types.specs.declared.options.RecursorOptions.{RecursorOptions}
 use Rattle.std.specs.declared.net.ip_addr.IpAddr.{IpAddr}
 use Rattle.dns_core.specs.declared.request.Question.{Question}
@@ -74,21 +72,14 @@ terms_by roots options patience = with_patience patience (policy_of roots option
 abbrev pub terms_of : Scenario → Policy
 terms_of s = terms_by s.roots s.options s.patience
 
--- each entry is at one of these moments
-abbrev pub HappensAt : List ℕ → Log → Type 0
-HappensAt moments log = (i moment : ℕ) (e : LogEntry) → Logged log i e → moment_of e ≡ Some moment → Contains moments moment
-
--- What a run says by its log: each question has its reply, in order. Only servers were asked, by what was told before, each a root or at an address
--- that is not denied; at moments of its turns, which do not fall; and none was waited for more often than patience allows. A reply with a message is
+-- What a run says by its log: it is a run of its turns over a log that was empty, and each question has its reply, in order. A reply with a message is
 -- what counts of a response that a server of a zone at or above the name told since the question began, or within its life before that; the walk went
 -- down to this zone. Each error has its cause.
 pub record Resolves (terms : Policy) (questions : List Question) (turns : List Turn) (log : List LogEntry) (answers : List Reply) : Type 0 where
+  pub last : ℕ
+  pub run : IsRun terms terms.patience 0 last turns (log_of []) (log_of log)
   pub answered : length answers ≡ length questions
-  pub asks : AsksServers terms (log_of log)
   pub replies : RepliesHold terms (log_of log) 0 turns questions answers
-  pub moments : HappensAt (run_moments 0 turns) (log_of log)
-  pub rises : MomentsRise (log_of log)
-  pub patient : (of : ℕ) → waits (log_of log) of (log_of log).next ≤ max 1 terms.patience
 
 -- the upstream of a scenario gives the log
 abbrev pub GivesBy : Told → List LogEntry → Type 0

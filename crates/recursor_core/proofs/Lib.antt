@@ -1,6 +1,7 @@
 pub mod Names
 pub mod WorkLeft
 pub mod StepsLeadOn
+pub mod TurnsArePlayed
 pub mod QuestionsArePlayed
 pub mod MachineHoldsOn
 pub mod Timed

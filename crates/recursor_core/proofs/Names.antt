@@ -13,7 +13,7 @@ pub use Rattle.std.specs.Ordering.{nat_cmp}
 pub use Rattle.std.specs.declared.net.ip_addr.IpAddr.{IpAddr}
 pub use Rattle.std.proofs.lemmas.Result.{IfOk-weaker}
 pub use Rattle.recursor_types.specs.declared.reply.Reply.{Reply}
-pub use Rattle.dns_core.specs.Log.{Log, log_of}
+pub use Rattle.dns_core.specs.Log.{Log, Extends, log_of}
 pub use Rattle.dns_core.specs.declared.request.Question.{Question}
 pub use Rattle.dns_core.specs.declared.errors.NoMemory.{NoMemory}
 pub use Rattle.order_carrier.specs.Fits.{GoesToServer}
@@ -28,14 +28,14 @@ pub use Rattle.recursor_walk.proofs.QueryAdvances.{reply-later}
 pub use Rattle.dns_core.specs.declared.log.LogEntry.{LogEntry}
 pub use Rattle.dns_core.specs.declared.provider.ConnectionProvider.{Ghosts}
 pub use Rattle.dns_core.specs.declared.request.Turn.{Turn}
-pub use Rattle.order_carrier.specs.Growing.{GrownOver, TellsThat, Grown, IsPast, with_entries}
-pub use Rattle.order_carrier.proofs.MomentsStayInOrder.{over_refl, over_one, over_trans, IsPast-later, IsPast-grown, rises_over}
+pub use Rattle.order_carrier.specs.Growing.{GrownOver, RiseFrom, TellsThat, Grown, IsPast, with_entries}
+pub use Rattle.order_carrier.proofs.MomentsStayInOrder.{IsPast-later, IsPast-grown, rises_over}
 pub use Rattle.order_carrier.proofs.LogWaitsOnceMore.{IsPatient-refl, IsPatient-trans}
 pub use Rattle.order_carrier.specs.declared.in_flight.runner.InFlight.{InFlight}
 pub use Rattle.walk_lookup.specs.Tried.{Timer, machine_timer, IsTimed}
 pub use Rattle.order_carrier.specs.declared.carrier.Carrier.{Carrier}
 pub use Rattle.recursor_walk.proofs.TimelyForEarlier.{reply-earlier, outcome-earlier}
-pub use Rattle.order_carrier.proofs.LogGrowsByCalls.{Grown-refl, Extends-refl, Grown-trans, Longer-from_added, Extends-added, Logged-newest, unlogged, below_or_from}
+pub use Rattle.order_carrier.proofs.LogGrowsByCalls.{Grown-refl, Extends-refl, Extends-trans, Grown-trans, Longer-from_added, Extends-added, Logged-newest, unlogged, below_or_from, entry_sides}
 pub use Rattle.resolver_cache.specs.Cached.{Cached}
 pub use Rattle.recursor_types.specs.Policy.{with_patience}
 pub use Rattle.walk_lookup.specs.Order.{is_given_up, IsGivenUpIn, LogGoesOnIf}
@@ -49,5 +49,7 @@ pub use Rattle.recursor_core.specs.Derived.{seen_by, Derived}
 pub use Rattle.recursor_core.specs.Machine.{kept_in, Begun, begun_of, begun_at, IsOneMore, given_by, ReplyGiven, StepGives, SameCore, IsNewCore, TellsTo, open_at}
 pub use Rattle.recursor_core.specs.declared.machine.resolutions.RecursorCore.{RecursorCore}
 pub use Rattle.recursor_question.specs.declared.steps.Step.{Step}
-pub use Rattle.recursor_core.specs.Runs.{Leading, IsDue, IsOver, Leads, PlaysGoOn, work, Plays}
-pub use Rattle.recursor_core.specs.RecursorState.{Holds, Goes, Moves, ReplyTold, first_moment, last_moment, begin_moment, run_moments, run_timer, PlayHolds, PlaysHold, RepliesHold, ReplyFor, Rests, Ready, TurnedTold, KeepsTo, RecursorState, policy_of_run}
+pub use Rattle.recursor_core.specs.Playing.{OnLogs, AreAt, IsPlayed, IsPlayedOver, begin_moment, run_moments}
+pub use Rattle.recursor_core.specs.Runs.{Leading, Leads, GoesOn, IsPlayedTo, Turning, RunsOver, IsDue, PlaysGoOn, PlaysOn, work, told_by, Plays}
+pub use Rattle.recursor_core.specs.declared.run.Run.{Run}
+pub use Rattle.recursor_core.specs.RecursorState.{Holds, Goes, Moves, ReplyTold, run_timer, PlayHolds, PlaysHold, RepliesHold, ReplyFor, Rests, Ready, TurnedTold, KeepsTo, RecursorState, policy_of_run}

@@ -1,5 +1,5 @@
 -- The questions of a run, as their turns are played.
-use Rattle.recursor_core.proofs.Names.{◌≡◌, ◌≢◌, ◌≤◌, ◌<◌, ◌+◌, ◌-◌, ◌∙◌, ◌⊎◌, ⊎_elim, inl, inr, ℕ, zero, suc, max, List, [], ◌∷◌, length, Option, Some, None, Err, refl, sym, ap, subst, arith, slice_get, if◌then◌else◌, eq-eqb, All, Contains, Box, set, same_Some, slice_get_within, get_or_from_slice_get, All-get_or, Log, log_of, LogEntry, Question, Turn, Ghosts, Timer, machine_timer, ReplyHolds, TellsThat, Grown, Begun, begun_at, begun_of, kept_in, IsOneMore, Moves, ReplyTold, first_moment, last_moment, begin_moment, run_moments, run_timer, PlayHolds, PlaysHold, RepliesHold, ReplyFor, BeginsIf, BeginsAt, IsRefused, ReplyOf, Policy, Carrier, RecursorCore, Reply, QuestionState, reply-earlier, Grown-refl, seen_at, Resolution, option_map}
+use Rattle.recursor_core.proofs.Names.{◌≡◌, ◌≢◌, ◌≤◌, ◌<◌, ◌+◌, ◌-◌, ◌∙◌, ◌⊎◌, ⊎_elim, inl, inr, ℕ, zero, suc, max, List, [], ◌∷◌, length, Option, Some, None, Err, refl, sym, ap, subst, arith, slice_get, if◌then◌else◌, eq-eqb, All, Contains, Box, set, same_Some, slice_get_within, get_or_from_slice_get, All-get_or, Log, log_of, LogEntry, Question, Turn, Ghosts, Timer, machine_timer, ReplyHolds, TellsThat, Grown, Begun, begun_at, begun_of, kept_in, IsOneMore, Moves, ReplyTold, IsDue, begin_moment, run_moments, run_timer, PlayHolds, PlaysHold, RepliesHold, ReplyFor, BeginsIf, BeginsAt, IsRefused, ReplyOf, Policy, Carrier, RecursorCore, Reply, QuestionState, reply-earlier, Grown-refl, seen_at, Resolution, option_map}
 use Rattle.std.proofs.lemmas.Bool.{ne_eqb}
 use Rattle.recursor_core.proofs.OnePlaceIsSet.{slice_get-set_same, slice_get-set_other}
 use Rattle.recursor_core.proofs.MachineHoldsOn.{ReplyHolds-grown}
@@ -14,26 +14,36 @@ same_or_not zero (suc n) = inr (λ e. omega arith)
 same_or_not (suc k) zero = inr (λ e. omega arith)
 same_or_not (suc k) (suc n) = ⊎_elim (λ e. inl (ap suc e)) (λ ne. inr (λ e. ne (omega arith))) (same_or_not k n)
 
--- the first turn of a question is this one, or one of those after it
-first_here : (t : Turn) (rest : List Turn) (q : ℕ) → t.question ≡ q + 1 → first_moment (t ∷ rest) q ≡ Some t.moment
-first_here t rest q e = ap (λ b. if b then Some t.moment else first_moment rest q) (eq-eqb t.question (q + 1) e)
+-- the question of the next turn begins in it
+pub begin_named : (moment : ℕ) (t : Turn) (rest : List Turn) (q : ℕ) → t.question ≡ q + 1 → begin_moment moment (t ∷ rest) q ≡ max moment t.moment
+begin_named moment t rest q e = ap (λ b. if b then max moment t.moment else begin_moment (max moment t.moment) rest q) (eq-eqb t.question (q + 1) e)
 
--- the first turn of another question is one of those after it
-pub first_other : (t : Turn) (rest : List Turn) (q : ℕ) → t.question ≢ q + 1 → first_moment (t ∷ rest) q ≡ first_moment rest q
-first_other t rest q ne = ap (λ b. if b then Some t.moment else first_moment rest q) (ne_eqb t.question (q + 1) ne)
+-- another one begins later
+pub begin_other : (moment : ℕ) (t : Turn) (rest : List Turn) (q : ℕ) → t.question ≢ q + 1 → begin_moment moment (t ∷ rest) q ≡ begin_moment (max moment t.moment) rest q
+begin_other moment t rest q ne = ap (λ b. if b then max moment t.moment else begin_moment (max moment t.moment) rest q) (ne_eqb t.question (q + 1) ne)
 
--- the moment at which a question begins, by that of its first turn
-abbrev moment_of : (start : ℕ) (turns : List Turn) → Option ℕ → ℕ
-moment_of start turns found = max start (elim found [ Some moment ↦ moment | None ↦ last_moment start turns ])
+-- where the moment of the turn has come
+begin_after : (moment : ℕ) (t : Turn) (rest : List Turn) (q : ℕ) → t.moment ≤ moment → t.question ≢ q + 1 → begin_moment moment (t ∷ rest) q ≡ begin_moment moment rest q
+begin_after moment t rest q le ne =
+    let same : max moment t.moment ≡ moment = omega (arith, le) in
+    begin_other moment t rest q ne ∙ ap (λ m. begin_moment m rest q) same
 
--- when the question of the next turn begins
-pub begins_now : (start : ℕ) (turns rest : List Turn) (t : Turn) (q : ℕ) → t.question ≡ q + 1 → first_moment turns q ≡ first_moment (t ∷ rest) q
-    → begin_moment start turns q ≡ max start t.moment
-begins_now start turns rest t q e h = ap (moment_of start turns) (h ∙ first_here t rest q e)
+-- that it comes changes nothing
+begin_reached : (moment new : ℕ) (t : Turn) (rest : List Turn) (q : ℕ) → new ≡ max moment t.moment → begin_moment moment (t ∷ rest) q ≡ begin_moment new (t ∷ rest) q
+begin_reached moment new t rest q is =
+    let same : max moment t.moment ≡ max new t.moment = omega (arith, is) in
+    ap (λ m. if t.question == q + 1 then m else begin_moment m rest q) same
 
--- and one of no turn
-pub begins_last : (start : ℕ) (turns : List Turn) (q : ℕ) → first_moment turns q ≡ None → begin_moment start turns q ≡ max start (last_moment start turns)
-begins_last start turns q h = ap (moment_of start turns) h
+-- a question is due at its turn
+pub turn_due : (moment : ℕ) (t : Turn) (rest : List Turn) (q : ℕ) → t.question ≡ q + 1 → t.moment ≤ moment → IsDue moment (t ∷ rest) rest q
+turn_due moment t rest q names le = record {
+  others = λ k ne. begin_after moment t rest k le (λ named. ne (omega arith));
+  now = let is = begin_named moment t rest q names in omega (arith, is, le);
+}
+
+-- and behind the turns
+pub last_due : (moment q : ℕ) → IsDue moment [] [] q
+last_due moment q = record { others = λ k ne. refl; now = omega arith }
 
 -- want of memory may always be answered, with no grounds
 memory_holds : (policy : Policy) (timer : Timer) (log : Log) (moment : ℕ) (question : Question) (reply : Reply) → reply.outcome ≡ Err error.NoMemory
@@ -50,7 +60,7 @@ play_on : (now : ℕ) (core new : RecursorCore) (told later : Option (List LogEn
     (question : Question) (p : QuestionState)
     → new.policy ≡ core.policy → length core.resolutions.items ≤ length new.resolutions.items
     → ((k : ℕ) (b : Begun) → k < length core.resolutions.items → begun_at new k ≡ Some b → begun_at core k ≡ Some b) → Grown now told later
-    → (p ≡ played.Waiting → first_moment rest q ≡ first_moment left q)
+    → (p ≡ played.Waiting → begin_moment core.moment rest q ≡ begin_moment new.moment left q)
     → PlayHolds core told start turns rest q question p → PlayHolds new later start turns left q question p
 play_on now core new told later start turns rest left q question played.Waiting policy count begun grown same h = h ∙ same refl
 play_on now core new told later start turns rest left q question (played.Begun r) policy count begun grown same h =
@@ -67,7 +77,7 @@ play_on now core new told later start turns rest left q question played.Unanswer
 
 -- so it is where one more question may have begun
 play_more : (core new : RecursorCore) (told : Option (List LogEntry)) (start : ℕ) (turns rest left : List Turn) (q : ℕ) (question : Question) (p : QuestionState)
-    → new.policy ≡ core.policy → IsOneMore core new → (p ≡ played.Waiting → first_moment rest q ≡ first_moment left q)
+    → new.policy ≡ core.policy → IsOneMore core new → (p ≡ played.Waiting → begin_moment core.moment rest q ≡ begin_moment new.moment left q)
     → PlayHolds core told start turns rest q question p → PlayHolds new told start turns left q question p
 play_more core new told start turns rest left q question p policy more same h =
     play_on 0 core new told told start turns rest left q question p policy more.count (λ k b low e. sym (more.before k low) ∙ e) (Grown-refl 0 told) same h
@@ -82,7 +92,7 @@ place_of_begun (x ∷ xs) (suc r) b e = omega (arith, place_of_begun xs r b e)
 begin_here : (core new : RecursorCore) (told : Option (List LogEntry)) (start : ℕ) (turns rest left : List Turn) (q now : ℕ)
     (question : Question) (old : Option QuestionState) (p : QuestionState)
     → new.policy ≡ core.policy → IsOneMore core new
-    → (first_moment turns q ≡ first_moment rest q → begin_moment start turns q ≤ now)
+    → (begin_moment start turns q ≡ begin_moment core.moment rest q → begin_moment start turns q ≤ now)
     → BeginsIf (Some question) now new old (Some p) → ((was : QuestionState) → old ≡ Some was → PlayHolds core told start turns rest q question was)
     → PlayHolds new told start turns left q question p
 begin_here core new told start turns rest left q now question None p policy begun due begins h = cc
@@ -111,8 +121,8 @@ pub begins_hold : (core new : RecursorCore) (told : Option (List LogEntry)) (sta
     → new.policy ≡ core.policy → IsOneMore core new
     → ((k : ℕ) → k ≢ q → slice_get plays k ≡ slice_get old k)
     → BeginsAt questions q now new (slice_get old q) (slice_get plays q)
-    → ((k : ℕ) → k ≢ q → first_moment rest k ≡ first_moment left k)
-    → (first_moment turns q ≡ first_moment rest q → begin_moment start turns q ≤ now)
+    → ((k : ℕ) → k ≢ q → begin_moment core.moment rest k ≡ begin_moment new.moment left k)
+    → (begin_moment start turns q ≡ begin_moment core.moment rest q → begin_moment start turns q ≤ now)
     → PlaysHold core told start turns rest questions old → PlaysHold new told start turns left questions plays
 begins_hold core new told start turns rest left questions old plays q now policy begun others begins after due h k question p asks plays_p = ⊎_elim
     (λ (same : k ≡ q).
@@ -134,14 +144,14 @@ reply_for policy now t0 (Some b) question reply log is h =
     reply-earlier (seen_at policy 0 now log) t0 b.moment question reply of.1 (subst (λ (x : Question). ReplyHolds policy (machine_timer now) log b.moment x reply) of.0 h)
 
 module _ {P C F E : Type 0} (p : Ghosts P C F E) (patience now : ℕ) (core new : RecursorCore) (c later : Carrier P C F E p)
-    (moves : Moves p patience now core new c later) where
+    (moves : Moves p patience now core new c later) (moment : new.moment ≡ core.moment) where
   -- the questions go on while the machine and the provider do
   pub plays_moved : (start : ℕ) (turns rest : List Turn) (questions : List Question) (plays : List QuestionState)
       → PlaysHold core (p.log c.provider) start turns rest questions plays → PlaysHold new (p.log later.provider) start turns rest questions plays
   plays_moved start turns rest questions plays h q question play asks at =
       play_on now core new (p.log c.provider) (p.log later.provider) start turns rest rest q question play moves.policy
       (let same = moves.begun.count in omega (arith, same)) (λ k b low e. moves.begun.each k b e) moves.grown
-      (λ e. refl) (h q question play asks at)
+      (λ e. ap (λ m. begin_moment m rest q) (sym moment)) (h q question play asks at)
 
   -- one has its reply
   pub plays_answered : (start : ℕ) (turns rest : List Turn) (questions : List Question) (plays : List QuestionState) (q r : ℕ) (reply : Box Reply)
@@ -217,18 +227,18 @@ plays_wait core told start turns questions plays waits q question p asks at =
     let is : p ≡ played.Waiting = sym read ∙ All-get_or (λ x. x ≡ played.Waiting) plays q p (slice_get_within plays q p at) waits in
     subst (λ (x : QuestionState). PlayHolds core told start turns turns q question x) (sym is) refl
 
--- a turn that names no question changes none
+-- a turn whose moment has come, and that names no question, changes none
 pub plays_skip : (core : RecursorCore) (told : Option (List LogEntry)) (start : ℕ) (turns rest : List Turn) (t : Turn)
-    (questions : List Question) (plays : List QuestionState) → t.question ≡ 0
+    (questions : List Question) (plays : List QuestionState) → t.question ≡ 0 → t.moment ≤ core.moment
     → PlaysHold core told start turns (t ∷ rest) questions plays → PlaysHold core told start turns rest questions plays
-plays_skip core told start turns rest t questions plays none h q question p asks at =
+plays_skip core told start turns rest t questions plays none le h q question p asks at =
     play_on 0 core core told told start turns (t ∷ rest) rest q question p refl (omega arith) (λ k b low e. e) (Grown-refl 0 told)
-    (λ e. first_other t rest q (λ named. omega arith)) (h q question p asks at)
+    (λ e. begin_after core.moment t rest q le (λ named. omega (arith, none, named))) (h q question p asks at)
 
--- the last turn is at the last moment
-pub last_is : (start : ℕ) (turns : List Turn) (t : Turn) → Some t ≡ slice_get turns (length turns - 1) → t.moment ≡ last_moment start turns
-last_is start [] t h = cc
-last_is start (x ∷ []) t h = ap (λ (u : Turn). u.moment) (same_Some _ _ h)
-last_is start (x ∷ y ∷ ys) t h =
-    let next : length (x ∷ y ∷ ys) - 1 ≡ suc (length (y ∷ ys) - 1) = omega arith in
-    last_is x.moment (y ∷ ys) t (subst (λ k. Some t ≡ slice_get (x ∷ y ∷ ys) k) next h)
+-- that the moment of a turn comes changes none
+pub plays_reach : (core new : RecursorCore) (told : Option (List LogEntry)) (start : ℕ) (turns rest : List Turn) (t : Turn)
+    (questions : List Question) (plays : List QuestionState) → new.policy ≡ core.policy → new.resolutions ≡ core.resolutions → new.moment ≡ max core.moment t.moment
+    → PlaysHold core told start turns (t ∷ rest) questions plays → PlaysHold new told start turns (t ∷ rest) questions plays
+plays_reach core new told start turns rest t questions plays policy same moment h q question p asks at =
+    play_on 0 core new told told start turns (t ∷ rest) (t ∷ rest) q question p policy (rw same (omega arith)) (λ k b low e. rw same at e) (Grown-refl 0 told)
+    (λ e. begin_reached core.moment new.moment t rest q moment) (h q question p asks at)

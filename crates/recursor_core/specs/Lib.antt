@@ -4,4 +4,5 @@ pub mod Runs
 pub mod Recursor
 pub mod Derived
 pub mod Machine
+pub mod Playing
 pub mod Plays

@@ -18,6 +18,7 @@ use Rattle.walk_lookup.specs.Tried.{Timer, machine_timer}
 use Rattle.recursor_walk.specs.Replies.{ReplyHolds}
 use Rattle.order_carrier.specs.Growing.{TellsThat, Grown, IsPast}
 use Rattle.recursor_core.specs.Derived.{seen_by, Derived}
+use Rattle.recursor_core.specs.Playing.{begin_moment, run_moments}
 use Rattle.order_carrier.specs.Patience.{IsPatient}
 use Rattle.walk_tables.specs.Pools.{PoolsHold}
 use Rattle.walk_lookup.specs.Remembered.{CacheHolds}
@@ -102,24 +103,6 @@ TurnedTold policy now told b turned.Pending = Unit {0}
 TurnedTold policy now told b (turned.Done reply) = ReplyTold policy now told b reply.value
 TurnedTold policy now told b turned.Ended = Unit {0}
 
--- the moment of the first turn of the question at a place
-abbrev pub first_moment : List Turn → ℕ → Option ℕ
-first_moment [] q = None
-first_moment (t ∷ ts) q = if t.question == q + 1 then Some t.moment else first_moment ts q
-
--- the moment after the turns: that of the last one, or where there is none the greatest so far
-abbrev pub last_moment : ℕ → List Turn → ℕ
-last_moment start [] = start
-last_moment start (t ∷ ts) = last_moment t.moment ts
-
--- the moment at which the question at a place begins: that of its first turn, or the one after the turns, but none before the greatest so far
-abbrev pub begin_moment : ℕ → List Turn → ℕ → ℕ
-begin_moment start turns q = max start (elim (first_moment turns q) [ Some moment ↦ moment | None ↦ last_moment start turns ])
-
--- the moments of a run: those of its turns, and the greatest before it
-abbrev pub run_moments : ℕ → List Turn → List ℕ
-run_moments start turns = start ∷ map (λ t. t.moment) turns
-
 -- what is known of the moments of a lookup in a run: it was answered in a turn, and began with a send no earlier than its question
 abbrev pub run_timer : ℕ → List Turn → Timer
 run_timer start turns log t0 = known_to_drive (run_moments start turns) false false log t0
@@ -135,10 +118,10 @@ pub record AnsweredAt (policy : Policy) (told : Option (List LogEntry)) (moments
   pub in_run : Contains moments now
   pub holds : TellsThat told (λ log. ReplyHolds policy (machine_timer now) log asked_at question reply)
 
--- A question that waits is named by no turn so far; one under way has begun at or after its moment; the reply of one that is answered holds, and
--- for one that is not answered memory was wanting.
+-- A question that waits is named by no turn so far, where `rest` are the turns that are not played yet; one under way has begun at or after its
+-- moment; the reply of one that is answered holds; for one without an answer memory ran out.
 abbrev pub PlayHolds : RecursorCore → Option (List LogEntry) → ℕ → List Turn → List Turn → ℕ → Question → QuestionState → Type 0
-PlayHolds core told start turns rest q question played.Waiting = first_moment turns q ≡ first_moment rest q
+PlayHolds core told start turns rest q question played.Waiting = begin_moment start turns q ≡ begin_moment core.moment rest q
 PlayHolds core told start turns rest q question (played.Begun r) = IsBegunFrom core r question (begin_moment start turns q)
 PlayHolds core told start turns rest q question (played.Answered reply) =
     AnsweredAt core.policy told (run_moments start turns) (begin_moment start turns q) question reply.value

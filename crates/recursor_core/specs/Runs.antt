@@ -1,13 +1,15 @@
 -- A run of questions: what holds of it, and what its steps do.
-use Rattle.std.specs.Prelude.{◌≡◌, ◌≢◌, ◌≤◌, ◌+◌, ℕ, max, List, Option, Contains}
+use Rattle.std.specs.Prelude.{◌≡◌, ◌≢◌, ◌≤◌, ◌+◌, ℕ, max, List, [], Option, Contains}
+use Rattle.dns_core.specs.Log.{Log, Extends}
 use Rattle.dns_core.specs.declared.log.LogEntry.{LogEntry}
 use Rattle.dns_core.specs.declared.provider.ConnectionProvider.{Ghosts}
 use Rattle.dns_core.specs.declared.request.Question.{Question}
 use Rattle.dns_core.specs.declared.request.Turn.{Turn}
-use Rattle.order_carrier.specs.Growing.{GrownOver}
+use Rattle.order_carrier.specs.Growing.{Grown}
 use Rattle.order_carrier.specs.Patience.{IsPatient}
 use Rattle.order_carrier.specs.declared.in_flight.runner.InFlight.{InFlight}
-use Rattle.recursor_core.specs.RecursorState.{Holds, PlaysHold, first_moment, last_moment, begin_moment, run_moments}
+use Rattle.recursor_core.specs.Playing.{OnLogs, IsPlayed, IsPlayedOver, begin_moment, run_moments}
+use Rattle.recursor_core.specs.RecursorState.{Holds, PlaysHold}
 use Rattle.recursor_core.specs.Turns.{due}
 use Rattle.recursor_core.specs.Plays.{open_plays}
 use Rattle.recursor_core.specs.declared.machine.resolutions.RecursorCore.{RecursorCore}
@@ -21,21 +23,50 @@ told_by p run = p.log run.runner.carrier.provider
 abbrev pub Runs : {P C F E : Type 0} (p : Ghosts P C F E) → Run P C F E p → Type 0
 Runs p run = Holds p run.patience run.core run.runner
 
--- By steps at these moments, none before that of the machine, machine and orders came to others that hold: what the machine is set to stays, the log has
--- grown at these moments alone, and none of its entries was waited for beyond patience; the provider vouches for no more than before.
-pub record Leading {P C F E : Type 0} (p : Ghosts P C F E) (moments : List ℕ) (most new_most : ℕ) (core new_core : RecursorCore) (r new : InFlight P C F E p) : Type 0 where
+-- By steps at one moment, which is that of the machine after them, machine and orders came to others that hold: the policy stays, the log has grown
+-- at this moment, and none of its entries was waited for beyond patience; the provider vouches for no more than before.
+pub record Leading {P C F E : Type 0} (p : Ghosts P C F E) (now most new_most : ℕ) (core new_core : RecursorCore) (r new : InFlight P C F E p) : Type 0 where
   pub vouches : (es : List LogEntry) → p.vouches new.carrier.provider es → p.vouches r.carrier.provider es
   pub runs : Holds p new_most new_core new
   pub policy : new_core.policy ≡ core.policy
   pub patience : new_most ≡ most
   pub patient : IsPatient (max 1 most) (p.log r.carrier.provider) (p.log new.carrier.provider)
-  pub later : core.moment ≤ new_core.moment
-  pub timely : Contains moments new_core.moment
-  pub grown : GrownOver moments core.moment (p.log r.carrier.provider) (p.log new.carrier.provider)
+  pub moment : new_core.moment ≡ now
+  pub grown : Grown now (p.log r.carrier.provider) (p.log new.carrier.provider)
 
 -- so it is with a run
-abbrev pub Leads : {P C F E : Type 0} (p : Ghosts P C F E) → List ℕ → Run P C F E p → Run P C F E p → Type 0
-Leads p moments run new = Leading p moments run.patience new.patience run.core new.core run.runner new.runner
+abbrev pub Leads : {P C F E : Type 0} (p : Ghosts P C F E) → ℕ → Run P C F E p → Run P C F E p → Type 0
+Leads p now run new = Leading p now run.patience new.patience run.core new.core run.runner new.runner
+
+-- and with one at the moment that has come
+abbrev pub GoesOn : {P C F E : Type 0} (p : Ghosts P C F E) → Run P C F E p → Run P C F E p → Type 0
+GoesOn p run new = Leads p run.core.moment run new
+
+-- Where what follows plays the turns that are left, all of them were played.
+pub record IsPlayedTo (start : ℕ) (turns : List Turn) (moment : ℕ) (rest : List Turn) (before after : Log) : Type 0 where
+  pub extends : Extends before after
+  pub on : (end : Log) → Extends after end → IsPlayed moment rest after.next end → IsPlayed start turns before.next end
+
+-- Some turns of a run are played, and these are left.
+pub record Turning {P C F E : Type 0} (p : Ghosts P C F E) (turns rest : List Turn) (run new : Run P C F E p) : Type 0 where
+  pub vouches : (es : List LogEntry) → p.vouches new.runner.carrier.provider es → p.vouches run.runner.carrier.provider es
+  pub runs : Runs p new
+  pub policy : new.core.policy ≡ run.core.policy
+  pub patience : new.patience ≡ run.patience
+  pub patient : IsPatient (max 1 run.patience) (told_by p run) (told_by p new)
+  pub later : run.core.moment ≤ new.core.moment
+  pub moments : (k : ℕ) → Contains (run_moments new.core.moment rest) k → Contains (run_moments run.core.moment turns) k
+  pub grown : OnLogs (told_by p run) (told_by p new) (IsPlayedTo run.core.moment turns new.core.moment rest)
+
+-- All turns of a run are played, and what was left of its questions; or nothing was.
+pub record RunsOver {P C F E : Type 0} (p : Ghosts P C F E) (turns : List Turn) (run new : Run P C F E p) : Type 0 where
+  pub vouches : (es : List LogEntry) → p.vouches new.runner.carrier.provider es → p.vouches run.runner.carrier.provider es
+  pub runs : Runs p new
+  pub policy : new.core.policy ≡ run.core.policy
+  pub patient : IsPatient (max 1 run.patience) (told_by p run) (told_by p new)
+  pub later : run.core.moment ≤ new.core.moment
+  pub timely : Contains (run_moments run.core.moment turns) new.core.moment
+  pub grown : OnLogs (told_by p run) (told_by p new) (IsPlayedOver run.core.moment turns)
 
 -- What became of each question of a run holds, where `rest` are the turns that are not played yet.
 abbrev pub Plays : {P C F E : Type 0} (p : Ghosts P C F E) → Run P C F E p → ℕ → List Turn → List Turn → List Question → Type 0
@@ -45,26 +76,14 @@ Plays p run start turns rest questions = PlaysHold run.core (told_by p run) star
 abbrev pub PlaysOn : {P C F E : Type 0} (p : Ghosts P C F E) → ℕ → List Turn → List Turn → List Turn → List Question → Run P C F E p → Run P C F E p → Type 0
 PlaysOn p start turns rest left questions run new = Plays p run start turns rest questions → Plays p new start turns left questions
 
--- A step at this moment of the run keeps that.
-abbrev pub PlaysGoOn : {P C F E : Type 0} (p : Ghosts P C F E) → ℕ → Run P C F E p → Run P C F E p → Type 0
-PlaysGoOn p now run new = (start : ℕ) (turns rest : List Turn) (questions : List Question) → Contains (run_moments start turns) now → PlaysOn p start turns rest rest questions run new
+-- A step at a moment of the run keeps that.
+abbrev pub PlaysGoOn : {P C F E : Type 0} (p : Ghosts P C F E) → Run P C F E p → Run P C F E p → Type 0
+PlaysGoOn p run new = (start : ℕ) (turns rest : List Turn) (questions : List Question) → Contains (run_moments start turns) run.core.moment → PlaysOn p start turns rest rest questions run new
 
--- Between these two, no question but the one at a place has its first turn; and its own, or the end of the turns, has come, where it had none before.
-pub record IsDue (start : ℕ) (turns rest left : List Turn) (q now : ℕ) : Type 0 where
-  pub others : (k : ℕ) → k ≢ q → first_moment rest k ≡ first_moment left k
-  pub due : first_moment turns q ≡ first_moment rest q → begin_moment start turns q ≤ now
-
--- A turn comes to a run at one of its moments, where it stands at another, no earlier than its start.
-pub record ComesIn {P C F E : Type 0} {p : Ghosts P C F E} (start : ℕ) (turns : List Turn) (run : Run P C F E p) (t : Turn) : Type 0 where
-  pub after : start ≤ run.core.moment
-  pub was_in : Contains (run_moments start turns) run.core.moment
-  pub is_in : Contains (run_moments start turns) t.moment
-
--- The turns are over at a moment of the run.
-pub record IsOver (start : ℕ) (turns : List Turn) (now : ℕ) : Type 0 where
-  pub after : start ≤ now
-  pub last : last_moment start turns ≤ now
-  pub in_run : Contains (run_moments start turns) now
+-- Between these two, no question but the one at a place has its first turn; and its moment has come.
+pub record IsDue (moment : ℕ) (rest left : List Turn) (q : ℕ) : Type 0 where
+  pub others : (k : ℕ) → k ≢ q → begin_moment moment rest k ≡ begin_moment moment left k
+  pub now : begin_moment moment rest q ≤ moment
 
 -- what is left of the questions under way
 abbrev pub work : {P C F E : Type 0} {p : Ghosts P C F E} → Run P C F E p → ℕ

@@ -1,12 +1,10 @@
 //! Answers questions over a provider, whatever it tells.
-ghost use Rattle.std.specs.Prelude.{◌≡◌, ◌≤◌, List, Contains, length, min, max, IfOk, vec_len};
+ghost use Rattle.std.specs.Prelude.{◌≡◌, ◌≤◌, List, Contains, length, min, IfOk, vec_len};
 ghost use Rattle.dns_core.specs.declared.log.LogEntry.{LogEntry};
-ghost use Rattle.resolution.specs.Asking.{AsksServers};
-ghost use Rattle.order_carrier.specs.Growing.{TellsThat, IsPast, GrownOver};
-ghost use Rattle.order_carrier.specs.Patience.{IsPatient};
-ghost use Rattle.resolution.specs.Telling.{MomentsRise};
+ghost use Rattle.order_carrier.specs.Growing.{TellsThat};
 ghost use Rattle.recursor_types.specs.Policy.{with_patience};
-ghost use Rattle.recursor_core.specs.RecursorState.{policy_of_run, RepliesHold, run_moments};
+ghost use Rattle.recursor_core.specs.Playing.{OnLogs, IsRun, run_moments};
+ghost use Rattle.recursor_core.specs.RecursorState.{policy_of_run, RepliesHold};
 
 use crate::recursor::Recursor;
 use dns_core::{ConnectionProvider, NoMemory, Question, Turn};
@@ -14,8 +12,8 @@ use recursor_types::Reply;
 use std::alloc::Global;
 
 /// Answers the questions: the turns are played in order, and then the questions that have not begun
-/// are played at the last moment. Before a question begins, the one under way is gone round to its end,
-/// at the moment of the turn before. Questions are numbered from 1; moments are in microseconds and do
+/// are played at the greatest moment. Before another question begins, the one under way is played to its
+/// end, in the turn before. Questions are numbered from 1; moments are in microseconds and do
 /// not fall; an order is pending at fewer polls than `patience`. What is kept of lookups, in this run
 /// and those before, is answered again while it lives.
 pub fn drive<P: ConnectionProvider>(
@@ -28,10 +26,11 @@ pub fn drive<P: ConnectionProvider>(
     // Each question has its reply, in order.
     ensures answered { IfOk result (λ replies. vec_len replies ≡ length questions.now) }
 
+    // The log has grown turn by turn, each entry at the moment of its turn; behind the turns at the greatest.
     // Only servers were asked: by what was told before, each address that was opened serves a zone, and
     // each one that was asked serves a zone at or above the name of the question. Each is a root, or its
-    // address is not denied.
-    ensures asks { TellsThat (P.log recursor.new.provider) (AsksServers (policy_of_run patience recursor.old)) }
+    // address is not denied. No moment falls, and no entry was waited for beyond patience.
+    ensures run { OnLogs (P.log recursor.old.provider) (P.log recursor.new.provider) (IsRun (policy_of_run patience recursor.old) patience recursor.old.moment recursor.new.moment turns.now) }
 
     // Each message that is answered is what counts of a response that a server of a zone at or above the
     // name told: since the question began, or within its life before that, and then it was authoritative.
@@ -41,16 +40,8 @@ pub fn drive<P: ConnectionProvider>(
     ensures replies { IfOk result (λ replies. TellsThat (P.log recursor.new.provider) (λ log.
         RepliesHold (policy_of_run patience recursor.old) log recursor.old.moment turns.now questions.now replies.items)) }
 
-    // No entry was waited for more often than patience allows, which is once at least, or than it was before.
-    ensures patient { IsPatient (max 1 patience) (P.log recursor.old.provider) (P.log recursor.new.provider) }
-
-    // The log has grown by entries at the moments of this run, none earlier than the recursor's, and the
-    // moments of all entries do not fall. The recursor's moment is one of the run, no earlier than it was
-    // or than any entry.
-    ensures grown { GrownOver (run_moments recursor.old.moment turns.now) recursor.old.moment (P.log recursor.old.provider) (P.log recursor.new.provider) }
-    ensures rises { TellsThat (P.log recursor.new.provider) MomentsRise }
+    // The recursor's moment is one of the run, and does not fall.
     ensures moment { Contains (run_moments recursor.old.moment turns.now) recursor.new.moment × (recursor.old.moment ≤ recursor.new.moment) }
-    ensures past { TellsThat (P.log recursor.new.provider) (IsPast recursor.new.moment) }
 
     // The policy stays, but for the least patience, which is that of the runs so far.
     ensures policy { recursor.new.policy ≡ with_patience (min recursor.old.policy.patience patience) recursor.old.policy }

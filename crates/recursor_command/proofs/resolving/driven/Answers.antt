@@ -2,7 +2,7 @@ use Rattle.std.proofs.Common.{◌≡◌, ◌∙◌, sym, ap, subst, min, arith}
 use Rattle.recursor_types.specs.Policy.{policy_of}
 use Rattle.recursor_core.specs.RecursorState.{policy_of_run}
 use Rattle.recursor_command.specs.Command.{IsUntold, terms_by}
-use Rattle.recursor_command.proofs.RunSays.{terms-are, asks-of, replies-of, moments-of, patient-of}
+use Rattle.recursor_command.proofs.RunSays.{terms-are, run-of, replies-of}
 use Rattle.recursor_command.proofs.resolving.driven.Goals as goal
 
 pub returns-clause-resolves : goal.returns-clause-resolves
@@ -19,10 +19,9 @@ returns-clause-resolves g c = λ log is.
     let terms = terms_by c.args.roots.now options c.args.patience in
     let same : policy_of_run p r ≡ terms = terms-are p c.args.patience r (policy_of c.args.roots.now options) new.1 first in
     record {
+      last = c.drive.new.recursor.moment;
+      run = run-of terms (policy_of_run p r) p c.args.patience r.moment c.drive.new.recursor.moment turns (g.P.ConnectionProvider.log r.provider) log none same c.first_patience.ensures.same new.2
+          (c.drive.ensures.run log told);
       answered = omega (arith, c.in_ok-replies.ensures.answered);
-      asks = asks-of terms (policy_of_run p r) log same (c.drive.ensures.asks log told);
       replies = replies-of terms (policy_of_run p r) log r.moment turns questions c.in_ok-replies.replies.items same new.2 (c.in_ok-replies.ensures.replies log told);
-      moments = moments-of log (g.P.ConnectionProvider.log r.provider) r.moment turns none new.2 (c.drive.ensures.grown log told);
-      rises = c.drive.ensures.rises log told;
-      patient = patient-of log (g.P.ConnectionProvider.log r.provider) p c.args.patience none c.first_patience.ensures.same (c.drive.ensures.patient log told);
     }

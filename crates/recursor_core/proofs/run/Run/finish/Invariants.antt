@@ -1,10 +1,10 @@
-use Rattle.recursor_core.proofs.Names.{◌≡◌, ◌∷◌, [], vec_len, Leads, PlaysGoOn, work}
+use Rattle.recursor_core.proofs.Names.{◌≡◌, vec_len, GoesOn, PlaysGoOn, work}
 use Rattle.recursor_core.proofs.run.Run.finish.Given as goal
 
 abbrev pub invariant-turns : goal.invariant-turns
 invariant-turns g l = record {
-  leads : Leads g.P.ConnectionProvider (l.fn.self.core.moment ∷ l.now ∷ []) l.fn.self l.self;
-  plays : PlaysGoOn g.P.ConnectionProvider l.now l.fn.self l.self;
+  leads : GoesOn g.P.ConnectionProvider l.fn.self l.self;
+  plays : PlaysGoOn g.P.ConnectionProvider l.fn.self l.self;
   count : vec_len l.self.plays ≡ vec_len l.fn.self.plays;
 }
 
