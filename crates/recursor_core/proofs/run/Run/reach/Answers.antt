@@ -13,4 +13,4 @@ pub returns-clause-plays : goal.returns-clause-plays
 returns-clause-plays g c start turns rest questions h =
     let run = c.args.self.now in
     let m = c.reach.ensures in
-    plays_reach run.core c.reach.new.self (g.P.ConnectionProvider.log run.runner.carrier.provider) start turns rest c.args.turn.now questions run.plays.items m.same.0 m.same.2.0 m.moment h
+    plays_reach run.core c.reach.new.self (g.P.ConnectionProvider.log run.runner.carrier.provider) start turns rest c.args.turn.now questions run.plays.items m.same.0 m.same.2 m.moment h
