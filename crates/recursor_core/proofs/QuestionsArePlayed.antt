@@ -1,5 +1,6 @@
 -- The questions of a run, as their turns are played.
 use Rattle.recursor_core.proofs.Names.{◌≡◌, ◌≢◌, ◌≤◌, ◌<◌, ◌+◌, ◌-◌, ◌∙◌, ◌⊎◌, ⊎_elim, inl, inr, ℕ, zero, suc, max, List, [], ◌∷◌, length, Option, Some, None, Err, refl, sym, ap, subst, arith, slice_get, if◌then◌else◌, eq-eqb, All, Contains, Box, set, same_Some, slice_get_within, get_or_from_slice_get, All-get_or, Log, log_of, LogEntry, Question, Turn, Ghosts, Timer, machine_timer, ReplyHolds, TellsThat, Grown, Begun, begun_at, begun_of, kept_in, IsOneMore, Moves, ReplyTold, IsDue, begin_moment, run_moments, run_timer, PlayHolds, PlaysHold, RepliesHold, ReplyFor, BeginsIf, BeginsAt, IsRefused, ReplyOf, Policy, Carrier, RecursorCore, Reply, QuestionState, reply-earlier, Grown-refl, seen_at, Resolution, option_map}
+use Rattle.std.specs.Prelude.{◌==◌}
 use Rattle.std.proofs.lemmas.Bool.{ne_eqb}
 use Rattle.recursor_core.proofs.OnePlaceIsSet.{slice_get-set_same, slice_get-set_other}
 use Rattle.recursor_core.proofs.MachineHoldsOn.{ReplyHolds-grown}
@@ -219,13 +220,13 @@ replies_hold core told start turns rest questions plays replies h of es t q ques
     reply_of_play core told start turns rest q question (slice_get plays q) reply es t (of q reply at) (λ p e. h q question p asks e)
 
 -- before the first turn each question waits
-pub plays_wait : (core : RecursorCore) (told : Option (List LogEntry)) (start : ℕ) (turns : List Turn) (questions : List Question)
+pub plays_wait : (core : RecursorCore) (told : Option (List LogEntry)) (turns : List Turn) (questions : List Question)
     (plays : List QuestionState)
-    → All (λ p. p ≡ played.Waiting) plays → PlaysHold core told start turns turns questions plays
-plays_wait core told start turns questions plays waits q question p asks at =
+    → All (λ p. p ≡ played.Waiting) plays → PlaysHold core told core.moment turns turns questions plays
+plays_wait core told turns questions plays waits q question p asks at =
     let read = get_or_from_slice_get plays q p p at in
     let is : p ≡ played.Waiting = sym read ∙ All-get_or (λ x. x ≡ played.Waiting) plays q p (slice_get_within plays q p at) waits in
-    subst (λ (x : QuestionState). PlayHolds core told start turns turns q question x) (sym is) refl
+    subst (λ (x : QuestionState). PlayHolds core told core.moment turns turns q question x) (sym is) refl
 
 -- a turn whose moment has come, and that names no question, changes none
 pub plays_skip : (core : RecursorCore) (told : Option (List LogEntry)) (start : ℕ) (turns rest : List Turn) (t : Turn)

@@ -1,11 +1,12 @@
 -- A run plays its turns, and its log grows turn by turn.
-use Rattle.recursor_core.proofs.Names.{◌≡◌, ◌≤◌, ◌<◌, ◌∙◌, ◌⊎◌, ⊎_elim, same_Some, Policy, IsPast, ℕ, max, List, [], ◌∷◌, Contains, Option, refl, sym, subst, arith, Log, Extends, log_of, LogEntry, Ghosts, Turn, Grown, GrownOver, RiseFrom, TellsThat, Extends-refl, Extends-trans, entry_sides, below_or_from, IsPatient-refl, IsPatient-trans, OnLogs, AreAt, IsPlayed, IsPlayedOver, IsPlayedTo, run_moments, Leads, Turning, RunsOver, Runs, Run, told_by}
+use Rattle.recursor_core.proofs.Names.{◌≡◌, ◌≤◌, ◌<◌, ◌∙◌, ◌⊎◌, ⊎_elim, same_Some, Policy, IsPast, ℕ, max, List, [], ◌∷◌, Contains, Option, Some, refl, sym, subst, arith, Log, Extends, log_of, LogEntry, Ghosts, Turn, Grown, GrownOver, RiseFrom, TellsThat, Extends-refl, Extends-trans, entry_sides, below_or_from, IsPatient-refl, IsPatient-trans, OnLogs, AreAt, IsPlayed, IsPlayedOver, IsPlayedTo, run_moments, Leads, Turning, RunsOver, Run, told_by}
 use Rattle.order_carrier.specs.Growing.{LongerThan}
 use Rattle.order_carrier.specs.Patience.{IsPatient}
 use Rattle.resolution.specs.Telling.{Logged, moment_of, MomentsRise}
 use Rattle.resolution.specs.Ending.{waits}
 use Rattle.resolution.specs.Asking.{AsksServers}
 use Rattle.recursor_core.specs.Playing.{IsRun}
+use Rattle.recursor_core.specs.Runs.{Runs}
 use Rattle.recursor_core.proofs.Timed.{run_first, run_next, contains_later}
 
 -- ---- entries at a moment

@@ -14,7 +14,7 @@ returns-clause-replies g c =
     let questions = c.args.questions.now in
     let played = c.play_all.new.self in
     let told = g.P.ConnectionProvider.log played.runner.carrier.provider in
-    let waits = plays_wait run.core (g.P.ConnectionProvider.log run.runner.carrier.provider) start turns questions c.in_ok-self.field-0.items c.in_ok-self.ensures.waits in
+    let waits = plays_wait run.core (g.P.ConnectionProvider.log run.runner.carrier.provider) turns questions c.in_ok-self.field-0.items c.in_ok-self.ensures.waits in
     IfOk-weaker c.replies.result _ _ (λ v each.
     subst (λ (held : Policy). TellsThat told (λ log. RepliesHold held log start turns questions v.items)) c.play_all.ensures.over.policy
     (replies_hold played.core told start turns [] questions played.plays.items v.items (c.play_all.ensures.plays waits) each)) c.replies.ensures.each

@@ -17,20 +17,20 @@ loop-n-preserved g c =
     let n = c.loop-n.n in
     let run = c.args.self.now in
     let mid = c.loop-n.self in
-    let t = c.index.result.now in
     let start = run.core.moment in
     let rest = drop (n + 1) turns in
     let within : n < length turns = omega (arith, c.loop-n-test.true) in
     let e = c.play_turn.ensures in
     let f = c.finish_current-current.ensures in
-    let more : drop n turns ≡ t ∷ rest = drop_more turns n _ within in
-    let turning = subst (λ (ts : List Turn). Turning p turns ts run mid) more i.turning in
-    let at = max mid.core.moment t.moment in
-    let here = turning.moments at (run_next mid.core.moment t rest) in
+    let turning : (t : Turn) → drop n turns ≡ t ∷ rest → Turning p turns (t ∷ rest) run mid =
+        λ t more. subst (λ (ts : List Turn). Turning p turns ts run mid) more i.turning in
+    let here : (t : Turn) → drop n turns ≡ t ∷ rest → Contains (run_moments start turns) (max mid.core.moment t.moment) =
+        λ t more. (turning t more).moments (max mid.core.moment t.moment) (run_next mid.core.moment t rest) in
     record {
-      turning = turning_next p turns rest t run mid _ turning (leads_then p at _ _ _ _ _ _ _ _ _ e.leads f.leads);
-      plays = λ h. f.plays start turns rest c.args.questions.now (subst (Contains (run_moments start turns)) (sym e.leads.moment) here)
-          (e.plays start turns rest here (subst (λ (ts : List Turn). Plays p mid start turns ts c.args.questions.now) more (i.plays h)));
+      turning = turning_next p turns rest _ run mid _ (turning _ (drop_more turns n _ within)) (leads_then p _ _ _ _ _ _ _ _ _ _ e.leads f.leads);
+      plays = λ h. f.plays start turns rest c.args.questions.now (subst (Contains (run_moments start turns)) (sym e.leads.moment) (here _ (drop_more turns n _ within)))
+          (e.plays start turns rest (here _ (drop_more turns n _ within))
+          (subst (λ (ts : List Turn). Plays p mid start turns ts c.args.questions.now) (drop_more turns n _ within) (i.plays h)));
       count = f.count ∙ (e.count ∙ i.count);
     }
 
