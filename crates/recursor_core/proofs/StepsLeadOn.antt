@@ -1,5 +1,5 @@
 -- Steps of a run at one moment lead on.
-use Rattle.recursor_core.proofs.Names.{◌≡◌, ◌≤◌, ◌∙◌, ◌⊎◌, ⊎_elim, ℕ, max, refl, sym, subst, arith, Ghosts, Log, Grown, Grown-refl, Grown-trans, IsPatient-refl, IsPatient-trans, InFlight, Derived, Leading, Holds, Goes, RecursorCore}
+use Rattle.recursor_core.proofs.Names.{◌≡◌, ◌≤◌, ◌∙◌, ℕ, max, refl, subst, arith, Ghosts, Log, Grown-refl, Grown-trans, IsPatient-refl, IsPatient-trans, InFlight, Derived, Leading, Holds, Goes, RecursorCore}
 use Rattle.order_carrier.specs.Patience.{IsPatient}
 use Rattle.recursor_core.proofs.MachineHoldsOn.{holds_derived}
 

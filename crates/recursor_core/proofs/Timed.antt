@@ -1,5 +1,5 @@
 -- What the machine knows of the moments of a lookup is known of a run, when it was heard at a moment of the run.
-use Rattle.recursor_core.proofs.Names.{◌≡◌, ◌≤◌, ◌<◌, ◌⊎◌, ⊎_elim, inl, ℕ, zero, suc, max, false, List, [], ◌∷◌, map, All, Contains, refl, sym, subst, arith, IpAddr, Log, Question, Turn, Policy, ReplyHolds, IsTimed, machine_timer, run_moments, run_timer, Reply, outcome-earlier, Policy}
+use Rattle.recursor_core.proofs.Names.{◌≤◌, inl, ℕ, suc, max, false, List, [], ◌∷◌, Contains, refl, arith, IpAddr, Log, Question, Turn, Policy, ReplyHolds, IsTimed, machine_timer, run_moments, run_timer, Reply, outcome-earlier, Policy}
 use Rattle.dns_core.specs.declared.message.Query.{Query}
 use Rattle.resolution.specs.Lookups.{End}
 use Rattle.resolution.specs.Ending.{EndSends}

@@ -1,5 +1,5 @@
 -- A run plays its turns, and its log grows turn by turn.
-use Rattle.recursor_core.proofs.Names.{◌≡◌, ◌≤◌, ◌<◌, ◌∙◌, ◌⊎◌, ⊎_elim, same_Some, Policy, IsPast, ℕ, max, List, [], ◌∷◌, Contains, Option, Some, refl, sym, subst, arith, Log, Extends, log_of, LogEntry, Ghosts, Turn, Grown, GrownOver, RiseFrom, TellsThat, Extends-refl, Extends-trans, entry_sides, below_or_from, IsPatient-refl, IsPatient-trans, OnLogs, AreAt, IsPlayed, IsPlayedOver, IsPlayedTo, run_moments, Leads, Turning, RunsOver, Run, told_by}
+use Rattle.recursor_core.proofs.Names.{◌≡◌, ◌≤◌, ◌∙◌, ◌⊎◌, ⊎_elim, same_Some, Policy, IsPast, ℕ, max, List, [], ◌∷◌, Contains, Option, Some, refl, sym, subst, arith, Log, Extends, log_of, LogEntry, Ghosts, Turn, GrownOver, RiseFrom, TellsThat, Extends-refl, Extends-trans, entry_sides, below_or_from, IsPatient-refl, IsPatient-trans, OnLogs, AreAt, IsPlayed, IsPlayedOver, run_moments, Leads, Turning, RunsOver, Run, told_by}
 use Rattle.order_carrier.specs.Growing.{LongerThan}
 use Rattle.order_carrier.specs.Patience.{IsPatient}
 use Rattle.resolution.specs.Telling.{Logged, moment_of, MomentsRise}
@@ -91,15 +91,18 @@ pub run_is : (policy : Policy) (patience start last : ℕ) (turns : List Turn) (
 run_is policy patience start last turns old new grown patient rises past asks es t =
     let l = grown es t in
     let w = patient es t in
-    let same : w.before ≡ l.0 = same_Some _ _ (sym w.was ∙ l.1) in
-    (l.0, l.1, record {
-      extends = l.2.extends;
-      played = l.2.played;
-      asks = asks es t;
-      rises = rises es t;
-      past = past es t;
-      patient = λ of. subst (λ (before : List LogEntry). waits (log_of es) of (log_of es).next ≤ max (waits (log_of before) of (log_of before).next) (max 1 patience)) same (w.waited of);
-    })
+    let same : w.before ≡ l.0 = same_Some _ _ (sym w.was ∙ l.1) in (
+      l.0,
+      l.1,
+      record {
+        extends = l.2.extends;
+        played = l.2.played;
+        asks = asks es t;
+        rises = rises es t;
+        past = past es t;
+        patient = λ of. subst (λ (before : List LogEntry). waits (log_of es) of (log_of es).next ≤ max (waits (log_of before) of (log_of before).next) (max 1 patience)) same (w.waited of);
+      },
+    )
 
 -- ---- turns
 
@@ -132,12 +135,15 @@ module _ {P C F E : Type 0} (p : Ghosts P C F E) where
         (subst (λ (at : ℕ). Contains (run_moments at rest) k) n.moment h));
     grown = λ es told.
         let l = n.grown es told in
-        let o = m.grown l.before l.was in
-        (o.0, o.1, record {
-          extends = Extends-trans (log_of o.0) (log_of l.before) (log_of es) o.2.extends l.extends;
-          on = λ end x h. o.2.on end (Extends-trans (log_of l.before) (log_of es) end l.extends x)
-              ((log_of es).next, at_grown (max mid.core.moment t.moment) (told_by p mid) es end l x, subst (λ (at : ℕ). IsPlayed at rest (log_of es).next end) n.moment h);
-        });
+        let o = m.grown l.before l.was in (
+          o.0,
+          o.1,
+          record {
+            extends = Extends-trans (log_of o.0) (log_of l.before) (log_of es) o.2.extends l.extends;
+            on = λ end x h. o.2.on end (Extends-trans (log_of l.before) (log_of es) end l.extends x)
+                ((log_of es).next, at_grown (max mid.core.moment t.moment) (told_by p mid) es end l x, subst (λ (at : ℕ). IsPlayed at rest (log_of es).next end) n.moment h);
+          },
+        );
   }
 
   -- all are played, and then what is left
@@ -152,11 +158,14 @@ module _ {P C F E : Type 0} (p : Ghosts P C F E) where
     timely = m.moments new.core.moment (subst (λ (at : ℕ). Contains (run_moments mid.core.moment []) at) (sym n.moment) (run_first mid.core.moment []));
     grown = λ es told.
         let l = n.grown es told in
-        let o = m.grown l.before l.was in
-        (o.0, o.1, record {
-          extends = Extends-trans (log_of o.0) (log_of l.before) (log_of es) o.2.extends l.extends;
-          played = o.2.on (log_of es) l.extends (at_grown mid.core.moment (told_by p mid) es (log_of es) l (Extends-refl (log_of es)));
-        });
+        let o = m.grown l.before l.was in (
+          o.0,
+          o.1,
+          record {
+            extends = Extends-trans (log_of o.0) (log_of l.before) (log_of es) o.2.extends l.extends;
+            played = o.2.on (log_of es) l.extends (at_grown mid.core.moment (told_by p mid) es (log_of es) l (Extends-refl (log_of es)));
+          },
+        );
   }
 
   -- nothing was played for want of memory

@@ -1,5 +1,5 @@
 -- A recursor, as contracts see it, and what holds of its machine and its provider between two calls.
-use Rattle.std.specs.Prelude.{◌≡◌, ◌≤◌, ◌<◌, ℕ, false, min, max, List, [], ◌∷◌, ◌+◌, ◌==◌, map, length, Contains, if◌then◌else◌, Option, Some, None, slice_get}
+use Rattle.std.specs.Prelude.{◌≡◌, ◌≤◌, ◌<◌, ℕ, false, min, max, List, length, Contains, Option, Some, None, slice_get}
 use Rattle.recursor_walk.specs.Way.{CanWalk}
 use Rattle.std.specs.declared.net.ip_addr.IpAddr.{IpAddr}
 use Rattle.dns_core.specs.Log.{Log}

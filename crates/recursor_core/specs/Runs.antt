@@ -1,5 +1,5 @@
 -- A run of questions: what holds of it, and what its steps do.
-use Rattle.std.specs.Prelude.{◌≡◌, ◌≢◌, ◌≤◌, ◌+◌, ℕ, max, List, [], Option, Contains}
+use Rattle.std.specs.Prelude.{◌≡◌, ◌≢◌, ◌≤◌, ◌+◌, ℕ, max, List, Option, Contains}
 use Rattle.dns_core.specs.Log.{Log, Extends}
 use Rattle.dns_core.specs.declared.log.LogEntry.{LogEntry}
 use Rattle.dns_core.specs.declared.provider.ConnectionProvider.{Ghosts}

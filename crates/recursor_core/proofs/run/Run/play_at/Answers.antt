@@ -1,4 +1,4 @@
-use Rattle.recursor_core.proofs.Names.{◌≡◌, ◌≤◌, ◌∙◌, ℕ, List, Contains, sym, subst, arith, run_moments, Leading, PlaysHold, QuestionState}
+use Rattle.recursor_core.proofs.Names.{◌≡◌, ◌∙◌, ℕ, List, Contains, sym, subst, arith, run_moments, Leading, PlaysHold, QuestionState}
 use Rattle.recursor_core.proofs.StepsLeadOn.{leads_goes}
 use Rattle.recursor_core.proofs.QuestionsArePlayed.{plays_moved, plays_answered, plays_unanswered}
 use Rattle.recursor_core.proofs.run.Run.play_at.Goals as goal

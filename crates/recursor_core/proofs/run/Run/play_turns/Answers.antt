@@ -1,4 +1,4 @@
-use Rattle.recursor_core.proofs.Names.{◌≡◌, ◌<◌, ◌≤◌, ◌+◌, ◌∙◌, ◌∷◌, [], List, Contains, max, length, drop, refl, sym, arith, subst, drop_of_length-le, drop_more, Turn, Plays, Turning, run_moments}
+use Rattle.recursor_core.proofs.Names.{◌≡◌, ◌<◌, ◌≤◌, ◌+◌, ◌∙◌, ◌∷◌, List, Contains, max, length, drop, refl, sym, arith, subst, drop_of_length-le, drop_more, Turn, Plays, Turning, run_moments}
 use Rattle.recursor_core.proofs.StepsLeadOn.{leads_then}
 use Rattle.recursor_core.proofs.TurnsArePlayed.{turning_refl, turning_next}
 use Rattle.recursor_core.proofs.Timed.{run_next}
@@ -23,9 +23,9 @@ loop-n-preserved g c =
     let e = c.play_turn.ensures in
     let f = c.finish_current-current.ensures in
     let turning : (t : Turn) → drop n turns ≡ t ∷ rest → Turning p turns (t ∷ rest) run mid =
-        λ t more. subst (λ (ts : List Turn). Turning p turns ts run mid) more i.turning in
+    λ t more. subst (λ (ts : List Turn). Turning p turns ts run mid) more i.turning in
     let here : (t : Turn) → drop n turns ≡ t ∷ rest → Contains (run_moments start turns) (max mid.core.moment t.moment) =
-        λ t more. (turning t more).moments (max mid.core.moment t.moment) (run_next mid.core.moment t rest) in
+    λ t more. (turning t more).moments (max mid.core.moment t.moment) (run_next mid.core.moment t rest) in
     record {
       turning = turning_next p turns rest _ run mid _ (turning _ (drop_more turns n _ within)) (leads_then p _ _ _ _ _ _ _ _ _ _ e.leads f.leads);
       plays = λ h. f.plays start turns rest c.args.questions.now (subst (Contains (run_moments start turns)) (sym e.leads.moment) (here _ (drop_more turns n _ within)))
