@@ -1,1 +1,0 @@
-use Rattle.recursor_core.proofs.run.Run.finish_current.Goals as goal
