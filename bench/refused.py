@@ -1,0 +1,248 @@
+"""Everything that can fail, fails once: each allocation of a run is refused in turn, each read and write fails, and each
+moves one byte alone.
+
+    python3 bench/refused.py PROGRAM [FILE..]
+
+PROGRAM is crates/recursor_program/out/recursor_program, as `rt run` in that crate's folder builds it. `resolve` runs over
+each FILE, by default those of examples/, and `check` over each that has a world. A run that lacks an allocation may end in
+three ways: with status 6 and `error memory` or nothing; with what it writes when nothing is wanting; or with a reply
+`error NoMemory` where memory was wanting, while each other reply, and the log up to there, are the same. A read that fails
+gives status 4 and `error read`, a write that fails status 5 and a front of the output, and a short one changes nothing.
+
+A library of C stands between the program and the C library: it is compiled by `cc` and loaded by LD_PRELOAD, and counts
+calls in a file that it shares with this script. Prints a line for each run that ends otherwise, and one for each file with
+its counts. Exits 1 where a run ends otherwise."""
+import glob
+import os
+import re
+import struct
+import subprocess
+import sys
+import tempfile
+
+SOURCE = r"""
+#define _GNU_SOURCE
+#include <errno.h>
+#include <fcntl.h>
+#include <stdlib.h>
+#include <sys/mman.h>
+#include <sys/syscall.h>
+#include <unistd.h>
+
+void *__libc_malloc(size_t size);
+void *__libc_calloc(size_t count, size_t size);
+void *__libc_realloc(void *at, size_t size);
+void *__libc_memalign(size_t alignment, size_t size);
+
+enum { ALLOCATIONS, READS, WRITES, KINDS };
+
+static long unshared[KINDS];
+static long *calls = unshared;
+static long chosen[KINDS];
+static int is_short;
+
+static const char *const words[KINDS] = {"CHOSEN_ALLOCATION", "CHOSEN_READ", "CHOSEN_WRITE"};
+
+__attribute__((constructor)) static void start(void) {
+    const char *path = getenv("CALLS_FILE");
+    int file = path ? open(path, O_RDWR) : -1;
+    void *shared = file < 0 ? MAP_FAILED : mmap(0, sizeof unshared, PROT_READ | PROT_WRITE, MAP_SHARED, file, 0);
+    if (shared == MAP_FAILED) _exit(99);
+    close(file);
+    is_short = getenv("IS_SHORT") != 0;
+    for (int kind = 0; kind < KINDS; kind++) {
+        const char *number = getenv(words[kind]);
+        chosen[kind] = number ? atol(number) : 0;
+    }
+    calls = shared;
+}
+
+static int is_chosen(int kind) { return ++calls[kind] == chosen[kind]; }
+
+static int is_refused(void) {
+    if (!is_chosen(ALLOCATIONS)) return 0;
+    errno = ENOMEM;
+    return 1;
+}
+
+void *malloc(size_t size) { return is_refused() ? 0 : __libc_malloc(size); }
+
+void *calloc(size_t count, size_t size) { return is_refused() ? 0 : __libc_calloc(count, size); }
+
+void *realloc(void *at, size_t size) { return is_refused() ? 0 : __libc_realloc(at, size); }
+
+void *aligned_alloc(size_t alignment, size_t size) { return is_refused() ? 0 : __libc_memalign(alignment, size); }
+
+int posix_memalign(void **to, size_t alignment, size_t size) {
+    if (is_refused()) return ENOMEM;
+    *to = __libc_memalign(alignment, size);
+    return *to ? 0 : ENOMEM;
+}
+
+ssize_t read(int file, void *to, size_t size) {
+    if (file == 0 && is_chosen(READS)) {
+        if (!is_short) return errno = EIO, -1;
+        size = size < 1 ? size : 1;
+    }
+    return syscall(SYS_read, file, to, size);
+}
+
+ssize_t write(int file, const void *from, size_t size) {
+    if (file == 1 && is_chosen(WRITES)) {
+        if (!is_short) return errno = EIO, -1;
+        size = size < 1 ? size : 1;
+    }
+    return syscall(SYS_write, file, from, size);
+}
+"""
+
+EXAMPLES = os.path.join(os.path.dirname(os.path.abspath(__file__)), "..", "examples")
+KINDS = ("ALLOCATION", "READ", "WRITE")
+MOST_SECONDS = 20
+
+
+class Runs:
+    """Runs of the program over one file with one word, in a folder that holds the library and its counts."""
+
+    def __init__(self, program, word, path, folder):
+        self.command, self.path, self.folder = [os.path.abspath(program), word], path, folder
+        self.counts = os.path.join(folder, "counts")
+        self.wanted = self.run()
+        self.calls = dict(zip(KINDS, self.counted()))
+
+    def counted(self):
+        with open(self.counts, "rb") as f:
+            return struct.unpack("3q", f.read())
+
+    def run(self, kind=None, number=0, is_short=False):
+        """The status and output of a run in which the call of this kind and number fails or is short."""
+        with open(self.counts, "wb") as f:
+            f.write(bytes(24))
+        environment = {"LD_PRELOAD": os.path.join(self.folder, "refusing.so"), "CALLS_FILE": self.counts}
+        if kind:
+            environment["CHOSEN_" + kind] = str(number)
+        if is_short:
+            environment["IS_SHORT"] = "1"
+        with open(self.path, "rb") as f:
+            try:
+                told = subprocess.run(self.command, stdin=f, capture_output=True, env=environment, timeout=MOST_SECONDS)
+            except subprocess.TimeoutExpired:
+                return None, b""
+        return told.returncode, told.stdout
+
+    def faults(self, kind, is_short, is_right):
+        """The numbers of the calls of this kind, with how each run ended that is not right."""
+        bad = []
+        for number in range(1, self.calls[kind] + 1):
+            status, output = self.run(kind, number, is_short)
+            if not is_right(self.wanted, status, output):
+                bad.append((number, status, output))
+        return bad
+
+
+def parts(output):
+    """The entries of the log of a transcript, and its replies, each with its lines; nothing where it is none."""
+    lines = output.decode("latin-1").split("\n")
+    if not lines[0].startswith("log ") or lines[-2:] != ["end", ""]:
+        return None
+    entries, replies = [], []
+    for line in lines[1:-2]:
+        if line.startswith("reply "):
+            replies.append([line])
+        elif replies:
+            replies[-1].append(line)
+        elif line.startswith("%d " % (len(entries) + 1)) and re.match(r"\d+ (opened|asked|waited|told|gaveup) ", line):
+            entries.append([line])
+        elif entries:
+            entries[-1].append(line)
+    return entries, replies
+
+
+def lacks_memory(wanted, output):
+    """Whether some reply says that memory was wanting, and each other reply and the log up to there are as wanted."""
+    told, same = parts(output), parts(wanted)
+    if not told or not same or len(told[1]) != len(same[1]):
+        return False
+    lacking = [n for n, reply in enumerate(told[1]) if reply == ["reply %d error NoMemory" % (n + 1)]]
+    others = [n for n in range(len(told[1])) if n not in lacking]
+    is_front = told[0] == same[0][: len(told[0])]
+    return bool(lacking) and is_front and all(told[1][n] == same[1][n] for n in others)
+
+
+def refused(wanted, status, output):
+    if status == 6:
+        return output in (b"", b"error memory\n")
+    return (status, output) == wanted or status == wanted[0] and lacks_memory(wanted[1], output)
+
+
+def unread(wanted, status, output):
+    return (status, output) == (4, b"error read\n")
+
+
+def unwritten(wanted, status, output):
+    return status == 5 and wanted[1].startswith(output)
+
+
+def same(wanted, status, output):
+    return (status, output) == wanted
+
+
+# What is made to fail, whether it is short instead, what must come of it, and its words.
+FAULTS = (
+    ("ALLOCATION", False, refused, "allocations refused"),
+    ("READ", False, unread, "reads that fail"),
+    ("READ", True, same, "short reads"),
+    ("WRITE", False, unwritten, "writes that fail"),
+    ("WRITE", True, same, "short writes"),
+)
+
+
+def tell(name, words, bad):
+    for number, status, output in bad:
+        how = "no end" if status is None else "status %d" % status
+        print("%s: number %d of the %s: %s, %r" % (name, number, words, how, output[:2000]))
+
+
+def try_file(program, word, path, folder):
+    """Makes each call of a run fail in turn. Gives the number of runs that end otherwise."""
+    runs = Runs(program, word, path, folder)
+    name = "%s %s" % (word, os.path.basename(path))
+    if runs.wanted[0] is None or runs.wanted[0] < 0 or not runs.calls["ALLOCATION"]:
+        sys.exit("%s: the program does not run, or calls no malloc of the C library" % name)
+    wrong = 0
+    for kind, is_short, is_right, words in FAULTS:
+        bad = runs.faults(kind, is_short, is_right)
+        tell(name, words, bad)
+        wrong += len(bad)
+    print("| %s | %d | %d | %d | %d |" % (name, *(runs.calls[kind] for kind in KINDS), wrong), flush=True)
+    return wrong
+
+
+def compiled(folder):
+    """Compiles the library into this folder."""
+    source = os.path.join(folder, "refusing.c")
+    with open(source, "w") as f:
+        f.write(SOURCE)
+    library = os.path.join(folder, "refusing.so")
+    subprocess.run(["cc", "-shared", "-fPIC", "-O1", "-fno-builtin", "-o", library, source], check=True)
+
+
+def has_world(path):
+    with open(path, "rb") as f:
+        return b"\ntold world\n" in f.read()
+
+
+def main():
+    program, paths = sys.argv[1], sys.argv[2:] or sorted(glob.glob(os.path.join(EXAMPLES, "*.scenario")))
+    wrong = 0
+    print("| run | allocations | reads | writes | runs that end otherwise |\n|---|---|---|---|---|")
+    with tempfile.TemporaryDirectory() as folder:
+        compiled(folder)
+        for path in paths:
+            words = ["resolve", "check"] if has_world(path) else ["resolve"]
+            wrong += sum(try_file(program, word, path, folder) for word in words)
+    sys.exit(1 if wrong else 0)
+
+
+if __name__ == "__main__":
+    main()
