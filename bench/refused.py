@@ -99,6 +99,26 @@ ssize_t write(int file, const void *from, size_t size) {
 EXAMPLES = os.path.join(os.path.dirname(os.path.abspath(__file__)), "..", "examples")
 KINDS = ("ALLOCATION", "READ", "WRITE")
 MOST_SECONDS = 20
+ENTRY = re.compile(r"\d+ (opened|asked|waited|told|gaveup) ")
+
+# What opens or asks, and how many words say to whom and what.
+BEGINNINGS = {"opened": 2, "asked": 4}
+
+
+def lines_without(lines, questions):
+    """The lines of a scenario without these questions, whose turns name question 0."""
+    asked, kept = 0, {}
+    for line in lines:
+        word, *rest = line.split(b" ")
+        if word == b"question":
+            if asked not in questions:
+                kept[asked] = len(kept) + 1
+                yield line
+            asked += 1
+        elif word == b"turn":
+            yield b" ".join([word, b"%d" % kept.get(int(rest[0]) - 1, 0), *rest[1:]])
+        else:
+            yield line
 
 
 class Runs:
@@ -106,7 +126,7 @@ class Runs:
 
     def __init__(self, program, word, path, folder):
         self.command, self.path, self.folder = [os.path.abspath(program), word], path, folder
-        self.counts = os.path.join(folder, "counts")
+        self.counts, self.fewer = os.path.join(folder, "counts"), {}
         self.wanted = self.run()
         self.calls = dict(zip(KINDS, self.counted()))
 
@@ -114,7 +134,7 @@ class Runs:
         with open(self.counts, "rb") as f:
             return struct.unpack("3q", f.read())
 
-    def run(self, kind=None, number=0, is_short=False):
+    def run(self, kind=None, number=0, is_short=False, path=None):
         """The status and output of a run in which the call of this kind and number fails or is short."""
         with open(self.counts, "wb") as f:
             f.write(bytes(24))
@@ -123,19 +143,28 @@ class Runs:
             environment["CHOSEN_" + kind] = str(number)
         if is_short:
             environment["IS_SHORT"] = "1"
-        with open(self.path, "rb") as f:
+        with open(path or self.path, "rb") as f:
             try:
                 told = subprocess.run(self.command, stdin=f, capture_output=True, env=environment, timeout=MOST_SECONDS)
             except subprocess.TimeoutExpired:
                 return None, b""
         return told.returncode, told.stdout
 
+    def without(self, questions):
+        """The output of a run of the file without these questions, whose turns name none."""
+        if tuple(questions) not in self.fewer:
+            path = os.path.join(self.folder, "fewer")
+            with open(self.path, "rb") as f, open(path, "wb") as fewer:
+                fewer.writelines(lines_without(f.readlines(), questions))
+            self.fewer[tuple(questions)] = self.run(path=path)[1]
+        return self.fewer[tuple(questions)]
+
     def faults(self, kind, is_short, is_right):
         """The numbers of the calls of this kind, with how each run ended that is not right."""
         bad = []
         for number in range(1, self.calls[kind] + 1):
             status, output = self.run(kind, number, is_short)
-            if not is_right(self.wanted, status, output):
+            if not is_right(self, status, output):
                 bad.append((number, status, output))
         return bad
 
@@ -147,44 +176,96 @@ def parts(output):
         return None
     entries, replies = [], []
     for line in lines[1:-2]:
-        if line.startswith("reply "):
-            replies.append([line])
+        if line.startswith("reply %d " % (len(replies) + 1)):
+            replies.append([line.split(" ", 2)[2]])
         elif replies:
             replies[-1].append(line)
-        elif line.startswith("%d " % (len(entries) + 1)) and re.match(r"\d+ (opened|asked|waited|told|gaveup) ", line):
+        elif line.startswith("%d " % (len(entries) + 1)) and ENTRY.match(line):
             entries.append([line])
         elif entries:
             entries[-1].append(line)
-    return entries, replies
+    return (entries, replies) if lines[0] == "log %d" % len(entries) else None
 
 
-def lacks_memory(wanted, output):
-    """Whether some reply says that memory was wanting, and each other reply and the log up to there are as wanted."""
-    told, same = parts(output), parts(wanted)
+def unnumbered(entries):
+    """The entries, with what was opened or asked in place of each number: that, the word of the entry, and the rest."""
+    begun, told = {}, []
+    for first, *records in entries:
+        number, word, *rest = first.split(" ")
+        if word in BEGINNINGS:
+            begun[number] = (word, *rest[: BEGINNINGS[word]])
+            told.append((begun[number], word, rest[BEGINNINGS[word] :], records))
+        else:
+            told.append((begun[rest[0]], word, rest[1:], records))
+    return told
+
+
+def gives_up(entry, entries):
+    """Whether an entry gives up what the last of these entries is told of, at the moment of that."""
+    _, word, of, *rest = entries[-1][0].split(" ")
+    if word in BEGINNINGS:
+        return False
+    begun = entries[int(of) - 1][0].split(" ")
+    moment = begun[2 + BEGINNINGS[begun[1]]] if word == "waited" else rest[0]
+    return entry == ["%d gaveup %s %s" % (len(entries), of, moment)]
+
+
+def is_rest(entries, front, wanted):
+    """Whether the entries are the wanted ones, but for connections and answers that the front has."""
+    had = {begun for begun, word, rest, _ in front if word == "told" and rest[1] != "error"}
+    for entry in wanted:
+        if entries and entries[0] == entry:
+            entries = entries[1:]
+        elif entry[0] not in had:
+            return False
+    return not entries
+
+
+def goes_on(entries, same, wanted):
+    """Whether a log is a front of the same one, perhaps a give-up of what is waited for there, and what is wanted behind
+    that, but for what the front has."""
+    told, wanted = unnumbered(entries), unnumbered(wanted)
+    for size in range(min(len(entries), len(same)) + 1):
+        if entries[:size] != same[:size]:
+            return False
+        is_given_up = size < min(len(entries), len(same)) and gives_up(entries[size], same[: size + 1])
+        if any(is_rest(told[behind:], told[:size], wanted) for behind in (size, size + is_given_up)):
+            return True
+    return False
+
+
+def lacks_memory(runs, output):
+    """Whether some reply says that memory ran out, the log up to there is the same, and what comes of the other questions
+    is the same, or what comes of them where those that say it are not asked."""
+    told, same = parts(output), parts(runs.wanted[1])
     if not told or not same or len(told[1]) != len(same[1]):
         return False
-    lacking = [n for n, reply in enumerate(told[1]) if reply == ["reply %d error NoMemory" % (n + 1)]]
-    others = [n for n in range(len(told[1])) if n not in lacking]
-    is_front = told[0] == same[0][: len(told[0])]
-    return bool(lacking) and is_front and all(told[1][n] == same[1][n] for n in others)
+    lacking = [n for n, reply in enumerate(told[1]) if reply == ["error NoMemory"]]
+    if not lacking:
+        return False
+    others = [reply for n, reply in enumerate(told[1]) if n not in lacking]
+    if others == [reply for n, reply in enumerate(same[1]) if n not in lacking] and goes_on(told[0], same[0], []):
+        return True
+    without = parts(runs.without(lacking))
+    return others == without[1] and goes_on(told[0], same[0], without[0])
 
 
-def refused(wanted, status, output):
+def refused(runs, status, output):
     if status == 6:
         return output in (b"", b"error memory\n")
-    return (status, output) == wanted or status == wanted[0] and lacks_memory(wanted[1], output)
+    return (status, output) == runs.wanted or status == runs.wanted[0] and lacks_memory(runs, output)
 
 
-def unread(wanted, status, output):
+def unread(runs, status, output):
     return (status, output) == (4, b"error read\n")
 
 
-def unwritten(wanted, status, output):
-    return status == 5 and wanted[1].startswith(output)
+def unwritten(runs, status, output):
+    return status == 5 and runs.wanted[1].startswith(output)
 
 
-def same(wanted, status, output):
-    return (status, output) == wanted
+def same(runs, status, output):
+    return (status, output) == runs.wanted
 
 
 # What is made to fail, whether it is short instead, what must come of it, and its words.
