@@ -184,6 +184,8 @@ def parts(output):
             entries.append([line])
         elif entries:
             entries[-1].append(line)
+        else:
+            return None
     return (entries, replies) if lines[0] == "log %d" % len(entries) else None
 
 
@@ -196,7 +198,7 @@ def unnumbered(entries):
             begun[number] = (word, *rest[: BEGINNINGS[word]])
             told.append((begun[number], word, rest[BEGINNINGS[word] :], records))
         else:
-            told.append((begun[rest[0]], word, rest[1:], records))
+            told.append((begun.get(rest[0]), word, rest[1:], records))
     return told
 
 
