@@ -4,14 +4,17 @@ moves one byte alone.
     python3 bench/refused.py PROGRAM [FILE..]
 
 PROGRAM is crates/recursor_program/out/recursor_program, as `rt run` in that crate's folder builds it. `resolve` runs over
-each FILE, by default those of examples/, and `check` over each that has a world. A run that lacks an allocation may end in
-three ways: with status 6 and `error memory` or nothing; with what it writes when nothing is wanting; or with a reply
-`error NoMemory` where memory was wanting, while each other reply, and the log up to there, are the same. A read that fails
+each FILE, by default those of examples/, and `check` over each that has a world. A run of which an allocation is refused
+may end in three ways: with status 6 and `error memory` or nothing; with the output of the whole run; or with replies
+`error NoMemory`. Then its log is a front of the whole log, perhaps a give-up of what is waited for there, and what the
+other questions ask that the front was not told, by a run of the scenario without those that ran out of memory; and the
+other replies are those of that run, or those of the whole run where nothing stands behind the give-up. A read that fails
 gives status 4 and `error read`, a write that fails status 5 and a front of the output, and a short one changes nothing.
 
 A library of C stands between the program and the C library: it is compiled by `cc` and loaded by LD_PRELOAD, and counts
 calls in a file that it shares with this script. Prints a line for each run that ends otherwise, and one for each file with
-its counts. Exits 1 where a run ends otherwise."""
+its counts: of its allocations, how many end in status 6 and in `NoMemory` where they are refused. Exits 1 where a run ends
+otherwise."""
 import glob
 import os
 import re
@@ -159,14 +162,9 @@ class Runs:
             self.fewer[tuple(questions)] = self.run(path=path)[1]
         return self.fewer[tuple(questions)]
 
-    def faults(self, kind, is_short, is_right):
-        """The numbers of the calls of this kind, with how each run ended that is not right."""
-        bad = []
-        for number in range(1, self.calls[kind] + 1):
-            status, output = self.run(kind, number, is_short)
-            if not is_right(self, status, output):
-                bad.append((number, status, output))
-        return bad
+    def ends(self, kind, is_short):
+        """How each run ended in which a call of this kind fails or is short, by its number."""
+        return [(number, *self.run(kind, number, is_short)) for number in range(1, self.calls[kind] + 1)]
 
 
 def parts(output):
@@ -224,8 +222,8 @@ def is_rest(entries, front, wanted):
 
 
 def goes_on(entries, same, wanted):
-    """Whether a log is a front of the same one, perhaps a give-up of what is waited for there, and what is wanted behind
-    that, but for what the front has."""
+    """Whether a log is a front of the whole one, perhaps a give-up of what is waited for there, and the wanted log, but for
+    what the front has."""
     told, wanted = unnumbered(entries), unnumbered(wanted)
     for size in range(min(len(entries), len(same)) + 1):
         if entries[:size] != same[:size]:
@@ -237,8 +235,8 @@ def goes_on(entries, same, wanted):
 
 
 def lacks_memory(runs, output):
-    """Whether some reply says that memory ran out, the log up to there is the same, and what comes of the other questions
-    is the same, or what comes of them where those that say it are not asked."""
+    """Whether some reply says that memory ran out, the log goes on as it may, and the other replies are those of the whole
+    run, or those of a run without the questions that ran out of memory."""
     told, same = parts(output), parts(runs.wanted[1])
     if not told or not same or len(told[1]) != len(same[1]):
         return False
@@ -292,12 +290,15 @@ def try_file(program, word, path, folder):
     name = "%s %s" % (word, os.path.basename(path))
     if runs.wanted[0] is None or runs.wanted[0] < 0 or not runs.calls["ALLOCATION"]:
         sys.exit("%s: the program does not run, or calls no malloc of the C library" % name)
-    wrong = 0
+    wrong, ways = 0, {}
     for kind, is_short, is_right, words in FAULTS:
-        bad = runs.faults(kind, is_short, is_right)
+        ended = runs.ends(kind, is_short)
+        bad = [end for end in ended if not is_right(runs, *end[1:])]
         tell(name, words, bad)
         wrong += len(bad)
-    print("| %s | %d | %d | %d | %d |" % (name, *(runs.calls[kind] for kind in KINDS), wrong), flush=True)
+        ways[words] = sum(end[1] == 6 for end in ended), sum(b" error NoMemory\n" in end[2] for end in ended)
+    counts = runs.calls["ALLOCATION"], *ways["allocations refused"], runs.calls["READ"], runs.calls["WRITE"], wrong
+    print("| %s | %s |" % (name, " | ".join(map(str, counts))), flush=True)
     return wrong
 
 
@@ -318,7 +319,7 @@ def has_world(path):
 def main():
     program, paths = sys.argv[1], sys.argv[2:] or sorted(glob.glob(os.path.join(EXAMPLES, "*.scenario")))
     wrong = 0
-    print("| run | allocations | reads | writes | runs that end otherwise |\n|---|---|---|---|---|")
+    print("| run | allocations | status 6 | `NoMemory` | reads | writes | runs that end otherwise |\n|" + 7 * "---|")
     with tempfile.TemporaryDirectory() as folder:
         compiled(folder)
         for path in paths:
