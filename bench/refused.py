@@ -6,8 +6,8 @@ moves one byte alone.
 PROGRAM is crates/recursor_program/out/recursor_program, as `rt run` in that crate's folder builds it. `resolve` runs over
 each FILE, by default those of examples/, and `check` over each that has a world. A run of which an allocation is refused
 may end in three ways: with status 6 and `error memory` or nothing; with the output of the whole run; or with replies
-`error NoMemory`. Then its log is a front of the whole log, perhaps a give-up of what is waited for there, and what the
-other questions ask that the front was not told, by a run of the scenario without those that ran out of memory; and the
+`error NoMemory`. Then its log is a front of the whole log, the give-up of what is waited for there, if anything, and what
+the other questions ask that the front was not told, by a run of the scenario without those that ran out of memory; and the
 other replies are those of that run, or those of the whole run where nothing stands behind the give-up. A read that fails
 gives status 4 and `error read`, a write that fails status 5 and a front of the output, and a short one changes nothing.
 
@@ -200,14 +200,14 @@ def unnumbered(entries):
     return told
 
 
-def gives_up(entry, entries):
-    """Whether an entry gives up what the last of these entries is told of, at the moment of that."""
-    _, word, of, *rest = entries[-1][0].split(" ")
+def give_up_at(size, same):
+    """The give-up of what is waited for behind so many entries of a log, at the moment of that, or nothing."""
+    _, word, of, *rest = same[size][0].split(" ") if size < len(same) else ("", "opened", "")
     if word in BEGINNINGS:
-        return False
-    begun = entries[int(of) - 1][0].split(" ")
+        return []
+    begun = same[int(of) - 1][0].split(" ")
     moment = begun[2 + BEGINNINGS[begun[1]]] if word == "waited" else rest[0]
-    return entry == ["%d gaveup %s %s" % (len(entries), of, moment)]
+    return [["%d gaveup %s %s" % (size + 1, of, moment)]]
 
 
 def is_rest(entries, front, wanted):
@@ -222,15 +222,15 @@ def is_rest(entries, front, wanted):
 
 
 def goes_on(entries, same, wanted):
-    """Whether a log is a front of the whole one, perhaps a give-up of what is waited for there, and the wanted log, but for
-    what the front has."""
+    """Whether a log is a front of the whole one, the give-up of what is waited for there, if anything, and the wanted log,
+    but for what the front has."""
     told, wanted = unnumbered(entries), unnumbered(wanted)
-    for size in range(min(len(entries), len(same)) + 1):
-        if entries[:size] != same[:size]:
-            return False
-        is_given_up = size < min(len(entries), len(same)) and gives_up(entries[size], same[: size + 1])
-        if any(is_rest(told[behind:], told[:size], wanted) for behind in (size, size + is_given_up)):
+    for size in range(len(entries) + 1):
+        front = entries[:size] + give_up_at(size, same)
+        if entries[: len(front)] == front and is_rest(told[len(front) :], told[:size], wanted):
             return True
+        if entries[: size + 1] != same[: size + 1]:
+            return False
     return False
 
 
