@@ -1,11 +1,43 @@
-//! Commands over a source and a sink of which calls fail, and the texts of faults.
+//! Commands over a source and a sink of which calls fail or move few bytes, and the texts of faults.
+ghost use Rattle.std.specs.Prelude.{None};
 
 use crate::run::words_of;
 use cases_subjects::first_line;
-use dns_core::{Items, MemorySink, MemorySource, NoMemory, Numbers, Sink, Source};
+use dns_core::{Failed, Items, MemorySink, MemorySource, NoMemory, Numbers, Sink, Source};
 use recursor_command::{Fault, run};
 use std::alloc::Global;
 use std::fmt::Write;
+
+/// A source or a sink of which a call moves at most so many bytes. A source that moves none gives nothing at first,
+/// and then one byte a call; a sink takes one byte at least.
+#[derive(Drop)]
+struct Short<T> {
+    inner: T,
+    most: usize,
+}
+
+impl<S: Source> Source for Short<S> {
+    ghost left = { λ s. None };
+
+    ghost faults = { λ s. S.faults s.inner };
+
+    fn read(&mut self, out: &mut [u8]) -> Result<usize, Failed> {
+        let room = out.len().min(self.most);
+        self.most = self.most.max(1);
+        self.inner.read(&mut out[..room])
+    }
+}
+
+impl<K: Sink> Sink for Short<K> {
+    ghost written = { λ s. None };
+
+    ghost faults = { λ s. K.faults s.inner };
+
+    fn write(&mut self, piece: &[u8]) -> Result<usize, Failed> {
+        let room = piece.len().min(self.most.max(1));
+        self.inner.write(&piece[..room])
+    }
+}
 
 /// That the call of this number fails; none has the number 0, for which every word stands that is no number.
 fn failing(alloc: Global, call: &str) -> Result<Numbers, NoMemory> {
@@ -36,18 +68,39 @@ fn told(alloc: Global, written: &[u8], statuses: &str) -> Result<String, NoMemor
     Ok(format!(in alloc; "{text}{statuses}")?)
 }
 
-/// What comes of commands over one source and one sink. The first line is `failing <call of the source>
-/// <call of the sink>: <words>, <words>`, and the source has what stands below it.
+/// The number of bytes that stands behind a word, which no call reaches where none stands there.
+fn size_behind(line: &str, word: &str) -> usize {
+    let (_, behind) = line.split_once(word).unwrap_or((line, ""));
+    let (number, _) = behind.split_once(' ').unwrap_or((behind, ""));
+    number.parse().unwrap_or(usize::MAX)
+}
+
+/// The calls of the source and of the sink that fail, as they are written.
+fn calls_in(line: &str) -> (&str, &str) {
+    let line = line.strip_prefix("failing ").unwrap_or(line);
+    let (of_source, behind) = line.split_once(' ').unwrap_or((line, ""));
+    let (of_sink, _) = behind.split_once(' ').unwrap_or((behind, ""));
+    (of_source, of_sink)
+}
+
+/// What comes of commands over one source and one sink. The first line is `failing <call of the source> <call of the
+/// sink> giving <bytes of a read> taking <bytes of a write>: <words>, <words>`, where both sizes may be left out, and
+/// the source has what stands below it.
 pub fn answer(alloc: Global, given: &[u8]) -> Result<String, NoMemory> {
     let (line, below) = first_line(given);
     let (calls, commands) = line.split_once(": ").unwrap_or((line, ""));
-    let calls = calls.strip_prefix("failing ").unwrap_or(calls);
-    let (of_source, of_sink) = calls.split_once(' ').unwrap_or((calls, ""));
+    let (of_source, of_sink) = calls_in(calls);
     let held = Items::new(Vec::from_slice(alloc, below)?);
-    let mut source = MemorySource::new(alloc, held, failing(alloc, of_source)?);
-    let mut sink = MemorySink::new(alloc, failing(alloc, of_sink)?);
+    let mut source = Short {
+        inner: MemorySource::new(alloc, held, failing(alloc, of_source)?),
+        most: size_behind(calls, " giving "),
+    };
+    let mut sink = Short {
+        inner: MemorySink::new(alloc, failing(alloc, of_sink)?),
+        most: size_behind(calls, " taking "),
+    };
     let statuses = statuses(alloc, commands, &mut source, &mut sink)?;
-    told(alloc, sink.written(), &statuses)
+    told(alloc, sink.inner.written(), &statuses)
 }
 
 /// The fault that a line says.
