@@ -3,6 +3,7 @@
 use crate::run::words_of;
 use cases_subjects::first_line;
 use dns_core::{Items, MemorySink, MemorySource, NoMemory, Numbers, Sink, Source};
+use dns_wire::WireError;
 use recursor_command::{Fault, run};
 use std::alloc::Global;
 use std::fmt::Write;
@@ -50,6 +51,22 @@ pub fn answer(alloc: Global, given: &[u8]) -> Result<String, NoMemory> {
     told(alloc, sink.written(), &statuses)
 }
 
+/// The fault of a message that has this name.
+fn wire_fault(name: &str) -> Option<Fault> {
+    Some(Fault::Wire(match name {
+        "Long" => return Some(Fault::LongMessage),
+        "Short" => WireError::Short,
+        "BadLabel" => WireError::BadLabel,
+        "BadPointer" => WireError::BadPointer,
+        "BadByte" => WireError::BadByte,
+        "LongName" => WireError::LongName,
+        "BadData" => WireError::BadData,
+        "BadOpt" => WireError::BadOpt,
+        "Trailing" => WireError::Trailing,
+        _ => return None,
+    }))
+}
+
 /// The fault that a line says.
 fn fault_in(line: &str) -> Option<Fault> {
     let (words, number) = line.rsplit_once(' ').unwrap_or((line, ""));
@@ -57,6 +74,7 @@ fn fault_in(line: &str) -> Option<Fault> {
         "words" => Some(Fault::Words),
         "line" => Some(Fault::Line(number.parse().ok()?)),
         "not built" => Some(Fault::NotBuilt(number.parse().ok()?)),
+        "wire" => wire_fault(number),
         "read" => Some(Fault::Read),
         "memory" => Some(Fault::Memory),
         _ => None,
