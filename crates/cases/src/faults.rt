@@ -4,6 +4,7 @@ ghost use Rattle.std.specs.Prelude.{None};
 use crate::run::words_of;
 use cases_subjects::first_line;
 use dns_core::{Failed, Items, MemorySink, MemorySource, NoMemory, Numbers, Sink, Source};
+use dns_wire::WireError;
 use recursor_command::{Fault, run};
 use std::alloc::Global;
 use std::fmt::Write;
@@ -103,6 +104,22 @@ pub fn answer(alloc: Global, given: &[u8]) -> Result<String, NoMemory> {
     told(alloc, sink.inner.written(), &statuses)
 }
 
+/// The fault of a message that has this name.
+fn wire_fault(name: &str) -> Option<Fault> {
+    Some(Fault::Wire(match name {
+        "Long" => return Some(Fault::LongMessage),
+        "Short" => WireError::Short,
+        "BadLabel" => WireError::BadLabel,
+        "BadPointer" => WireError::BadPointer,
+        "BadByte" => WireError::BadByte,
+        "LongName" => WireError::LongName,
+        "BadData" => WireError::BadData,
+        "BadOpt" => WireError::BadOpt,
+        "Trailing" => WireError::Trailing,
+        _ => return None,
+    }))
+}
+
 /// The fault that a line says.
 fn fault_in(line: &str) -> Option<Fault> {
     let (words, number) = line.rsplit_once(' ').unwrap_or((line, ""));
@@ -110,6 +127,7 @@ fn fault_in(line: &str) -> Option<Fault> {
         "words" => Some(Fault::Words),
         "line" => Some(Fault::Line(number.parse().ok()?)),
         "not built" => Some(Fault::NotBuilt(number.parse().ok()?)),
+        "wire" => wire_fault(number),
         "read" => Some(Fault::Read),
         "memory" => Some(Fault::Memory),
         _ => None,

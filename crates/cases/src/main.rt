@@ -6,6 +6,7 @@ mod benches;
 mod case_text;
 mod cases;
 mod comparing;
+mod decoding;
 mod faults;
 mod run;
 mod subject;
@@ -20,7 +21,7 @@ use subject::Subject;
 const MOST: usize = 16_777_216;
 
 /// The files of cases, and what each has cases of.
-static FILES: [(&str, Subject); 24] = [
+static FILES: [(&str, Subject); 25] = [
     ("words.cases", Subject::Words),
     ("faults.cases", Subject::Faults),
     ("fault_texts.cases", Subject::FaultTexts),
@@ -30,6 +31,7 @@ static FILES: [(&str, Subject); 24] = [
     ("kept_answers.cases", Subject::Run),
     ("worlds.cases", Subject::Run),
     ("check.cases", Subject::Check),
+    ("decode.cases", Subject::Decode),
     ("scenario.cases", Subject::Scenario),
     ("many.cases", Subject::Scenario),
     ("bad_lines.cases", Subject::Scenario),

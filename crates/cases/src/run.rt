@@ -25,7 +25,7 @@ pub fn words_of(alloc: Global, line: &str) -> Result<Vec<Text>, NoMemory> {
 }
 
 /// What the command writes with these words for these bytes.
-fn ran(alloc: Global, line: &str, bytes: &[u8]) -> Result<String, NoMemory> {
+pub fn ran(alloc: Global, line: &str, bytes: &[u8]) -> Result<String, NoMemory> {
     let held = Items::new(Vec::from_slice(alloc, bytes)?);
     let words = words_of(alloc, line)?;
     let mut source = MemorySource::new(alloc, held, Numbers::empty(alloc));

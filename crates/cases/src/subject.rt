@@ -1,6 +1,6 @@
 //! What cases are of: each is a text that is handed in, and a text that comes of it.
 
-use crate::{benches, faults, run};
+use crate::{benches, decoding, faults, run};
 use cases_subjects::{codes, delays, kept, names, networks, resolver, scenario};
 use dns_core::NoMemory;
 use std::alloc::{AllocError, Global};
@@ -12,6 +12,8 @@ pub enum Subject {
     Run,
     /// A scenario, and what `check` writes for it.
     Check,
+    /// The bytes of a message, and what `decode` writes for it.
+    Decode,
     /// The words of the command, and what it writes for an empty text.
     Words,
     /// Calls that fail, commands and their text, and what the commands write.
@@ -46,6 +48,7 @@ impl Subject {
         match self {
             Subject::Run => run::answer(alloc, given),
             Subject::Check => run::check(alloc, given),
+            Subject::Decode => decoding::answer(alloc, given),
             Subject::Words => run::answer_to_words(alloc, given),
             Subject::Faults => faults::answer(alloc, given),
             Subject::FaultTexts => faults::texts(alloc, given),

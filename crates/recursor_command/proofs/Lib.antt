@@ -1,4 +1,5 @@
 pub mod CheckSays
+pub mod DecodeSays
 pub mod ScriptErrors
 pub mod WholeSourceRead
 pub mod LogWords

@@ -12,7 +12,7 @@ use Rattle.recursor_command.specs.Faults.{fault_by, fault_of}
 use Rattle.recursor_command.specs.Command.{IsUnread, IsUnchecked}
 use Rattle.recursor_command.specs.Checking.{IsNoWorld, TellsNoScript, first_told, is_at_line, earlier_fault}
 use Rattle.recursor_command.specs.declared.faults.Fault.{Fault}
-use Rattle.recursor_command.specs.declared.faults.Fault.TheVariants.{Words, Line, NotBuilt, Read, Memory}
+use Rattle.recursor_command.specs.declared.faults.Fault.TheVariants.{Words, Line, NotBuilt, Wire, LongMessage, Read, Memory}
 use Rattle.text_lines.specs.Pieces.{pieces}
 use Rattle.text_lines.proofs.StepsThatFail.{some_is}
 use Rattle.recursor_command.proofs.Scripts.{Stood, first_bad, trailing, cut_off, tells, tells_none}
@@ -65,6 +65,8 @@ refused : (bytes : List ℕ) (fault : Fault) → IsUnread bytes fault → IsNoWo
 refused bytes Words u w t = u
 refused bytes (Line n) u w t = (w, inr (t, u))
 refused bytes (NotBuilt n) u w t = (w, t, u)
+refused bytes (Wire error) u w t = u
+refused bytes LongMessage u w t = u
 refused bytes Read u w t = u
 refused bytes Memory u w t = tt
 

@@ -30,10 +30,11 @@ use Rattle.transcript_printer.specs.Transcript.{transcript_text}
 use Rattle.dns_core.specs.WholeStreams.{AppendsPart}
 use Rattle.recursor_command.specs.Faults.{fault_text, status_of}
 use Rattle.recursor_command.specs.Checking.{HasFindings, IsNoWorld, TellsScript, TellsNoScript}
+use Rattle.recursor_command.specs.Decoding.{HasMessage, IsUndecoded}
 use Rattle.recursor_command.specs.declared.words.Command.{Command}
-use Rattle.recursor_command.specs.declared.words.Command.TheVariants.{Resolve, Check}
+use Rattle.recursor_command.specs.declared.words.Command.TheVariants.{Resolve, Check, Decode}
 use Rattle.recursor_command.specs.declared.faults.Fault.{Fault}
-use Rattle.recursor_command.specs.declared.faults.Fault.TheVariants.{Words, Line, NotBuilt, Read, Memory}
+use Rattle.recursor_command.specs.declared.faults.Fault.TheVariants.{Words, Line, NotBuilt, Wire, LongMessage, Read, Memory}
 use Rattle.recursor_command.specs.declared.status.Status.{Status}
 use Rattle.recursor_text.specs.declared.scenario.Cause.TheVariants as cause
 use Rattle.recursor_text.specs.declared.scenario.Upstream.TheVariants as upstream
@@ -41,13 +42,25 @@ use Rattle.recursor_command.specs.declared.status.Status.TheVariants as status
 
 -- the command of this name
 abbrev pub command_named : List ℕ → Option Command
-command_named name = if bytes_eq name (codes "resolve") then Some Resolve else if bytes_eq name (codes "check") then Some Check else None
+command_named name =
+    if bytes_eq name (codes "resolve") then Some Resolve else if bytes_eq name (codes "check") then Some Check else if bytes_eq name (codes "decode") then Some Decode else None
 
 -- the command that words ask for: the name of one, and no more
 abbrev pub command_of : List (List ℕ) → Option Command
 command_of [] = None
 command_of (w ∷ []) = command_named w
 command_of (w ∷ v ∷ ws) = None
+
+-- the most bytes that a command takes: one more than a scenario or a message may have, so that one that is too long shows
+abbrev pub most_for : Command → ℕ
+most_for Resolve = 16777217
+most_for Check = 16777217
+most_for Decode = 65536
+
+-- where the words ask for no command none is taken
+abbrev pub most_by : Option Command → ℕ
+most_by None = 0
+most_by (Some command) = most_for command
 
 -- What a run needs of a scenario: there is a root, no least life is above its greatest, servers may start with the first delays,
 -- and its upstream is one that the format spells.
@@ -95,14 +108,11 @@ pub record Ran (s : Scenario) (t : Transcript) : Type 0 where
 abbrev pub HasRun : Scenario → List ℕ → Type 0
 HasRun s text = (t : Transcript) × Ran s t × (text ≡ transcript_text t)
 
--- what a command writes for a scenario
-abbrev pub IsOutput : Command → Scenario → List ℕ → Type 0
-IsOutput Resolve s text = HasRun s text
-IsOutput Check s text = HasFindings s text
-
--- the bytes are a scenario, and the text is what the command writes for it: that of a run, or what there is to tell of its world
+-- the text is what the command writes for the bytes: for a scenario that of a run, or what there is to tell of its world; for a message its own
 abbrev pub HasOutput : Command → List ℕ → List ℕ → Type 0
-HasOutput command bytes text = (s : Scenario) × Reads bytes s × IsOutput command s text
+HasOutput Resolve bytes text = (s : Scenario) × Reads bytes s × HasRun s text
+HasOutput Check bytes text = (s : Scenario) × Reads bytes s × HasFindings s text
+HasOutput Decode bytes text = HasMessage bytes text
 
 -- the line has the fault, and reading refuses it so: as one that the format does not have there, or as one that is not built
 abbrev pub IsRefusedAs : List ℕ → ℕ → Cause → Type 0
@@ -113,6 +123,8 @@ abbrev pub IsUnread : List ℕ → Fault → Type 0
 IsUnread bytes Words = ⊥
 IsUnread bytes (Line n) = IsRefusedAs bytes n cause.Line ⊎ (HasFault bytes n cause.Cut ⊎ HasFault bytes n cause.Long)
 IsUnread bytes (NotBuilt n) = IsRefusedAs bytes n cause.NotBuilt
+IsUnread bytes (Wire error) = ⊥
+IsUnread bytes LongMessage = ⊥
 IsUnread bytes Read = ⊥
 IsUnread bytes Memory = Unit {0}
 
@@ -121,6 +133,8 @@ abbrev pub IsUnchecked : List ℕ → Fault → Type 0
 IsUnchecked bytes Words = ⊥
 IsUnchecked bytes (Line n) = IsNoWorld bytes × (TellsScript bytes n ⊎ (TellsNoScript bytes × IsUnread bytes (Line n)))
 IsUnchecked bytes (NotBuilt n) = IsNoWorld bytes × TellsNoScript bytes × IsUnread bytes (NotBuilt n)
+IsUnchecked bytes (Wire error) = ⊥
+IsUnchecked bytes LongMessage = ⊥
 IsUnchecked bytes Read = ⊥
 IsUnchecked bytes Memory = Unit {0}
 
@@ -128,6 +142,7 @@ IsUnchecked bytes Memory = Unit {0}
 abbrev pub IsFaultOf : Command → List ℕ → Fault → Type 0
 IsFaultOf Resolve bytes fault = IsUnread bytes fault
 IsFaultOf Check bytes fault = IsUnchecked bytes fault
+IsFaultOf Decode bytes fault = IsUndecoded bytes fault
 
 -- nothing was written, or that memory is wanting
 abbrev pub ToldMemory : Option (List ℕ) → Option (List ℕ) → Type 0

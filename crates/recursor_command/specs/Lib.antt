@@ -1,4 +1,5 @@
 pub mod Checking
 pub mod Command
+pub mod Decoding
 pub mod Faults
 pub mod Status

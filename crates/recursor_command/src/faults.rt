@@ -1,10 +1,12 @@
 //! Faults that end a run, and their texts.
 ghost use Rattle.std.specs.Prelude.{◌≡◌, ◌≢◌, IfOk};
 ghost use Rattle.recursor_command.specs.Status.{Wrote};
-ghost use Rattle.recursor_command.specs.Faults.{fault_text, status_of, fault_of};
+ghost use Rattle.recursor_command.specs.Faults.{fault_text, status_of, fault_of, wire_fault};
 
 use crate::status::Status;
+use decode_text::error_line;
 use dns_core::{NoMemory, Sink, write_all};
+use dns_wire::WireError;
 use recursor_text::{Cause, ScenarioError};
 use std::alloc::Global;
 
@@ -17,6 +19,10 @@ pub enum Fault {
     Line(u32),
     /// A line of a form that is not built yet.
     NotBuilt(u32),
+    /// The first item of a message that cannot be read.
+    Wire(WireError),
+    /// More bytes than a message may have.
+    LongMessage,
     /// The source.
     Read,
     /// Memory.
@@ -31,6 +37,7 @@ impl Fault {
         match self {
             Fault::Words => Status::BadWords,
             Fault::Line(_) | Fault::NotBuilt(_) => Status::BadScenario,
+            Fault::Wire(_) | Fault::LongMessage => Status::BadScenario,
             Fault::Read => Status::ReadFault,
             Fault::Memory => Status::NoMemory,
         }
@@ -44,9 +51,21 @@ impl Fault {
             Fault::Words => Ok(Vec::from_slice(alloc, b"error words\n")?),
             Fault::Line(n) => Ok(format!(in alloc; "error line {n}\n")?.into_bytes()),
             Fault::NotBuilt(n) => Ok(format!(in alloc; "error line {n} not built\n")?.into_bytes()),
+            Fault::Wire(error) => error_line(alloc, error),
+            Fault::LongMessage => Ok(Vec::from_slice(alloc, b"error wire Long\n")?),
             Fault::Read => Ok(Vec::from_slice(alloc, b"error read\n")?),
             Fault::Memory => Ok(Vec::from_slice(alloc, b"error memory\n")?),
         }
+    }
+}
+
+/// The fault of bytes that are no message.
+pub fn wire_fault(error: WireError) -> Fault
+    ensures { result ≡ wire_fault error }
+{
+    match error {
+        WireError::NoMemory => Fault::Memory,
+        _ => Fault::Wire(error),
     }
 }
 

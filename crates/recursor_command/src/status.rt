@@ -7,7 +7,7 @@ pub enum Status {
     Done,
     /// The words of the command line are none that the program knows.
     BadWords,
-    /// What was read is no scenario.
+    /// What was read is no scenario, or no message.
     BadScenario,
     /// The source failed.
     ReadFault,

@@ -11,6 +11,8 @@ pub enum Command {
     Resolve,
     /// To say whether the world of a scenario is well served, and which of its questions are valid.
     Check,
+    /// To say what the bytes of a message say.
+    Decode,
 }
 
 /// The command of a name.
@@ -22,6 +24,8 @@ fn command_named(name: &Text) -> Option<Command>
         Some(Command::Resolve)
     } else if name == b"check".as_slice() {
         Some(Command::Check)
+    } else if name == b"decode".as_slice() {
+        Some(Command::Decode)
     } else {
         None
     }

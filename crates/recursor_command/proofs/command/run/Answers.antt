@@ -2,7 +2,7 @@ use Rattle.std.proofs.Common.{ℕ, List, Err, inl, inr, refl, sym, ap, ◌∙◌
 use Rattle.recursor_command.specs.Faults.{fault_text}
 use Rattle.recursor_command.specs.declared.faults.Fault.TheVariants.{Memory, Read, Words}
 use Rattle.recursor_command.specs.Command.{HasRefused, IsTextFor}
-use Rattle.recursor_command.proofs.WholeSourceRead.{refused_held, text_held, memory_fits, of_command, part_fits, text_of_run, text_of_refusal, nothing_taken}
+use Rattle.recursor_command.proofs.WholeSourceRead.{refused_held, text_held, memory_fits, of_command, part_fits, text_of_run, text_of_refusal, nothing_taken, taken_by}
 use Rattle.recursor_command.proofs.command.run.Goals as goal
 
 pub returns-in-Ok-clause-scenario : goal.returns-in-Ok-clause-scenario
@@ -36,4 +36,13 @@ returns-in_default-clause-write g c = λ is.
     (part.0, (fault_text Words, text_of_refusal _ _ _ _ (sym c.command_of.ensures ∙ c.in_default.is), part.1))
 
 pub returns-in_default-clause-bound : goal.returns-in_default-clause-bound
-returns-in_default-clause-bound g c = nothing_taken 16777217 _ _ refl
+returns-in_default-clause-bound g c = nothing_taken _ _ _ refl
+
+pub returns-in-Ok-clause-bound : goal.returns-in-Ok-clause-bound
+returns-in-Ok-clause-bound g c = taken_by _ c.in-Some.command _ _ (sym c.command_of.ensures ∙ c.in-Some.is) c.bytes_of.ensures.bound
+
+pub returns-in-Err-NoMemory-clause-bound : goal.returns-in-Err-NoMemory-clause-bound
+returns-in-Err-NoMemory-clause-bound g c = taken_by _ c.in-Some.command _ _ (sym c.command_of.ensures ∙ c.in-Some.is) c.bytes_of.ensures.bound
+
+pub returns-in-Err-Failed-clause-bound : goal.returns-in-Err-Failed-clause-bound
+returns-in-Err-Failed-clause-bound g c = taken_by _ c.in-Some.command _ _ (sym c.command_of.ensures ∙ c.in-Some.is) c.bytes_of.ensures.bound
