@@ -5,14 +5,15 @@
 FOLDER is a checkout, by default the one in which this file stands. A definition is an abbreviation, a record or a data
 type of a crate's specs/; those of std and the types of programs do not count. Prints, for each function, a line a
 clause: its name, the definitions that it reaches, and how many of these stand in each crate; and a line for all. Then
-the same of the three definitions that say whom a run asks, what an answer is and what an error means."""
+the same of the three parts of the theorem: what the clauses of `drive` reach that say whom a run asks (`asks`), what an
+answer is (`answers`) and what an error means (`errors`), each without the other two."""
 import collections
 import pathlib
 import re
 import sys
 
 FUNCTIONS = [("recursor_core", "driving.rt", "drive"), ("recursor_command", "command.rt", "run")]
-PARTS = [("resolution", "Asking", "AsksServers"), ("recursor_walk", "Replies", "IsToldAnswer"), ("recursor_walk", "Causes", "ErrorHolds")]
+PARTS = {"asks": "OnlyServersAsked", "answers": "AnswerIsSound", "errors": "ErrorIsSound"}
 DEFINITION = re.compile(r"\s*(?:(?:abbrev|unfoldable|def)(?: pub)?|(?:pub )?(?:record|data)) ([\w']+)")
 IMPORT = re.compile(r"(pub )?use Rattle\.(\w+)\.specs\.([\w.]+?)(?:\.\{([^}]*)\}| as (\w+))", re.S)
 CLAUSE = re.compile(r"\b(ensures|requires) *(\w*) *\{")
@@ -89,12 +90,12 @@ def resolved(modules, key):
     return None
 
 
-def reached(modules, seeds):
-    """All definitions that these lead to, themselves among them."""
+def reached(modules, seeds, without=()):
+    """All definitions that these lead to, themselves among them, but by none of the names to do without."""
     seen, left = set(), [resolved(modules, seed) for seed in seeds]
     while left:
         key = left.pop()
-        if key is None or key in seen:
+        if key is None or key in seen or key[2] in without:
             continue
         seen.add(key)
         module = modules[key[0], key[1]]
@@ -113,6 +114,15 @@ def clauses_of(text, function):
     return [(mark.group(2) or mark.group(1), contract[mark.end():end]) for mark, end in zip(marks, ends)]
 
 
+def part_of(modules, part, clauses, names, aliases):
+    """What the clauses that reach a part of the theorem reach, without its other parts."""
+    others, whole = set(PARTS.values()) - {PARTS[part]}, set()
+    for _, clause in clauses:
+        found = reached(modules, named_in(clause, names, aliases), others)
+        whole |= found if any(key[2] == PARTS[part] for key in found) else set()
+    return whole
+
+
 def line_of(name, found):
     crates = collections.Counter(key[0] for key in found).most_common()
     return "  %-13s %4d  %s" % (name, len(found), ", ".join("%s %d" % pair for pair in crates))
@@ -121,19 +131,23 @@ def line_of(name, found):
 def main():
     root = pathlib.Path(sys.argv[1]) if len(sys.argv) > 1 else pathlib.Path(__file__).resolve().parent.parent
     modules = modules_of(root)
+    parts = []
     for crate, path, function in FUNCTIONS:
         text = (root / "crates" / crate / "src" / path).read_text()
         names, aliases, _ = imports_of(text)
+        clauses = clauses_of(text, function)
         print("%s::%s" % (crate, function))
         whole = set()
-        for name, clause in clauses_of(text, function):
+        for name, clause in clauses:
             found = reached(modules, named_in(clause, names, aliases))
             whole |= found
             print(line_of(name, found))
         print(line_of("all", whole))
-    print("definitions")
-    for part in PARTS:
-        print(line_of(part[2], reached(modules, [part])))
+        if function == "drive":
+            parts = [line_of(part, part_of(modules, part, clauses, names, aliases)) for part in PARTS]
+    print("theorem")
+    for line in parts:
+        print(line)
 
 
 if __name__ == "__main__":

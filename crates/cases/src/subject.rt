@@ -43,7 +43,7 @@ pub enum Subject {
 }
 
 impl Subject {
-    /// What comes of these bytes, or want of memory.
+    /// What comes of these bytes, or out of memory.
     fn told(self, alloc: Global, given: &[u8]) -> Result<String, NoMemory> {
         match self {
             Subject::Run => run::answer(alloc, given),

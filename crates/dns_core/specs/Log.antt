@@ -16,7 +16,7 @@ abbrev pub added : LogEntry → Option (List LogEntry) → Option (List LogEntry
 added entry None = None
 added entry (Some es) = Some (es ++ entry ∷ [])
 
--- an Err leaves an entry with the error, but for want of memory, which leaves none
+-- an Err leaves an entry with the error, but for that of memory, which leaves none
 abbrev pub refused_by : (Option NetError → LogEntry) → NetError → Option (List LogEntry) → Option (List LogEntry)
 refused_by entry error log = if is_memory error then log else added (entry (Some error)) log
 

@@ -13,7 +13,7 @@ use Rattle.dns_core.specs.declared.net_error.IoKind.TheVariants.{Closed, Refused
 use Rattle.dns_core.specs.declared.net_error.NetError.{NetError}
 use Rattle.dns_core.specs.declared.net_error.NetError.TheVariants.{Busy, Io, Timeout, NoConnections, Truncated, QueryCaseMismatch, ForeignClassRecord, Dns, Msg, NoMemory}
 
--- want of memory, the error that no log shows
+-- out of memory, the error that no log shows
 abbrev pub is_memory : NetError → Bool
 is_memory NoMemory = true
 is_memory Busy = false

@@ -10,7 +10,7 @@ use Rattle.dns_core.specs.declared.provider.Poll.{Poll}
 use Rattle.dns_core.specs.declared.provider.Poll.TheVariants as poll
 use Rattle.dns_core.specs.Faults.{Rose}
 
--- A call that answered an Err other than want of memory raised the count, and no other did.
+-- A call that answered an Err other than out of memory raised the count, and no other did.
 abbrev pub Faulted : {X : Type 0} → ℕ → ℕ → Result X NetError → Type 0
 Faulted before now (Ok x) = now ≡ before
 Faulted before now (Err e) = MatchBool (is_memory e) (now ≡ before) (Rose before now)
@@ -24,7 +24,7 @@ abbrev pub Pended : {X : Type 0} → ℕ → ℕ → Poll X → Type 0
 Pended before now poll.Pending = Rose before now
 Pended before now (poll.Ready x) = now ≡ before
 
--- what stays where a poll was not ready; want of memory does not count as ready
+-- what stays where a poll was not ready; out of memory does not count as ready
 abbrev pub Stays : {X : Type 0} → Poll (Result X NetError) → Type 0 → Type 0
 Stays poll.Pending P = P
 Stays (poll.Ready (Ok x)) P = Unit {0}

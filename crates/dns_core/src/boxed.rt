@@ -5,7 +5,7 @@ use crate::errors::NoMemory;
 use std::alloc::Global;
 use std::marker::Model;
 
-/// A value in a box. Where memory is wanting the value is let go.
+/// A value in a box. Where memory runs out the value is let go.
 pub fn in_box<T: Drop>(alloc: Global, value: T) -> Result<Box<T>, NoMemory>
     ensures { IfOk result (λ b. b.value ≡ value) }
 {

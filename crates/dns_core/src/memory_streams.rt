@@ -172,7 +172,7 @@ impl Sink for MemorySink {
         ensures bytes { WriteAppends (Some self.old.written) (Some self.new.written) result piece.now }
         ensures cause { HasCause self.old.faults self.new.faults result }
 
-        // It fails where it is told to, or memory is wanting, and else takes all.
+        // It fails where it is told to, or memory runs out, and else takes all.
         ensures fails { IsTrue (contains_number self.old.failing (next_call self.old.calls)) → IsErr result }
         ensures all { IfOk result (λ n. n ≡ length piece.now) }
     {

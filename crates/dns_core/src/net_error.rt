@@ -68,7 +68,7 @@ pub enum NetError {
 }
 
 impl NetError {
-    /// Whether this is want of memory, which no log shows.
+    /// Whether this is out of memory, which no log shows.
     pub fn is_memory(&self) -> bool
         ensures { result ≡ is_memory self.now }
     {

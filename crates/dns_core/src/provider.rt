@@ -22,7 +22,7 @@ pub enum Poll<T> {
 /// Opens connections and carries questions over them. Nothing waits: each call answers at once, and
 /// what is not there yet is polled again. Moments are in microseconds.
 ///
-/// Each call appends one entry to the log, or answers want of memory and appends none; a give-up
+/// Each call appends one entry to the log, or answers out of memory and appends none; a give-up
 /// always appends, in room that was taken when its connection or exchange began.
 pub trait ConnectionProvider: Drop {
     type Conn: Copy;

@@ -166,7 +166,7 @@ impl Kept {
 }
 
 impl KeptEntry {
-    /// An entry in the form in which it is kept. It fails for want of memory alone.
+    /// An entry in the form in which it is kept. It fails only where memory runs out.
     pub fn new(alloc: Global, entry: Entry) -> Result<Self, NoMemory>
         ensures { IfOk result (λ kept. kept ≡ entry) }
     {

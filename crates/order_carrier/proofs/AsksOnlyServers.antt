@@ -10,7 +10,8 @@ use Rattle.dns_core.specs.declared.message.Query.{Query}
 use Rattle.dns_core.specs.declared.net_error.NetError.{NetError}
 use Rattle.recursor_types.specs.declared.policy.Policy.{Policy}
 use Rattle.recursor_types.specs.Policy.{with_patience}
-use Rattle.resolution.specs.Asking.{IsServer, IsServerFor, AsksServers}
+use Rattle.resolution.specs.Asking.{IsServer, IsServerFor}
+use Rattle.resolution.specs.Theorem.{OnlyServersAsked}
 use Rattle.resolution.proofs.LongerLogs.{Serves-later, Serves-extend}
 use Rattle.server_core.specs.declared.orders.order.Order.{Order}
 use Rattle.server_core.specs.declared.orders.order.Order.TheVariants.{Open, Ask, Sleep}
@@ -45,9 +46,9 @@ IsServerFor-extend : (policy : Policy) (old new : Log) → Extends old new → (
 IsServerFor-extend policy old new x n ip q h = record { zone = h.zone; above = h.above; serves = Serves-extend policy policy.patience old new x h.serves }
 
 -- a log that asks only servers does so with one entry more that goes to one
-AsksServers-append : (policy : Policy) (es : List LogEntry) (e : LogEntry)
-    → GoesRight policy (log_of es) e → AsksServers policy (log_of es) → AsksServers policy (log_of (es ++ e ∷ []))
-AsksServers-append policy es e right h =
+OnlyServersAsked-append : (policy : Policy) (es : List LogEntry) (e : LogEntry)
+    → GoesRight policy (log_of es) e → OnlyServersAsked policy (log_of es) → OnlyServersAsked policy (log_of (es ++ e ∷ []))
+OnlyServersAsked-append policy es e right h =
     let x = Extends-added es e in
     record {
       opened = λ n ip protocol moment refused at. ⊎_elim
@@ -61,24 +62,24 @@ AsksServers-append policy es e right h =
     }
 
 -- the same where the log is told
-pub AsksServers-added : (policy : Policy) (e : LogEntry) (old : Option (List LogEntry)) → TellsThat old (λ log. GoesRight policy log e)
-    → TellsThat old (AsksServers policy) → TellsThat (added e old) (AsksServers policy)
-AsksServers-added policy e old right asks es told =
+pub OnlyServersAsked-added : (policy : Policy) (e : LogEntry) (old : Option (List LogEntry)) → TellsThat old (λ log. GoesRight policy log e)
+    → TellsThat old (OnlyServersAsked policy) → TellsThat (added e old) (OnlyServersAsked policy)
+OnlyServersAsked-added policy e old right asks es told =
     let l = Longer-from_added e old es told in
-    rw l.is (AsksServers-append policy l.before e (right l.before l.was) (asks l.before l.was))
+    rw l.is (OnlyServersAsked-append policy l.before e (right l.before l.was) (asks l.before l.was))
 
 -- the same log asks the same servers
-AsksServers-same : (policy : Policy) (old new : Option (List LogEntry)) → new ≡ old → TellsThat old (AsksServers policy) → TellsThat new (AsksServers policy)
-AsksServers-same policy old new same asks es told = asks es (sym same ∙ told)
+OnlyServersAsked-same : (policy : Policy) (old new : Option (List LogEntry)) → new ≡ old → TellsThat old (OnlyServersAsked policy) → TellsThat new (OnlyServersAsked policy)
+OnlyServersAsked-same policy old new same asks es told = asks es (sym same ∙ told)
 
 -- an entry more that goes to a server
-AsksServers-grown : (policy : Policy) (e : LogEntry) (old new : Option (List LogEntry)) → new ≡ added e old → TellsThat old (λ log. GoesRight policy log e)
-    → TellsThat old (AsksServers policy) → TellsThat new (AsksServers policy)
-AsksServers-grown policy e old new grew right asks = AsksServers-same policy (added e old) new grew (AsksServers-added policy e old right asks)
+OnlyServersAsked-grown : (policy : Policy) (e : LogEntry) (old new : Option (List LogEntry)) → new ≡ added e old → TellsThat old (λ log. GoesRight policy log e)
+    → TellsThat old (OnlyServersAsked policy) → TellsThat new (OnlyServersAsked policy)
+OnlyServersAsked-grown policy e old new grew right asks = OnlyServersAsked-same policy (added e old) new grew (OnlyServersAsked-added policy e old right asks)
 
 -- who is a server does not depend on patience
-pub AsksServers-patience : (policy : Policy) (patience : ℕ) (log : Log) → AsksServers policy log → AsksServers (with_patience patience policy) log
-AsksServers-patience policy patience log a =
+pub OnlyServersAsked-patience : (policy : Policy) (patience : ℕ) (log : Log) → OnlyServersAsked policy log → OnlyServersAsked (with_patience patience policy) log
+OnlyServersAsked-patience policy patience log a =
     let x = Extends-refl log in
     record {
       opened = λ n ip protocol moment refused at. let s = a.opened n ip protocol moment refused at in record
@@ -99,54 +100,54 @@ GoesToServer-later policy log n m (Sleep until) le h = tt
 module _ (policy : Policy) (now : ℕ) where
   -- a poll goes to nobody
   poll-asks : (heard : Heard) (old new : Option (List LogEntry)) → new ≡ with_entries (poll_entry now heard) old
-      → TellsThat old (AsksServers policy) → TellsThat new (AsksServers policy)
-  poll-asks (hear.Waiting of) old new grew = AsksServers-grown policy (Waited of) old new grew (λ es told. tt)
-  poll-asks hear.OutOfMemory old new grew = AsksServers-same policy old new grew
-  poll-asks (hear.Connected sent) old new grew = AsksServers-grown policy (Told sent.of now said.Connected) old new grew (λ es told. tt)
-  poll-asks (hear.Answered sent message) old new grew = AsksServers-grown policy (Told sent.of now (said.Message message)) old new grew (λ es told. tt)
-  poll-asks (hear.Failed sent error) old new grew = AsksServers-grown policy (Told sent.of now (said.Error error)) old new grew (λ es told. tt)
-  poll-asks hear.Resting old new grew = AsksServers-same policy old new grew
-  poll-asks hear.Slept old new grew = AsksServers-same policy old new grew
+      → TellsThat old (OnlyServersAsked policy) → TellsThat new (OnlyServersAsked policy)
+  poll-asks (hear.Waiting of) old new grew = OnlyServersAsked-grown policy (Waited of) old new grew (λ es told. tt)
+  poll-asks hear.OutOfMemory old new grew = OnlyServersAsked-same policy old new grew
+  poll-asks (hear.Connected sent) old new grew = OnlyServersAsked-grown policy (Told sent.of now said.Connected) old new grew (λ es told. tt)
+  poll-asks (hear.Answered sent message) old new grew = OnlyServersAsked-grown policy (Told sent.of now (said.Message message)) old new grew (λ es told. tt)
+  poll-asks (hear.Failed sent error) old new grew = OnlyServersAsked-grown policy (Told sent.of now (said.Error error)) old new grew (λ es told. tt)
+  poll-asks hear.Resting old new grew = OnlyServersAsked-same policy old new grew
+  poll-asks hear.Slept old new grew = OnlyServersAsked-same policy old new grew
 
   -- a start goes where its order goes
   start-asks : (refusal : Option NetError) (order : Order) (heard : Heard) (old new : Option (List LogEntry))
       → new ≡ with_entries (start_entry now refusal order ++ poll_entry now heard) old → TellsThat old (λ log. GoesToServer policy log log.next order)
-      → TellsThat old (AsksServers policy) → TellsThat new (AsksServers policy)
+      → TellsThat old (OnlyServersAsked policy) → TellsThat new (OnlyServersAsked policy)
   start-asks refusal (Open ip config) heard old new grew right asks =
       let e = Opened ip (protocol_of config.protocol) now refusal in
-      poll-asks heard (added e old) new grew (AsksServers-added policy e old right asks)
+      poll-asks heard (added e old) new grew (OnlyServersAsked-added policy e old right asks)
   start-asks refusal (Ask conn ip protocol request) heard old new grew right asks =
       let e = Asked ip protocol request.query now refusal in
-      poll-asks heard (added e old) new grew (AsksServers-added policy e old right asks)
+      poll-asks heard (added e old) new grew (OnlyServersAsked-added policy e old right asks)
   start-asks refusal (Sleep until) heard old new grew right asks = poll-asks heard old new grew asks
 
   -- so does one that is refused
   refusal-asks : (error : NetError) (order : Order) (old new : Option (List LogEntry))
       → new ≡ with_entries (start_entry now (Some error) order) old → TellsThat old (λ log. GoesToServer policy log log.next order)
-      → TellsThat old (AsksServers policy) → TellsThat new (AsksServers policy)
-  refusal-asks error (Open ip config) old new grew right = AsksServers-grown policy (Opened ip (protocol_of config.protocol) now (Some error)) old new grew right
-  refusal-asks error (Ask conn ip protocol request) old new grew right = AsksServers-grown policy (Asked ip protocol request.query now (Some error)) old new grew right
-  refusal-asks error (Sleep until) old new grew right = AsksServers-same policy old new grew
+      → TellsThat old (OnlyServersAsked policy) → TellsThat new (OnlyServersAsked policy)
+  refusal-asks error (Open ip config) old new grew right = OnlyServersAsked-grown policy (Opened ip (protocol_of config.protocol) now (Some error)) old new grew right
+  refusal-asks error (Ask conn ip protocol request) old new grew right = OnlyServersAsked-grown policy (Asked ip protocol request.query now (Some error)) old new grew right
+  refusal-asks error (Sleep until) old new grew right = OnlyServersAsked-same policy old new grew
 
 -- a call asks only servers, where what it starts goes to one
 pub carried-asks : {P : Type 0} (policy : Policy) (key : OrderKey) (order : Order) (now : ℕ) (old new : State P) (result : Option (Option Outcome))
     → Carried key order now old new result → (old.stands key ≡ Unseen → TellsThat old.log (λ log. GoesToServer policy log log.next order))
-    → TellsThat old.log (AsksServers policy) → TellsThat new.log (AsksServers policy)
+    → TellsThat old.log (OnlyServersAsked policy) → TellsThat new.log (OnlyServersAsked policy)
 carried-asks policy key order now old new result c goes = by c.did c.may c.log
   where
     by : (d : Did) → May old key order now d → new.log ≡ with_entries (appended now order d) old.log
-        → TellsThat old.log (AsksServers policy) → TellsThat new.log (AsksServers policy)
-    by Barred may grew = AsksServers-same policy old.log new.log grew
-    by LacksMemory may grew = AsksServers-same policy old.log new.log grew
+        → TellsThat old.log (OnlyServersAsked policy) → TellsThat new.log (OnlyServersAsked policy)
+    by Barred may grew = OnlyServersAsked-same policy old.log new.log grew
+    by LacksMemory may grew = OnlyServersAsked-same policy old.log new.log grew
     by (Refused sent error) may grew = refusal-asks policy now error order old.log new.log grew (goes may.0.unseen)
     by (Started heard) may grew = start-asks policy now None order heard old.log new.log grew (goes may.0.unseen)
     by (Polled heard) may grew = poll-asks policy now heard old.log new.log grew
 
 -- a give-up asks nobody
 pub given_up-asks : {P : Type 0} (policy : Policy) (key : OrderKey) (now : ℕ) (old new : State P) → GivenUp key now old new
-    → TellsThat old.log (AsksServers policy) → TellsThat new.log (AsksServers policy)
+    → TellsThat old.log (OnlyServersAsked policy) → TellsThat new.log (OnlyServersAsked policy)
 given_up-asks policy key now old new g = by (sent_in (old.stands key)) g.log
   where
-    by : (sent : Option SentBy) → new.log ≡ with_entries (give_up_entry now sent) old.log → TellsThat old.log (AsksServers policy) → TellsThat new.log (AsksServers policy)
-    by None grew = AsksServers-same policy old.log new.log grew
-    by (Some sent) grew = AsksServers-grown policy (GaveUp sent.of now) old.log new.log grew (λ es told. tt)
+    by : (sent : Option SentBy) → new.log ≡ with_entries (give_up_entry now sent) old.log → TellsThat old.log (OnlyServersAsked policy) → TellsThat new.log (OnlyServersAsked policy)
+    by None grew = OnlyServersAsked-same policy old.log new.log grew
+    by (Some sent) grew = OnlyServersAsked-grown policy (GaveUp sent.of now) old.log new.log grew (λ es told. tt)

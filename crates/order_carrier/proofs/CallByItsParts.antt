@@ -104,7 +104,7 @@ start-one of now (Ask conn ip protocol request) s refusal is = refl
 start-one of now (Sleep until) s refusal is = cc
 
 module _ {P : Type 0} (key : OrderKey) (order : Order) (now : ℕ) (old new : State P) (result : Option (Option Outcome)) where
-  -- memory was wanting before anything else
+  -- memory ran out before anything else
   pub wanted : new.options ≡ old.options → (CallsNobody old key order → new.provider ≡ old.provider) → IsReady old.stands order (old.stands key) → new.log ≡ old.log → new.entries ≡ old.entries → result ≡ None → new.stands key ≡ old.stands key
       → Carried key order now old new result
   wanted options quiet ready log entries none stand = record {

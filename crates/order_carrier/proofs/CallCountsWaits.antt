@@ -27,7 +27,7 @@ use Rattle.order_carrier.proofs.AsksOnlyServers.{carried-asks}
 use Rattle.order_carrier.proofs.LogGrowsByCalls.{carried-grown}
 use Rattle.order_carrier.proofs.OutcomeIsOfItsOrder.{sent_for-new, sent_for-sends, carried-outcome}
 use Rattle.order_carrier.proofs.LogWaitsOnceMore.{carried-waits, carried-waited, carried-patient}
-use Rattle.order_carrier.specs.InFlight.{RunnerMoves, GoesRight, HasTold, still_awaited}
+use Rattle.order_carrier.specs.InFlight.{InFlightMoves, GoesRight, HasTold, still_awaited}
 
 -- what is under way has an order
 pub order-sent : (stand : Stand) (s : SentBy) → order_in stand ≡ None → sent_in stand ≡ Some s → ⊥
@@ -140,7 +140,7 @@ module _ {P : Type 0} (key : OrderKey) (order : Order) (now : ℕ) (old new : St
 
     -- The log has grown as the order may make it grow.
     pub run-moves : (patience : ℕ) (result : Option (Option Outcome)) (c : Carried key order now old new result) → polls < max 1 patience
-        → RunnerMoves patience now (λ policy. old.stands key ≡ Unseen → GoesRight old.log order policy) old.log new.log
+        → InFlightMoves patience now (λ policy. old.stands key ≡ Unseen → GoesRight old.log order policy) old.log new.log
     run-moves patience result c fewer = record {
       grown = carried-grown key order now old new result c;
       patient = run-patient (max 1 patience) result c fewer;

@@ -22,7 +22,7 @@ use Rattle.order_carrier.proofs.AsksOnlyServers.{given_up-asks}
 use Rattle.order_carrier.proofs.LogGrowsByCalls.{given_up-grown, Grown-refl}
 use Rattle.order_carrier.proofs.KeysCompareEqual.{key_cases}
 use Rattle.order_carrier.proofs.LogWaitsOnceMore.{given_up-waits, patient-none, WaitsFor-refl}
-use Rattle.order_carrier.specs.InFlight.{key_in, held_at, IsRunning, InFlightHolds, RunnerMoves, GoesNowhere, sent_for, sent_by}
+use Rattle.order_carrier.specs.InFlight.{key_in, held_at, IsRunning, InFlightHolds, InFlightMoves, GoesNowhere, sent_for, sent_by}
 use Rattle.order_carrier.specs.declared.in_flight.runner.InFlight.{InFlight}
 use Rattle.order_carrier.specs.declared.in_flight.runner.InFlightOrder.{InFlightOrder}
 use Rattle.order_carrier.proofs.CallCountsWaits.{order-sent}
@@ -80,7 +80,7 @@ over-none stand is = ap order_in is
 
 module _ {P C F E : Type 0} (p : Ghosts P C F E) (number now : ℕ) (old new : Carrier P C F E p) where
   module _ (key : OrderKey) (g : GivesUp key now old new) where
-    up-moves : (patience : ℕ) → RunnerMoves patience now GoesNowhere (p.log old.provider) (p.log new.provider)
+    up-moves : (patience : ℕ) → InFlightMoves patience now GoesNowhere (p.log old.provider) (p.log new.provider)
     up-moves patience = record {
       grown = given_up-grown key now (state old) (state new) g.given_up;
       patient = patient-none (max 1 patience) (p.log old.provider) (p.log new.provider) (given_up-waits key now (state old) (state new) g.given_up);
@@ -133,7 +133,7 @@ module _ {P C F E : Type 0} (p : Ghosts P C F E) (number now : ℕ) (old new : C
       by (Some s) at = absurd (order-sent (stand_at old.slots (key_in number running)) s none at)
 
 -- a log that stays as it is has moved nowhere
-pub runner-still : (patience now : ℕ) (goes : Policy → Type 0) (told : Option (List LogEntry)) → RunnerMoves patience now goes told told
+pub runner-still : (patience now : ℕ) (goes : Policy → Type 0) (told : Option (List LogEntry)) → InFlightMoves patience now goes told told
 runner-still patience now goes told = record { grown = Grown-refl now told; patient = patient-none (max 1 patience) told told (WaitsFor-refl told); asks = λ policy right asks. asks }
 
 module _ {P C F E : Type 0} (p : Ghosts P C F E) (number now : ℕ) (r : InFlight P C F E p) (new : Carrier P C F E p)
@@ -146,12 +146,19 @@ module _ {P C F E : Type 0} (p : Ghosts P C F E) (number now : ℕ) (r : InFligh
       by n running h None is = subst (λ (c : Carrier P C F E p). IsRunning (stand_at c.slots) (p.log c.provider) n running) (sym (none is)) h
       by n running h (Some key) is = up-runs p number now r.carrier new key (ups key is) n running h
 
-  pub give_up-moves : (patience : ℕ) → RunnerMoves patience now GoesNowhere (p.log r.carrier.provider) (p.log new.provider)
+  pub give_up-moves : (patience : ℕ) → InFlightMoves patience now GoesNowhere (p.log r.carrier.provider) (p.log new.provider)
   give_up-moves patience = by (open_key (stand_at r.carrier.slots) number) refl
     where
-      by : (o : Option OrderKey) → open_key (stand_at r.carrier.slots) number ≡ o → RunnerMoves patience now GoesNowhere (p.log r.carrier.provider) (p.log new.provider)
-      by None is = subst (λ (c : Carrier P C F E p). RunnerMoves patience now GoesNowhere (p.log r.carrier.provider) (p.log c.provider)) (sym (none is)) (runner-still patience now GoesNowhere (p.log r.carrier.provider))
+      by : (o : Option OrderKey) → open_key (stand_at r.carrier.slots) number ≡ o → InFlightMoves patience now GoesNowhere (p.log r.carrier.provider) (p.log new.provider)
+      by None is = subst (λ (c : Carrier P C F E p). InFlightMoves patience now GoesNowhere (p.log r.carrier.provider) (p.log c.provider)) (sym (none is)) (runner-still patience now GoesNowhere (p.log r.carrier.provider))
       by (Some key) is = up-moves p number now r.carrier new key (ups key is) patience
+
+  pub give_up-options : new.options ≡ r.carrier.options
+  give_up-options = by (open_key (stand_at r.carrier.slots) number) refl
+    where
+      by : (o : Option OrderKey) → open_key (stand_at r.carrier.slots) number ≡ o → new.options ≡ r.carrier.options
+      by None is = ap (λ (c : Carrier P C F E p). c.options) (none is)
+      by (Some key) is = (ups key is).given_up.options
 
   pub give_up-log : InFlightHolds p r → IsSome (held_at r number) → p.log new.provider ≡ with_entries (give_up_entry now (sent_by r number)) (p.log r.carrier.provider)
   give_up-log h some = by (held_at r number) (h.held number) some (open_key (stand_at r.carrier.slots) number) refl

@@ -79,7 +79,7 @@ module _ {P C F E : Type 0} (p : Ghosts P C F E) (key : OrderKey) (order : Order
   carries-lacking unseen lacks =
       carries-barred (λ ready. lacks (subst (IsReady (stand_at old.slots) order) unseen ready)) (named-unseen p (p.log old.provider) (slot_at old.slots key) unseen)
 
-  -- memory was wanting
+  -- memory ran out
   pub carries-wanting : (new : Carrier P C F E p) (result : Option (Option Outcome)) → stand_at old.slots key ≡ Unseen → HasConnection (stand_at old.slots) order
       → IsRoomMade key old new → result ≡ None → Carries p key order now old new result
   carries-wanting new result unseen connected room none = record {
@@ -148,7 +148,7 @@ module _ {P C F E : Type 0} (p : Ghosts P C F E) (key : OrderKey) (order : Order
 
   -- ---- one that is under way
 
-  -- numbers are wanting
+  -- no numbers are left
   pub carries-numbers : order_in (stand_at old.slots key) ≡ Some order → IsSlotNamed p (p.log old.provider) (slot_at old.slots key) → Carries p key order now old old None
   carries-numbers going named = record {
     did = wanted key order now (state old) (state old) None refl (λ nobody. refl) (ready-going (stand_at old.slots) order (stand_at old.slots key) going) refl refl refl refl;

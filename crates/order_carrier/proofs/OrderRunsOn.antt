@@ -14,7 +14,7 @@ use Rattle.order_carrier.specs.Stand.{stand_at, stand_of, IsSameElsewhere}
 use Rattle.order_carrier.specs.declared.carrier.Carrier.{Carrier}
 use Rattle.order_carrier.specs.declared.key.OrderKey.{OrderKey}
 use Rattle.order_carrier.specs.declared.order_state.OrderState.{OrderState}
-use Rattle.order_carrier.specs.InFlight.{key_in, IsRunning, AllRun, RunnerMoves, GoesRight, HasTold, polled_again}
+use Rattle.order_carrier.specs.InFlight.{key_in, IsRunning, AllRun, InFlightMoves, GoesRight, HasTold, polled_again}
 use Rattle.order_carrier.specs.declared.in_flight.runner.InFlightOrder.{InFlightOrder}
 use Rattle.order_carrier.proofs.CallCountsWaits.{run-moves, run-polled, run-told, other-polled}
 use Rattle.order_carrier.proofs.HeldUnderNumber.{all-with}
@@ -33,7 +33,7 @@ module _ {P C F E : Type 0} (p : Ghosts P C F E) (tick : Tick) (number : ℕ) (r
   module _ (may : IsRunning (stand_at old.slots) (p.log old.provider) number running) where
     -- the log has grown as the order may make it grow
     pub carry-moves : running.polls < max 1 tick.patience
-        → RunnerMoves tick.patience tick.now (λ policy. stand_at old.slots (key_in number running) ≡ Unseen → GoesRight (p.log old.provider) running.order.value policy) (p.log old.provider) (p.log new.provider)
+        → InFlightMoves tick.patience tick.now (λ policy. stand_at old.slots (key_in number running) ≡ Unseen → GoesRight (p.log old.provider) running.order.value policy) (p.log old.provider) (p.log new.provider)
     carry-moves fewer = run-moves (key_in number running) running.order.value tick.now (state old) (state new) holds.holds running.polls may.polled tick.patience result c.did fewer
 
     -- the order runs on, polled once more

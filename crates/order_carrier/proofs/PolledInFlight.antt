@@ -14,7 +14,7 @@ use Rattle.order_carrier.specs.Did.Stand.{Unseen}
 use Rattle.order_carrier.specs.Growing.{TellsThat}
 use Rattle.order_carrier.specs.Stand.{stand_at}
 use Rattle.order_carrier.specs.declared.carrier.Carrier.{Carrier}
-use Rattle.order_carrier.specs.InFlight.{key_in, held_at, InFlightHolds, CanRun, RunnerMoves, StartsRight, HasTold, IsCounted, Keeps, polled_again, sent_for, sent_by}
+use Rattle.order_carrier.specs.InFlight.{key_in, held_at, InFlightHolds, CanRun, InFlightMoves, StartsRight, HasTold, IsCounted, Keeps, polled_again, sent_for, sent_by}
 use Rattle.order_carrier.specs.declared.in_flight.runner.InFlight.{InFlight}
 use Rattle.order_carrier.specs.declared.in_flight.runner.InFlightOrder.{InFlightOrder}
 use Rattle.order_carrier.proofs.OrderRunsOn.{carry-moves, carry-all, carry-told}
@@ -54,7 +54,7 @@ module _ {P C F E : Type 0} (p : Ghosts P C F E) (tick : Tick) (number : ℕ) (r
       held = carry-all p tick number running r.carrier new result can.holds.carrier c (held_at r) (held_at after) can.holds.held at written-there written-others;
     }
 
-    pub after-moves : RunnerMoves tick.patience tick.now (StartsRight number r) (p.log r.carrier.provider) (p.log new.provider)
+    pub after-moves : InFlightMoves tick.patience tick.now (StartsRight number r) (p.log r.carrier.provider) (p.log new.provider)
     after-moves =
         let m = carry-moves p tick number running r.carrier new result can.holds.carrier c (can.holds.held number running at) run-fewer in
         record { grown = m.grown; patient = m.patient; asks = λ policy right. m.asks policy (λ unseen. right running at unseen) }

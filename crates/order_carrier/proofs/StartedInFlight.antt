@@ -13,7 +13,7 @@ use Rattle.server_core.specs.declared.orders.order.Order.{Order}
 use Rattle.server_core.specs.declared.orders.order.Tick.{Tick}
 use Rattle.order_carrier.specs.Sent.{is_free}
 use Rattle.order_carrier.specs.Stand.{stand_at}
-use Rattle.order_carrier.specs.InFlight.{held_at, polled_again, InFlightHolds, CanRun, RunnerMoves, GoesRight, StartsRight, IsCounted, Grows}
+use Rattle.order_carrier.specs.InFlight.{held_at, polled_again, InFlightHolds, CanRun, InFlightMoves, GoesRight, StartsRight, IsCounted, Grows}
 use Rattle.order_carrier.specs.declared.in_flight.runner.InFlight.{InFlight}
 use Rattle.order_carrier.specs.declared.in_flight.runner.InFlightOrder.{InFlightOrder}
 use Rattle.order_carrier.proofs.FreeNumberCarried.{free-runs}
@@ -47,8 +47,8 @@ module _ {P C F E : Type 0} (p : Ghosts P C F E) (number : ℕ) (r : InFlight P 
     }
 
     -- it goes where the order goes
-    pub start-moves : (tick : Tick) (new : Option (List LogEntry)) → RunnerMoves tick.patience tick.now (StartsRight number with_first) (p.log r.carrier.provider) new
-        → RunnerMoves tick.patience tick.now (GoesRight (p.log r.carrier.provider) order.value) (p.log r.carrier.provider) new
+    pub start-moves : (tick : Tick) (new : Option (List LogEntry)) → InFlightMoves tick.patience tick.now (StartsRight number with_first) (p.log r.carrier.provider) new
+        → InFlightMoves tick.patience tick.now (GoesRight (p.log r.carrier.provider) order.value) (p.log r.carrier.provider) new
     start-moves tick new m = record {
       grown = m.grown;
       patient = m.patient;

@@ -1,6 +1,7 @@
 -- What holds of a carrier.
-use Rattle.std.specs.Prelude.{◌≡◌, ◌≤◌, ◌<◌, ◌+◌, ◌^◌, ℕ, Option, Some, None}
+use Rattle.std.specs.Prelude.{◌≡◌, ◌≤◌, ◌<◌, ◌+◌, ◌^◌, ℕ, List, Option, Some, None}
 use Rattle.dns_core.specs.Log.{Log}
+use Rattle.dns_core.specs.declared.log.LogEntry.{LogEntry}
 use Rattle.dns_core.specs.declared.provider.ConnectionProvider.{Ghosts}
 use Rattle.resolution.specs.Ending.{waits}
 use Rattle.server_core.specs.declared.orders.order.Order.{Order}
@@ -68,3 +69,8 @@ pub record IsRoomMade {P C F E : Type 0} {p : Ghosts P C F E} (key : OrderKey) (
   pub options : new.options ≡ old.options
   pub unseen : stand_at new.slots key ≡ Unseen
   pub others : IsSameElsewhere key old.slots new.slots
+
+-- The provider vouches for no more than before, and connections go on being opened with the same options.
+pub record CarriesOn {P C F E : Type 0} (p : Ghosts P C F E) (old new : Carrier P C F E p) : Type 0 where
+  pub vouches : (es : List LogEntry) → p.vouches new.provider es → p.vouches old.provider es
+  pub options : new.options ≡ old.options

@@ -7,7 +7,7 @@ use Rattle.std.specs.Ordering.{nat_cmp}
 use Rattle.dns_core.specs.Log.{Log}
 use Rattle.dns_core.specs.declared.log.LogEntry.{LogEntry}
 use Rattle.dns_core.specs.declared.provider.ConnectionProvider.{Ghosts}
-use Rattle.resolution.specs.Asking.{AsksServers}
+use Rattle.resolution.specs.Theorem.{OnlyServersAsked}
 use Rattle.resolution.specs.Ending.{waits}
 use Rattle.recursor_types.specs.declared.policy.Policy.{Policy}
 use Rattle.server_core.specs.declared.orders.order.Order.{Order}
@@ -115,10 +115,10 @@ pub record IsForgotten {P C F E : Type 0} {p : Ghosts P C F E} (number : ℕ) (o
 -- ---- what the log says
 
 -- The log has grown by entries of the moment, none of which waits for an entry beyond patience, and where orders go right only servers were asked.
-pub record RunnerMoves (patience now : ℕ) (goes : Policy → Type 0) (old new : Option (List LogEntry)) : Type 0 where
+pub record InFlightMoves (patience now : ℕ) (goes : Policy → Type 0) (old new : Option (List LogEntry)) : Type 0 where
   pub grown : Grown now old new
   pub patient : IsPatient (max 1 patience) old new
-  pub asks : (policy : Policy) → goes policy → TellsThat old (AsksServers policy) → TellsThat new (AsksServers policy)
+  pub asks : (policy : Policy) → goes policy → TellsThat old (OnlyServersAsked policy) → TellsThat new (OnlyServersAsked policy)
 
 -- an order goes to a server, by the log where it is told
 abbrev pub GoesRight : Option (List LogEntry) → Order → Policy → Type 0

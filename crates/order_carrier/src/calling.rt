@@ -19,7 +19,7 @@ pub enum Called<F, E> {
     Going(Awaited<F, E>),
 }
 
-/// What an error comes to: want of memory is no refusal.
+/// What an error comes to: out of memory is no refusal.
 fn refusal<F, E>(sent: SentBy, error: NetError) -> Called<F, E>
     ensures { result ≡ (if is_memory error then Called.OutOfMemory else Called.Refused sent error) }
 {

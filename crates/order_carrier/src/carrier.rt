@@ -251,7 +251,7 @@ impl<P: ConnectionProvider> Carrier<P> {
     /// order was handed out or the order given up before, a different order of its form was started under
     /// its number, or an ask names an order that made no connection to its address over its protocol. A
     /// sleep is pending before its moment, and has ended from then on. Where the numbers of entries would
-    /// pass their type the answer is want of memory too.
+    /// pass their type the answer is out of memory too.
     pub fn carry(
         &mut self,
         number: u64,

@@ -37,7 +37,7 @@ on_err_always (Err e) p = p
 pub on_error : {T E : Type 0} (P : T → Type 0) (Q : Type 0) (r : Result T E) (e : E) → r ≡ Err e → Q → MatchResult r P (λ error. Q)
 on_error {T} {E} P Q r e is q = subst (λ (x : Result T E). MatchResult x P (λ error. Q)) (sym is) q
 
--- memory is wanting only where some is taken
+-- memory runs out only where some is taken
 pub was_taken : (takes : Bool) → (takes ≡ false → false ≡ true) → takes ≡ true
 was_taken true ample = refl
 was_taken false ample = let wrong : false ≡ true = ample refl in cc

@@ -459,7 +459,7 @@ module _ (denied : IpAddr → Bool) where
   pub holds_outcome : (tick : Tick) (number : ℕ) (o : Outcome) (l : LookupState) → Holds denied l → Holds denied (after_outcome denied tick number o l)
   holds_outcome tick number o l h = (heard_after tick.patience number o h.0 l, outcome_by tick number o h.0 l h.1)
 
-  -- And where memory was wanting for its message.
+  -- And where memory ran out for its message.
   pub out_of_memory_by : (number now : ℕ) (o : Outcome) (ends : List HeardEnd) (l : LookupState) → l.state ≡ Asking → HoldsBy denied ends l
       → HoldsBy denied (heard_out number o ends l) (after_out_of_memory number now o l)
   out_of_memory_by number now o ends l asks h = at_place (position (is_open_at number) l.attempts) refl

@@ -102,7 +102,7 @@ heard_after patience number outcome heard l = elim l.state [
   | Decided answer at ↦ heard
 ]
 
--- and where memory was wanting for it, which ends the attempt too
+-- and where memory ran out for it, which ends the attempt too
 abbrev pub heard_out : ℕ → Outcome → List HeardEnd → LookupState → List HeardEnd
 heard_out number outcome heard l = elim (find (is_open_at number) l.attempts) [ None ↦ heard | Some a ↦ with_end heard a.candidate (Err NoMemory) (closing_entry outcome) ]
 
@@ -110,6 +110,6 @@ heard_out number outcome heard l = elim (find (is_open_at number) l.attempts) [ 
 abbrev pub StandsAfter : (IpAddr → Bool) → List HeardEnd → Tick → ℕ → Outcome → LookupState → Type 0
 StandsAfter denied heard tick number outcome l = HoldsBy denied (heard_after tick.patience number outcome heard l) (after_outcome denied tick number outcome l)
 
--- and so it does where memory was wanting for the outcome
+-- and so it does where memory ran out for the outcome
 abbrev pub StandsOut : (IpAddr → Bool) → List HeardEnd → ℕ → ℕ → Outcome → LookupState → Type 0
 StandsOut denied heard number now outcome l = HoldsBy denied (heard_out number outcome heard l) (after_out_of_memory number now outcome l)

@@ -56,7 +56,7 @@ fn by_delay(
 
 /// Puts the servers of a pool in the order in which a lookup that begins at this moment asks them.
 /// Where they are asked in turn, `turn` tells with which one this lookup begins, and then with which
-/// the next one does. Where memory is wanting, nothing has changed.
+/// the next one does. Where memory runs out, nothing has changed.
 pub fn ordered(
     alloc: Global,
     servers: &mut Vec<u32>,

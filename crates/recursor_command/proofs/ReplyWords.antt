@@ -1,5 +1,5 @@
 -- What a run over a script replies has its words.
-use Rattle.std.proofs.Common.{◌≡◌, ℕ, zero, suc, ◌<◌, Bool, true, false, List, [], ◌∷◌, ◌++◌, map, find, Option, Some, None, Result, Ok, Err, slice_get, length, refl, ap, sym, subst, arith}
+use Rattle.std.proofs.Common.{◌≡◌, ℕ, zero, suc, ◌<◌, Bool, true, false, List, [], ◌∷◌, ◌++◌, map, find, Option, Some, None, Result, Ok, Err, slice_get, length, refl, sym, subst, arith}
 use Rattle.std.specs.Prelude.{◌||◌, ◌==◌, not, if◌then◌else◌}
 use Rattle.std.specs.List.{list_all, list_any, filter_map, after_first, AllByRecursion}
 use Rattle.std.specs.declared.net.ip_addr.IpAddr.{IpAddr}
@@ -26,22 +26,20 @@ use Rattle.resolution.specs.Lookups.PoolRun.{decided, spent, late}
 use Rattle.resolution.specs.Ending.{LookupTiming, EndsSend, EndSends, by_address}
 use Rattle.resolution.specs.Ending.EndsSend.{open_refused, ask_refused, open_failed, ask_failed, answered, given_up}
 use Rattle.resolution.specs.Ending.EndSends.{no_send, and_send}
-use Rattle.recursor_types.specs.declared.error.MessageKind.{MessageKind}
-use Rattle.recursor_types.specs.declared.error.MessageKind.TheVariants.{NotQualified}
 use Rattle.recursor_types.specs.declared.error.RecursorError.{RecursorError}
 use Rattle.recursor_types.specs.declared.reply.Reply.{Reply}
-use Rattle.recursor_walk.specs.Causes.{ErrorHolds, HasFailed}
-use Rattle.walk_lookup.specs.LookupResult.{is_lookup_error}
-use Rattle.recursor_walk.specs.Replies.{OutcomeHolds}
+use Rattle.resolution.specs.Causes.{is_lookup_error, CauseOf, LookupFailed}
+use Rattle.resolution.specs.Theorem.{OutcomeIsSound}
 use Rattle.recursor_core.specs.RecursorState.{RepliesHold}
 use Rattle.text_lines.specs.Texts.{has_error_word}
-use Rattle.transcript_printer.specs.Errors.{has_words, has_net_words, is_not_qualified}
+use Rattle.transcript_printer.specs.Errors.{has_words, has_net_words}
 use Rattle.transcript_printer.specs.Log.{has_entry_words}
 use Rattle.transcript_printer.specs.Transcript.{has_result_words, has_reply_words}
 use Rattle.recursor_command.proofs.LogWords.{all_at_places}
 use Rattle.dns_core.specs.declared.net_error.NetError.TheVariants as net
 use Rattle.dns_core.specs.declared.net_error.DnsError.TheVariants as dns
 use Rattle.recursor_types.specs.declared.error.RecursorError.TheVariants as error
+use Rattle.recursor_types.specs.declared.error.MessageKind.TheVariants as kind
 
 -- each entry of the log has its words
 abbrev IsWorded : Log → Type 0
@@ -118,8 +116,8 @@ made_code c e is = error_is Worded (net.Dns (dns.ResponseCode c)) e _ _ refl ref
 made_cut : MadeWord Truncated
 made_cut e is = error_is Worded net.Truncated e _ _ refl refl (sym is) (λ l. refl)
 
-made_negative : (n : NoRecords) → MadeWord (Negative n)
-made_negative n e is = error_is Worded (net.Dns (dns.NoRecordsFound n)) e _ _ refl refl (sym is) (λ l. cc)
+made_no_data : (n : NoRecords) → MadeWord (Negative n)
+made_no_data n e is = error_is Worded (net.Dns (dns.NoRecordsFound n)) e _ _ refl refl (sym is) (λ l. cc)
 
 made_foreign : (r : Record) → MadeWord (Foreign r)
 made_foreign r e is = error_is Worded (net.ForeignClassRecord r.name r.dns_class r.record_type) e _ _ refl refl (sym is) (λ l. refl)
@@ -135,7 +133,7 @@ message_made m q = by_code (not (m.response_code.code == 0 || m.response_code.co
     by_foreign None = made_positive m
 
     by_data : (b : Bool) → MadeWord (if b then Negative (no_records m) else elim (find (is_foreign q) (records m)) [ Some r ↦ Foreign r | None ↦ Positive m ])
-    by_data true = made_negative (no_records m)
+    by_data true = made_no_data (no_records m)
     by_data false = by_foreign (find (is_foreign q) (records m))
 
     by_cut : (b : Bool) → MadeWord (if b then Truncated else (if has_no_data_for q m then Negative (no_records m) else elim (find (is_foreign q) (records m)) [ Some r ↦ Foreign r | None ↦ Positive m ]))
@@ -205,33 +203,25 @@ run_word rules q servers ends e start now h (decided d) =
 run_word rules q servers ends e start now h (spent s) = error_is Worded (what_is_left rules (class_of_answer q) ends) e _ _ refl refl (sym s.answers) (left_word rules (class_of_answer q) ends)
 run_word rules q servers ends e start now h (late l) = error_is Worded net.Timeout e _ _ refl refl (sym l.answers) (λ l. refl)
 
-failed_word : (given : Policy) (known : LookupTiming) (log : Log) (t0 : ℕ) (q : Query) (g : List ℕ) (e : NetError) → IsWorded log → HasFailed given known log t0 q g e → Worded e
+failed_word : (given : Policy) (known : LookupTiming) (log : Log) (t0 : ℕ) (q : Query) (g : List ℕ) (e : NetError) → IsWorded log → LookupFailed given known log t0 q g e → Worded e
 failed_word given known log t0 q g e w f =
     run_word (by_address given.timeout) q f.ended.ips f.ended.ends e f.ended.start f.ended.now (end_words w f.ended.logged) f.ended.run
 
 -- ---- replies
 
-kind_word : (kind : MessageKind) → kind ≡ NotQualified → is_not_qualified kind ≡ true
-kind_word kind e = ap is_not_qualified e
+cause_word : (given : Policy) (known : LookupTiming) (log : Log) (t0 : ℕ) (q : Query) (g : List ℕ) (e : RecursorError) → IsWorded log → CauseOf given known log t0 q g e → has_words e ≡ true
+cause_word given known log t0 q g (error.Negative d) w h = refl
+cause_word given known log t0 q g (error.ForwardNS servers) w h = refl
+cause_word given known log t0 q g (error.Net e) w h = failed_word given known log t0 q g e w h h.is
+cause_word given known log t0 q g (error.NoNameServer zone cause) w h = refl
+cause_word given known log t0 q g _ w h = absurd h
 
-error_word : (given : Policy) (known : LookupTiming) (log : Log) (t0 : ℕ) (q : Query) (g : List ℕ) (e : RecursorError) → IsWorded log → ErrorHolds given known log t0 q g e → has_words e ≡ true
-error_word given known log t0 q g (error.Message kind) w h = kind_word kind h.0
-error_word given known log t0 q g (error.Negative d) w h = refl
-error_word given known log t0 q g (error.ForwardNS servers) w h = refl
-error_word given known log t0 q g (error.Net e) w h = failed_word given known log t0 q g e w h.1 h.0
-error_word given known log t0 q g (error.NoNameServer zone cause) w h = refl
-error_word given known log t0 q g error.NoMemory w h = refl
-error_word given known log t0 q g (error.MaxRecordLimitExceeded count kind) w h = refl
-error_word given known log t0 q g (error.Msg text) w h = absurd h
-error_word given known log t0 q g (error.Io kind) w h = absurd h
-error_word given known log t0 q g error.Timeout w h = absurd h
-error_word given known log t0 q g (error.RecursionLimitExceeded count) w h = refl
-error_word given known log t0 q g error.QueryBudgetExceeded w h = refl
-
-outcome_word : (given : Policy) (known : LookupTiming) (log : Log) (t0 : ℕ) (question : Question) (g : List ℕ) (o : Result Response RecursorError) → IsWorded log → OutcomeHolds given known log t0 question g o
+outcome_word : (given : Policy) (known : LookupTiming) (log : Log) (t0 : ℕ) (question : Question) (g : List ℕ) (o : Result Response RecursorError) → IsWorded log → OutcomeIsSound given known log t0 question g o
     → has_result_words o ≡ true
 outcome_word given known log t0 question g (Ok m) w h = refl
-outcome_word given known log t0 question g (Err e) w h = error_word given known log t0 question.query g e w h
+outcome_word given known log t0 question g (Err error.NoMemory) w h = refl
+outcome_word given known log t0 question g (Err (error.Message kind.NotQualified)) w h = refl
+outcome_word given known log t0 question g (Err e) w h = cause_word given known log t0 h.last h.rest e w h.cause
 
 logged_word : (es : List LogEntry) → ((n : ℕ) (e : LogEntry) → numbered es n ≡ Some e → has_entry_words e ≡ true) → IsWorded (log_of es)
 logged_word es h n e l = h n e l.is

@@ -6,7 +6,7 @@ use Rattle.dns_core.specs.declared.request.Question.{Question}
 use Rattle.dns_core.specs.declared.request.Turn.{Turn}
 use Rattle.recursor_types.specs.Policy.{with_patience}
 use Rattle.recursor_types.specs.declared.policy.Policy.{Policy}
-use Rattle.recursor_core.specs.Playing.{IsRun}
+use Rattle.resolution.specs.Theorem.{IsRun}
 use Rattle.recursor_core.specs.RecursorState.{RecursorState, policy_of_run, RepliesHold}
 use Rattle.recursor_types.specs.declared.reply.Reply.{Reply}
 use Rattle.recursor_command.specs.Command.{IsUntold}

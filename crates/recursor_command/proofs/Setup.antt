@@ -1,4 +1,4 @@
--- A recursor whose roots and options are right is refused for want of memory alone.
+-- A recursor whose roots and options are right is refused only where memory runs out.
 use Rattle.std.proofs.Common.{◌≡◌, inl, inr}
 use Rattle.recursor_types.specs.declared.error.RecursorError.{RecursorError}
 use Rattle.recursor_core.specs.Recursor.{IsSetupError}

@@ -107,7 +107,7 @@ text_held command (Some all) None bytes text h t = absurd h.taken
 text_held command (Some all) (Some rest) bytes text h (inl o) = inl (subst (λ (b : List ℕ). HasOutput command b text) (output_all command all rest bytes text h o) o)
 text_held command (Some all) (Some rest) bytes text h (inr f) = inr (f.0, told_all command all rest bytes f.0 h f.1, f.2)
 
--- that memory is wanting may be written for all bytes
+-- that memory ran out may be written for all bytes
 memory_told : (command : Command) (bytes : List ℕ) → IsFaultOf command bytes Memory
 memory_told Resolve bytes = tt
 memory_told Check bytes = tt

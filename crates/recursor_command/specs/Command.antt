@@ -12,7 +12,7 @@ use Rattle.recursor_types.specs.Policy.{policy_of, with_patience}
 use Rattle.recursor_types.specs.declared.policy.Policy.{Policy}
 use Rattle.resolver_settings.specs.Ttl.{has_reversed}
 use Rattle.recursor_types.specs.Options.{has_bad_first_delays}
-use Rattle.recursor_core.specs.Playing.{IsRun}
+use Rattle.resolution.specs.Theorem.{IsRun}
 use Rattle.recursor_core.specs.RecursorState.{RecursorState, RepliesHold}
 use Rattle.recursor_types.specs.declared.options.RecursorOptions.{RecursorOptions}
 use Rattle.std.specs.declared.net.ip_addr.IpAddr.{IpAddr}
@@ -144,11 +144,11 @@ IsFaultOf Resolve bytes fault = IsUnread bytes fault
 IsFaultOf Check bytes fault = IsUnchecked bytes fault
 IsFaultOf Decode bytes fault = IsUndecoded bytes fault
 
--- nothing was written, or that memory is wanting
+-- nothing was written, or that memory ran out
 abbrev pub ToldMemory : Option (List ℕ) → Option (List ℕ) → Type 0
 ToldMemory old new = Keeps old new ⊎ Appends old new (fault_text Memory)
 
--- the fault was told, or a front of its text and the sink failed, or memory was wanting
+-- the fault was told, or a front of its text and the sink failed, or memory ran out
 pub record Tells (fault : Fault) (result : Status) (old new : Option (List ℕ)) (before now : ℕ) : Type 0 where
   pub whole : result ≢ status.WriteFault → result ≢ status.NoMemory → (result ≡ status_of fault) × Appends old new (fault_text fault)
   pub part : result ≡ status.WriteFault → Rose before now × AppendsPart old new (fault_text fault)

@@ -109,7 +109,7 @@ pub fn run<S: Source, K: Sink>(
     ensures read { result ≡ Status.ReadFault → Rose (S.faults source.old) (S.faults source.new) × Appends (K.written sink.old) (K.written sink.new) (fault_text Fault.Read) }
     ensures write { result ≡ Status.WriteFault → WrotePart (IsTextOf (command_of words.now) (S.left source.old) (S.faults source.old) (S.faults source.new)) (K.faults sink.old) (K.faults sink.new) (K.written sink.old) (K.written sink.new) }
 
-    // Memory is wanting, which was written, or nothing.
+    // Memory ran out, which was written, or nothing.
     ensures memory { result ≡ Status.NoMemory → ToldMemory (K.written sink.old) (K.written sink.new) }
 {
     let Some(command) = command_of(words) else {

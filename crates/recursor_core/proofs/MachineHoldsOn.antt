@@ -1,9 +1,11 @@
 -- What holds of the machine and its provider goes on holding at each step of the two.
-use Rattle.recursor_core.proofs.Names.{◌≡◌, ◌≤◌, ◌<◌, ◌+◌, ◌∙◌, ◌⊎◌, ◌++◌, ⊎_elim, inl, inr, ℕ, Bool, true, false, List, [], ◌∷◌, length, All, Option, Some, None, Result, refl, sym, ap, subst, arith, min, max, if◌then◌else◌, Box, Log, log_of, IpAddr, LogEntry, Question, Ghosts, Policy, GoesToServer, seen_at, ReplyHolds, machine_timer, TellsThat, Grown, IsPast, with_entries, seen_by, Derived, Cached, EntryHolds, TablesHold, Begun, begun_at, SameCore, ReplyGiven, StepGives, IsNewCore, TellsTo, Holds, Rests, Moves, Ready, Goes, ReplyTold, TurnedTold, KeepsTo, is_given_up, IsGivenUpIn, LogGoesOnIf, InFlightHolds, RunnerMoves, GoesNowhere, sent_by, still_awaited, IsLast, HasTold, InFlight, Policy, Carrier, RecursorCore, Step, NoMemory, Order, After, Reply, Extends-refl, Grown-refl, Grown-trans, Longer-from_added, Extends-added, Logged-newest, unlogged, IsPast-later, IsPast-grown, IsPatient-refl, IsPatient-trans, later-by, reply-later}
+use Rattle.recursor_core.proofs.Names.{◌≡◌, ◌≤◌, ◌<◌, ◌+◌, ◌∙◌, ◌⊎◌, ◌++◌, ⊎_elim, inl, inr, ℕ, Bool, true, false, List, [], ◌∷◌, length, All, Option, Some, None, Result, refl, sym, ap, subst, arith, min, max, if◌then◌else◌, Box, Log, log_of, IpAddr, LogEntry, Question, Ghosts, Policy, GoesToServer, seen_at, ReplyHolds, machine_timer, TellsThat, Grown, IsPast, with_entries, seen_by, Derived, Cached, EntryHolds, TablesHold, Begun, begun_at, SameCore, ReplyGiven, StepGives, IsNewCore, TellsTo, Holds, Rests, Moves, Ready, Goes, ReplyTold, TurnedTold, KeepsTo, is_given_up, IsGivenUpIn, LogGoesOnIf, InFlightHolds, InFlightMoves, GoesNowhere, sent_by, still_awaited, IsLast, HasTold, InFlight, Policy, Carrier, RecursorCore, Step, NoMemory, Order, After, Reply, Extends-refl, Grown-refl, Grown-trans, Longer-from_added, Extends-added, Logged-newest, unlogged, IsPast-later, IsPast-grown, IsPatient-refl, IsPatient-trans, later-by, reply-later}
 use Rattle.recursor_walk.specs.Way.{CanWalk}
+use Rattle.order_carrier.specs.Carrying.{CarriesOn}
+use Rattle.walk_lookup.specs.Asking.{connect_of}
 use Rattle.dns_core.specs.declared.log.LogEntry.TheVariants.{Opened, Asked, GaveUp}
 use Rattle.resolution.specs.Telling.{Logged, MomentsRise}
-use Rattle.resolution.specs.Asking.{AsksServers}
+use Rattle.resolution.specs.Theorem.{OnlyServersAsked}
 use Rattle.order_carrier.specs.GivingUp.{give_up_entry}
 use Rattle.recursor_types.specs.declared.options.RecursorOptions.{RecursorOptions}
 use Rattle.recursor_core.specs.declared.turns.TurnResult.{TurnResult}
@@ -11,7 +13,7 @@ use Rattle.server_core.specs.declared.orders.order.Outcome.{Outcome}
 use Rattle.server_core.specs.declared.orders.order.Outcome.TheVariants.{Pending, Connected, Told, Failed, Slept}
 use Rattle.server_core.specs.declared.orders.order.SentBy.{SentBy}
 use Rattle.server_core.specs.declared.orders.order.Tick.{Tick}
-use Rattle.order_carrier.proofs.AsksOnlyServers.{AsksServers-patience, GoesToServer-later}
+use Rattle.order_carrier.proofs.AsksOnlyServers.{OnlyServersAsked-patience, GoesToServer-later}
 use Rattle.order_carrier.proofs.CallCountsWaits.{waits-still}
 use Rattle.recursor_core.proofs.MachineAdvances.{Derived-extends}
 use Rattle.recursor_types.specs.Policy.{with_patience}
@@ -151,13 +153,13 @@ module _ {P C F E : Type 0} (p : Ghosts P C F E) where
     runner = h.runner;
     patient = subst (λ (held : Policy). held.patience ≤ patience) (sym policy) h.patient;
     derived = λ es t. derived (log_of es) (h.derived es t);
-    asks = subst (λ (held : Policy). TellsThat (p.log r.carrier.provider) (AsksServers held)) (sym policy) h.asks;
+    asks = subst (λ (held : Policy). TellsThat (p.log r.carrier.provider) (OnlyServersAsked held)) (sym policy) h.asks;
     past = IsPast-later core.moment new.moment (p.log r.carrier.provider) later h.past;
   }
 
   -- a step of the provider alone, at the moment of the machine
   pub holds_grown : (patience : ℕ) (core : RecursorCore) (r new : InFlight P C F E p) (now : ℕ) (goes : Policy → Type 0) → core.moment ≡ now → InFlightHolds p new
-      → RunnerMoves patience now goes (p.log r.carrier.provider) (p.log new.carrier.provider) → goes core.policy → Holds p patience core r → Holds p patience core new
+      → InFlightMoves patience now goes (p.log r.carrier.provider) (p.log new.carrier.provider) → goes core.policy → Holds p patience core r → Holds p patience core new
   holds_grown patience core r new now goes at runner moves right h =
       let old_log = p.log r.carrier.provider in
       let new_log = p.log new.carrier.provider in
@@ -189,7 +191,7 @@ module _ {P C F E : Type 0} (p : Ghosts P C F E) where
             goes_on = goes-still (is_given_up result) tick.now (sent_by r number) o (log_of by.before) (log_of es) by.on;
           };
         });
-    asks = subst (λ (held : Policy). TellsThat (p.log later.carrier.provider) (AsksServers held)) (sym policy) k.asks;
+    asks = subst (λ (held : Policy). TellsThat (p.log later.carrier.provider) (OnlyServersAsked held)) (sym policy) k.asks;
     past = IsPast-later core.moment new.moment (p.log later.carrier.provider) (omega arith) k.past;
   }
 
@@ -214,15 +216,22 @@ module _ {P C F E : Type 0} (p : Ghosts P C F E) where
   }
 
   -- a step of the provider alone
-  pub moves_grown : (patience now : ℕ) (goes : Policy → Type 0) (core : RecursorCore) (c new : Carrier P C F E p) → RunnerMoves patience now goes (p.log c.provider) (p.log new.provider)
+  pub moves_grown : (patience now : ℕ) (goes : Policy → Type 0) (core : RecursorCore) (c new : Carrier P C F E p) → InFlightMoves patience now goes (p.log c.provider) (p.log new.provider)
       → Moves p patience now core core c new
   moves_grown patience now goes core c new moves = record { policy = refl; begun = keeps-refl core; grown = moves.grown; patient = moves.patient }
+
+  -- carriers of the same orders
+  pub carries_refl : (c : Carrier P C F E p) → CarriesOn p c c
+  carries_refl c = record { vouches = λ es h. h; options = refl }
+
+  pub carries_trans : (a b c : Carrier P C F E p) → CarriesOn p a b → CarriesOn p b c → CarriesOn p a c
+  carries_trans a b c m n = record { vouches = λ es h. m.vouches es (n.vouches es h); options = n.options ∙ m.options }
 
   module _ (tick : Tick) where
     -- two steps that go right are one
     pub goes_trans : (a b c : RecursorCore) (x y z : InFlight P C F E p) → Goes p tick a b x y → Goes p tick b c y z → Goes p tick a c x z
     goes_trans a b c x y z m n = record {
-      vouches = λ es h. m.vouches es (n.vouches es h);
+      carries_on = carries_trans x.carrier y.carrier z.carrier m.carries_on n.carries_on;
       ready = n.ready;
       moves = moves_trans tick.patience tick.now a b c x.carrier y.carrier z.carrier m.moves n.moves;
     }
@@ -232,7 +241,7 @@ module _ {P C F E : Type 0} (p : Ghosts P C F E) where
     goes_core {k} core new r same derived ready =
         let at = same.moment in
         record {
-          vouches = λ es h. h;
+          carries_on = carries_refl r.carrier;
           ready = record { holds = holds_derived tick.patience core new r same.policy (omega (arith, at)) derived ready.holds; moment = at ∙ ready.moment };
           moves = moves_core tick.patience tick.now core new r.carrier same.policy (keeps-at k core new same);
         }
@@ -241,35 +250,35 @@ module _ {P C F E : Type 0} (p : Ghosts P C F E) where
     pub goes_reached : (core new : RecursorCore) (r : InFlight P C F E p) → new.policy ≡ core.policy → new.resolutions ≡ core.resolutions → core.moment ≤ tick.now
         → new.moment ≡ max core.moment tick.now → ((log : Log) → Derived core log → Derived new log) → Holds p tick.patience core r → Goes p tick core new r r
     goes_reached core new r policy same early at derived holds = record {
-      vouches = λ es h. h;
+      carries_on = carries_refl r.carrier;
       ready = record { holds = holds_derived tick.patience core new r policy (omega (arith, at)) derived holds; moment = omega (arith, at) };
       moves = moves_core tick.patience tick.now core new r.carrier policy (keeps-same core new same);
     }
 
     -- a step of what carries out the orders alone
-    pub goes_run : (core : RecursorCore) (r new : InFlight P C F E p) (goes : Policy → Type 0) → ((es : List LogEntry) → p.vouches new.carrier.provider es → p.vouches r.carrier.provider es)
-        → InFlightHolds p new → RunnerMoves tick.patience tick.now goes (p.log r.carrier.provider) (p.log new.carrier.provider) → goes core.policy → Ready p tick core r
+    pub goes_run : (core : RecursorCore) (r new : InFlight P C F E p) (goes : Policy → Type 0) → CarriesOn p r.carrier new.carrier
+        → InFlightHolds p new → InFlightMoves tick.patience tick.now goes (p.log r.carrier.provider) (p.log new.carrier.provider) → goes core.policy → Ready p tick core r
         → Goes p tick core core r new
-    goes_run core r new goes vouches holds moves right ready = record {
-      vouches = vouches;
+    goes_run core r new goes carries_on holds moves right ready = record {
+      carries_on = carries_on;
       ready = record { holds = holds_grown tick.patience core r new tick.now goes ready.moment holds moves right ready.holds; moment = ready.moment };
       moves = moves_grown tick.patience tick.now goes core r.carrier new.carrier moves;
     }
 
     -- nothing at all
     pub goes_nowhere : (core : RecursorCore) (r : InFlight P C F E p) → Ready p tick core r → Goes p tick core core r r
-    goes_nowhere core r ready = record { vouches = λ es h. h; ready = ready; moves = moves_core tick.patience tick.now core core r.carrier refl (keeps-refl core) }
+    goes_nowhere core r ready = record { carries_on = carries_refl r.carrier; ready = ready; moves = moves_core tick.patience tick.now core core r.carrier refl (keeps-refl core) }
 
     -- an order is forgotten
     pub goes_closed : (core : RecursorCore) (r new : InFlight P C F E p) → new.carrier ≡ r.carrier → InFlightHolds p new → Ready p tick core r → Goes p tick core core r new
     goes_closed core r new same holds ready =
-        let still : RunnerMoves tick.patience tick.now GoesNowhere (p.log r.carrier.provider) (p.log r.carrier.provider) = record {
+        let still : InFlightMoves tick.patience tick.now GoesNowhere (p.log r.carrier.provider) (p.log r.carrier.provider) = record {
           grown = Grown-refl tick.now (p.log r.carrier.provider);
           patient = IsPatient-refl (max 1 tick.patience) (p.log r.carrier.provider);
           asks = λ given right asks. asks;
         } in
-        goes_run core r new GoesNowhere (λ es h. subst (λ (c : Carrier P C F E p). p.vouches c.provider es) same h) holds
-        (subst (λ (c : Carrier P C F E p). RunnerMoves tick.patience tick.now GoesNowhere (p.log r.carrier.provider) (p.log c.provider)) (sym same) still) tt ready
+        goes_run core r new GoesNowhere (subst (CarriesOn p r.carrier) (sym same) (carries_refl r.carrier)) holds
+        (subst (λ (c : Carrier P C F E p). InFlightMoves tick.patience tick.now GoesNowhere (p.log r.carrier.provider) (p.log c.provider)) (sym same) still) tt ready
 
     -- what a turn comes to after a step is what it comes to with it
     pub told_before : (a b : RecursorCore) (x y : InFlight P C F E p) (told : Option (List LogEntry)) (r : ℕ) (t : TurnResult) → Goes p tick a b x y
@@ -289,7 +298,7 @@ module _ {P C F E : Type 0} (p : Ghosts P C F E) where
     goes_settled number core new r later o result policy moment begun derived log told ready run =
         let at = moment ready.moment in
         record {
-          vouches = run.vouches;
+          carries_on = run.carries_on;
           ready = record { holds = holds_settled number tick core new r later o result policy at ready.moment derived log told ready.holds run.ready.holds; moment = at };
           moves = moves_trans tick.patience tick.now core core new r.carrier later.carrier later.carrier run.moves (moves_core tick.patience tick.now core new later.carrier policy (keeps-same core new begun));
         }
@@ -303,17 +312,18 @@ module _ {P C F E : Type 0} (p : Ghosts P C F E) where
     runner = h.runner;
     patient = subst (λ (held : Policy). held.patience ≤ patience) (sym policy) (omega arith);
     derived = λ es t. derived (log_of es) (h.bound es t) h.walks (record { cache = h.cache es t; pools = h.pools es t });
-    asks = subst (λ (held : Policy). TellsThat (p.log r.carrier.provider) (AsksServers held)) (sym policy)
-        (λ es t. AsksServers-patience core.policy (min core.policy.patience patience) (log_of es) (h.asks es t));
+    asks = subst (λ (held : Policy). TellsThat (p.log r.carrier.provider) (OnlyServersAsked held)) (sym policy)
+        (λ es t. OnlyServersAsked-patience core.policy (min core.policy.patience patience) (log_of es) (h.asks es t));
     past = subst (λ m. TellsThat (p.log r.carrier.provider) (IsPast m)) (sym moment) h.past;
   }
 
   -- and after it the machine is at rest again
   pub holds_rests : (patience : ℕ) (core : RecursorCore) (r : InFlight P C F E p) → CanWalk core.policy → TellsThat (p.log r.carrier.provider) MomentsRise
       → Holds p patience core r → Rests p core r
-  holds_rests patience core r walks rises h = record {
+  holds_rests patience core r walks connects rises h = record {
     walks = walks;
     runner = h.runner;
+    connects = connects;
     bound = λ es t. (h.derived es t).bound;
     cache = λ es t. (h.derived es t).cache;
     pools = λ es t. (h.derived es t).pools;
@@ -324,10 +334,12 @@ module _ {P C F E : Type 0} (p : Ghosts P C F E) where
 
   -- a new machine over a provider whose log is empty is at rest
   pub new_rests : (roots : List IpAddr) (options : RecursorOptions) (core : RecursorCore) (r : InFlight P C F E p) → IsNewCore roots options core
-      → 0 < length roots → InFlightHolds p r → ((es : List LogEntry) → p.log r.carrier.provider ≡ Some es → es ≡ []) → Rests p core r
-  new_rests roots options core r new some holds empty = record {
+      → 0 < length roots → InFlightHolds p r → r.carrier.options ≡ connect_of core.policy.resolver
+      → ((es : List LogEntry) → p.log r.carrier.provider ≡ Some es → es ≡ []) → Rests p core r
+  new_rests roots options core r new some holds connects empty = record {
     walks = subst CanWalk (sym new.policy) (record { some = some; strict = refl });
     runner = holds;
+    connects = connects;
     bound = λ es t. let zero = new.greatest in omega arith;
     cache = λ es t. record {
       size = ap (λ (kept : Cached). kept.size) new.cache ∙ sym (ap (λ (held : Policy). held.response_cache_size) new.policy);

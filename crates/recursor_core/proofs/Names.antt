@@ -39,7 +39,7 @@ pub use Rattle.order_carrier.proofs.LogGrowsByCalls.{Grown-refl, Extends-refl, E
 pub use Rattle.resolver_cache.specs.Cached.{Cached}
 pub use Rattle.recursor_types.specs.Policy.{with_patience}
 pub use Rattle.walk_lookup.specs.Order.{is_given_up, IsGivenUpIn, LogGoesOnIf}
-pub use Rattle.order_carrier.specs.InFlight.{InFlightHolds, RunnerMoves, GoesNowhere, sent_by, still_awaited, IsLast, HasTold, polls_left}
+pub use Rattle.order_carrier.specs.InFlight.{InFlightHolds, InFlightMoves, GoesNowhere, sent_by, still_awaited, IsLast, HasTold, polls_left}
 pub use Rattle.server_core.specs.declared.orders.order.Order.{Order}
 pub use Rattle.server_core.specs.declared.orders.order.After.{After}
 pub use Rattle.recursor_core.specs.Turns.{due}
@@ -49,7 +49,7 @@ pub use Rattle.recursor_core.specs.Derived.{seen_by, Derived}
 pub use Rattle.recursor_core.specs.Machine.{kept_in, Begun, begun_of, begun_at, IsOneMore, given_by, ReplyGiven, StepGives, SameCore, IsNewCore, TellsTo, open_at}
 pub use Rattle.recursor_core.specs.declared.machine.resolutions.RecursorCore.{RecursorCore}
 pub use Rattle.recursor_question.specs.declared.steps.Step.{Step}
-pub use Rattle.recursor_core.specs.Playing.{OnLogs, AreAt, IsPlayed, IsPlayedOver, begin_moment, run_moments}
-pub use Rattle.recursor_core.specs.Runs.{Leading, Leads, GoesOn, IsPlayedTo, Turning, RunsOver, IsDue, PlaysGoOn, PlaysOn, work, told_by, Plays}
+pub use Rattle.resolution.specs.Turns.{AreAt, IsPlayed, begin_moment, run_moments}
+pub use Rattle.recursor_core.specs.Runs.{OnLogs, IsPlayedOver, Leading, Leads, GoesOn, IsPlayedTo, Turning, RunsOver, IsDue, PlaysGoOn, PlaysOn, work, told_by, Plays}
 pub use Rattle.recursor_core.specs.declared.run.Run.{Run}
 pub use Rattle.recursor_core.specs.RecursorState.{Holds, Goes, Moves, ReplyTold, run_timer, PlayHolds, PlaysHold, RepliesHold, ReplyFor, Rests, Ready, TurnedTold, KeepsTo, RecursorState, policy_of_run}

@@ -46,7 +46,7 @@ turn_due moment t rest q names le = record {
 pub last_due : (moment q : ℕ) → IsDue moment [] [] q
 last_due moment q = record { others = λ k ne. refl; now = omega arith }
 
--- want of memory may always be answered, with no grounds
+-- out of memory may always be answered, with no grounds
 memory_holds : (policy : Policy) (timer : Timer) (log : Log) (moment : ℕ) (question : Question) (reply : Reply) → reply.outcome ≡ Err error.NoMemory
     → reply.grounds ≡ [] → ReplyHolds policy timer log moment question reply
 memory_holds policy timer log moment question reply h none = rw h none
@@ -54,7 +54,7 @@ memory_holds policy timer log moment question reply h none = rw h none
 -- a question is refused for its cause
 refused_holds : (policy : Policy) (timer : Timer) (log : Log) (moment : ℕ) (question : Question) (reply : Reply) → IsRefused question reply
     → ReplyHolds policy timer log moment question reply
-refused_holds policy timer log moment question reply r = ⊎_elim (λ h. memory_holds policy timer log moment question reply h r.0) (λ h. rw h.0 (refl, h.1, r.0)) r.1
+refused_holds policy timer log moment question reply r = ⊎_elim (λ h. memory_holds policy timer log moment question reply h r.0) (λ h. rw h.0 (h.1, r.0)) r.1
 
 -- a question that goes on as it was, where no place is gone and what is under way at its own was so before
 play_on : (now : ℕ) (core new : RecursorCore) (told later : Option (List LogEntry)) (start : ℕ) (turns rest left : List Turn) (q : ℕ)
@@ -178,7 +178,7 @@ module _ {P C F E : Type 0} (p : Ghosts P C F E) (patience now : ℕ) (core new 
       (λ ne. plays_moved start turns rest questions plays h k question play asks (sym (slice_get-set_other plays q k (played.Answered reply) ne) ∙ play_k))
       (same_or_not k q)
 
-  -- memory was wanting for one
+  -- memory ran out for one
   pub plays_unanswered : (start : ℕ) (turns rest : List Turn) (questions : List Question) (plays : List QuestionState) (q r : ℕ)
       → slice_get plays q ≡ Some (played.Begun r)
       → PlaysHold core (p.log c.provider) start turns rest questions plays

@@ -1,13 +1,13 @@
 -- Steps of a run at one moment lead on.
 use Rattle.recursor_core.proofs.Names.{◌≡◌, ◌≤◌, ◌∙◌, ℕ, max, refl, subst, arith, Ghosts, Log, Grown-refl, Grown-trans, IsPatient-refl, IsPatient-trans, InFlight, Derived, Leading, Holds, Goes, RecursorCore}
 use Rattle.order_carrier.specs.Patience.{IsPatient}
-use Rattle.recursor_core.proofs.MachineHoldsOn.{holds_derived}
+use Rattle.recursor_core.proofs.MachineHoldsOn.{holds_derived, carries_refl, carries_trans}
 
 module _ {P C F E : Type 0} (p : Ghosts P C F E) where
   -- none at all
   pub leads_refl : (most : ℕ) (core : RecursorCore) (r : InFlight P C F E p) → Holds p most core r → Leading p core.moment most most core core r r
   leads_refl most core r holds = record {
-    vouches = λ es h. h;
+    carries_on = carries_refl p r.carrier;
     runs = holds;
     policy = refl;
     patience = refl;
@@ -20,7 +20,7 @@ module _ {P C F E : Type 0} (p : Ghosts P C F E) where
   pub leads_goes : (now most : ℕ) (core new : RecursorCore) (r later : InFlight P C F E p)
       → Goes p (record { now = now; patience = most }) core new r later → Leading p now most most core new r later
   leads_goes now most core new r later goes = record {
-    vouches = goes.vouches;
+    carries_on = goes.carries_on;
     runs = goes.ready.holds;
     policy = goes.moves.policy;
     patience = refl;
@@ -33,7 +33,7 @@ module _ {P C F E : Type 0} (p : Ghosts P C F E) where
   pub leads_alone : (now most : ℕ) (core new : RecursorCore) (r : InFlight P C F E p) → core.moment ≤ now → new.policy ≡ core.policy
       → new.moment ≡ now → ((log : Log) → Derived core log → Derived new log) → Holds p most core r → Leading p now most most core new r r
   leads_alone now most core new r le policy moment derived holds = record {
-    vouches = λ es h. h;
+    carries_on = carries_refl p r.carrier;
     runs = holds_derived p most core new r policy (omega (arith, moment, le)) derived holds;
     policy = policy;
     patience = refl;
@@ -46,7 +46,7 @@ module _ {P C F E : Type 0} (p : Ghosts P C F E) where
   pub leads_trans : (now i j k : ℕ) (a b c : RecursorCore) (x y z : InFlight P C F E p)
       → Leading p now i j a b x y → Leading p now j k b c y z → Leading p now i k a c x z
   leads_trans now i j k a b c x y z m n = record {
-    vouches = λ es h. m.vouches es (n.vouches es h);
+    carries_on = carries_trans p x.carrier y.carrier z.carrier m.carries_on n.carries_on;
     runs = n.runs;
     policy = n.policy ∙ m.policy;
     patience = n.patience ∙ m.patience;

@@ -4,8 +4,8 @@ use Rattle.order_carrier.specs.Growing.{LongerThan}
 use Rattle.order_carrier.specs.Patience.{IsPatient}
 use Rattle.resolution.specs.Telling.{Logged, moment_of, MomentsRise}
 use Rattle.resolution.specs.Ending.{waits}
-use Rattle.resolution.specs.Asking.{AsksServers}
-use Rattle.recursor_core.specs.Playing.{IsRun}
+use Rattle.resolution.specs.Theorem.{OnlyServersAsked, IsRun}
+use Rattle.recursor_core.proofs.MachineHoldsOn.{carries_refl, carries_trans}
 use Rattle.recursor_core.specs.Runs.{Runs}
 use Rattle.recursor_core.proofs.Timed.{run_first, run_next, contains_later}
 
@@ -86,7 +86,7 @@ played_over start turns old new h es t =
 
 -- what holds of a run's logs, in one
 pub run_is : (policy : Policy) (patience start last : ℕ) (turns : List Turn) (old new : Option (List LogEntry)) → OnLogs old new (IsPlayedOver start turns)
-    → IsPatient (max 1 patience) old new → TellsThat new MomentsRise → TellsThat new (IsPast last) → TellsThat new (AsksServers policy)
+    → IsPatient (max 1 patience) old new → TellsThat new MomentsRise → TellsThat new (IsPast last) → TellsThat new (OnlyServersAsked policy)
     → OnLogs old new (IsRun policy patience start last turns)
 run_is policy patience start last turns old new grown patient rises past asks es t =
     let l = grown es t in
@@ -110,7 +110,7 @@ module _ {P C F E : Type 0} (p : Ghosts P C F E) where
   -- none is played
   pub turning_refl : (turns : List Turn) (run : Run P C F E p) → Runs p run → Turning p turns turns run run
   turning_refl turns run runs = record {
-    vouches = λ es h. h;
+    carries_on = carries_refl p run.runner.carrier;
     runs = runs;
     policy = refl;
     patience = refl;
@@ -124,7 +124,7 @@ module _ {P C F E : Type 0} (p : Ghosts P C F E) where
   pub turning_next : (turns rest : List Turn) (t : Turn) (run mid new : Run P C F E p) → Turning p turns (t ∷ rest) run mid
       → Leads p (max mid.core.moment t.moment) mid new → Turning p turns rest run new
   turning_next turns rest t run mid new m n = record {
-    vouches = λ es h. m.vouches es (n.vouches es h);
+    carries_on = carries_trans p run.runner.carrier mid.runner.carrier new.runner.carrier m.carries_on n.carries_on;
     runs = n.runs;
     policy = n.policy ∙ m.policy;
     patience = n.patience ∙ m.patience;
@@ -149,7 +149,7 @@ module _ {P C F E : Type 0} (p : Ghosts P C F E) where
   -- all are played, and then what is left
   pub turning_over : (turns : List Turn) (run mid new : Run P C F E p) → Turning p turns [] run mid → Leads p mid.core.moment mid new → RunsOver p turns run new
   turning_over turns run mid new m n = record {
-    vouches = λ es h. m.vouches es (n.vouches es h);
+    carries_on = carries_trans p run.runner.carrier mid.runner.carrier new.runner.carrier m.carries_on n.carries_on;
     runs = n.runs;
     policy = n.policy ∙ m.policy;
     patient = IsPatient-trans (max 1 run.patience) (told_by p run) (told_by p mid) (told_by p new) m.patient
@@ -168,10 +168,10 @@ module _ {P C F E : Type 0} (p : Ghosts P C F E) where
         );
   }
 
-  -- nothing was played for want of memory
+  -- nothing was played, since memory ran out
   pub over_refl : (turns : List Turn) (run : Run P C F E p) → Runs p run → RunsOver p turns run run
   over_refl turns run runs = record {
-    vouches = λ es h. h;
+    carries_on = carries_refl p run.runner.carrier;
     runs = runs;
     policy = refl;
     patient = IsPatient-refl (max 1 run.patience) (told_by p run);

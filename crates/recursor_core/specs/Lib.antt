@@ -4,5 +4,4 @@ pub mod Runs
 pub mod Recursor
 pub mod Derived
 pub mod Machine
-pub mod Playing
 pub mod Plays

@@ -106,7 +106,7 @@ StepFor before after was left waits step.Ended = (after ≡ before) × (was ≡ 
 abbrev pub StepIs : RecursorCore → RecursorCore → ℕ → Step → Type 0
 StepIs old new r s = StepFor (given_by old) (given_by new) (need_at old r) (need_at new r) (open_at new r) s
 
--- For want of memory an order may be lost.
+-- Where memory runs out an order may be lost.
 abbrev pub Steps : RecursorCore → RecursorCore → ℕ → Result Step NoMemory → Type 0
 Steps old new r result = MatchResult result (StepIs old new r) (λ e. given_by old ≤ given_by new)
 

@@ -35,7 +35,7 @@ abbrev pub IsUnderWay : List QuestionState → ℕ → Option ℕ → Type 0
 IsUnderWay plays q None = Unit {0}
 IsUnderWay plays q (Some r) = slice_get plays q ≡ Some (played.Begun r)
 
--- The reply refuses the question, whose name is not fully qualified; or memory is wanting.
+-- The reply refuses the question, whose name is not fully qualified; or memory runs out.
 abbrev pub IsRefused : Question → Reply → Type 0
 IsRefused question reply =
     (reply.grounds ≡ []) × ((reply.outcome ≡ Err error.NoMemory) ⊎ ((reply.outcome ≡ Err (error.Message kind.NotQualified)) × (question.query.name.fqdn ≡ false)))
@@ -47,7 +47,7 @@ Begins question now core (played.Begun r) = machine.IsBegunAt core r question no
 Begins question now core (played.Answered reply) = IsRefused question reply.value
 Begins question now core played.Unanswered = Unit {0}
 
--- the reply of a question, or want of memory where it has none
+-- the reply of a question, or out of memory where it has none
 abbrev pub ReplyOf : Option QuestionState → Reply → Type 0
 ReplyOf (Some (played.Answered reply)) given = given ≡ reply.value
 ReplyOf _ given = (given.outcome ≡ Err error.NoMemory) × (given.grounds ≡ [])

@@ -9,6 +9,6 @@ use Rattle.recursor_types.specs.declared.error.RecursorError.TheVariants as erro
 abbrev pub IsSetupKind : MessageKind → Type 0
 IsSetupKind k = (k ≡ kind.FirstDelays) ⊎ (k ≡ kind.NoRoots) ⊎ (k ≡ kind.ReversedTtl)
 
--- for these, or for want of memory
+-- for these, or where memory runs out
 abbrev pub IsSetupError : RecursorError → Type 0
 IsSetupError e = (e ≡ error.Message kind.FirstDelays) ⊎ (e ≡ error.Message kind.NoRoots) ⊎ (e ≡ error.Message kind.ReversedTtl) ⊎ (e ≡ error.NoMemory)

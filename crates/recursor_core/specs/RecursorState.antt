@@ -9,16 +9,18 @@ use Rattle.dns_core.specs.declared.request.Turn.{Turn}
 use Rattle.dns_core.specs.declared.provider.ConnectionProvider.{Ghosts}
 use Rattle.server_core.specs.declared.orders.order.Tick.{Tick}
 use Rattle.resolution.specs.Telling.{MomentsRise}
-use Rattle.resolution.specs.Asking.{AsksServers}
+use Rattle.resolution.specs.Theorem.{OnlyServersAsked}
 use Rattle.resolution.specs.Timing.{known_to_drive}
+use Rattle.resolution.specs.Turns.{begin_moment, run_moments}
 use Rattle.recursor_types.specs.Policy.{policy_of, with_patience}
 use Rattle.recursor_types.specs.declared.options.RecursorOptions.{RecursorOptions}
 use Rattle.recursor_types.specs.declared.policy.Policy.{Policy}
+use Rattle.walk_lookup.specs.Asking.{connect_of}
 use Rattle.walk_lookup.specs.Tried.{Timer, machine_timer}
 use Rattle.recursor_walk.specs.Replies.{ReplyHolds}
+use Rattle.order_carrier.specs.Carrying.{CarriesOn}
 use Rattle.order_carrier.specs.Growing.{TellsThat, Grown, IsPast}
 use Rattle.recursor_core.specs.Derived.{seen_by, Derived}
-use Rattle.recursor_core.specs.Playing.{begin_moment, run_moments}
 use Rattle.order_carrier.specs.Patience.{IsPatient}
 use Rattle.walk_tables.specs.Pools.{PoolsHold}
 use Rattle.walk_lookup.specs.Remembered.{CacheHolds}
@@ -53,17 +55,18 @@ pub record Holds {P C F E : Type 0} (p : Ghosts P C F E) (patience : ℕ) (core 
   pub runner : InFlightHolds p r
   pub patient : core.policy.patience ≤ patience
   pub derived : TellsThat (p.log r.carrier.provider) (Derived core)
-  pub asks : TellsThat (p.log r.carrier.provider) (AsksServers core.policy)
+  pub asks : TellsThat (p.log r.carrier.provider) (OnlyServersAsked core.policy)
   pub past : TellsThat (p.log r.carrier.provider) (IsPast core.moment)
 
--- So it is between two runs, once the questions of the last one are left.
+-- So it is between two runs, once the questions of the last one are left; and connections are opened as the policy says.
 pub record Rests {P C F E : Type 0} (p : Ghosts P C F E) (core : RecursorCore) (r : InFlight P C F E p) : Type 0 where
   pub walks : CanWalk core.policy
   pub runner : InFlightHolds p r
+  pub connects : r.carrier.options ≡ connect_of core.policy.resolver
   pub bound : TellsThat (p.log r.carrier.provider) (λ log. core.greatest < log.next)
   pub cache : TellsThat (p.log r.carrier.provider) (λ log. CacheHolds (seen_by core log) core.cache)
   pub pools : TellsThat (p.log r.carrier.provider) (λ log. PoolsHold (seen_by core log) core.pools)
-  pub asks : TellsThat (p.log r.carrier.provider) (AsksServers core.policy)
+  pub asks : TellsThat (p.log r.carrier.provider) (OnlyServersAsked core.policy)
   pub past : TellsThat (p.log r.carrier.provider) (IsPast core.moment)
   pub rises : TellsThat (p.log r.carrier.provider) MomentsRise
 
@@ -84,9 +87,9 @@ pub record Ready {P C F E : Type 0} (p : Ghosts P C F E) (tick : Tick) (core : R
   pub holds : Holds p tick.patience core r
   pub moment : core.moment ≡ tick.now
 
--- They hold after the step, which moved the log and the questions only so; the provider vouches for no more than before.
+-- They hold after the step, which moved the log and the questions only so; orders go on being carried alike.
 pub record Goes {P C F E : Type 0} (p : Ghosts P C F E) (tick : Tick) (core new_core : RecursorCore) (r new : InFlight P C F E p) : Type 0 where
-  pub vouches : (es : List LogEntry) → p.vouches new.carrier.provider es → p.vouches r.carrier.provider es
+  pub carries_on : CarriesOn p r.carrier new.carrier
   pub ready : Ready p tick new_core new
   pub moves : Moves p tick.patience tick.now core new_core r.carrier new.carrier
 

@@ -1,19 +1,29 @@
 -- A run of questions: what holds of it, and what its steps do.
-use Rattle.std.specs.Prelude.{◌≡◌, ◌≢◌, ◌≤◌, ◌+◌, ℕ, max, List, Option, Contains}
-use Rattle.dns_core.specs.Log.{Log, Extends}
+use Rattle.std.specs.Prelude.{◌≡◌, ◌≢◌, ◌≤◌, ◌+◌, ℕ, max, List, Option, Some, Contains}
+use Rattle.dns_core.specs.Log.{Log, Extends, log_of}
 use Rattle.dns_core.specs.declared.log.LogEntry.{LogEntry}
 use Rattle.dns_core.specs.declared.provider.ConnectionProvider.{Ghosts}
 use Rattle.dns_core.specs.declared.request.Question.{Question}
 use Rattle.dns_core.specs.declared.request.Turn.{Turn}
+use Rattle.resolution.specs.Turns.{IsPlayed, begin_moment, run_moments}
+use Rattle.order_carrier.specs.Carrying.{CarriesOn}
 use Rattle.order_carrier.specs.Growing.{Grown}
 use Rattle.order_carrier.specs.Patience.{IsPatient}
 use Rattle.order_carrier.specs.declared.in_flight.runner.InFlight.{InFlight}
-use Rattle.recursor_core.specs.Playing.{OnLogs, IsPlayed, IsPlayedOver, begin_moment, run_moments}
 use Rattle.recursor_core.specs.RecursorState.{Holds, PlaysHold}
 use Rattle.recursor_core.specs.Turns.{due}
 use Rattle.recursor_core.specs.Plays.{open_plays}
 use Rattle.recursor_core.specs.declared.machine.resolutions.RecursorCore.{RecursorCore}
 use Rattle.recursor_core.specs.declared.run.Run.{Run}
+
+-- This holds of the log before and of the one after, where a log is known.
+abbrev pub OnLogs : Option (List LogEntry) → Option (List LogEntry) → (Log → Log → Type 0) → Type 0
+OnLogs old new Q = (es : List LogEntry) → new ≡ Some es → (before : List LogEntry) × (old ≡ Some before) × Q (log_of before) (log_of es)
+
+-- The log has grown, turn by turn.
+pub record IsPlayedOver (start : ℕ) (turns : List Turn) (before after : Log) : Type 0 where
+  pub extends : Extends before after
+  pub played : IsPlayed start turns before.next after
 
 -- what the provider of a run has told so far
 abbrev pub told_by : {P C F E : Type 0} (p : Ghosts P C F E) → Run P C F E p → Option (List LogEntry)
@@ -24,9 +34,9 @@ abbrev pub Runs : {P C F E : Type 0} (p : Ghosts P C F E) → Run P C F E p → 
 Runs p run = Holds p run.patience run.core run.runner
 
 -- By steps at one moment, which is that of the machine after them, machine and orders came to others that hold: the policy stays, the log has grown
--- at this moment, and none of its entries was waited for beyond patience; the provider vouches for no more than before.
+-- at this moment, and none of its entries was waited for beyond patience; orders go on being carried alike.
 pub record Leading {P C F E : Type 0} (p : Ghosts P C F E) (now most new_most : ℕ) (core new_core : RecursorCore) (r new : InFlight P C F E p) : Type 0 where
-  pub vouches : (es : List LogEntry) → p.vouches new.carrier.provider es → p.vouches r.carrier.provider es
+  pub carries_on : CarriesOn p r.carrier new.carrier
   pub runs : Holds p new_most new_core new
   pub policy : new_core.policy ≡ core.policy
   pub patience : new_most ≡ most
@@ -49,7 +59,7 @@ pub record IsPlayedTo (start : ℕ) (turns : List Turn) (moment : ℕ) (rest : L
 
 -- Some turns of a run are played, and these are left.
 pub record Turning {P C F E : Type 0} (p : Ghosts P C F E) (turns rest : List Turn) (run new : Run P C F E p) : Type 0 where
-  pub vouches : (es : List LogEntry) → p.vouches new.runner.carrier.provider es → p.vouches run.runner.carrier.provider es
+  pub carries_on : CarriesOn p run.runner.carrier new.runner.carrier
   pub runs : Runs p new
   pub policy : new.core.policy ≡ run.core.policy
   pub patience : new.patience ≡ run.patience
@@ -60,7 +70,7 @@ pub record Turning {P C F E : Type 0} (p : Ghosts P C F E) (turns rest : List Tu
 
 -- All turns of a run are played, and what was left of its questions; or nothing was.
 pub record RunsOver {P C F E : Type 0} (p : Ghosts P C F E) (turns : List Turn) (run new : Run P C F E p) : Type 0 where
-  pub vouches : (es : List LogEntry) → p.vouches new.runner.carrier.provider es → p.vouches run.runner.carrier.provider es
+  pub carries_on : CarriesOn p run.runner.carrier new.runner.carrier
   pub runs : Runs p new
   pub policy : new.core.policy ≡ run.core.policy
   pub patient : IsPatient (max 1 run.patience) (told_by p run) (told_by p new)

@@ -3,7 +3,9 @@ ghost use Rattle.std.specs.Prelude.{◌≡◌, ◌≤◌, List, Contains, length
 ghost use Rattle.dns_core.specs.declared.log.LogEntry.{LogEntry};
 ghost use Rattle.order_carrier.specs.Growing.{TellsThat};
 ghost use Rattle.recursor_types.specs.Policy.{with_patience};
-ghost use Rattle.recursor_core.specs.Playing.{OnLogs, IsRun, run_moments};
+ghost use Rattle.resolution.specs.Theorem.{IsRun};
+ghost use Rattle.resolution.specs.Turns.{run_moments};
+ghost use Rattle.recursor_core.specs.Runs.{OnLogs};
 ghost use Rattle.recursor_core.specs.RecursorState.{policy_of_run, RepliesHold};
 
 use crate::recursor::Recursor;

@@ -121,7 +121,7 @@ impl<P: ConnectionProvider> Recursor<P> {
         self.run.core.pool_context()
     }
 
-    /// What each connection is opened with, as the options of its pools say. It fails for want of memory
+    /// What each connection is opened with, as the options of its pools say. It fails where memory runs out
     /// alone.
     pub fn connect_options(&self, alloc: Global) -> Result<ConnectOptions, NoMemory>
         ensures { IfOk result (λ connect. connect ≡ connect_of self.now.policy.resolver) }

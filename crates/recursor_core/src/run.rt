@@ -3,7 +3,7 @@ ghost use Rattle.std.specs.Prelude.{◌≡◌, ◌≤◌, ◌<◌, ◌∷◌, �
 ghost use Rattle.dns_core.specs.declared.request.Question.{Question};
 ghost use Rattle.dns_core.specs.declared.request.Turn.{Turn};
 ghost use Rattle.order_carrier.specs.Growing.{TellsThat};
-ghost use Rattle.recursor_core.specs.Playing.{run_moments};
+ghost use Rattle.resolution.specs.Turns.{run_moments};
 ghost use Rattle.recursor_core.specs.Runs.{Runs, Leads, GoesOn, Turning, RunsOver, PlaysOn, PlaysGoOn, IsDue, told_by, work};
 ghost use Rattle.recursor_core.specs.RecursorState.{RepliesHold};
 ghost use Rattle.recursor_core.specs.Plays.{IsUnderWay};

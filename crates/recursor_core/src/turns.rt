@@ -27,9 +27,9 @@ pub enum TurnResult {
 }
 
 /// Feeds an outcome of an order that is under way to the machine. An order that has ended is forgotten; one
-/// that has ended though it still is under way is given up: after its last poll, or for want of memory. A
-/// late outcome, which no order that is open has, ends the turn as want of memory does; so does want of
-/// memory for the cache.
+/// that has ended though it still is under way is given up: after its last poll, or where memory runs out. A
+/// late outcome, which no order that is open has, ends the turn as out of memory; so does a cache for
+/// which memory runs out.
 fn settle<P: ConnectionProvider>(
     alloc: Global,
     core: &mut RecursorCore,
@@ -228,7 +228,7 @@ fn abandon<P: ConnectionProvider>(
     }
 }
 
-/// A turn of a resolution: its reply, or none where an order stays pending. On want of memory it has
+/// A turn of a resolution: its reply, or none where an order stays pending. Where memory runs out it has
 /// ended.
 pub fn turn_result<P: ConnectionProvider>(
     alloc: Global,

@@ -71,7 +71,7 @@ so-far-step question None was at r s so out given = tt
 so-far-step question (Some c) was at r s (inl is) out given = absurd (out is)
 so-far-step question (Some c) was at r s (inr done) out given = given (reply_with question c) done
 
--- no step comes for want of memory
+-- no step comes where memory runs out
 pub so-far-err : {X : Type 0} (counted : Option SourcedVerdict) (result : Result X NoMemory) (P : SourcedVerdict → X → Type 0) → IsErr result → IfSome counted (λ c. IfOk result (P c))
 so-far-err None result P is = tt
 so-far-err (Some c) (Ok x) P is = cc

@@ -19,7 +19,7 @@ use Rattle.recursor_question.specs.declared.resolving.NextStep.TheVariants as ne
 abbrev pub with-state : Resolution → State → Resolution
 with-state r s = record r { state = s }
 
--- its walk asks the same, and as it did where memory was wanting
+-- its walk asks the same, and as it did where memory ran out
 pub same-walk : {X : Type 0} (r : Resolution) (b : Box Walk) (a : AtServers) (result : Result X NoMemory) → r.state ≡ Walking b → SameSite b.value.asking a
     → OnErr result (a ≡ b.value.asking) → AsksOn result r (with-state r (Walking (record b { value = record b.value { asking = a } })))
 same-walk r b a (Ok x) is site same = ap (λ (q : Query). Some q) site.2 ∙ sym (ap asked_of is)

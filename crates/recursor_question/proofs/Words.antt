@@ -12,12 +12,12 @@ pub use Rattle.resolution.specs.declared.verdict.Verdict.TheVariants.{Pos, Neg, 
 pub use Rattle.resolution.specs.declared.verdict.Verdict.{Verdict}
 pub use Rattle.walk_lookup.specs.LogView.{LogView, Advances}
 pub use Rattle.resolution.specs.Walking.{Walked, NoCutSeen, ReachesName, at_any_time, is_cut}
-pub use Rattle.walk_response.specs.Answer.{made_negative, ends_walk}
+pub use Rattle.walk_response.specs.Answer.{ends_walk}
 pub use Rattle.recursor_types.specs.declared.error.RecursorError.TheVariants.{NoNameServer}
 pub use Rattle.recursor_types.specs.declared.reply.Reply.{Reply}
 pub use Rattle.walk_tables.specs.Lookup.{LeavesLess, want_after, want_steps, LookupHolds, want_of}
 pub use Rattle.recursor_types.specs.declared.error.WalkCause.TheVariants.{NoAddress, Timeout}
-pub use Rattle.recursor_walk.specs.Replies.{CameTo, HasCause, RepliesWith, reply_with, IsReplyKept}
+pub use Rattle.recursor_walk.specs.Replies.{CameTo, RepliesWith, reply_with, IsReplyKept}
 pub use Rattle.recursor_walk.specs.Walk.{IsWalkOutcomeOf, Goes, Recalls, EndsIf, steps_after, Passes, verdict_heard, verdict_found, counting}
 pub use Rattle.recursor_walk.specs.declared.walk.WalkOutcome.{WalkOutcome}
 pub use Rattle.recursor_walk.specs.SourcedVerdict.{IsUsableFor, from_cache, answerable, ReadsAt}

@@ -20,7 +20,7 @@ StateHolds view asked_at question (Asking a) = LastHolds view asked_at question.
 StateHolds view asked_at question (Done reply) = CameTo view asked_at question reply.value
 StateHolds view asked_at question Ended = Unit {0}
 
--- so it stands where memory was not wanting
+-- so it stands where memory did not run out
 abbrev pub StandsSo : LogView → ℕ → Question → Result State NoMemory → Type 0
 StandsSo view asked_at question result = IfOk result (StateHolds view asked_at question)
 

@@ -81,14 +81,14 @@ IsWalking (Asking a) = ⊥
 IsWalking (Done reply) = ⊥
 IsWalking Ended = ⊥
 
--- It is as it was where the walk goes further; else it has at most to ask, has its reply, or has ended for want of memory.
+-- It is as it was where the walk goes further; else it has at most to ask, has its reply, or has ended since memory ran out.
 abbrev pub IsWalked : Query → Result WalkOutcome NoMemory → State → State → Type 0
 IsWalked query (Ok course.Continue) old new = new ≡ old
 IsWalked query (Ok course.ServersReached) old new = state_steps query new ≤ 6
 IsWalked query (Ok (course.Reply reply)) old new = new ≡ Done reply
 IsWalked query (Err e) old new = new ≡ Ended
 
--- it is as it was where it goes on; it has its reply, or has ended for want of memory
+-- it is as it was where it goes on; it has its reply, or has ended since memory ran out
 abbrev pub IsSettled : Result (Option (Box Reply)) NoMemory → State → State → Type 0
 IsSettled (Ok None) old new = new ≡ old
 IsSettled (Ok (Some reply)) old new = new ≡ Done reply
@@ -99,11 +99,11 @@ abbrev pub IsOpen : State → Type 0
 IsOpen Ended = ⊥
 IsOpen _ = Unit {0}
 
--- It has ended where memory was wanting, and nowhere else.
+-- It has ended where memory ran out, and nowhere else.
 abbrev pub StaysOpen : {X : Type 0} → Result X NoMemory → State → Type 0
 StaysOpen result state = MatchResult result (λ x. IsOpen state) (λ e. state ≡ Ended)
 
--- It asks the same; where memory was wanting it is as it was.
+-- It asks the same; where memory ran out it is as it was.
 abbrev pub AsksOn : {X : Type 0} → Result X NoMemory → Resolution → Resolution → Type 0
 AsksOn result old new = MatchResult result (λ x. asked_of new.state ≡ asked_of old.state) (λ e. new ≡ old)
 

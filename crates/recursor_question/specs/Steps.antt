@@ -39,13 +39,13 @@ StepIs old new was r (step.Waiting number) = (given_so_far new ≡ given_so_far 
 StepIs old new was r (step.Done reply) = (given_so_far new ≡ given_so_far old) × (r.state ≡ state.Ended)
 StepIs old new was r step.Ended = (given_so_far new ≡ given_so_far old) × (was.state ≡ state.Ended)
 
--- A step inside it leaves less to do, and gave no order. For want of memory an order may be lost.
+-- A step inside it leaves less to do, and gave no order. Where memory runs out an order may be lost.
 abbrev pub GoesOn : Pools → Pools → Resolution → Resolution → Result Progress NoMemory → Type 0
 GoesOn old new was r (Ok progress.Again) = (steps r < steps was) × (given_so_far new ≡ given_so_far old) × IsOpen r.state
 GoesOn old new was r (Ok (progress.Step s)) = StepIs old new was r s
 GoesOn old new was r (Err e) = given_so_far old ≤ given_so_far new
 
--- what a step gives is derived: an order goes to a server by what was put before, and a reply holds, for which memory was not wanting
+-- what a step gives is derived: an order goes to a server by what was put before, and a reply holds, for which memory did not run out
 abbrev pub StepGives : LogView → Resolution → Step → Type 0
 StepGives view was (step.Order number order) = StepGoes view (stepped.Order number order.value)
 StepGives view was (step.Waiting number) = Unit {0}

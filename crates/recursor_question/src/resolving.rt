@@ -152,7 +152,7 @@ impl Resolution {
     }
 
     /// Is answered with what the cache has for the question, where this may be answered; else its walk
-    /// begins at the roots. On want of memory it has ended.
+    /// begins at the roots. Where memory runs out it has ended.
     pub fn set_out(
         &mut self,
         alloc: Global,
@@ -192,7 +192,7 @@ impl Resolution {
         Ok(())
     }
 
-    /// Goes where its walk has gone; on want of memory it has ended.
+    /// Goes where its walk has gone; where memory runs out it has ended.
     fn follow(&mut self, alloc: Global, came: Result<WalkOutcome, NoMemory>) -> Result<(), NoMemory>
         requires { IsWalking self.old.state }
         ensures steps { IsWalked self.old.question.query came self.old.state self.new.state }
@@ -215,7 +215,7 @@ impl Resolution {
         }
     }
 
-    /// Goes on, or has this reply; on want of memory it has ended.
+    /// Goes on, or has this reply; where memory runs out it has ended.
     fn settle(&mut self, came: Result<Option<Box<Reply>>, NoMemory>) -> Result<(), NoMemory>
         ensures state { IsSettled came self.old.state self.new.state }
         ensures result { IsErr result ↔ IsErr came }
@@ -238,7 +238,7 @@ impl Resolution {
         }
     }
 
-    /// Goes by what the cache has for the present lookup. On want of memory it has ended.
+    /// Goes by what the cache has for the present lookup. Where memory runs out it has ended.
     pub fn recall(
         &mut self,
         alloc: Global,
@@ -267,7 +267,7 @@ impl Resolution {
         }
     }
 
-    /// Hears what came of its order. On want of memory it has ended.
+    /// Hears what came of its order. Where memory runs out it has ended.
     pub fn hear(&mut self, alloc: Global, filter: &AccessControlSet) -> Result<(), NoMemory>
         requires { want_of self.old ≡ NextStep.Send want.Hear }
         ensures falls { steps self.new < steps self.old }

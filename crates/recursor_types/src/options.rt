@@ -66,7 +66,7 @@ fn are_first_delays(delays: &[u8]) -> bool
 impl RecursorOptions {
     /// 1,048,576 responses are kept, from 0 to 86,400 seconds; both limits are 24; answers may have any address; the 22 networks of special purpose are
     /// denied and none is allowed (RFC 6890), no port is avoided, case is not randomized, the payload is
-    /// 1,232 bytes, and each server starts with 1 microsecond. It fails for want of memory alone.
+    /// 1,232 bytes, and each server starts with 1 microsecond. It fails only where memory runs out.
     pub fn standard(alloc: Global) -> Result<RecursorOptions, NoMemory>
         ensures { IfOk result (λ options. options ≡ record {
           response_cache_size = 1048576;

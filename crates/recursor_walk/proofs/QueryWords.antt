@@ -1,5 +1,5 @@
 -- The words that several proofs of this crate speak with, in one place.
-pub use Rattle.std.proofs.Common.{◌≡◌, ℕ, Bool, true, false, cond, List, [], ◌∷◌, ◌++◌, Option, Some, None, Contains, refl, sym, ap, subst, ◌∙◌, ◌≤◌, arith, inl, inr, Result, Ok, Err, IfOk, ◌&&◌, ◌==◌, not, find, filter, if◌then◌else◌, is_none, ◌+◌, ◌*◌, ⊎_elim, IsSomeAnd, map, option_map, IsTrue, IfSome, option_and_then, ◌<◌, ◌↔◌, ◌-◌, length}
+pub use Rattle.std.proofs.Common.{◌≡◌, ℕ, Bool, true, false, cond, List, [], ◌∷◌, ◌++◌, Option, Some, None, Contains, refl, sym, ap, subst, ◌∙◌, ◌≤◌, arith, inl, inr, Result, Ok, Err, IfOk, ◌&&◌, ◌==◌, not, find, filter, if◌then◌else◌, is_none, is_some, ◌+◌, ◌*◌, ⊎_elim, IsSomeAnd, map, option_map, IsTrue, IfSome, option_and_then, ◌<◌, ◌↔◌, ◌-◌, length}
 pub use Rattle.std.proofs.lemmas.Option.{same_Some, none-some}
 pub use Rattle.std.proofs.lemmas.List.Elements.{filter-append, All-contains, All-weaker, All-contains_itself, recursion_from_All}
 pub use Rattle.std.specs.Cmp.{second_so, first_so}
@@ -16,8 +16,7 @@ pub use Rattle.dns_core.specs.declared.net_error.ForwardNsData.{ForwardNsData}
 pub use Rattle.dns_core.specs.declared.net_error.NetError.{NetError}
 pub use Rattle.resolution.specs.Names.{candidates, walk, question, last_name, same_query, root, base, is_above, is_root}
 pub use Rattle.resolution.specs.Serving.{is_delegation, glue, allowed, Serves, Delegates}
-pub use Rattle.resolution.specs.Answering.{Base, IsCurrent, IsOwn, Answer}
-pub use Rattle.resolution.specs.Answering.Answers.{direct, by_alias}
+pub use Rattle.resolution.specs.Answering.{Base, IsOwn}
 pub use Rattle.resolution.specs.Ending.{FinishedLookup, LookupTiming, EndSends}
 pub use Rattle.resolution.specs.declared.verdict.Verdict.TheVariants.{Pos, Neg, Made}
 pub use Rattle.resolution.specs.declared.verdict.Verdict.{Verdict}
@@ -28,9 +27,16 @@ pub use Rattle.walk_lookup.specs.LogView.{LogView, Advances}
 pub use Rattle.walk_lookup.specs.Tried.{Concluded, machine_timer}
 pub use Rattle.resolution.specs.Walking.{Walked, ReachesName, is_cut}
 pub use Rattle.resolution.proofs.Sameness.{Same-refl, SameRecords-refl}
-pub use Rattle.walk_lookup.specs.Asked.{AskedAs}
+pub use Rattle.resolution.specs.Negatives.{SameIfAny, SameReferral, SameReferrals, SameNegative, IsMadeFor, AskedAs, received_negative, made_negative}
+pub use Rattle.resolution.specs.Causes.{RestsOn, IsNegative, IsReferral, LookupFailed, NoServerFound, CauseOf}
+pub use Rattle.resolution.specs.Causes.IsAnsweredBy.{itself, on_the_way}
+pub use Rattle.resolution.specs.Causes.IsNegative.{received, made}
+pub use Rattle.resolution.specs.Causes.IsReferral.{referred}
+pub use Rattle.resolution.specs.Theorem.{AnswerIsSound, OutcomeIsSound}
+pub use Rattle.resolution.proofs.SoundOutcomes.{error-sound, outcome-sound, outcome-carried}
+pub use Rattle.resolution.proofs.NoLinks.{leads-here, leads-anywhere}
 pub use Rattle.walk_response.specs.Shown.{IsShown, nothing_left_for, left_of_class}
-pub use Rattle.walk_response.specs.Answer.{told_data, made_data, told_negative, made_negative, ends_walk, outcome_of}
+pub use Rattle.walk_response.specs.Answer.{told_negative, ends_walk, outcome_of}
 pub use Rattle.recursor_types.specs.declared.error.RecursorError.{RecursorError}
 pub use Rattle.recursor_types.specs.declared.error.RecursorError.TheVariants.{Negative, ForwardNS, Net}
 pub use Rattle.recursor_types.specs.declared.reply.Reply.{Reply}
@@ -43,9 +49,6 @@ pub use Rattle.walk_lookup.proofs.LookupAdvances.{below-greater, given-is, walke
 pub use Rattle.recursor_types.specs.declared.error.AuthorityData.{AuthorityData}
 pub use Rattle.recursor_types.specs.declared.error.WalkCause.{WalkCause}
 pub use Rattle.kept_responses.specs.Lowering.{lowered_record, lowered_message, lowered_delegation, lowered_denial, lowered}
-pub use Rattle.recursor_walk.specs.Replies.{IsToldAnswer, OutcomeCame, CameTo, HasCause, RepliesSo, OutcomeHolds, Replied}
-pub use Rattle.recursor_walk.specs.Causes.{IsDenied, HasFailed, HasNoAddress, IsReferred, HasNoServer, ErrorHolds}
-pub use Rattle.recursor_walk.specs.Causes.IsDenied.{told_on_the_way, made_on_the_way}
-pub use Rattle.recursor_walk.specs.Causes.IsReferred.{referred}
+pub use Rattle.recursor_walk.specs.Replies.{OutcomeCame, CameTo, ErrorCame, HadMemory, RepliesSo, Replied}
 pub use Rattle.recursor_walk.specs.SourcedVerdict.{IsUsableFor, Answers, IsOwnVerdict, counted_for, from_cache, may_answer, answerable, IsRecalled}
-pub use Rattle.recursor_walk.specs.SameTold.{SameIfAny, SameReferrals, SameNegative, SameVerdict, ShowsAsked, IsMadeFor, SameReferral, SameDenial}
+pub use Rattle.recursor_walk.specs.SameTold.{SameNoRecords, SameVerdict, ShowsAsked}

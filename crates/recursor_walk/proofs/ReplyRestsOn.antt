@@ -1,5 +1,5 @@
 -- What a reply rests on.
-use Rattle.recursor_walk.proofs.QueryWords.{◌≡◌, ℕ, IsTrue, Bool, true, false, cond, List, [], ◌∷◌, ◌++◌, Option, Some, None, Contains, refl, sym, ap, subst, ◌∙◌, ◌≤◌, arith, inl, inr, Result, Ok, Err, IfOk, ◌&&◌, ◌==◌, not, find, filter, if◌then◌else◌, is_none, same_Some, none-some, filter-append, second_so, IpAddr, DomainName, Log, Query, Message, Record, Question, NoRecords, ForwardNsData, NetError, candidates, walk, question, is_delegation, glue, allowed, Base, direct, FinishedLookup, Pos, Neg, Made, Verdict, Filter, Zone, Same-is_delegation, Same-glue, Same-strip, Same, LogView, IsToldAnswer, OutcomeCame, CameTo, HasCause, RepliesSo, Concluded, machine_timer, IsDenied, HasFailed, HasNoAddress, Walked, Same-refl, told_on_the_way, made_on_the_way, referred, IsUsableFor, Answers, IsOwnVerdict, ReachesName, AskedAs, SameIfAny, SameReferrals, SameNegative, SameVerdict, ShowsAsked, IsMadeFor, IsShown, nothing_left_for, left_of_class, told_data, made_data, told_negative, made_negative, ends_walk, outcome_of, RecursorError, Negative, ForwardNS, Reply, same_query-refl, answer_whole}
+use Rattle.recursor_walk.proofs.QueryWords.{◌≡◌, ℕ, IsTrue, Bool, true, false, cond, List, [], ◌∷◌, ◌++◌, Option, Some, None, Contains, refl, sym, ap, subst, ◌∙◌, ◌≤◌, arith, inl, inr, Result, Ok, Err, IfOk, ◌&&◌, ◌==◌, not, is_some, find, filter, if◌then◌else◌, is_none, same_Some, none-some, filter-append, second_so, IpAddr, DomainName, Log, Query, Message, Record, Question, NoRecords, ForwardNsData, NetError, candidates, walk, question, is_delegation, glue, allowed, Base, FinishedLookup, Pos, Neg, Made, Verdict, Filter, Zone, Same-is_delegation, Same-glue, Same-strip, Same, LogView, AnswerIsSound, OutcomeCame, CameTo, ErrorCame, HadMemory, RepliesSo, Concluded, machine_timer, IsNegative, LookupFailed, NoServerFound, Walked, Same-refl, itself, on_the_way, received, made, referred, error-sound, outcome-sound, leads-here, IsUsableFor, Answers, IsOwnVerdict, ReachesName, AskedAs, SameIfAny, SameReferrals, SameNoRecords, SameVerdict, ShowsAsked, IsMadeFor, IsShown, nothing_left_for, left_of_class, received_negative, told_negative, made_negative, ends_walk, outcome_of, RecursorError, Negative, ForwardNS, Reply, same_query-refl, answer_whole}
 use Rattle.dns_core.specs.declared.errors.NoMemory.{NoMemory}
 use Rattle.std.specs.Global.{Box}
 use Rattle.std.proofs.lemmas.Result.{IfOk-weaker}
@@ -14,7 +14,9 @@ use Rattle.resolution.specs.declared.verdict.Cause.{Cause}
 use Rattle.walk_response.specs.Response.{error_of}
 use Rattle.walk_lookup.specs.LookupResult.{IsToldAs}
 use Rattle.dns_core.specs.declared.log.ToldOutcome.{ToldOutcome}
-use Rattle.recursor_walk.specs.Causes.IsDenied.{told as denial_told, made as denial_made}
+use Rattle.resolution.specs.Causes.{is_lookup_error}
+use Rattle.recursor_types.specs.declared.error.WalkCause.TheVariants as why
+use Rattle.recursor_types.specs.declared.error.RecursorError.TheVariants as error
 use Rattle.walk_lookup.proofs.ResponseCounts.{Counts, counts-of}
 use Rattle.recursor_walk.proofs.SameButTtls.{negative_same, data_same}
 use Rattle.resolver_settings.specs.Access.{denies as access_denies}
@@ -39,7 +41,7 @@ own-of view t0 q zone moment (Made cause) late reaches = tt
 -- what is shown so is the same
 shown-same : (q : Query) (v whole : Verdict) → IsShown q v whole → SameVerdict q v whole
 shown-same q (Pos a) (Pos b) h = subst (Same a) h (Same-refl a)
-shown-same q (Neg a) (Neg b) h = subst (SameNegative a) h (negative_same a)
+shown-same q (Neg a) (Neg b) h = subst (SameNoRecords a) h (negative_same a)
 shown-same q (Neg a) (Made Filter) h = record { first = q; same = same_query-refl q; is = h }
 shown-same q (Made a) (Made b) h = h
 shown-same q _ _ h = absurd h
@@ -134,28 +136,38 @@ told-answers view t0 zone q entry v h walked reaches =
 -- ---- replies
 
 -- a response that stands is the answer, less what was not asked for
-told-by : (view : LogView) (t0 : ℕ) (q : Query) (entry : ℕ) (zone : DomainName) (kept : Message) (dnssec : Bool) (whole : Verdict)
-    → (base : Base view.policy view.log t0 q entry zone whole) → IsOwnVerdict view t0 q zone base.moment whole → Walked view.policy view.log q zone
-    → SameVerdict q (Pos kept) whole → IsToldAnswer view.policy view.log t0 q dnssec (entry ∷ []) (strip_of kept dnssec)
-told-by view t0 q entry zone kept dnssec (Pos before) base own walked same =
-    let stripped = Same-strip kept before dnssec same in
-    record {
-      entry = entry;
-      zone = zone;
-      kept = before;
-      only = refl;
-      base = base;
-      walked = walked;
-      own = own;
-      same = stripped;
-      answer = λ done. record { answers = direct base own done stripped; few = omega arith };
-    }
-told-by view t0 q entry zone kept dnssec _ base own walked same = absurd same
+told-by : (view : LogView) (t0 : ℕ) (asked : Question) (entry : ℕ) (zone : DomainName) (kept : Message) (whole : Verdict)
+    → (base : Base view.policy view.log t0 asked.query entry zone whole) → IsOwnVerdict view t0 asked.query zone base.moment whole → Walked view.policy view.log asked.query zone
+    → SameVerdict asked.query (Pos kept) whole → AnswerIsSound view.policy view.log t0 asked (entry ∷ []) (strip_of kept asked.dnssec_ok)
+told-by view t0 asked entry zone kept (Pos before) base own walked same = record {
+  links = [];
+  last = asked.query;
+  entry = entry;
+  zone = zone;
+  kept = before;
+  leads = leads-here;
+  rest = refl;
+  base = base;
+  deepest = walked;
+  own = own;
+  same = Same-strip kept before asked.dnssec_ok same;
+}
+told-by view t0 asked entry zone kept _ base own walked same = absurd same
 
-pub told-answer : (view : LogView) (t0 : ℕ) (q : Query) (entry : ℕ) (kept : Message) (dnssec : Bool)
-    → Answers view t0 q entry (Pos kept) → IsToldAnswer view.policy view.log t0 q dnssec (entry ∷ []) (strip_of kept dnssec)
-told-answer view t0 q entry kept dnssec h =
-    told-by view t0 q entry h.stands.zone kept dnssec h.stands.whole h.stands.base h.own h.stands.walked h.stands.same
+pub told-answer : (view : LogView) (t0 : ℕ) (asked : Question) (entry : ℕ) (kept : Message)
+    → Answers view t0 asked.query entry (Pos kept) → AnswerIsSound view.policy view.log t0 asked (entry ∷ []) (strip_of kept asked.dnssec_ok)
+told-answer view t0 asked entry kept h =
+    told-by view t0 asked entry h.stands.zone kept h.stands.whole h.stands.base h.own h.stands.walked h.stands.same
+
+-- an error that has a cause in the log is not out of memory
+had-memory : (view : LogView) (t0 : ℕ) (q : Query) (g : List ℕ) (e : RecursorError) → ErrorCame view t0 q g e → HadMemory (Err e)
+had-memory view t0 q g error.NoMemory h = absurd h.cause
+had-memory view t0 q g _ h = tt
+
+-- a question comes to an error by its cause
+pub error-came : (view : LogView) (t0 : ℕ) (asked : Question) (g : List ℕ) (e : RecursorError) → ErrorCame view t0 asked.query g e → OutcomeCame view t0 asked g (Err e)
+error-came view t0 asked g e h =
+    (outcome-sound view.policy (machine_timer view.moment view.log t0) view.log t0 asked g e h, had-memory view t0 asked.query g e h)
 
 -- a reply with what a question has come to
 pub replies : (view : LogView) (t0 : ℕ) (asked : Question) (r : Result (Box Reply) NoMemory) (outcome : Result Message RecursorError) (g : List ℕ)
@@ -164,11 +176,12 @@ replies view t0 asked r outcome g is came =
     IfOk-weaker r _ (λ reply. CameTo view t0 asked reply.value) (λ reply e. subst (CameTo view t0 asked) (sym e) came) is
 
 -- a lookup for a question at the servers of the zone to which its walk went down failed
-pub has-failed : (view : LogView) (t0 : ℕ) (zone : DomainName) (asked q : Query) (g : List ℕ) (e : NetError)
-    → asked ≡ q → Concluded view t0 zone asked g (Err e) → Walked view.policy view.log q zone
-    → HasFailed view.policy (machine_timer view.moment view.log t0) view.log t0 q g e
-has-failed view t0 zone asked q g e same ended walked = record {
+pub lookup-failed : (view : LogView) (t0 : ℕ) (zone : DomainName) (asked q : Query) (g : List ℕ) (e : NetError)
+    → IsTrue (is_lookup_error e) → asked ≡ q → Concluded view t0 zone asked g (Err e) → Walked view.policy view.log q zone
+    → LookupFailed view.policy (machine_timer view.moment view.log t0) view.log t0 q g e
+lookup-failed view t0 zone asked q g e is same ended walked = record {
   zone = zone;
+  is = is;
   ended = subst (λ (p : Query). FinishedLookup view.policy (machine_timer view.moment view.log t0) view.log t0 p zone g (Err e)) same ended;
   walked = walked;
 }
@@ -182,22 +195,22 @@ first-asked log i n first is a = subst (AskedAs log i) (ap (λ (m : NoRecords). 
 -- a negative that is answered at last: itself, or a referral
 negative-by : (view : LogView) (t0 : ℕ) (q : Query) (entry : ℕ) (zone : DomainName) (n : NoRecords) (whole : Verdict)
     → Base view.policy view.log t0 q entry zone whole → Walked view.policy view.log q zone → SameVerdict q (Neg n) whole → ShowsAsked view.log entry q (Neg n) whole
-    → HasCause view t0 q (entry ∷ []) (told_negative n)
+    → ErrorCame view t0 q (entry ∷ []) (told_negative n)
 negative-by view t0 q entry zone n (Made Filter) base walked same asked =
-    subst (λ (m : NoRecords). HasCause view t0 q (entry ∷ []) (told_negative m)) (sym same.is)
-    (denial_made {p = same.first} base walked same.same (first-asked view.log entry n same.first same.is asked), tt)
+    subst (λ (m : NoRecords). ErrorCame view t0 q (entry ∷ []) (told_negative m)) (sym same.is)
+    (error-sound (made {shown = same.first} {cause = Filter} itself (record { base = base; walked = walked }) same.same (first-asked view.log entry n same.first same.is asked)))
 negative-by view t0 q entry zone n (Neg before) base walked same asked = by n.ns before.ns refl same.ns
   where
     by : (o p : Option (List ForwardNsData)) → before.ns ≡ p → SameIfAny SameReferrals o p
-        → HasCause view t0 q (entry ∷ []) (elim o [ Some forward ↦ ForwardNS forward | None ↦ Negative (told_data n) ])
-    by None None e alike = (denial_told base walked e (data_same n before same), tt)
-    by (Some forward) (Some servers) e alike = (referred base walked e alike, tt)
+        → ErrorCame view t0 q (entry ∷ []) (elim o [ Some forward ↦ ForwardNS forward | None ↦ Negative (received_negative n) ])
+    by None None e alike = error-sound (received itself (record { base = base; walked = walked }) e (data_same n before same))
+    by (Some forward) (Some servers) e alike = error-sound (referred (record { base = base; walked = walked }) e alike)
     by _ _ e alike = absurd alike
 negative-by view t0 q entry zone n _ base walked same asked = absurd same
 
 answers-negative : (view : LogView) (t0 : ℕ) (q : Query) (entry : ℕ) (n : NoRecords)
     → IsUsableFor view t0 q entry (Neg n)
-    → HasCause view t0 q (entry ∷ []) (told_negative n)
+    → ErrorCame view t0 q (entry ∷ []) (told_negative n)
 answers-negative view t0 q entry n h = negative-by view t0 q entry h.zone n h.whole h.base h.walked h.same h.asked
 
 -- a question is the same as itself, in any case
@@ -207,25 +220,25 @@ made-for Zone q = refl
 
 -- a negative that the recursor makes, where one that it made before is a denial
 made-by : (view : LogView) (t0 : ℕ) (q p : Query) (entry : ℕ) (zone : DomainName) (cause : Cause) (whole : Verdict)
-    → ((before : Cause) → Base view.policy view.log t0 p entry zone (Made before) → IsMadeFor before p p → IsDenied view.policy view.log t0 q (entry ∷ []) (made_data p before))
-    → Base view.policy view.log t0 p entry zone whole → SameVerdict p (Made cause) whole → HasCause view t0 q (entry ∷ []) (made_negative p cause)
+    → ((before : Cause) → Base view.policy view.log t0 p entry zone (Made before) → IsMadeFor before p p → IsNegative view.policy view.log t0 q (entry ∷ []) (made_negative p before))
+    → Base view.policy view.log t0 p entry zone whole → SameVerdict p (Made cause) whole → ErrorCame view t0 q (entry ∷ []) (Negative (made_negative p cause))
 made-by view t0 q p entry zone cause (Made before) denies base same =
-    subst (λ (x : Cause). HasCause view t0 q (entry ∷ []) (made_negative p x)) (sym same) (denies before base (made-for before p), tt)
+    subst (λ (x : Cause). ErrorCame view t0 q (entry ∷ []) (Negative (made_negative p x))) (sym same) (error-sound (denies before base (made-for before p)))
 made-by view t0 q p entry zone cause _ denies base same = absurd same
 
 answers-made : (view : LogView) (t0 : ℕ) (q : Query) (entry : ℕ) (cause : Cause)
     → IsUsableFor view t0 q entry (Made cause)
-    → HasCause view t0 q (entry ∷ []) (made_negative q cause)
+    → ErrorCame view t0 q (entry ∷ []) (Negative (made_negative q cause))
 answers-made view t0 q entry cause h =
-    made-by view t0 q q entry h.zone cause h.whole (λ before base same. denial_made base h.walked same h.asked) h.base h.same
+    made-by view t0 q q entry h.zone cause h.whole (λ before base same. made itself (record { base = base; walked = h.walked }) same h.asked) h.base h.same
 
 -- what counts for the question and may be answered is the cause of what is answered with it
 pub answered-by : (view : LogView) (t0 : ℕ) (asked : Question) (entry : ℕ) (v : Verdict)
     → Answers view t0 asked.query entry v
     → OutcomeCame view t0 asked (entry ∷ []) (outcome_of asked v)
-answered-by view t0 asked entry (Pos kept) h = (told-answer view t0 asked.query entry kept asked.dnssec_ok h, tt)
-answered-by view t0 asked entry (Neg n) h = answers-negative view t0 asked.query entry n h.stands
-answered-by view t0 asked entry (Made cause) h = answers-made view t0 asked.query entry cause h.stands
+answered-by view t0 asked entry (Pos kept) h = (told-answer view t0 asked entry kept h, tt)
+answered-by view t0 asked entry (Neg n) h = error-came view t0 asked (entry ∷ []) (told_negative n) (answers-negative view t0 asked.query entry n h.stands)
+answered-by view t0 asked entry (Made cause) h = error-came view t0 asked (entry ∷ []) (Negative (made_negative asked.query cause)) (answers-made view t0 asked.query entry cause h.stands)
 
 -- a negative that ends a walk names no servers
 ends-none : (n : NoRecords) → ends_walk n ≡ true → n.ns ≡ None
@@ -235,8 +248,16 @@ ends-none n e = by n.ns (second_so (n.response_code.code == 3) (is_none n.ns) e)
     by None h = refl
     by (Some forward) h = cc
 
+-- nor does the verdict that was told
+names-none : (before : NoRecords) → failing.ends_walk (Neg before) ≡ true → before.ns ≡ None
+names-none before e = by before.ns (second_so (before.response_code.code == 3) (not (is_some before.ns)) e)
+  where
+    by : (o : Option (List ForwardNsData)) → not (is_some o) ≡ true → o ≡ None
+    by None h = refl
+    by (Some forward) h = cc
+
 -- the same test of the verdict that was told
-ends-verdict : (n before : NoRecords) → SameNegative n before → ends_walk n ≡ true → failing.ends_walk (Neg before) ≡ true
+ends-verdict : (n before : NoRecords) → SameNoRecords n before → ends_walk n ≡ true → failing.ends_walk (Neg before) ≡ true
 ends-verdict n before same e =
     sym (ap (λ (m : NoRecords). m.response_code.code == 3 && is_none n.ns) same.rest
     ∙ ap (λ (b : Bool). before.response_code.code == 3 && b) (both-none n.ns before.ns same.ns)) ∙ e
@@ -250,26 +271,27 @@ ends-verdict n before same e =
 way-negative-by : (view : LogView) (t0 : ℕ) (q : Query) (entry : ℕ) (zone c : DomainName) (n : NoRecords) (whole : Verdict)
     → IsTrue view.policy.strict → Contains (candidates (walk q)) c → Base view.policy view.log t0 (question c 2) entry zone whole
     → Walked view.policy view.log (question c 2) zone → SameVerdict (question c 2) (Neg n) whole → ShowsAsked view.log entry (question c 2) (Neg n) whole → ends_walk n ≡ true
-    → HasCause view t0 q (entry ∷ []) (told_negative n)
+    → ErrorCame view t0 q (entry ∷ []) (told_negative n)
 way-negative-by view t0 q entry zone c n (Made Filter) strict has base walked same asked ends =
-    subst (λ (m : NoRecords). HasCause view t0 q (entry ∷ []) (told_negative m)) (sym same.is)
-    (made_on_the_way {p = same.first} strict has base walked same.same (first-asked view.log entry n same.first same.is asked), tt)
+    subst (λ (m : NoRecords). ErrorCame view t0 q (entry ∷ []) (told_negative m)) (sym same.is)
+    (error-sound (made {shown = same.first} {cause = Filter} (on_the_way strict has refl) (record { base = base; walked = walked }) same.same (first-asked view.log entry n same.first same.is asked)))
 way-negative-by view t0 q entry zone c n (Neg before) strict has base walked same asked ends =
-    rw (ends-none n ends) (told_on_the_way strict has base walked (ends-verdict n before same ends) (data_same n before same), tt)
+    let ends_before = ends-verdict n before same ends in
+    rw (ends-none n ends) (error-sound (received (on_the_way strict has ends_before) (record { base = base; walked = walked }) (names-none before ends_before) (data_same n before same)))
 way-negative-by view t0 q entry zone c n _ strict has base walked same asked ends = absurd same
 
 pub answers-on-the-way : (view : LogView) (t0 : ℕ) (q : Query) (entry : ℕ) (c : DomainName) (n : NoRecords)
     → IsTrue view.policy.strict → Contains (candidates (walk q)) c → IsUsableFor view t0 (question c 2) entry (Neg n) → ends_walk n ≡ true
-    → HasCause view t0 q (entry ∷ []) (told_negative n)
+    → ErrorCame view t0 q (entry ∷ []) (told_negative n)
 answers-on-the-way view t0 q entry c n strict has h ends =
     way-negative-by view t0 q entry h.zone c n h.whole strict has h.base h.walked h.same h.asked ends
 
 -- one that it makes at a candidate
 pub made-on-the-way : (view : LogView) (t0 : ℕ) (q : Query) (entry : ℕ) (c : DomainName) (cause : Cause)
     → IsTrue view.policy.strict → Contains (candidates (walk q)) c → IsUsableFor view t0 (question c 2) entry (Made cause)
-    → HasCause view t0 q (entry ∷ []) (made_negative (question c 2) cause)
+    → ErrorCame view t0 q (entry ∷ []) (Negative (made_negative (question c 2) cause))
 made-on-the-way view t0 q entry c cause strict has h =
-    made-by view t0 q (question c 2) entry h.zone cause h.whole (λ before base same. made_on_the_way strict has base h.walked same h.asked) h.base h.same
+    made-by view t0 q (question c 2) entry h.zone cause h.whole (λ before base same. made (on_the_way strict has refl) (record { base = base; walked = h.walked }) same h.asked) h.base h.same
 
 -- ---- delegations without addresses
 
@@ -281,25 +303,25 @@ none-in (x ∷ xs) h = absurd (h x (0, omega arith, refl))
 -- a delegation that stands and gives no address that may be asked
 glueless-by : (view : LogView) (t0 : ℕ) (q : Query) (zone c : DomainName) (entry : ℕ) (kept : Message) (whole : Verdict)
     → Contains (candidates (walk q)) c → Base view.policy view.log t0 (question c 2) entry zone whole → SameVerdict (question c 2) (Pos kept) whole
-    → is_delegation kept c ≡ true → allowed (access_denies view.policy.server_filter) (glue kept c) ≡ [] → HasNoAddress view.policy view.log t0 q
-glueless-by view t0 q zone c entry kept (Pos before) has base same delegates none = record {
-  candidate = c;
-  told = before;
-  on_the_way = has;
-  glueless = record {
+    → is_delegation kept c ≡ true → allowed (access_denies view.policy.server_filter) (glue kept c) ≡ [] → NoServerFound view.policy (machine_timer view.moment view.log t0) view.log t0 q why.NoAddress
+glueless-by view t0 q zone c entry kept (Pos before) has base same delegates none = (
+  c,
+  before,
+  has,
+  record {
     i = entry;
     z = zone;
     base = base;
     delegates = sym (Same-is_delegation kept before c same) ∙ delegates;
     none = subst (λ (ips : List IpAddr). allowed (access_denies view.policy.server_filter) ips ≡ []) (Same-glue kept before c same) none;
-  };
-}
+  },
+)
 glueless-by view t0 q zone c entry kept _ has base same delegates none = absurd same
 
 pub glueless-of : (view : LogView) (t0 : ℕ) (q : Query) (c : DomainName) (asked : Query) (entry : ℕ) (kept : Message)
     → Contains (candidates (walk q)) c → IsUsableFor view t0 asked entry (Pos kept) → asked ≡ question c 2 → is_delegation kept c ≡ true
     → ((ip : IpAddr) → Contains (allowed (access_denies view.policy.server_filter) (glue kept c)) ip → ⊥)
-    → HasNoAddress view.policy view.log t0 q
+    → NoServerFound view.policy (machine_timer view.moment view.log t0) view.log t0 q why.NoAddress
 glueless-of view t0 q c asked entry kept has h is delegates none =
     let now = subst (λ (p : Query). IsUsableFor view t0 p entry (Pos kept)) is h in
     glueless-by view t0 q now.zone c entry kept now.whole has now.base now.same delegates

@@ -1,5 +1,5 @@
 -- What reads later is the same but for TTLs.
-use Rattle.recursor_walk.proofs.QueryWords.{◌≡◌, ℕ, List, [], ◌∷◌, Option, Some, None, refl, ap, arith, map, option_map, AllZip, Record, Message, ForwardNsData, NoRecords, lowered_record, lowered_message, lowered_delegation, lowered_denial, SameRecord, SameRecords, Same, SameRecords-refl, SameIfAny, SameReferral, SameReferrals, SameNegative, SameDenial, told_data}
+use Rattle.recursor_walk.proofs.QueryWords.{◌≡◌, ℕ, List, [], ◌∷◌, Option, Some, None, refl, ap, arith, map, option_map, AllZip, Record, Message, ForwardNsData, NoRecords, lowered_record, lowered_message, lowered_delegation, lowered_denial, SameRecord, SameRecords, Same, SameRecords-refl, SameIfAny, SameReferral, SameReferrals, SameNoRecords, SameNegative, received_negative}
 
 -- ---- itself
 
@@ -14,7 +14,7 @@ referrals_same : (xs : List ForwardNsData) → SameReferrals xs xs
 referrals_same [] = tt
 referrals_same (x ∷ xs) = (record { ns = record_same x.ns; glue = SameRecords-refl x.glue }, referrals_same xs)
 
-pub negative_same : (n : NoRecords) → SameNegative n n
+pub negative_same : (n : NoRecords) → SameNoRecords n n
 negative_same n = record { soa = any_same SameRecord record_same n.soa; ns = any_same SameReferrals referrals_same n.ns; authorities = SameRecords-refl n.authorities; rest = refl }
 
 -- ---- lowered
@@ -44,7 +44,7 @@ lower_message n m = record {
 lower_referrals : (n : ℕ) (xs : List ForwardNsData) → SameReferrals (map (lowered_delegation n) xs) xs
 lower_referrals n = lower_all SameReferral (lowered_delegation n) (λ x. record { ns = lower_record n x.ns; glue = lower_records n x.glue })
 
-pub lower_denial : (n : ℕ) (d : NoRecords) → SameNegative (lowered_denial n d) d
+pub lower_denial : (n : ℕ) (d : NoRecords) → SameNoRecords (lowered_denial n d) d
 lower_denial n d = record {
   soa = lower_any SameRecord (lowered_record n) (lower_record n) d.soa;
   ns = lower_any SameReferrals (map (lowered_delegation n)) (lower_referrals n) d.ns;
@@ -55,7 +55,7 @@ lower_denial n d = record {
 -- ---- what is answered for a negative
 
 -- the same but for TTLs, where the negative is
-pub data_same : (a b : NoRecords) → SameNegative a b → SameDenial (told_data a) (told_data b)
+pub data_same : (a b : NoRecords) → SameNoRecords a b → SameNegative (received_negative a) (received_negative b)
 data_same a b h = record {
   soa = h.soa;
   authorities = h.authorities;
@@ -63,5 +63,5 @@ data_same a b h = record {
 }
   where
     data_rest : a ≡ record b { soa = a.soa; ns = a.ns; authorities = a.authorities }
-        → told_data a ≡ record (told_data b) { soa = a.soa; authorities = a.authorities }
-    data_rest e = ap (λ (n : NoRecords). record (told_data n) { soa = a.soa; authorities = a.authorities }) e
+        → received_negative a ≡ record (received_negative b) { soa = a.soa; authorities = a.authorities }
+    data_rest e = ap (λ (n : NoRecords). record (received_negative n) { soa = a.soa; authorities = a.authorities }) e

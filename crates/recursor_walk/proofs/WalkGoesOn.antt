@@ -5,7 +5,7 @@ use Rattle.std.specs.Prelude.{drop}
 use Rattle.std.specs.Cmp.{second_so, first_so}
 use Rattle.std.specs.declared.net.ip_addr.IpAddr.{IpAddr}
 use Rattle.walk_lookup.specs.Tried.{Concluded, machine_timer}
-use Rattle.recursor_walk.specs.Causes.{HasNoServer}
+use Rattle.resolution.specs.Causes.{NoServerFound}
 use Rattle.dns_core.specs.declared.message.Message.{Message}
 use Rattle.resolution.specs.Serving.{is_delegation, glue, allowed}
 use Rattle.std.proofs.lemmas.Result.{IfOk-weaker}
@@ -16,7 +16,7 @@ use Rattle.walk_lookup.specs.PendingLookup.{ZoneServers, ServersForQuery}
 use Rattle.recursor_walk.specs.declared.zone_query.asking.ZoneQuery.{ZoneQuery}
 use Rattle.walk_tables.specs.declared.lookup.Lookup.{Lookup}
 use Rattle.resolution.proofs.WayDown.{above-last, last-above, last-length, walked-from-passed, walked-at-candidate, passed-at-candidate}
-use Rattle.recursor_walk.proofs.ReplyRestsOn.{has-failed}
+use Rattle.recursor_walk.proofs.ReplyRestsOn.{lookup-failed}
 use Rattle.recursor_walk.proofs.TimelyForEarlier.{Finished-earlier}
 use Rattle.recursor_walk.proofs.CandidatesAndServers.{among, cut-same, roots-pool, root-above-for, cut-delegates, cut-pool}
 use Rattle.recursor_walk.specs.Walk.{steps}
@@ -98,14 +98,14 @@ module _ (view : LogView) (q : Query) (w : Walk) (way : WayHolds view q w) where
 
   -- the servers stayed silent for the candidate
   pub timed-out : (t0 : ℕ) → Concluded view t0 w.asking.zone w.asking.lookup.query w.asking.lookup.ends (Err net.Timeout)
-      → HasNoServer view.policy (machine_timer view.moment view.log t0) view.log t0 q why.Timeout
-  timed-out t0 ended = record {
-    candidate = w.asking.lookup.query.name;
-    on_the_way = candidate-on-the-way;
-    g = w.asking.lookup.ends;
-    failed = has-failed view t0 w.asking.zone w.asking.lookup.query (question w.asking.lookup.query.name 2) w.asking.lookup.ends net.Timeout
-        candidate-asked ended (subst (λ (p : Query). Walked view.policy view.log p w.asking.zone) candidate-asked candidate-walked);
-  }
+      → NoServerFound view.policy (machine_timer view.moment view.log t0) view.log t0 q why.Timeout
+  timed-out t0 ended = (
+    w.asking.lookup.query.name,
+    w.asking.lookup.ends,
+    candidate-on-the-way,
+    lookup-failed view t0 w.asking.zone w.asking.lookup.query (question w.asking.lookup.query.name 2) w.asking.lookup.ends net.Timeout refl
+        candidate-asked ended (subst (λ (p : Query). Walked view.policy view.log p w.asking.zone) candidate-asked candidate-walked),
+  )
 
 -- ---- further
 

@@ -1,7 +1,6 @@
 pub mod Walk
 pub mod Way
 pub mod SameTold
-pub mod Causes
 pub mod Replies
 pub mod SourcedVerdict
 pub mod ZoneQuery

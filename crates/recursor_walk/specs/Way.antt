@@ -64,7 +64,7 @@ WalkComes view asked_at question walk course.Continue = WalkHolds view asked_at 
 WalkComes view asked_at question walk course.ServersReached = IsAtServers view question.query walk
 WalkComes view asked_at question walk (course.Reply reply) = CameTo view asked_at question reply.value
 
--- So it does, where memory was not wanting.
+-- So it does, where memory did not run out.
 abbrev pub Comes : LogView → ℕ → Question → Walk → Result WalkOutcome NoMemory → Type 0
 Comes view asked_at question walk result = IfOk result (WalkComes view asked_at question walk)
 

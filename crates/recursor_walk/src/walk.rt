@@ -25,7 +25,7 @@ use resolver_settings::AccessControlSet;
 use std::alloc::Global;
 use walk_lookup::LookupResult;
 use walk_response::{
-    candidate_query, collect_glue, ends_walk, is_delegation, made_negative, reply_by, told_negative,
+    candidate_query, collect_glue, ends_walk, is_delegation, made_error, reply_by, told_negative,
 };
 use walk_tables::Lookup;
 
@@ -171,7 +171,7 @@ impl Walk {
             Verdict::Pos(kept) => self.descend(alloc, filter, &kept),
             Verdict::Neg(found) => self.apply_negative(alloc, entry, found),
             Verdict::Made(cause) => {
-                let denial = made_negative(alloc, &self.asking.lookup.query, cause)?;
+                let denial = made_error(alloc, &self.asking.lookup.query, cause)?;
                 Ok(WalkOutcome::Reply(reply_by(alloc, entry, Err(denial))?))
             }
         }

@@ -17,3 +17,5 @@ pub mod WalksCaseless
 pub mod SameDelegations
 pub mod AddressesAreEqual
 pub mod WayDown
+pub mod NoLinks
+pub mod SoundOutcomes

@@ -1,15 +1,11 @@
--- Whom a run asks: only servers that the delegations told before lead to (RFC 1034 section 5.3.3).
-use Rattle.std.specs.Prelude.{ℕ, IsTrue, Option}
+-- Which address is a server: one that the delegations told before lead to (RFC 1034 section 5.3.3).
+use Rattle.std.specs.Prelude.{ℕ, IsTrue}
 use Rattle.std.specs.declared.net.ip_addr.IpAddr.{IpAddr}
 use Rattle.dns_core.specs.Name.{DomainName}
 use Rattle.dns_core.specs.Log.{Log}
 use Rattle.dns_core.specs.declared.message.Query.{Query}
-use Rattle.dns_core.specs.declared.net_error.NetError.{NetError}
-use Rattle.dns_core.specs.declared.connection.Protocol.{Protocol}
-use Rattle.dns_core.specs.declared.log.LogEntry.TheVariants.{Opened, Asked}
 use Rattle.resolution.specs.Names.{is_above, walk}
 use Rattle.recursor_types.specs.declared.policy.Policy.{Policy}
-use Rattle.resolution.specs.Telling.{Logged}
 use Rattle.resolution.specs.Serving.{Serves}
 
 -- By what was told below n, the address serves some zone.
@@ -22,10 +18,3 @@ pub record IsServerFor (policy : Policy) (log : Log) (n : ℕ) (ip : IpAddr) (qu
   pub zone : DomainName
   pub above : IsTrue (is_above zone (walk query))
   pub serves : Serves policy log n ip zone
-
--- Whoever was opened or asked was a server by what was told before, and for a question one of a zone at or above its name.
-pub record AsksServers (policy : Policy) (log : Log) : Type 0 where
-  pub opened : (n : ℕ) (ip : IpAddr) (protocol : Protocol) (moment : ℕ) (refused : Option NetError)
-      → Logged log n (Opened ip protocol moment refused) → IsServer policy log n ip
-  pub asked : (n : ℕ) (ip : IpAddr) (protocol : Protocol) (q : Query) (moment : ℕ) (refused : Option NetError)
-      → Logged log n (Asked ip protocol q moment refused) → IsServerFor policy log n ip q

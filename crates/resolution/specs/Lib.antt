@@ -14,5 +14,11 @@ pub mod KeptError
 pub mod Ending
 pub mod Walking
 pub mod Failing
+pub mod Negatives
+pub mod Links
+pub mod Causes
+pub mod Words
+pub mod Theorem
 pub mod Timing
+pub mod Turns
 pub mod BaseScript

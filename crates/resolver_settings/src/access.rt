@@ -63,7 +63,7 @@ impl AccessControlSetBuilder {
         }
     }
 
-    /// Allows these networks too. It fails for want of memory alone.
+    /// Allows these networks too. It fails only where memory runs out.
     pub fn allow(mut self, _alloc: Global, nets: &[IpNet]) -> Result<Self, NoMemory>
         ensures { IfOk result (λ a. a ≡ record self { allow = self.allow ++ nets.now }) }
     {
@@ -71,7 +71,7 @@ impl AccessControlSetBuilder {
         Ok(self)
     }
 
-    /// Denies these networks too. It fails for want of memory alone.
+    /// Denies these networks too. It fails only where memory runs out.
     pub fn deny(mut self, _alloc: Global, nets: &[IpNet]) -> Result<Self, NoMemory>
         ensures { IfOk result (λ a. a ≡ record self { deny = self.deny ++ nets.now }) }
     {

@@ -67,7 +67,7 @@ module _ {S E : Type 0} (same : S → S → Bool) (same_self : (s : S) → same 
       two_parts (bit (p (at e))) (bit (but p k (at e))) (bit (same k (at e))) (times (λ e. p (at e)) es) (times (λ e. but p k (at e)) es) (times (λ e. same k (at e)) es)
       (one_of p k (at e) passes) (parted p k passes es)
 
-  -- the element that may be wanting passes
+  -- the element that may be missing passes
   abbrev passes_at : (S → Bool) → Option E → Bool
   passes_at p o = elim o [ None ↦ false | Some e ↦ p (at e) ]
 

@@ -7,7 +7,7 @@ use Rattle.server_pool.specs.ByAddress.Beside.{no_more, one_more}
 use Rattle.pool_rules.proofs.FirstThatPasses.{but, but_yes, but_no, after_yes, after_no}
 
 module _ {X Y : Type 0} (R : X → Y → Type 0) where
-  -- two elements that may be wanting: both are, or they are related
+  -- two elements that may be missing: both are, or they are related
   pub data BesideOption : Option X → Option Y → Type 0 where
     neither : BesideOption None None
     both : {x : X} {y : Y} → R x y → BesideOption (Some x) (Some y)

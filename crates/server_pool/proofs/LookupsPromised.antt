@@ -1,6 +1,6 @@
 -- What is promised of each lookup.
-use Rattle.std.proofs.Common.{◌≡◌, ◌∙◌, ℕ, zero, suc, ◌≤◌, ◌==◌, ◌&&◌, Bool, true, false, List, [], ◌∷◌, slice_get, Option, Some, None, inl, inr, refl, ap, sym, subst, arith, eqb-true, eq-eqb}
-use Rattle.std.specs.Prelude.{count_by}
+use Rattle.std.proofs.Common.{◌≡◌, ◌∙◌, ℕ, zero, suc, ◌≤◌, ◌==◌, ◌&&◌, Bool, true, false, ◌⊎◌, List, [], ◌∷◌, slice_get, Option, Some, None, inl, inr, refl, ap, sym, subst, arith, eqb-true, eq-eqb}
+use Rattle.std.specs.Prelude.{IsTrue, count_by}
 use Rattle.std.specs.declared.net.ip_addr.IpAddr.{IpAddr}
 use Rattle.resolution.specs.Lookups.{Answered}
 use Rattle.server_core.specs.Sending.{is_open}
@@ -14,7 +14,7 @@ use Rattle.pool_lookup.specs.declared.lookup.State.TheVariants.{Asking, BackingO
 use Rattle.pool_lookup.specs.Asked.{opens_in, opens}
 use Rattle.pool_lookup.specs.Attempts.{is_open_at}
 use Rattle.pool_lookup.specs.Giving.{Gives}
-use Rattle.pool_lookup.specs.Holds.{IsAt, Holds}
+use Rattle.pool_lookup.specs.Holds.{IsAt, Holds, out_of_memory}
 use Rattle.pool_lookup.specs.Lookup.{LookupState}
 use Rattle.pool_lookup.specs.Promises.{HasOpen}
 use Rattle.pool_lookup.specs.Rounds.{started}
@@ -26,22 +26,22 @@ use Rattle.server_pool.specs.LookupSteps.{IsStepAt}
 use Rattle.server_pool.specs.declared.open_lookups.open_lookup.OpenLookup.{OpenLookup}
 use Rattle.server_pool.proofs.UnderNumbers.{found_with}
 use Rattle.server_pool.specs.Holds.{SharedHolds, times_of}
-use Rattle.server_pool.specs.Promises.{IsFairly, IsAnswered, IfDone, IfWaiting}
+use Rattle.server_pool.specs.Promises.{IsFairly, IsByEnds, IsAnswered, IfDone, IfWaiting}
 use Rattle.server_pool.specs.Shared.{Shared}
 use Rattle.server_pool.specs.Stepping.{told_as}
 
 -- ---- fair
 
 pub fairly : (denied : IpAddr → Bool) (l : LookupState) → Holds denied l → IsFairly l
-fairly denied l h = (h.0, is_fair denied h.0 l h.1)
+fairly denied l h = record { heard = h.0; entries = h.1.keeps.entries; fair = is_fair denied h.0 l h.1 }
 
 -- ---- answered
 
 answered : (denied : IpAddr → Bool) (answer : Answered) (at : ℕ) (l : LookupState) → l.state ≡ Decided answer at → Holds denied l → IsAnswered denied answer l
-answered denied answer at l is h = by (subst (λ (s : State). IsAt denied h.0 s l) is h.1.at)
+answered denied answer at l is h = record { at = at; state = is; by = by (subst (λ (s : State). IsAt denied h.0 s l) is h.1.at) }
   where
-    by : IsAt denied h.0 (Decided answer at) l → IsAnswered denied answer l
-    by (inl run) = inl (h.0, at, run)
+    by : IsAt denied h.0 (Decided answer at) l → IsByEnds denied answer at l ⊎ IsTrue (out_of_memory answer)
+    by (inl run) = inl (record { heard = h.0; entries = h.1.keeps.entries; run = run })
     by (inr out) = inr out
 
 pub if_done : (denied : IpAddr → Bool) (number now : ℕ) (table : List Server) (l next : LookupState) (made : LookupStep) → Gives number now table l made next → Holds denied next → IfDone denied next (told_as number made)

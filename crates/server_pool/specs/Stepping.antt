@@ -46,7 +46,7 @@ pub record HasStepped (n now : ℕ) (l : OpenLookup) (old : Shared) (told : Pool
   pub unused : lookup_of old (old.given + 1) ≡ None
   pub idle : opens (old.given + 1) l.lookup ≡ 0
 
--- Memory was wanting for it.
+-- Memory ran out for it.
 pub record HasHalted (n now : ℕ) (l : OpenLookup) (old new : Shared) : Type 0 where
   pub halted : IsHaltedAt n now l old.lookups old.table new.lookups new.table
   pub rest : new ≡ record old { table = new.table; lookups = new.lookups }
@@ -59,7 +59,7 @@ after_put number n l outcome tick result old =
     let next = put_lookup (denied_in old) tick number outcome result l.lookup in
     record old { table = put_table tick number outcome result l.lookup old.table; lookups = with_at n (moved_to next) old.lookups; orders = orders_left number next old.orders }
 
--- The lookup of the number n took the outcome of its order. Only for a message memory can be wanting.
+-- The lookup of the number n took the outcome of its order. Only for a message can memory run out.
 pub record HasPut (number n : ℕ) (l : OpenLookup) (outcome : Outcome) (tick : Tick) (old : Shared) (result : Result After NoMemory) (new : Shared) : Type 0 where
   pub did : MatchResult result (λ after. after ≡ done_by tick.patience number outcome l.lookup) (λ error. RunsOut number outcome l.lookup)
   pub is : new ≡ after_put number n l outcome tick result old

@@ -22,7 +22,7 @@ pub record StandsBy (denied : IpAddr → Bool) (heard : List HeardEnd) (n : ℕ)
 abbrev pub RunsBy : (IpAddr → Bool) → (List HeardEnd → List HeardEnd) → ℕ → ℕ → OpenLookup → Shared → Shared → Type 0
 RunsBy denied after now n l old new = (heard : List HeardEnd) → StandsBy denied heard n l old → RunsOn denied (after heard) now n l new
 
--- the ends that were heard once the outcome of an order was, also where memory was wanting for it
+-- the ends that were heard once the outcome of an order was, also where memory ran out for it
 abbrev pub ends_after : Tick → ℕ → Outcome → OpenLookup → Result After NoMemory → List HeardEnd → List HeardEnd
 ends_after tick number outcome l (Ok did) heard = heard_after tick.patience number outcome heard l.lookup
 ends_after tick number outcome l (Err error) heard = heard_out number outcome heard l.lookup

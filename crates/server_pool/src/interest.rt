@@ -47,7 +47,7 @@ fn copy_of(alloc: Global, servers: &[u32]) -> Result<Numbers, NoMemory>
 impl NameServerPool {
     /// Asks the servers for a request. It joins the lookup at this pool that has no answer yet and is of
     /// the same question, whatever the case of its letters, with recursion, checking, DNSSEC and client
-    /// subnet alike, where there is one. Where memory is wanting, nothing has changed.
+    /// subnet alike, where there is one. Where memory runs out, nothing has changed.
     pub fn send(
         &self,
         alloc: Global,

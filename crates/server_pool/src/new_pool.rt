@@ -43,7 +43,7 @@ fn add_one(
 }
 
 /// Adds the servers of configurations in their order, and tells their numbers. Those that were added
-/// before memory was wanting stay.
+/// before memory ran out stay.
 fn add_all(
     alloc: Global,
     servers: Vec<NameServerConfig>,
@@ -81,7 +81,7 @@ impl NameServerPool {
     }
 
     /// A pool of new servers, in the order of their configurations. They take the first delays in turn,
-    /// round and round. Servers that were added before memory was wanting stay, and no pool has them.
+    /// round and round. Servers that were added before memory ran out stay, and no pool has them.
     pub fn from_config(
         alloc: Global,
         servers: Vec<NameServerConfig>,

@@ -228,7 +228,7 @@ impl PoolShared {
         )
     }
 
-    /// Begins a lookup of a request at the servers of the pool of a number. Where memory is wanting,
+    /// Begins a lookup of a request at the servers of the pool of a number. Where memory runs out,
     /// nothing has changed.
     fn begin(
         &mut self,
@@ -275,7 +275,7 @@ impl PoolShared {
     }
 
     /// Sends a request to the servers of the pool of a number: it joins the lookup of its key there that
-    /// has no answer yet, or begins one. Where memory is wanting, nothing has changed.
+    /// has no answer yet, or begins one. Where memory runs out, nothing has changed.
     pub(crate) fn send(
         &mut self,
         alloc: Global,
@@ -341,7 +341,7 @@ impl PoolShared {
 
     /// Takes the outcome of an order by its number. An order that has ended, was withdrawn, or was never
     /// given is late, and nothing changes. One that is not open any more after its outcome is forgotten.
-    /// Memory can be wanting only for a message, and is then the answer of its lookup.
+    /// Memory can run out only for a message, and is then the answer of its lookup.
     pub fn put(
         &mut self,
         alloc: Global,

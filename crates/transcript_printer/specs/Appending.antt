@@ -6,7 +6,7 @@ use Rattle.std.specs.List.{flat_map}
 abbrev pub Extends : List ℕ → List ℕ → Type 0
 Extends old new = (rest : List ℕ) × (new ≡ old ++ rest)
 
--- the text was appended, or, on want of memory, something
+-- the text was appended, or, where memory ran out, something
 abbrev pub Appends : {X E : Type 0} → Result X E → List ℕ → List ℕ → List ℕ → Type 0
 Appends result old new text = MatchResult result (λ _. new ≡ old ++ text) (λ _. Extends old new)
 

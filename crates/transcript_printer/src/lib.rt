@@ -1,7 +1,7 @@
 //! Transcripts as text: what a run asked, what it was told, and what it replied.
 //!
 //! `print_transcript` appends exactly the text of a transcript. Each function that starts with `put`
-//! appends its text, and on want of memory maybe a part of it; what is public cuts the text back to
+//! appends its text, and where memory runs out maybe a part of it; what is public cuts the text back to
 //! what it was.
 #![tactic(auto)]
 

@@ -58,9 +58,9 @@ last-chosen result waits o last entry closing is at_entry at_closing =
     ∙ ap (λ (n : ℕ). if is_given_up result then n else entry) at_closing
     ∙ ap (λ (n : ℕ). if is_given_up result then closing_of waits o else n) at_entry
 
--- ---- want of memory
+-- ---- out of memory
 
--- for want of memory an order is given up
+-- where memory runs out an order is given up
 err-given_up : {E : Type 0} (result : Result After E) → IsErr result → is_given_up result ≡ true
 err-given_up (Ok did) is = cc
 err-given_up (Err e) is = refl
@@ -81,7 +81,7 @@ err-is view tick waits o result e longer is put = record {
   on = record { told = put.on.told; tells = put.on.tells; goes_on = err-goes tick.now waits o result put.on.told longer is put.on.goes_on };
 }
 
--- An outcome that did something before memory was wanting was put by a log from which the other one goes on, and by no later entry.
+-- An outcome that did something before memory ran out was put by a log from which the other one goes on, and by no later entry.
 pub record WasPut (view : LogView) (tick : Tick) (waits : Option SentBy) (o : Outcome) (result : Result After NoMemory) (longer : Log) : Type 0 where
   pub by : Log
   pub put : IsPut view tick waits o result by

@@ -88,12 +88,13 @@ pub use Rattle.server_core.specs.declared.orders.order.Tick.{Tick}
 pub use Rattle.pool_lookup.proofs.OutcomeIsTaken.{heard_none, heard_some, heard_sleep, open_has, sleep_has, open_did, keeps, kept_open, kept_has, rests_under, rests_has}
 pub use Rattle.dns_core.specs.declared.log.LogEntry.{LogEntry}
 pub use Rattle.resolution.specs.Telling.{Logged, moment_of}
-pub use Rattle.walk_lookup.specs.LookupResult.{is_lookup_error, last_of, class_of_failure, classified, IsTold, HasFailedBy, FoundHolds, ComesTo, HasCome, CountsAs}
+pub use Rattle.walk_lookup.specs.LookupResult.{last_of, class_of_failure, classified, IsTold, HasFailedBy, FoundHolds, ComesTo, HasCome, CountsAs}
 pub use Rattle.walk_lookup.specs.LogView.{LogView, Advances, seen_at}
 pub use Rattle.walk_lookup.specs.Tried.{Began, is_response, told_of, AreHeard, Concluded, Tried, BeganBy, IsTimed, machine_timer}
 pub use Rattle.walk_lookup.specs.PendingLookup.{IsAt, PendingHolds, config_at, server_at, IsServerOf, ServersForQuery, IsSentTo, OpenOrderHolds, with_came, is_denial, IsSentOver, MayTake, sent_to, either, aim_of, noted, AreServers, IsWaitedFor, ZoneServers, first_delay_at, MayTakeBy, given_after, first_of, polled_by, IsNumbered, AreNumbered, IsOf, IsStill, WasWaitedFor}
 pub use Rattle.walk_lookup.specs.Coming.{answer_at, telling_by, ComesBy, with_found, with_sought, has_more_ends}
-pub use Rattle.walk_lookup.specs.Asked.{AskedAs}
+pub use Rattle.resolution.specs.Negatives.{AskedAs}
+pub use Rattle.resolution.specs.Causes.{is_lookup_error}
 pub use Rattle.walk_lookup.specs.declared.lookup_result.LookupResult.{LookupResult}
 pub use Rattle.walk_lookup.specs.declared.pending_lookup.PendingLookup.{PendingLookup}
 pub use Rattle.walk_lookup.specs.declared.pending_lookup.OrderTarget.{OrderTarget}

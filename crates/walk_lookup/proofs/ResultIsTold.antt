@@ -19,7 +19,7 @@ class-tells view t0 zone q g at (Err error) t walked is h = cc
 class-tells view t0 zone q g at (Ok class) t walked is h =
     subst (TellingHolds view) (same_Some _ _ is) (record { t0 = t0; told = h; walked = walked })
 
--- want of memory tells no response
+-- out of memory tells no response
 pub memory-none : (zone : DomainName) (q : Query) (entry at : ℕ) (told : Answered) → out_of_memory told ≡ true → telling zone q entry at (classified told) ≡ None
 memory-none zone q entry at (Err net.NoMemory) out = refl
 memory-none zone q entry at _ out = cc

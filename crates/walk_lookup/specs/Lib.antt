@@ -1,5 +1,4 @@
 pub mod LogView
-pub mod Asked
 pub mod Order
 pub mod Tried
 pub mod LookupResult

@@ -1,5 +1,5 @@
 -- What a lookup came to, by what it was answered.
-use Rattle.std.specs.Prelude.{◌≡◌, ℕ, ◌≤◌, Bool, true, false, IsTrue, List, Option, Some, None, Result, Ok, Err, option_and_then}
+use Rattle.std.specs.Prelude.{◌≡◌, ℕ, ◌≤◌, false, IsTrue, List, Option, Some, None, Result, Ok, Err, option_and_then}
 use Rattle.std.specs.List.{last_or}
 use Rattle.dns_core.specs.Name.{DomainName}
 use Rattle.dns_core.specs.declared.message.Query.{Query}
@@ -14,13 +14,14 @@ use Rattle.resolution.specs.declared.class.Class.{Class}
 use Rattle.resolution.specs.declared.verdict.Verdict.{Verdict}
 use Rattle.dns_core.specs.declared.net_error.NetError.{NetError}
 use Rattle.resolution.specs.Lookups.{Answered}
+use Rattle.resolution.specs.Causes.{is_lookup_error}
 use Rattle.pool_lookup.specs.Asked.{answer_of}
 use Rattle.pool_lookup.specs.Holds.{out_of_memory}
 use Rattle.server_pool.specs.OpenLookups.{closed_by}
 use Rattle.server_pool.specs.declared.open_lookups.open_lookup.OpenLookup.{OpenLookup}
 use Rattle.walk_response.specs.Response.{error_of}
 use Rattle.walk_response.specs.Shown.{left_of_class}
-use Rattle.walk_lookup.specs.Asked.{AskedAs}
+use Rattle.resolution.specs.Negatives.{AskedAs}
 use Rattle.walk_lookup.specs.LogView.{LogView}
 use Rattle.walk_lookup.specs.Tried.{Concluded}
 use Rattle.walk_lookup.specs.declared.lookup_result.LookupResult.{LookupResult}
@@ -42,13 +43,6 @@ class_of_failure error = Err error
 abbrev pub classified : Answered → Result (Result Response DnsError) NetError
 classified (Ok message) = Ok (Ok message)
 classified (Err error) = class_of_failure error
-
--- what a failed lookup is answered with: another server is asked where one is busy or not reached
-abbrev pub is_lookup_error : NetError → Bool
-is_lookup_error net.Busy = false
-is_lookup_error (net.Io kind) = false
-is_lookup_error (net.Dns (dns.NoRecordsFound n)) = false
-is_lookup_error _ = true
 
 -- Entry i, no later than the greatest, tells an answer or a denial for the question as it was asked, by a server of the zone, at this moment, at or after `asked_at`;
 -- the class is what the filter of answers leaves of it.

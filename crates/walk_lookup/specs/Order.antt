@@ -45,7 +45,7 @@ pub record TellsOutcome (moment : ℕ) (log : Log) (tick : Tick) (waits : Option
   pub fits : Fits told tick.now outcome
   pub waits_by : WaitsBy told waits outcome
 
--- whether an order is given up by whoever carries it: after its last poll, or for want of memory
+-- whether an order is given up by whoever carries it: after its last poll, or where memory runs out
 abbrev pub is_given_up : {E : Type 0} → Result After E → Bool
 is_given_up (Ok after.Kept) = false
 is_given_up (Ok after.Ended) = false

@@ -16,7 +16,7 @@ use Rattle.resolution.specs.declared.verdict.Verdict.{Verdict}
 use Rattle.resolution.specs.Walking.{Walked}
 use Rattle.walk_response.specs.Kept.{kept_of, response_in}
 use Rattle.walk_response.specs.Shown.{IsShown}
-use Rattle.walk_lookup.specs.Asked.{AskedAs}
+use Rattle.resolution.specs.Negatives.{AskedAs}
 use Rattle.walk_lookup.specs.LogView.{LogView}
 
 -- ---- what holds of the cache

@@ -14,7 +14,7 @@ use Rattle.resolution.specs.Ending.{LookupTiming, EndSends, Rise, FinishedLookup
 use Rattle.resolution.specs.Timing.{is_send}
 use Rattle.resolution.specs.declared.class.Class.{Class}
 use Rattle.resolution.specs.declared.class.Class.TheVariants.{Error, Code, Truncated, Negative, Foreign, Positive}
-use Rattle.walk_lookup.specs.Asked.{AskedAs}
+use Rattle.resolution.specs.Negatives.{AskedAs}
 use Rattle.walk_lookup.specs.LogView.{LogView}
 use Rattle.dns_core.specs.declared.log.ToldOutcome.TheVariants as told
 

@@ -26,7 +26,7 @@ fn kept_copy(
 }
 
 /// Writes what was told for a question, by an entry, at a moment in microseconds, as its verdict is kept, if
-/// it is. It fails for want of memory alone.
+/// it is. It fails only where memory runs out.
 pub fn write_verdict(
     alloc: Global,
     cache: &mut ResponseCache,

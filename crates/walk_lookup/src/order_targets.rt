@@ -15,7 +15,7 @@ pub(crate) fn is_denial(error: &NetError) -> bool
     matches!(error, NetError::Dns(DnsError::NoRecordsFound(_)))
 }
 
-/// Whether what a lookup was answered is that memory was wanting for it.
+/// Whether what a lookup was answered is that memory ran out for it.
 pub fn is_memory(told: &Result<Message, NetError>) -> bool
     ensures { result ≡ out_of_memory told.now }
 {

@@ -1,6 +1,8 @@
 //! What a question is answered with by what counts for it, and the entry that the reply rests on.
 ghost use Rattle.std.specs.Prelude.{◌≡◌, ◌∷◌, [], IfOk};
-ghost use Rattle.walk_response.specs.Answer.{made_negative, told_negative, ends_walk, outcome_of};
+ghost use Rattle.recursor_types.specs.declared.error.RecursorError.TheVariants.{Negative};
+ghost use Rattle.resolution.specs.Negatives.{made_negative};
+ghost use Rattle.walk_response.specs.Answer.{told_negative, ends_walk, outcome_of};
 
 use dns_core::{
     Message, NoMemory, NoRecords, Numbers, Query, Question, Records, TryClone, in_box, strip,
@@ -20,8 +22,8 @@ pub fn just(alloc: Global, entry: u64) -> Result<Numbers, NoMemory>
 
 /// A negative response that the recursor makes where the filter or the zone leaves nothing of what
 /// was told.
-pub fn made_negative(alloc: Global, query: &Query, cause: Cause) -> Result<RecursorError, NoMemory>
-    ensures { IfOk result (λ error. error ≡ made_negative query.now cause) }
+pub fn made_error(alloc: Global, query: &Query, cause: Cause) -> Result<RecursorError, NoMemory>
+    ensures { IfOk result (λ error. error ≡ Negative (made_negative query.now cause)) }
 {
     Ok(RecursorError::Negative(AuthorityData {
         query: query.try_clone(alloc)?,
@@ -75,7 +77,7 @@ pub fn outcome_of(
         Verdict::Pos(kept) => Ok(Ok(strip(kept, question.dnssec_ok))),
         Verdict::Neg(found) => Ok(Err(told_negative(found))),
         Verdict::Made(cause) => {
-            let denial = made_negative(alloc, &question.query, cause)?;
+            let denial = made_error(alloc, &question.query, cause)?;
             Ok(Err(denial))
         }
     }

@@ -11,7 +11,7 @@ mod kept;
 mod response;
 mod verdict;
 
-pub use answer::{ends_walk, just, made_negative, outcome_of, reply_by, told_negative};
+pub use answer::{ends_walk, just, made_error, outcome_of, reply_by, told_negative};
 pub use candidate::{candidate_query, walked_name};
 pub use class::class_of;
 pub use glue::{collect_glue, is_delegation};

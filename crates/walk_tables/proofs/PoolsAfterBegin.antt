@@ -22,7 +22,7 @@ module _ (view : LogView) (n : ℕ) (s : PendingLookup) (old new : Pools) (share
       pools-given view n old new (subst (λ (x : Shared). SameBut n old.shared x) (sym kept.same.shared) rest) (subst AreNumbered (sym kept.same.shared) numbered) kept.same.numbers kept.same.delays kept.others
       (λ t there. subst (PendingHolds view new.shared n) (same_Some _ _ (sym kept.is ∙ there)) (subst (λ (x : Shared). PendingHolds view x n s) (sym kept.same.shared) holds)) h
 
-  -- it is left again, where memory is wanting: nothing was sought by it before
+  -- it is left again, where memory runs out: nothing was sought by it before
   left-begun : lookup_at old.shared n ≡ None → HasLeft n (record old { shared = shared }) new → PoolsHold view new
   left-begun fresh left =
       pools-given view n old new (same_but-trans n old.shared shared new.shared rest (left-rest n shared new.shared left.left))

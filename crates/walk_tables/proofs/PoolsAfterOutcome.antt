@@ -23,7 +23,7 @@ module _ (view : LogView) (old : Pools) (n : ℕ) (w : Option SentBy) (o : Outco
     its-numbered : (result : Result After NoMemory) → HasPut g.number n its-holds.shared_by o tick old.shared result shared → AreNumbered shared
     its-numbered result puts = put-numbered g.number n its-holds.shared_by o tick old.shared shared result puts h.numbered
 
-    -- Memory was wanting for the outcome: the lookup is forgotten.
+    -- Memory ran out for the outcome: the lookup is forgotten.
     pub pools-unput : (result : Result After NoMemory) → HasPut g.number n its-holds.shared_by o tick old.shared result shared → HasForgotten n (record old { shared = shared }) new → PoolsHold view new
     pools-unput result puts lost = pools-lost view n old new shared (its-rest result puts) (its-numbered result puts) lost h
 

@@ -49,7 +49,7 @@ module _ (view : LogView) (n : ℕ) (old new : Pools) (shared : Shared) (h : Poo
     pub pools-go : (number : ℕ) (o : Order) → told ≡ gives.Order number o → GoesToServer view.policy view.log (view.greatest + 1) o
     pools-go number o is = order-goes view old.shared shared n found.0 told hold (stepped found.0 found.1) number o is
 
-  -- Where memory is wanting, or the lookup waits, it is forgotten.
+  -- Where memory runs out, or the lookup waits, it is forgotten.
   pub pools-waits : (result : Result PoolStep NoMemory)
       → ((l : OpenLookup) → lookup_at old.shared n ≡ Some l → IfOk result (λ told. HasStepped n view.moment l old.shared told shared))
       → ((l : OpenLookup) → lookup_at old.shared n ≡ Some l → OnErr result ((shared ≡ old.shared) ⊎ HasHalted n view.moment l old.shared shared))

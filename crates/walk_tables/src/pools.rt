@@ -181,7 +181,7 @@ fn sought_from(
 }
 
 impl Pools {
-    /// Keeps what is sought by a lookup, which is left where memory is wanting.
+    /// Keeps what is sought by a lookup, which is left where memory runs out.
     fn keep(
         &mut self,
         lookup: PoolLookup,
@@ -282,7 +282,7 @@ impl Pools {
     }
 
     /// What a lookup has next: the order that it waits for, a new one, which no entry was put after, or
-    /// its answer, where it is known then what it came to. Where memory is wanting, it is no longer under
+    /// its answer, where it is known then what it came to. Where memory runs out, it is no longer under
     /// way.
     pub fn next(
         &mut self,
@@ -523,7 +523,7 @@ impl Pools {
         }
     }
 
-    /// Keeps what a lookup came to that was answered so. Where memory was wanting for it, it is no longer
+    /// Keeps what a lookup came to that was answered so. Where memory ran out for it, it is no longer
     /// under way.
     fn decide(
         &mut self,
@@ -550,7 +550,7 @@ impl Pools {
     /// Takes the outcome of the order of a number. With a poll that found nothing is handed in what it
     /// waits for. An outcome is late, and changes nothing, where the order is open at no lookup, or the
     /// outcome is none of this order. What a lookup comes to by it is written into the cache, where it is
-    /// kept; on want of memory for this the outcome is taken all the same. Where memory is wanting for
+    /// kept; where memory runs out for this the outcome is taken all the same. Where memory runs out for
     /// the outcome itself, the lookup is no longer under way.
     pub fn put(
         &mut self,

@@ -13,7 +13,7 @@ abbrev pub ◌>>=◌ : {A B : Type 0} → Result A WireError → (A → Result B
 (Ok x) >>= f = f x
 (Err e) >>= f = Err e
 
--- reading fails with this error; want of memory says nothing of the bytes
+-- reading fails with this error; out of memory says nothing of the bytes
 abbrev pub Fails : {Y : Type 0} → WireError → Result Y WireError → Type 0
 Fails NoMemory read = Unit {0}
 Fails Short read = read ≡ Err Short

@@ -57,8 +57,8 @@ fn verdict_of(
 }
 
 /// Whether a world is well served for a recursor that begins at these root addresses, has these filters
-/// and waits for so many polls; and else the number of the lowest clause that fails. Memory is never
-/// wanting for that.
+/// and waits for so many polls; and else the number of the lowest clause that fails. Memory never
+/// runs out for that.
 pub fn check_world(
     _alloc: Global,
     world: &World,

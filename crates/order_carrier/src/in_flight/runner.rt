@@ -1,10 +1,9 @@
 //! The orders that are under way, each under its number, and how often each was polled.
 ghost use Rattle.std.specs.Prelude.{◌≡◌, ◌≤◌, ℕ, List, IsSome, IfOk, OnOk, option_copied};
-ghost use Rattle.dns_core.specs.declared.log.LogEntry.{LogEntry};
-ghost use Rattle.order_carrier.specs.Carrying.{CarrierHolds};
+ghost use Rattle.order_carrier.specs.Carrying.{CarrierHolds, CarriesOn};
 ghost use Rattle.order_carrier.specs.GivingUp.{give_up_entry};
 ghost use Rattle.order_carrier.specs.Growing.{TellsThat, with_entries};
-ghost use Rattle.order_carrier.specs.InFlight.{InFlightHolds, CanRun, RunnerMoves, GoesRight, StartsRight, GoesNowhere, held_at, polls_left, sent_by, still_awaited, HasTold};
+ghost use Rattle.order_carrier.specs.InFlight.{InFlightHolds, CanRun, InFlightMoves, GoesRight, StartsRight, GoesNowhere, held_at, polls_left, sent_by, still_awaited, HasTold};
 ghost use Rattle.order_carrier.specs.InFlight.{IsCounted, IsStarted, Grows, IsPolled, Keeps, IsForgotten};
 
 use crate::carrier::Carrier;
@@ -88,9 +87,9 @@ impl<P: ConnectionProvider> InFlight<P> {
     /// is counted too.
     fn carry(&mut self, number: u64, tick: Tick) -> Result<Outcome, NoMemory>
         requires { CanRun P.ConnectionProvider tick.patience number self.old }
-        ensures vouches { (es : List LogEntry) → P.vouches self.new.carrier.provider es → P.vouches self.old.carrier.provider es }
+        ensures carries_on { CarriesOn P.ConnectionProvider self.old.carrier self.new.carrier }
         ensures holds { InFlightHolds P.ConnectionProvider self.new }
-        ensures moves { RunnerMoves tick.patience tick.now (StartsRight number self.old) (P.log self.old.carrier.provider) (P.log self.new.carrier.provider) }
+        ensures moves { InFlightMoves tick.patience tick.now (StartsRight number self.old) (P.log self.old.carrier.provider) (P.log self.new.carrier.provider) }
         ensures told { IfOk result (λ outcome. TellsThat (P.log self.new.carrier.provider) (HasTold tick.now (sent_by self.new number) outcome)) }
         ensures counted { IsCounted tick.patience number self.old self.new }
     {
@@ -108,9 +107,9 @@ impl<P: ConnectionProvider> InFlight<P> {
     /// its number, and held before it is started, so that what was started is held.
     pub fn start(&mut self, number: u64, order: Box<Order>, tick: Tick) -> Result<Outcome, NoMemory>
         requires { InFlightHolds P.ConnectionProvider self.old }
-        ensures vouches { (es : List LogEntry) → P.vouches self.new.carrier.provider es → P.vouches self.old.carrier.provider es }
+        ensures carries_on { CarriesOn P.ConnectionProvider self.old.carrier self.new.carrier }
         ensures holds { InFlightHolds P.ConnectionProvider self.new }
-        ensures moves { RunnerMoves tick.patience tick.now (GoesRight (P.log self.old.carrier.provider) order.value) (P.log self.old.carrier.provider) (P.log self.new.carrier.provider) }
+        ensures moves { InFlightMoves tick.patience tick.now (GoesRight (P.log self.old.carrier.provider) order.value) (P.log self.old.carrier.provider) (P.log self.new.carrier.provider) }
         ensures told { IfOk result (λ outcome. TellsThat (P.log self.new.carrier.provider) (HasTold tick.now (sent_by self.new number) outcome)) }
         ensures held { OnOk result (IsStarted number order self.new) }
         ensures polls { Grows tick.patience number self.old self.new }
@@ -126,9 +125,9 @@ impl<P: ConnectionProvider> InFlight<P> {
     /// Polls the order of a number once more, where it is held and under way, and patience allows it.
     pub fn poll(&mut self, number: u64, tick: Tick) -> Result<Outcome, NoMemory>
         requires { InFlightHolds P.ConnectionProvider self.old }
-        ensures vouches { (es : List LogEntry) → P.vouches self.new.carrier.provider es → P.vouches self.old.carrier.provider es }
+        ensures carries_on { CarriesOn P.ConnectionProvider self.old.carrier self.new.carrier }
         ensures holds { InFlightHolds P.ConnectionProvider self.new }
-        ensures moves { RunnerMoves tick.patience tick.now GoesNowhere (P.log self.old.carrier.provider) (P.log self.new.carrier.provider) }
+        ensures moves { InFlightMoves tick.patience tick.now GoesNowhere (P.log self.old.carrier.provider) (P.log self.new.carrier.provider) }
         ensures told { IfOk result (λ outcome. TellsThat (P.log self.new.carrier.provider) (HasTold tick.now (sent_by self.new number) outcome)) }
         ensures falls { OnOk result (IsPolled tick.patience number self.old self.new) }
         ensures keeps { Keeps tick.patience number self.old self.new }
@@ -159,9 +158,9 @@ impl<P: ConnectionProvider> InFlight<P> {
     /// sent; else nothing does.
     pub fn give_up(&mut self, number: u64, now: u64)
         requires { InFlightHolds P.ConnectionProvider self.old }
-        ensures vouches { (es : List LogEntry) → P.vouches self.new.carrier.provider es → P.vouches self.old.carrier.provider es }
+        ensures carries_on { CarriesOn P.ConnectionProvider self.old.carrier self.new.carrier }
         ensures holds { InFlightHolds P.ConnectionProvider self.new }
-        ensures moves { (patience : ℕ) → RunnerMoves patience now GoesNowhere (P.log self.old.carrier.provider) (P.log self.new.carrier.provider) }
+        ensures moves { (patience : ℕ) → InFlightMoves patience now GoesNowhere (P.log self.old.carrier.provider) (P.log self.new.carrier.provider) }
         ensures log { IsSome (held_at self.old number) → P.log self.new.carrier.provider ≡ with_entries (give_up_entry now (sent_by self.old number)) (P.log self.old.carrier.provider) }
         ensures polls { (patience : ℕ) → polls_left patience self.new ≤ polls_left patience self.old }
         ensures gone { IsForgotten number self.old self.new }

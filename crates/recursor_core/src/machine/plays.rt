@@ -22,7 +22,7 @@ pub enum QuestionState {
     Unanswered,
 }
 
-/// The reply where memory is wanting.
+/// The reply where memory runs out.
 pub fn no_memory(alloc: Global) -> Reply
     ensures { result ≡ record { outcome = Err RecursorError.NoMemory; grounds = [] } }
 {

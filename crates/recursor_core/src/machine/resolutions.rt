@@ -64,7 +64,7 @@ fn closing_of(outcome: &Outcome, waits: Option<&SentBy>) -> u64
 }
 
 /// The last entry that is put with an outcome. An order is given up by whoever carries it after its last
-/// poll, and for want of memory.
+/// poll, and where memory runs out.
 fn last_entry(after: &Result<After, NoMemory>, entry: u64, closing: u64) -> u64
     ensures { result ≡ (if is_given_up after.now then closing else entry) }
 {
@@ -113,7 +113,7 @@ impl RecursorCore {
         self.policy.context()
     }
 
-    /// What each connection is opened with. It fails for want of memory alone.
+    /// What each connection is opened with. It fails only where memory runs out.
     pub fn connect_options(&self, alloc: Global) -> Result<ConnectOptions, NoMemory>
         ensures { IfOk result (λ connect. connect ≡ connect_of self.now.policy.resolver) }
     {
@@ -296,8 +296,8 @@ impl RecursorCore {
     /// and changes nothing, exactly where it is none of an order that is open, or its number is not greater
     /// than all before; that of a sleep is 0. With a poll that found nothing is handed in what
     /// it waits for. The last such poll that patience allows has ended the order, which is to be given up
-    /// by whoever carries it; so is one that still is under way where memory is wanting. What counts of a
-    /// response that a lookup came to is written into the cache; on want of memory for this the outcome is
+    /// by whoever carries it; so is one that still is under way where memory runs out. What counts of a
+    /// response that a lookup came to is written into the cache; where memory runs out for this the outcome is
     /// taken all the same.
     pub fn put(
         &mut self,

@@ -40,7 +40,7 @@ fn add_lookup(
 }
 
 /// Keeps a lookup under its number, which is new, and whose turn it is then in the pool of a number.
-/// Where memory is wanting, nothing has changed.
+/// Where memory runs out, nothing has changed.
 pub fn add_begun(
     lookups: &mut BTreeMap<u64, OpenLookup>,
     turns: &mut BTreeMap<u64, usize>,

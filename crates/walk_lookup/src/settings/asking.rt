@@ -18,8 +18,8 @@ pub fn pool_context(alloc: Global, policy: &Policy) -> Result<PoolContext, NoMem
     Ok(PoolContext::new(resolver).with_answer_filter(filter))
 }
 
-/// What each connection is opened with, as a resolver's options of the same names say. It fails for
-/// want of memory alone.
+/// What each connection is opened with, as a resolver's options of the same names say. It fails only
+/// where memory runs out.
 pub fn connect_options(alloc: Global, resolver: &ResolverOpts) -> Result<ConnectOptions, NoMemory>
     ensures { IfOk result (λ connect. connect ≡ connect_of resolver.now) }
 {

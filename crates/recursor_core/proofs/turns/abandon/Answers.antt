@@ -11,7 +11,7 @@ returns-in-Some-clause-goes g c =
     let r = c.args.runner.now in
     let up = c.give_up.ensures in
     let left = goes_core p tick c.args.core.now c.cancel.new.self r c.cancel.ensures.same c.cancel.ensures.derived c.requires.ready in
-    goes_trans p tick _ _ _ _ _ _ left (goes_run p tick c.cancel.new.self r c.give_up.new.self _ up.vouches up.holds (up.moves tick.patience) tt left.ready)
+    goes_trans p tick _ _ _ _ _ _ left (goes_run p tick c.cancel.new.self r c.give_up.new.self _ up.carries_on up.holds (up.moves tick.patience) tt left.ready)
 
 pub returns-in_default-clause-goes : goal.returns-in_default-clause-goes
 returns-in_default-clause-goes g c =

@@ -6,7 +6,7 @@ use Rattle.recursor_core.proofs.turns.poll_order.Goals as goal
 pub returns-in_err-outcome-clause-goes : goal.returns-in_err-outcome-clause-goes
 returns-in_err-outcome-clause-goes g c =
     let s = c.poll.ensures in
-    goes_run g.P.ConnectionProvider c.args.tick c.args.core.now c.args.runner.now c.poll.new.self _ s.vouches s.holds s.moves tt c.requires.ready
+    goes_run g.P.ConnectionProvider c.args.tick c.args.core.now c.args.runner.now c.poll.new.self _ s.carries_on s.holds s.moves tt c.requires.ready
 
 pub returns-in_err-outcome-clause-keeps : goal.returns-in_err-outcome-clause-keeps
 returns-in_err-outcome-clause-keeps g c = due_later _ _ _ _ _ (omega arith) c.poll.ensures.keeps.fewer
@@ -14,7 +14,7 @@ returns-in_err-outcome-clause-keeps g c = due_later _ _ _ _ _ (omega arith) c.po
 pub settle-requires-clause-ready : goal.settle-requires-clause-ready
 settle-requires-clause-ready g c =
     let s = c.poll.ensures in
-    let run = goes_run g.P.ConnectionProvider c.args.tick c.args.core.now c.args.runner.now c.poll.new.self _ s.vouches s.holds s.moves tt c.requires.ready in
+    let run = goes_run g.P.ConnectionProvider c.args.tick c.args.core.now c.args.runner.now c.poll.new.self _ s.carries_on s.holds s.moves tt c.requires.ready in
     run.ready
 
 pub settle-requires-clause-held : goal.settle-requires-clause-held
@@ -23,7 +23,7 @@ settle-requires-clause-held g c = c.in_ok-outcome.ensures.falls.held
 pub returns-clause-goes : goal.returns-clause-goes
 returns-clause-goes g c =
     let s = c.poll.ensures in
-    let run = goes_run g.P.ConnectionProvider c.args.tick c.args.core.now c.args.runner.now c.poll.new.self _ s.vouches s.holds s.moves tt c.requires.ready in
+    let run = goes_run g.P.ConnectionProvider c.args.tick c.args.core.now c.args.runner.now c.poll.new.self _ s.carries_on s.holds s.moves tt c.requires.ready in
     goes_trans g.P.ConnectionProvider c.args.tick _ _ _ _ _ _ run c.settle.ensures.goes
 
 pub returns-clause-falls : goal.returns-clause-falls

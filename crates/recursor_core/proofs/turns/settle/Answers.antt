@@ -38,7 +38,7 @@ returns-in-Ok-GiveUp-clause-goes g c =
     let put = rw c.in-Ok-GiveUp.field-0-is at (rw c.awaited-waits.ensures at c.in-Ok-GiveUp.ensures.derived) in
     goes_settled p c.args.tick c.args.number c.args.core.now c.put.new.self r c.give_up.new.self c.args.outcome (Ok after.GiveUp) c.put.ensures.policy c.put.ensures.moment
     c.put.ensures.begun put (up.log c.requires.held) c.requires.told c.requires.ready
-    (goes_run p c.args.tick c.args.core.now r c.give_up.new.self _ up.vouches up.holds (up.moves c.args.tick.patience) tt c.requires.ready)
+    (goes_run p c.args.tick c.args.core.now r c.give_up.new.self _ up.carries_on up.holds (up.moves c.args.tick.patience) tt c.requires.ready)
 
 pub returns-in-Err-clause-goes : goal.returns-in-Err-clause-goes
 returns-in-Err-clause-goes g c =
@@ -48,7 +48,7 @@ returns-in-Err-clause-goes g c =
     let put = rw c.awaited-waits.ensures at c.in-Err.ensures.derived in
     goes_settled p c.args.tick c.args.number c.args.core.now c.put.new.self r c.give_up-in-Err.new.self c.args.outcome (Err (record {})) c.put.ensures.policy c.put.ensures.moment
     c.put.ensures.begun put (up.log c.requires.held) c.requires.told c.requires.ready
-    (goes_run p c.args.tick c.args.core.now r c.give_up-in-Err.new.self _ up.vouches up.holds (up.moves c.args.tick.patience) tt c.requires.ready)
+    (goes_run p c.args.tick c.args.core.now r c.give_up-in-Err.new.self _ up.carries_on up.holds (up.moves c.args.tick.patience) tt c.requires.ready)
 
 pub returns-in-Ok-Kept-clause-keeps : goal.returns-in-Ok-Kept-clause-keeps
 returns-in-Ok-Kept-clause-keeps g c = let same = c.put.ensures.given in due_later _ _ _ _ _ (omega (arith, same)) (omega arith)

@@ -29,5 +29,5 @@ returns-clause-holds c view t0 reads =
     let is : e.response ≡ Ok m = rw c.in-Some-message.is at c.message.ensures.message in
     let here : current_for asked.query now c.args.cache.now.entries ≡ Some e = rw reads.at at (sym c.current.ensures ∙ ap option_copied c.in-Some.is) in
     let answers = kept-answers view t0 c.args.cache.now asked.query (rw reads.at at reads.since) reads.holds e m here is c.if-not-message.false in
-    let told = told-answer view t0 asked.query e.source (lowered_message (seconds_between e.written now) m) asked.dnssec_ok answers in
+    let told = told-answer view t0 asked e.source (lowered_message (seconds_between e.written now) m) answers in
     rw (c.in_ok-reply.ensures, c.in_ok-grounds.ensures, c.in_ok-answer.ensures, c.seconds_between-seconds.ensures, c.written.ensures, c.source.ensures, reads.at) (told, tt)

@@ -1,5 +1,9 @@
-use Rattle.recursor_walk.proofs.Names.{sym, subst, ◌∙◌, [], ◌∷◌, refl, ◌≡◌, true, false, Query, Neg, ends_walk, IsUsableFor, CameTo, HasCause}
-use Rattle.recursor_walk.proofs.ReplyRestsOn.{answers-on-the-way}
+use Rattle.std.proofs.Common.{Err}
+use Rattle.recursor_types.specs.declared.error.RecursorError.{RecursorError}
+use Rattle.walk_response.specs.Answer.{told_negative}
+use Rattle.recursor_walk.specs.Replies.{OutcomeCame}
+use Rattle.recursor_walk.proofs.Names.{sym, subst, ◌∙◌, [], ◌∷◌, refl, ◌≡◌, true, false, Query, Neg, ends_walk, IsUsableFor, CameTo}
+use Rattle.recursor_walk.proofs.ReplyRestsOn.{answers-on-the-way, error-came}
 use Rattle.recursor_walk.proofs.WalkGoesOn.{candidate-asked, candidate-on-the-way, leaves-told}
 use Rattle.recursor_walk.proofs.walk.Walk.apply_negative.Goals as goal
 
@@ -14,7 +18,8 @@ returns-then-ends_walk-clause-holds c view t0 question h =
     let cause = answers-on-the-way view t0 q entry w.asking.lookup.query.name n way.strict (candidate-on-the-way view q w way) here
     (sym c.ends_walk.ensures ∙ c.if-ends_walk.true) in
     subst (CameTo view t0 question) (sym c.in_ok-reply.ensures)
-    (subst (HasCause view t0 q (entry ∷ [])) (sym c.told_negative.ensures) cause)
+    (subst (λ (e : RecursorError). OutcomeCame view t0 question (entry ∷ []) (Err e)) (sym c.told_negative.ensures)
+    (error-came view t0 question (entry ∷ []) (told_negative n) cause))
 
 pub returns-clause-holds : goal.returns-clause-holds
 returns-clause-holds c view t0 question h =

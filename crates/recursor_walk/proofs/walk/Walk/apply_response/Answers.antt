@@ -1,5 +1,8 @@
-use Rattle.recursor_walk.proofs.Names.{sym, subst, [], ◌∷◌, Query, Made, made_negative, IsUsableFor, CameTo, HasCause}
-use Rattle.recursor_walk.proofs.ReplyRestsOn.{made-on-the-way}
+use Rattle.resolution.specs.Names.{question as question_for}
+use Rattle.recursor_types.specs.declared.error.RecursorError.{RecursorError}
+use Rattle.recursor_walk.specs.Replies.{OutcomeCame}
+use Rattle.recursor_walk.proofs.Names.{sym, subst, [], ◌∷◌, Query, Made, made_negative, Negative, IsUsableFor, CameTo, Err}
+use Rattle.recursor_walk.proofs.ReplyRestsOn.{made-on-the-way, error-came}
 use Rattle.recursor_walk.proofs.WalkGoesOn.{candidate-asked, candidate-on-the-way}
 use Rattle.recursor_walk.proofs.walk.Walk.apply_response.Goals as goal
 
@@ -23,9 +26,10 @@ returns-in_ok-reply_by-in-Made-clause-holds c view t0 question filtered heard =
     let at = candidate-asked view q w way in
     let here = subst (λ (p : Query). IsUsableFor view t0 p entry (Made cause)) at now in
     let made = made-on-the-way view t0 q entry asks.name cause way.strict (candidate-on-the-way view q w way) here in
-    let told = subst (λ (p : Query). HasCause view t0 q (entry ∷ []) (made_negative p cause)) (sym at) made in
+    let came = error-came view t0 question (entry ∷ []) (Negative (made_negative (question_for asks.name 2) cause)) made in
+    let told = subst (λ (p : Query). OutcomeCame view t0 question (entry ∷ []) (Err (Negative (made_negative p cause)))) (sym at) came in
     subst (CameTo view t0 question) (sym c.in_ok-reply_by-in-Made.ensures)
-    (subst (HasCause view t0 q (entry ∷ [])) (sym c.in_ok-denial-in-Made.ensures) told)
+    (subst (λ (e : RecursorError). OutcomeCame view t0 question (entry ∷ []) (Err e)) (sym c.in_ok-denial-in-Made.ensures) told)
 
 pub returns-in-Pos-clause-ends : goal.returns-in-Pos-clause-ends
 returns-in-Pos-clause-ends c ends = let no = rw c.in-Pos.is at ends in cc

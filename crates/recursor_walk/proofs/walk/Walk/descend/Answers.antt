@@ -1,4 +1,5 @@
 use Rattle.recursor_walk.proofs.Names.{◌∙◌, sym, refl, [], Err, arith, nat_tests, NoNameServer, NoAddress, Pos}
+use Rattle.resolution.proofs.SoundOutcomes.{error-sound}
 use Rattle.recursor_walk.proofs.ReplyRestsOn.{glueless-of}
 use Rattle.recursor_walk.proofs.WalkGoesOn.{stops, cut-way, cut-leaves, candidate-asked, candidate-on-the-way, leaves-told}
 use Rattle.recursor_walk.proofs.walk.Walk.descend.Goals as goal
@@ -32,4 +33,4 @@ returns-then-is_empty-clause-holds c view t0 entry question filtered h =
     let none = glueless-of view t0 q asks.name asks entry kept (candidate-on-the-way view q w h.way) h.stands (candidate-asked view q w h.way)
     (sym c.is_delegation.ensures ∙ c.if-not-is_delegation.false)
     (λ ip has. let place = (c.in_ok-ips.ensures ip).1 (rw filtered at has) in let less = place.1 in grind (arith, nat_tests)) in
-    stops view t0 question _ c.no_server.result (record { outcome = Err (NoNameServer w.name NoAddress); grounds = [] }) c.no_server.ensures ((h.way.name, refl, none), tt)
+    stops view t0 question _ c.no_server.result (record { outcome = Err (NoNameServer w.name NoAddress); grounds = [] }) c.no_server.ensures (error-sound (h.way.name, refl, none), tt)

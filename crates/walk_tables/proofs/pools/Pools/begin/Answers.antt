@@ -5,7 +5,7 @@ use Rattle.walk_tables.proofs.PoolsAfterBegin.{pools-numbered, pools-begun}
 use Rattle.walk_tables.proofs.LookupOrders.{kept-count}
 use Rattle.walk_tables.proofs.pools.Pools.begin.Goals as goal
 
--- Servers that were met stay where memory is wanting.
+-- Servers that were met stay where memory runs out.
 pub returns-in_err-servers : goal.returns-in_err-servers
 returns-in_err-servers c = record {
   holds = λ view here served h.

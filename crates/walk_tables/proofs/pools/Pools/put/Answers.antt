@@ -16,7 +16,7 @@ pub returns-in_default-given_for-clause-holds : goal.returns-in_default-given_fo
 returns-in_default-given_for-clause-holds c view longer put h =
     tables-later view _ (later-put view c.args.tick (option_copied c.args.waits) c.args.outcome _ longer put) c.args.cache.now c.args.self.now h
 
--- where memory was wanting at the pools
+-- where memory ran out at the pools
 pub returns-in_err-after-clause-holds : goal.returns-in_err-after-clause-holds
 returns-in_err-after-clause-holds c view longer put h =
     let waits = option_copied c.args.waits in
@@ -31,7 +31,7 @@ returns-in_err-after-clause-holds c view longer put h =
     } in
     tables)
 
--- where it was wanting for what the lookup came to
+-- where it ran out for what the lookup came to
 pub returns-in_err-came-clause-holds : goal.returns-in_err-came-clause-holds
 returns-in_err-came-clause-holds c view longer put h =
     let waits = option_copied c.args.waits in

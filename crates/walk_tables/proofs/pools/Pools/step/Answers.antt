@@ -40,7 +40,7 @@ returns-in_ok-decide-in-Ok-Done-clause-holds c view step h =
     c.decide.ensures.holds view (rw c.number-n.ensures (pools-answer view _ old _ shared h there c.in-Ok-Done.field-0 steps c.in-Ok-Done.told c.in-Ok-Done.field-0-is note))
     (pools-done view _ old _ shared h there c.in-Ok-Done.field-0 steps note)
 
--- where memory is wanting, or it waits, it is forgotten
+-- where memory runs out, or it waits, it is forgotten
 pub returns-in-Ok-Waiting-clause-holds : goal.returns-in-Ok-Waiting-clause-holds
 returns-in-Ok-Waiting-clause-holds c view step h =
     let old = c.args.self.now in

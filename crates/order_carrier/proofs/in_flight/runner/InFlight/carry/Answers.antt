@@ -4,6 +4,9 @@ use Rattle.order_carrier.specs.declared.in_flight.runner.InFlightOrder.{InFlight
 use Rattle.order_carrier.proofs.PolledInFlight.{after-counted, after-holds, after-moves, after-told}
 use Rattle.order_carrier.proofs.in_flight.runner.InFlight.carry.Goals as goal
 
+pub returns-in_err-outcome-clause-carries_on : goal.returns-in_err-outcome-clause-carries_on
+returns-in_err-outcome-clause-carries_on g c = record { vouches = c.carry.ensures.vouches; options = (rw c.deref.ensures at c.carry.ensures.carries).did.options }
+
 pub returns-in_err-outcome-clause-holds : goal.returns-in_err-outcome-clause-holds
 returns-in_err-outcome-clause-holds g c =
     let v : InFlightOrder = c.in-Some.running.now in
@@ -22,6 +25,9 @@ returns-in_err-outcome-clause-counted g c =
     after-counted g.P.ConnectionProvider c.args.tick c.args.number c.args.self.now c.requires v (sym c.in-Some.ensures.value) (c.get_mut.follows.lender (polled_again v)) (c.get_mut.follows.holds (polled_again v))
     c.carry.new.self
 
+pub returns-in_default-2-clause-carries_on : goal.returns-in_default-2-clause-carries_on
+returns-in_default-2-clause-carries_on g c = record { vouches = c.carry.ensures.vouches; options = (rw c.deref.ensures at c.carry.ensures.carries).did.options }
+
 pub returns-in_default-2-clause-holds : goal.returns-in_default-2-clause-holds
 returns-in_default-2-clause-holds g c =
     let v : InFlightOrder = c.in-Some.running.now in
@@ -39,6 +45,9 @@ returns-in_default-2-clause-counted g c =
     let v : InFlightOrder = c.in-Some.running.now in
     after-counted g.P.ConnectionProvider c.args.tick c.args.number c.args.self.now c.requires v (sym c.in-Some.ensures.value) (c.get_mut.follows.lender (polled_again v)) (c.get_mut.follows.holds (polled_again v))
     c.carry.new.self
+
+pub returns-clause-carries_on : goal.returns-clause-carries_on
+returns-clause-carries_on g c = record { vouches = c.carry.ensures.vouches; options = (rw c.deref.ensures at c.carry.ensures.carries).did.options }
 
 pub returns-clause-holds : goal.returns-clause-holds
 returns-clause-holds g c =

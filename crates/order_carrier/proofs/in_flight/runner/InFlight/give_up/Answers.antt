@@ -1,10 +1,17 @@
 use Rattle.std.proofs.Common.{rules, refl, arith}
-use Rattle.order_carrier.proofs.GivenUpInFlight.{give_up-holds, give_up-moves, give_up-log}
+use Rattle.order_carrier.proofs.GivenUpInFlight.{give_up-holds, give_up-moves, give_up-options, give_up-log}
 use Rattle.order_carrier.proofs.Sums.{left-same}
 use Rattle.order_carrier.proofs.in_flight.runner.InFlight.give_up.Goals as goal
 
 pub close-requires : goal.close-requires
 close-requires g c = give_up-holds g.P.ConnectionProvider c.args.number c.args.now c.args.self.now c.give_up.new.self c.give_up.ensures.gives_up c.give_up.ensures.none c.give_up.ensures.holds c.requires
+
+pub returns-clause-carries_on : goal.returns-clause-carries_on
+returns-clause-carries_on g c =
+    rw c.close.ensures.same (record {
+      vouches = c.give_up.ensures.vouches;
+      options = give_up-options g.P.ConnectionProvider c.args.number c.args.now c.args.self.now c.give_up.new.self c.give_up.ensures.gives_up c.give_up.ensures.none;
+    })
 
 pub returns-clause-moves : goal.returns-clause-moves
 returns-clause-moves g c patience =

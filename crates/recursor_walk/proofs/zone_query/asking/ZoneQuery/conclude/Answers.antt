@@ -1,5 +1,5 @@
-use Rattle.recursor_walk.proofs.QueryWords.{subst, Err, Query, Walked, Net}
-use Rattle.recursor_walk.proofs.ReplyRestsOn.{replies, has-failed}
+use Rattle.recursor_walk.proofs.QueryWords.{subst, Err, Query, Walked, Net, error-sound}
+use Rattle.recursor_walk.proofs.ReplyRestsOn.{replies, lookup-failed}
 use Rattle.recursor_walk.proofs.zone_query.asking.ZoneQuery.conclude.Goals as goal
 
 pub returns-in-Told : goal.returns-in-Told
@@ -13,4 +13,4 @@ returns-in-Error c view t0 h =
     let ended = rw c.in-Error.is at h.came in
     let walked = subst (λ (p : Query). Walked view.policy view.log p a.zone) h.asks h.walked in
     replies view t0 c.args.question.now c.failed.result (Err (Net e)) a.lookup.ends c.failed.ensures
-    ((ended.is, has-failed view t0 a.zone a.lookup.query q a.lookup.ends e h.asks ended.concluded walked), tt)
+    (error-sound (lookup-failed view t0 a.zone a.lookup.query q a.lookup.ends e ended.is h.asks ended.concluded walked), tt)
