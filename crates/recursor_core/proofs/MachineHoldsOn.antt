@@ -318,8 +318,8 @@ module _ {P C F E : Type 0} (p : Ghosts P C F E) where
   }
 
   -- and after it the machine is at rest again
-  pub holds_rests : (patience : ℕ) (core : RecursorCore) (r : InFlight P C F E p) → CanWalk core.policy → TellsThat (p.log r.carrier.provider) MomentsRise
-      → Holds p patience core r → Rests p core r
+  pub holds_rests : (patience : ℕ) (core : RecursorCore) (r : InFlight P C F E p) → CanWalk core.policy → r.carrier.options ≡ connect_of core.policy.resolver
+      → TellsThat (p.log r.carrier.provider) MomentsRise → Holds p patience core r → Rests p core r
   holds_rests patience core r walks connects rises h = record {
     walks = walks;
     runner = h.runner;
