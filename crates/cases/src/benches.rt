@@ -6,6 +6,7 @@ pub mod access;
 pub mod driving;
 pub mod failure;
 pub mod kept;
+pub mod reading;
 pub mod runs;
 
 use crate::run::words_of;

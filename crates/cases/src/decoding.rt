@@ -33,18 +33,36 @@ fn bytes_of(alloc: Global, given: &[u8]) -> Result<Vec<u8>, NoMemory> {
     Ok(bytes)
 }
 
+/// What stands in front of a message that is written.
+const FRONT: &[u8] = b"front";
+
+/// What is read of the bytes that were written behind `FRONT`.
+fn read_behind(alloc: Global, out: &[u8]) -> Result<String, NoMemory> {
+    match out.strip_prefix(FRONT) {
+        Some(bytes) => ran(alloc, "decode", bytes),
+        None => Ok(String::from_str(alloc, "the front is changed\n")?),
+    }
+}
+
+/// That a message is too long, and whether the bytes are as before.
+fn too_long(alloc: Global, out: &[u8]) -> Result<String, NoMemory> {
+    let text = if out == FRONT {
+        "too long without pointers\n"
+    } else {
+        "too long, and bytes are written\n"
+    };
+    Ok(String::from_str(alloc, text)?)
+}
+
 /// What is read of a message that was read and written again.
 fn read_again(alloc: Global, bytes: &[u8]) -> Result<Option<String>, NoMemory> {
     let Ok(message) = read(alloc, bytes) else {
         return Ok(None);
     };
-    let mut out = Vec::new(alloc);
+    let mut out = Vec::from_slice(alloc, FRONT)?;
     match write(alloc, &message, &mut out) {
-        Ok(()) => Ok(Some(ran(alloc, "decode", &out)?)),
-        Err(WriteError::TooLong) => Ok(Some(String::from_str(
-            alloc,
-            "too long without pointers\n",
-        )?)),
+        Ok(()) => Ok(Some(read_behind(alloc, &out)?)),
+        Err(WriteError::TooLong) => Ok(Some(too_long(alloc, &out)?)),
         Err(WriteError::NoMemory) => Err(NoMemory),
     }
 }

@@ -1,5 +1,6 @@
 pub mod Answering
 pub mod Binds
+pub mod EndLaws
 pub mod KeptLaws
 pub mod Loops
 pub mod NameLaws

@@ -1,7 +1,9 @@
-//! Names of a message that were read before: a name that is only a pointer to one of them is a copy.
-ghost use Rattle.std.specs.Prelude.{◌≢◌, ℕ, List, All, MatchOption, IfOk, OnOk};
-ghost use Rattle.wire_names.specs.Kept.{IsReadAt, AreKept, Keeps};
+//! What is kept of a message that is read: names, of which one that is only a pointer to them is a copy, and where its
+//! pointers lead, once a name goes through many.
+ghost use Rattle.std.specs.Prelude.{◌≡◌, ◌≢◌, [], ℕ, List, All, length, min, MatchOption, IfOk, OnOk};
+ghost use Rattle.wire_names.specs.Kept.{IsReadAt, IsEndOf, AreKept, Keeps};
 
+use crate::ends::ends_of;
 use dns_core::{Name, NoMemory, TryClone};
 use std::alloc::{AllocError, Global};
 use std::marker::Model;
@@ -13,20 +15,20 @@ pub struct KeptName {
     pub name: Name,
 }
 
-/// The four names that were read last.
+/// The four names that were read last, and the ends of the first places of the message, or none.
 #[derive(Drop, Debug)]
 pub struct KeptNames {
     names: Vec<KeptName>,
     oldest: usize,
+    ends: Vec<u16>,
 }
 
 impl Model for KeptNames {
-    ghost use Rattle.std.specs.Prelude.{List};
-    ghost use Rattle.wire_names.specs.declared.kept.KeptName.{KeptName};
+    ghost use Rattle.wire_names.specs.Kept.{Kept};
 
-    ghost Value = { List KeptName };
+    ghost Value = { Kept };
 
-    ghost view = { λ a. a.names.items };
+    ghost view = { λ a. record { names = a.names.items; ends = a.ends.items } };
 
     ghost use Rattle.std.specs.Prelude.{◌<◌};
 
@@ -40,12 +42,13 @@ impl KeptNames {
         Ok(KeptNames {
             names: Vec::with_capacity(alloc, 4)?,
             oldest: 0,
+            ends: Vec::new(alloc),
         })
     }
 
     /// The name that was read at a place, if it is among these.
     pub fn at(&self, place: usize) -> Option<&Name>
-        ensures { MatchOption result (All (λ kept. kept.place ≢ place) self.now) (λ name. (message : List ℕ) → AreKept message self.now → IsReadAt message place name.now) }
+        ensures { MatchOption result (All (λ kept. kept.place ≢ place) self.now.names) (λ name. (message : List ℕ) → AreKept message self.now → IsReadAt message place name.now) }
     {
         for kept in &self.names {
             if kept.place == place {
@@ -69,5 +72,27 @@ impl KeptNames {
         self.names[self.oldest] = kept;
         self.oldest = (self.oldest + 1) % 4;
         Ok(())
+    }
+
+    /// Keeps the ends of the places of the message, if none are kept.
+    pub fn keep_ends(&mut self, alloc: Global, message: &[u8]) -> Result<(), AllocError>
+        ensures names { self.new.names ≡ self.old.names }
+        ensures ends { OnOk result (self.old.ends ≡ [] → length self.new.ends ≡ min (length message.now) 16384) }
+        ensures kept { AreKept message.now self.old → AreKept message.now self.new }
+    {
+        if self.ends.is_empty() {
+            self.ends = ends_of(alloc, message)?;
+        }
+        Ok(())
+    }
+
+    /// The end of a place, or the place where none is kept.
+    pub fn end_of(&self, place: usize) -> usize
+        ensures { (message : List ℕ) → AreKept message self.now → IsEndOf message place result }
+    {
+        match self.ends.get(place) {
+            Some(end) => *end as usize,
+            None => place,
+        }
     }
 }

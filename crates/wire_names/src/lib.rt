@@ -2,6 +2,7 @@
 //! were read before, and their writer.
 #![tactic(auto)]
 
+mod ends;
 mod errors;
 mod kept;
 mod labels;

@@ -1,7 +1,7 @@
 //! A name of a message: runs of labels, each but the first led to by a pointer.
-ghost use Rattle.std.specs.Prelude.{◌≡◌, ◌≤◌, [], ℕ, List, Ok, length, IfOk, MatchOption};
+ghost use Rattle.std.specs.Prelude.{◌≡◌, ◌≤◌, [], ℕ, List, Ok, length, IfOk};
 ghost use Rattle.dns_core.specs.Name.{DomainName};
-ghost use Rattle.wire_names.specs.Kept.{IsRest, IsReadAt, AreKept};
+ghost use Rattle.wire_names.specs.Kept.{IsRest, IsEndOf, AreKept};
 ghost use Rattle.wire_names.specs.Names.{IsName};
 ghost use Rattle.wire_names.specs.Reading.{Gives, joined, run_of, led_of, labels_of, name_of};
 ghost use Rattle.wire_names.specs.declared.runs.RunEnd.TheVariants.{Pointer};
@@ -9,9 +9,30 @@ ghost use Rattle.wire_names.specs.declared.runs.RunEnd.TheVariants.{Pointer};
 use crate::errors::WireError;
 use crate::kept::KeptNames;
 use crate::labels::is_long;
-use crate::runs::{RunEnd, first_of, run_of};
+use crate::runs::{RunEnd, lone_pointer, run_of};
 use dns_core::{Label, Name, TryClone};
-use std::alloc::Global;
+use std::alloc::{AllocError, Global};
+
+/// How many pointers a name goes through before the ends of chains are kept.
+const MANY: u8 = 16;
+
+/// The end of a place to which a pointer leads, when the name went through so many before.
+fn end_of(
+    alloc: Global,
+    message: &[u8],
+    place: usize,
+    pointers: u8,
+    kept: &mut KeptNames,
+) -> Result<usize, AllocError>
+    requires { AreKept message.now kept.old }
+    ensures end { IfOk result (λ end. IsEndOf message.now place end) }
+    ensures kept { AreKept message.now kept.new }
+{
+    if pointers == MANY {
+        kept.keep_ends(alloc, message)?;
+    }
+    Ok(kept.end_of(place))
+}
 
 /// Adds the labels to which the end of a run leads. Each pointer leads before the place where the run
 /// that it ends began, `before` at first.
@@ -21,12 +42,16 @@ fn follow(
     end: RunEnd,
     before: usize,
     labels: &mut Vec<Label>,
+    kept: &mut KeptNames,
 ) -> Result<(), WireError>
-    requires { before ≤ length message.now }
-    ensures { Gives (λ _. labels.new.items) result (joined labels.old.items (led_of before message.now end)) }
+    requires within { before ≤ length message.now }
+    requires kept { AreKept message.now kept.old }
+    ensures labels { Gives (λ _. labels.new.items) result (joined labels.old.items (led_of before message.now end)) }
+    ensures kept { AreKept message.now kept.new }
 {
     let mut end = end;
     let mut before = before;
+    let mut pointers = 0_u8;
     'runs: loop {
         let to = match end {
             RunEnd::Root => return Ok(()),
@@ -35,10 +60,12 @@ fn follow(
         if to >= before {
             return Err(WireError::BadPointer);
         }
+        let to = end_of(alloc, message, to, pointers, kept)?;
         let (_, run) = message.split_at(to);
         let (next, _rest) = run_of(alloc, run, labels)?;
         end = next;
         before = to;
+        pointers = pointers.saturating_add(1);
     }
 }
 
@@ -47,9 +74,12 @@ fn all_labels<'a>(
     alloc: Global,
     message: &[u8],
     bytes: &'a [u8],
+    kept: &mut KeptNames,
 ) -> Result<(Vec<Label>, &'a [u8]), WireError>
-    requires { length bytes.now ≤ length message.now }
-    ensures { Gives (λ x. (x.0.items, x.1.now)) result (labels_of message.now bytes.now) }
+    requires few { length bytes.now ≤ length message.now }
+    requires kept { AreKept message.now kept.old }
+    ensures labels { Gives (λ x. (x.0.items, x.1.now)) result (labels_of message.now bytes.now) }
+    ensures kept { AreKept message.now kept.new }
 {
     let mut labels = Vec::with_capacity(alloc, 4)?;
     let (end, rest) = run_of(alloc, bytes, &mut labels)?;
@@ -59,6 +89,7 @@ fn all_labels<'a>(
         end,
         message.len() - bytes.len(),
         &mut labels,
+        kept,
     )?;
     if is_long(&labels) {
         return Err(WireError::LongName);
@@ -70,25 +101,16 @@ fn read_anew<'a>(
     alloc: Global,
     message: &[u8],
     bytes: &'a [u8],
+    kept: &mut KeptNames,
 ) -> Result<(Name, &'a [u8]), WireError>
-    requires { length bytes.now ≤ length message.now }
-    ensures { Gives (λ x. (x.0, x.1.now)) result (name_of message.now bytes.now) }
+    requires few { length bytes.now ≤ length message.now }
+    requires kept { AreKept message.now kept.old }
+    ensures exact { Gives (λ x. (x.0, x.1.now)) result (name_of message.now bytes.now) }
+    ensures kept { AreKept message.now kept.new }
 {
-    let (labels, rest) = all_labels(alloc, message, bytes)?;
+    let (labels, rest) = all_labels(alloc, message, bytes, kept)?;
     let name = Name::from_labels(alloc, labels, true)?;
     Ok((name, rest))
-}
-
-/// Where a name leads that is only a pointer, and what follows it.
-fn lone_pointer(bytes: &[u8]) -> Option<(usize, &[u8])>
-    ensures { MatchOption result (Unit {0}) (λ p. run_of 0 bytes.now ≡ Ok ([], Pointer p.0, p.1.now)) }
-{
-    let (high, after) = first_of(bytes)?;
-    if high < 192 {
-        return None;
-    }
-    let (low, rest) = first_of(after)?;
-    Some(((high as usize - 192) * 256 + low as usize, rest))
 }
 
 /// A name that is only a pointer: a copy, if the name to which it leads was read before.
@@ -112,7 +134,7 @@ fn read_pointed<'a>(
             return Ok((copy, rest));
         }
     }
-    let (name, rest) = read_anew(alloc, message, bytes)?;
+    let (name, rest) = read_anew(alloc, message, bytes, kept)?;
     kept.keep(alloc, to, &name)?;
     Ok((name, rest))
 }
@@ -132,7 +154,7 @@ fn read_and_keep<'a>(
     if let Some((to, rest)) = lone_pointer(bytes) {
         return read_pointed(alloc, message, bytes, to, rest, kept);
     }
-    let (name, rest) = read_anew(alloc, message, bytes)?;
+    let (name, rest) = read_anew(alloc, message, bytes, kept)?;
     kept.keep(alloc, message.len() - bytes.len(), &name)?;
     Ok((name, rest))
 }

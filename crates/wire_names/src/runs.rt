@@ -1,5 +1,6 @@
 //! A run of labels, up to the root or a pointer.
-ghost use Rattle.std.specs.Prelude.{◌≡◌, ◌≤◌, [], ◌∷◌, MatchOption};
+ghost use Rattle.std.specs.Prelude.{◌≡◌, ◌≤◌, [], ◌∷◌, Ok, MatchOption};
+ghost use Rattle.wire_names.specs.declared.runs.RunEnd.TheVariants.{Pointer};
 ghost use Rattle.wire_names.specs.Reading.{Gives, with_front, end_of, run_of};
 
 use crate::errors::WireError;
@@ -22,6 +23,18 @@ pub fn first_of(bytes: &[u8]) -> Option<(u8, &[u8])>
         [] => None,
         [first, rest @ ..] => Some((*first, rest)),
     }
+}
+
+/// Where a name leads that is only a pointer, and what follows it.
+pub fn lone_pointer(bytes: &[u8]) -> Option<(usize, &[u8])>
+    ensures { MatchOption result (Unit {0}) (λ p. run_of 0 bytes.now ≡ Ok ([], Pointer p.0, p.1.now)) }
+{
+    let (high, after) = first_of(bytes)?;
+    if high < 192 {
+        return None;
+    }
+    let (low, rest) = first_of(after)?;
+    Some(((high as usize - 192) * 256 + low as usize, rest))
 }
 
 /// How a run ends whose next byte is no length of a label: with a pointer, or not as a run may.

@@ -6,12 +6,13 @@
 //! - `many QUESTIONS`: the first question of the scenario, so many times in one run;
 //! - `kept ENTRIES CALL TIMES`: a cache of responses with so many entries, and so often a call on a question
 //!   that is there: `get`, `put`, or `make`, where a question and an answer are made for nothing;
-//! - `held ANSWERS`: so many of the same answers without a cache.
+//! - `held ANSWERS`: so many of the same answers without a cache;
+//! - `read TIMES`: a message in wire form, whose bytes stand in place of a scenario, so often.
 
 use crate::benches::driving::{answers, answers_of_one_run};
 use crate::benches::failure::Failure;
 use crate::benches::kept::{Call, Calls};
-use crate::benches::{access, kept};
+use crate::benches::{access, kept, reading};
 use dns_core::Text;
 use std::alloc::Global;
 
@@ -23,6 +24,7 @@ pub enum Run {
     Many { questions: u32 },
     Kept(Calls),
     Held { answers: u32 },
+    Read { times: u32 },
 }
 
 /// The call of this name.
@@ -41,6 +43,7 @@ fn counted_of(word: &str, number: u32) -> Option<Run> {
         "answers" => Some(Run::Answers { times: number }),
         "many" => Some(Run::Many { questions: number }),
         "held" => Some(Run::Held { answers: number }),
+        "read" => Some(Run::Read { times: number }),
         _ => None,
     }
 }
@@ -95,6 +98,12 @@ fn held_line(alloc: Global, answers: u32) -> Result<String, Failure> {
     Ok(line)
 }
 
+fn read_line(alloc: Global, bytes: &[u8], times: u32) -> Result<String, Failure> {
+    let read = reading::count_read(alloc, bytes, times)?;
+    let line = format!(in alloc; "read {times}: {read} are messages")?;
+    Ok(line)
+}
+
 /// Does a run over a scenario. Gives the line that tells what came of it.
 pub fn line_of(alloc: Global, run: Run, scenario: &[u8]) -> Result<String, Failure> {
     match run {
@@ -103,5 +112,6 @@ pub fn line_of(alloc: Global, run: Run, scenario: &[u8]) -> Result<String, Failu
         Run::Many { questions } => many_line(alloc, scenario, questions),
         Run::Kept(calls) => kept_line(alloc, calls),
         Run::Held { answers } => held_line(alloc, answers),
+        Run::Read { times } => read_line(alloc, scenario, times),
     }
 }

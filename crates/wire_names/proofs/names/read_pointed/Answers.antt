@@ -11,10 +11,10 @@ returns-in-Some-clause-exact c =
 
 pub returns-in_err-keep-clause-kept : goal.returns-in_err-keep-clause-kept
 returns-in_err-keep-clause-kept c =
-    let there = read_there c.args.message.now c.args.bytes.now c.args.rest.now c.in_ok-name.rest.now c.args.to c.in_ok-name.name c.requires.pointed c.in_ok-name.ensures in
-    c.keep.ensures.kept c.args.message.now c.requires.kept there
+    let there = read_there c.args.message.now c.args.bytes.now c.args.rest.now c.in_ok-name.rest.now c.args.to c.in_ok-name.name c.requires.pointed c.in_ok-name.ensures.exact in
+    c.keep.ensures.kept c.args.message.now c.in_ok-name.ensures.kept there
 
 pub returns-clause-kept : goal.returns-clause-kept
 returns-clause-kept c =
-    let there = read_there c.args.message.now c.args.bytes.now c.args.rest.now c.in_ok-name.rest.now c.args.to c.in_ok-name.name c.requires.pointed c.in_ok-name.ensures in
-    c.keep.ensures.kept c.args.message.now c.requires.kept there
+    let there = read_there c.args.message.now c.args.bytes.now c.args.rest.now c.in_ok-name.rest.now c.args.to c.in_ok-name.name c.requires.pointed c.in_ok-name.ensures.exact in
+    c.keep.ensures.kept c.args.message.now c.in_ok-name.ensures.kept there

@@ -1,7 +1,7 @@
 use Rattle.std.proofs.Common.{ap, ◌∙◌, ℕ, List, ◌∷◌}
 use Rattle.wire_names.specs.Reading.{run_of}
 use Rattle.wire_names.proofs.RunLaws.{pointer_again}
-use Rattle.wire_names.proofs.names.lone_pointer.Goals as goal
+use Rattle.wire_names.proofs.runs.lone_pointer.Goals as goal
 
 pub returns : goal.returns
 returns c =
