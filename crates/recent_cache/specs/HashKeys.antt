@@ -1,6 +1,6 @@
 -- The state in which the hash of a key begins.
-use Rattle.core.specs.Hash.DefaultHasher.{initial}
-use Rattle.core.specs.declared.hash.sip.DefaultHasher.{DefaultHasher}
+use Rattle.std.specs.Hash.DefaultHasher.{initial}
+use Rattle.std.specs.declared.hash.DefaultHasher.{DefaultHasher}
 use Rattle.std.specs.RandomState.{initial_hasher}
 use Rattle.recent_cache.specs.declared.hash_keys.HashKeys.{HashKeys}
 use Rattle.recent_cache.specs.declared.hash_keys.HashKeys.TheVariants.{Fixed, Given}
