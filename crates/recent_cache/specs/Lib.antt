@@ -1,0 +1,3 @@
+pub mod HashKeys
+pub mod Recent
+pub mod Rests
