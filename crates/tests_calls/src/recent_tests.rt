@@ -46,7 +46,7 @@ impl Machine<Call, Seen> for Zones {
     }
 }
 
-fn zones(alloc: Global, size: usize, keys: HashKeys) -> Result<Zones, NoMemory> {
+fn zones_of(alloc: Global, size: usize, keys: HashKeys) -> Result<Zones, NoMemory> {
     Ok(Zones {
         cache: RecentCache::new(alloc, size, keys)?,
     })
@@ -56,7 +56,7 @@ fn zones(alloc: Global, size: usize, keys: HashKeys) -> Result<Zones, NoMemory> 
 fn the_least_used_zone_leaves(rt: HostRuntime) -> Result<(), Fail> {
     runs(
         rt.alloc(),
-        zones(rt.alloc(), 2, HashKeys::Fixed),
+        zones_of(rt.alloc(), 2, HashKeys::Fixed),
         &[
             (0, Call::Put("a.", 1), Seen::Done),
             (0, Call::Put("b.", 2), Seen::Done),
@@ -75,7 +75,7 @@ fn the_least_used_zone_leaves(rt: HostRuntime) -> Result<(), Fail> {
 fn a_cache_without_room_keeps_nothing(rt: HostRuntime) -> Result<(), Fail> {
     runs(
         rt.alloc(),
-        zones(rt.alloc(), 0, HashKeys::Given(RandomState::new(&rt)?)),
+        zones_of(rt.alloc(), 0, HashKeys::Given(RandomState::new(&rt)?)),
         &[
             (0, Call::Put("a.", 1), Seen::Done),
             (0, Call::Get("a."), Seen::Nothing),
